@@ -9,14 +9,11 @@ builds.
 import argparse
 import os
 import pathlib
-import subprocess
 import sys
-import tempfile
 import time
 
-from measuring import HERE, make, row, run
+from measuring import CHECK, TOOL, TOP, make, new_folder, row, run
 
-TOP = pathlib.Path(HERE).parent
 RUNS = 5
 
 
@@ -32,41 +29,33 @@ def least(work):
 
 def least_of_programs(runs):
     """The least processor time of some rounds of runs of programs, by their words."""
-    return min(sum(run(list(map(str, words)))[1] for words in runs) for _ in range(RUNS))
+    return min(sum(run(words)[1] for words in runs) for _ in range(RUNS))
 
 
 def proofs(aig, file, bound, folder):
-    """The proofs of the steps up to a bound that have no solution."""
+    """The steps up to a bound that have no solution, with the path and the bytes of a proof of each."""
     for k in range(bound + 1):
-        query, proof = folder / "query", folder / "proof"
+        query, proof = folder / "query", folder / f"proof{k}"
         query.write_bytes(aig.query(file, k))
-        ended = subprocess.run(["cadical", "-q", "--no-binary", query, proof], stdout=subprocess.DEVNULL)
-        if ended.returncode != 20:
+        if run(["cadical", "-q", "--no-binary", query, proof])[0] != 20:
             return
-        yield k, proof.read_bytes()
+        yield k, proof, proof.read_bytes()
 
 
 def measure_checks(aig, given, path, folder):
     """A row of a file's checks."""
     file = path.read_bytes()
     found = list(proofs(aig, file, given.bound, folder))
-    for k, proof in found:
-        (folder / f"proof{k}").write_bytes(proof)
-
-    def in_process():
-        for k, proof in found:
-            aig.check_refuted(file, k, proof)
-
     if found:
-        runs = [[given.aigcheck, "refuted", path, k, folder / f"proof{k}"] for k, _ in found]
-        here, there = least(in_process), least_of_programs(runs)
-        row([path.name, str(len(found)), f"{1000 * here / len(found):.2f}", f"{1000 * there / len(found):.2f}"])
+        here = least(lambda: [aig.check_refuted(file, k, proof) for k, _, proof in found])
+        there = least_of_programs([[given.aigcheck, "refuted", path, k, proof] for k, proof, _ in found])
+        row(path.name, len(found), f"{1000 * here / len(found):.2f}", f"{1000 * there / len(found):.2f}")
 
 
 def measure_prints(aig, given, folder):
     """Rows of the calls that print, on a circuit of so many gates."""
     path = folder / "large.aag"
-    make(given.kind, given.gates, str(path))
+    make(given.kind, given.gates, path)
     file = path.read_bytes()
     for name, call, words in (
         ("text", lambda: aig.text(file), ["text", path]),
@@ -74,13 +63,13 @@ def measure_prints(aig, given, folder):
         ("strash", lambda: aig.strash(file), ["strash", path]),
         ("cnf 0", lambda: aig.cnf(file, 0), ["cnf", path, "0"]),
     ):
-        row([name, f"{least(call):.3f}", f"{least_of_programs([[given.aigtool, *words]]):.3f}"])
+        row(name, f"{least(call):.3f}", f"{least_of_programs([[given.aigtool, *words]]):.3f}")
 
 
 def main():
     parser = argparse.ArgumentParser(description=__doc__, formatter_class=argparse.RawDescriptionHelpFormatter)
-    for name in ("aigtool", "aigcheck"):
-        parser.add_argument(f"--{name}", metavar="PATH", default=TOP / "crates" / name / "out" / name)
+    parser.add_argument("--aigtool", metavar="PATH", default=TOOL)
+    parser.add_argument("--aigcheck", metavar="PATH", default=CHECK)
     parser.add_argument("--bound", type=int, default=10, metavar="K")
     parser.add_argument("--gates", type=int, default=1_000_000)
     parser.add_argument("--kind", default="random")
@@ -90,11 +79,10 @@ def main():
     sys.path.insert(0, str(TOP / "lib" / "python"))
     import aig
 
-    with tempfile.TemporaryDirectory() as place:
-        folder = pathlib.Path(place)
-        row(["Call", "in process, s", "program, s"])
+    with new_folder() as folder:
+        row("Call", "in process, s", "program, s")
         measure_prints(aig, given, folder)
-        row(["File", "proofs", "in process, ms each", "aigcheck, ms each"])
+        row("File", "proofs", "in process, ms each", "aigcheck, ms each")
         for path in given.files:
             measure_checks(aig, given, path, folder)
 

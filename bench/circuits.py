@@ -3,23 +3,19 @@
 KIND is `multiplier`, and COUNT its bits; or `pipeline`, of random gates between latches, or `random`, of random gates, or `shuffled`,
 of the same gates in any order, and COUNT the gates. The same words make the same file.
 """
+import functools
+import pathlib
 import random
 import sys
+
+sys.path.append(str(pathlib.Path(__file__).resolve().parent.parent / "tests"))
+from aiger import Gates, Machine, joined
 
 TOKENS, STAGES = 16, 52
 
 
-class Gates:
-    """Gates of a text file, by literals."""
-
-    def __init__(self, inputs):
-        self.inputs = [2 * (n + 1) for n in range(inputs)]
-        self.gates = []
-
-    def both(self, a, b):
-        made = 2 * (len(self.inputs) + len(self.gates) + 1)
-        self.gates.append((made, max(a, b), min(a, b)))
-        return made
+class Adders(Gates):
+    """Gates that compute."""
 
     def either(self, a, b):
         return self.both(a ^ 1, b ^ 1) ^ 1
@@ -41,57 +37,43 @@ class Gates:
             total[i + len(a)] = carry
         return total
 
-    def text(self, outputs, bads):
-        """The text of a file with these outputs and bad literals."""
-        count = len(self.inputs) + len(self.gates)
-        header = f"aag {count} {len(self.inputs)} 0 {len(outputs)} {len(self.gates)}" + (f" {len(bads)}" if bads else "")
-        lines = [header, *map(str, self.inputs), *map(str, outputs), *map(str, bads)]
-        return "".join(line + "\n" for line in lines + [f"{a} {b} {c}" for a, b, c in self.gates])
+
+def numbers_of(bits):
+    """Gates over two numbers of so many bits, and these."""
+    return Adders(2 * bits), list(range(2, 2 * bits + 2, 2)), list(range(2 * bits + 2, 4 * bits + 2, 2))
 
 
 def multiplier(bits):
     """A file whose outputs are a product's bits: 10 gates for each pair of bits."""
-    gates = Gates(2 * bits)
-    return gates.text(gates.product(gates.inputs[:bits], gates.inputs[bits:]), [])
+    gates, a, b = numbers_of(bits)
+    return Machine(a + b, [], gates.product(a, b), [], [], [], [], gates, {}).text()
 
 
 def multipliers(bits):
     """A file that is bad where a product differs from that of the same numbers in the other order."""
-    gates = Gates(2 * bits)
-    a, b = gates.inputs[:bits], gates.inputs[bits:]
+    gates, a, b = numbers_of(bits)
     bad = 0
     for one, other in zip(gates.product(a, b), gates.product(b, a)):
         bad = gates.either(bad, gates.differ(one, other))
-    return gates.text([], [bad])
+    return Machine(a + b, [], [], [bad], [], [], [], gates, {}).text()
 
 
 def pipeline(gates):
     """A file of so many gates, where tokens go on through stages or stay as random gates say; four in the last stage are bad."""
-    rng = random.Random(1)
-    inputs = [2 * v for v in range(1, TOKENS + 1)]
-    latches = [2 * v for v in range(TOKENS + 1, TOKENS * (STAGES + 1) + 1)]
-    made, pool = [], inputs + latches
-
-    def both(left, right):
-        made.append((2 * (len(inputs) + len(latches) + len(made) + 1), max(left, right), min(left, right)))
-        return made[-1][0]
-
+    rng, made = random.Random(1), Adders(TOKENS * (STAGES + 1))
+    leaves, states = list(range(2, made.first, 2)), []
+    inputs, latches, pool = leaves[:TOKENS], leaves[TOKENS:], list(leaves)
     while len(made) < gates - 3 * len(latches) - 4:
-        pool.append(both(rng.choice(pool[-300:]) ^ rng.randrange(2), rng.choice(pool) ^ rng.randrange(2)))
-    nexts = []
-    for before, latch in zip(inputs + latches, latches):
-        goes, stays = both(before, rng.choice(pool) ^ rng.randrange(2)), both(latch, rng.choice(pool) ^ 1)
-        nexts.append(both(goes ^ 1, stays ^ 1) ^ 1)
-    bad = 1
-    for latch in latches[-4:]:
-        bad = both(bad, latch)
-    header = ["aag", len(inputs) + len(latches) + len(made), len(inputs), len(latches), 0, len(made), 1]
-    lines = [header, *([literal] for literal in inputs), *zip(latches, nexts), [bad], *made]
-    return "".join(" ".join(map(str, line)) + "\n" for line in lines)
+        pool.append(made.both(rng.choice(pool[-300:]) ^ rng.randrange(2), rng.choice(pool) ^ rng.randrange(2)))
+    for before, latch in zip(leaves, latches):
+        goes, stays = made.both(before, rng.choice(pool) ^ rng.randrange(2)), made.both(latch, rng.choice(pool) ^ 1)
+        states.append((latch, made.either(goes, stays)))
+    bad = functools.reduce(made.both, latches[-4:], 1)
+    return Machine(inputs, states, [], [bad], [], [], [], made, {}).text()
 
 
-def random_lines(gates, inputs=1000, latches=1000, outputs=16):
-    """The lines of a file of random gates: operands are drawn from all smaller variables, half of them from the last thousand."""
+def random_circuit(gates, inputs=1000, latches=1000, outputs=16):
+    """A file of random gates: operands are drawn from all smaller variables, half of them from the last thousand."""
     rng = random.Random(1)
     first_gate, end = inputs + latches + 1, inputs + latches + gates + 1
 
@@ -99,36 +81,24 @@ def random_lines(gates, inputs=1000, latches=1000, outputs=16):
         low = max(1, below - 1000) if rng.random() < 0.5 else 1
         return 2 * rng.randrange(low, below) + rng.randrange(2)
 
-    yield f"aag {end - 1} {inputs} {latches} {outputs} {gates}"
-    yield from (str(2 * v) for v in range(1, inputs + 1))
-    yield from (f"{2 * v} {literal(end)}" for v in range(inputs + 1, first_gate))
-    yield from (str(literal(end)) for _ in range(outputs))
+    lines = [f"aag {end - 1} {inputs} {latches} {outputs} {gates}", *range(2, 2 * inputs + 2, 2)]
+    lines += [f"{2 * v} {literal(end)}" for v in range(inputs + 1, first_gate)]
+    lines += [literal(end) for _ in range(outputs)]
     for v in range(first_gate, end):
         a, b = literal(v), literal(v)
-        yield f"{2 * v} {max(a, b)} {min(a, b)}"
-
-
-def random_circuit(gates):
-    """A file of random gates, with 1000 inputs and 1000 latches."""
-    return "".join(line + "\n" for line in random_lines(gates))
+        lines.append(f"{2 * v} {max(a, b)} {min(a, b)}")
+    return joined(lines)
 
 
 def shuffled(gates):
     """That file with its gates, which are the last lines, in any order."""
-    lines = [line + "\n" for line in random_lines(gates)]
+    lines = random_circuit(gates).splitlines()
     last = lines[-gates:]
     random.Random(1).shuffle(last)
-    return "".join(lines[:-gates] + last)
+    return joined(lines[:-gates] + last)
 
 
 KINDS = {"multiplier": multiplier, "pipeline": pipeline, "random": random_circuit, "shuffled": shuffled}
 
-
-def main():
-    kind, count, file = sys.argv[1:]
-    with open(file, "w", encoding="ascii") as out:
-        out.write(KINDS[kind](int(count)))
-
-
 if __name__ == "__main__":
-    main()
+    pathlib.Path(sys.argv[3]).write_text(KINDS[sys.argv[1]](int(sys.argv[2])))

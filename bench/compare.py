@@ -3,22 +3,23 @@
 
 TOOL is the built program, crates/aigtool/out/aigtool after `rt run` in crates/aigtool. PROGRAM is any program with aigtool's
 command line; what both print is compared. ABC is run where `berkeley-abc` is installed (`&r; &w`, `&r; &write_cnf`), its start
-taken off, and `cat` of the same file. A file with its gates in any order is measured beside TOOL on the file in order. For each of GATES (100000 1000000 4000000) there is a file of random gates with latches,
-the shuffled one, a multiplier, and a pipeline of a twentieth of the gates that is unrolled 20 times. The
-programs of a row run in turn, N (5) times over; the least processor time of each counts, and the greatest peak of memory. Peaks
-are compared where both are above 16 MiB, since this script's own hides smaller ones. --instructions counts instructions by
-callgrind instead of time. In the end there are geometric means of the ratios in the first columns, for each command.
+taken off, and `cat` of the same file. A file with its gates in any order is measured beside TOOL on the file in order. For each of
+GATES (100000 1000000 4000000) there is a file of random gates with latches, the shuffled one, a multiplier, and a pipeline of a
+twentieth of the gates that is unrolled 20 times. The programs of a row run in turn, N (5) times over; the least processor time of
+each counts, and the greatest peak of memory. Peaks are compared where both are above 16 MiB, since this script's own hides smaller
+ones. --instructions counts instructions by callgrind instead of time. In the end there are geometric means of the ratios in the
+first columns, for each command.
 """
 import argparse
 import filecmp
 import math
 import os
 import shutil
+import statistics
 import subprocess
 import sys
-import tempfile
 
-from measuring import instructions, make, row, run
+from measuring import heads, instructions, make, new_folder, row, run
 
 ABC = shutil.which("berkeley-abc")
 SEEN = 16 * 1024
@@ -46,27 +47,25 @@ def make_files(tool, gates, folder):
     """Makes the files of so many gates."""
     counts = {"random": gates, "shuffled": gates, "multiplier": math.isqrt(gates // 10), "pipeline": gates // STEPS}
     for kind, count in counts.items():
-        file = os.path.join(folder, kind)
-        make(kind, count, file + ".aag")
+        make(kind, count, folder / f"{kind}.aag")
         if kind != "shuffled":
-            subprocess.run([tool, "binary", file + ".aag", file + ".aig"], check=True)
+            subprocess.run([tool, "binary", folder / f"{kind}.aag", folder / f"{kind}.aig"], check=True)
 
 
-def programs(options, words, commands, file, folder):
+def programs(options, words, commands, file):
     """The words of each program of a row, and the file that each one writes."""
-    made = {}
-    ordered = file.replace("shuffled", "random")
+    made, ordered = {}, file.with_name(file.name.replace("shuffled", "random"))
     beside = ("yardstick", options.yardstick, file) if ordered == file else ("ordered", options.tool, ordered)
     for name, program, read in [("tool", options.tool, file), beside]:
         if program:
-            out = os.path.join(folder, name)
-            made[name] = [program, *(out if word == "OUT" else read if word == "FILE" else word for word in words.split())], out
-    if ABC and commands and not options.instructions:
-        out = os.path.join(folder, "abc.aig")
-        made["abc"] = [ABC, "-q", commands.replace("FILE", file).replace("OUT", out)], out
-        made["start"] = [ABC, "-q", "quit"], out
+            out = str(file.with_name(name))
+            made[name] = [program, *({"OUT": out, "FILE": str(read)}.get(word, word) for word in words.split())], out
     if not options.instructions:
-        made["cat"] = ["cat", file], os.path.join(folder, "cat")
+        if ABC and commands:
+            out = str(file.with_name("abc.aig"))
+            made["abc"] = [ABC, "-q", commands.replace("FILE", str(file)).replace("OUT", out)], out
+            made["start"] = [ABC, "-q", "quit"], out
+        made["cat"] = ["cat", str(file)], str(file.with_name("cat"))
     return made
 
 
@@ -115,8 +114,8 @@ def measure(options, gates, folder, found):
     """Prints the rows of one count of gates, and adds the ratios to what was found for each command."""
     make_files(options.tool, gates, folder)
     for kind, words, name, commands in ROWS:
-        file, to_file = os.path.join(folder, name), "OUT" in words
-        made = programs(options, words, commands, file, folder)
+        to_file = "OUT" in words
+        made = programs(options, words, commands, folder / name)
         check_same(made, to_file)
         costs = least(options, made, to_file)
         beside = ratios(costs, "ordered" if "ordered" in costs else "yardstick")
@@ -124,12 +123,13 @@ def measure(options, gates, folder, found):
         cost, peak = costs["tool"]
         mine = [f"{cost / 1e6:.1f} million"] if options.instructions else [f"{cost:.3f} s", f"{peak / 1024:.0f} MiB"]
         others = [beside[0]] if options.instructions else [*beside, *ratios(costs, "abc"), ratios(costs, "cat")[0]]
-        row([str(gates), f"{words.replace(' OUT', '').replace('FILE', name)}", *map(shown, others), *mine])
+        row(gates, words.replace(" OUT", "").replace("FILE", name), *map(shown, others), *mine)
 
 
 def geometric_mean(values):
+    """The geometric mean of those that are told, if any is."""
     told = [value for value in values if value is not None]
-    return math.exp(sum(map(math.log, told)) / len(told)) if told else None
+    return statistics.geometric_mean(told) if told else None
 
 
 def main():
@@ -140,17 +140,16 @@ def main():
     words.add_argument("--instructions", action="store_true")
     words.add_argument("gates", type=int, nargs="*", default=[100_000, 1_000_000, 4_000_000])
     options = words.parse_intermixed_args()
-    titles = ["instructions / yardstick", "instructions"] if options.instructions else ["time / yardstick", "peak / yardstick", "time / ABC", "peak / ABC", "time / cat", "time", "peak"]
-    row(["gates", "command", *titles])
-    row(["---"] * (2 + len(titles)))
+    times = ["time / yardstick", "peak / yardstick", "time / ABC", "peak / ABC", "time / cat", "time", "peak"]
+    heads("gates", "command", *(["instructions / yardstick", "instructions"] if options.instructions else times))
     found = {}
     for gates in options.gates:
-        with tempfile.TemporaryDirectory() as folder:
+        with new_folder() as folder:
             measure(options, gates, folder, found)
     print()
     for kind, values in found.items():
         times, peaks = (shown(geometric_mean(part)) for part in zip(*values))
-        row([kind, times] if options.instructions else [kind, times, peaks])
+        row(kind, times, *[peaks] * (not options.instructions))
 
 
 main()

@@ -4,15 +4,12 @@
 For each design: seconds by the clock of ABC's `bmc3` up to step 64 and of `pdr`, each alone and for at most SECONDS (60), of
 aigprove up to step 64, and what aigprove answers. `-` is no answer. The last line has the sums over the designs that ABC answers,
 of the better of both commands and of aigprove. A sum of at most twice ABC's, and 0.3 s for each design, is wanted."""
-import os
 import subprocess
 import sys
-import tempfile
 import time
 
-TOP = os.path.join(os.path.dirname(os.path.abspath(__file__)), "..")
-DESIGNS = os.path.join(TOP, "tests", "designs")
-PROVE = os.path.join(TOP, "bin", "aigprove")
+from measuring import DESIGNS, PROVE, heads, row
+
 DONE = ["was asserted in frame", "Property proved", "Explored all reachable states"]
 
 
@@ -26,32 +23,23 @@ def timed(words, seconds):
     return time.monotonic() - begun, printed
 
 
-def abc(file, command, folder, seconds):
+def abc(file, command, seconds):
     """Seconds of a command of ABC, or None where it answers nothing; constraints and resets are made plain for it."""
     took, printed = timed(["berkeley-abc", "-q", f"read_aiger {file}; logic; undc; strash; zero; fold; {command}"], seconds)
     return took if any(done in printed for done in DONE) else None
 
 
-def shown(seconds):
-    """Seconds as they are printed."""
-    return "-" if seconds is None else f"{seconds:.2f}"
-
-
 def main():
-    seconds = float(sys.argv[1]) if len(sys.argv) > 1 else 60
-    names = sys.argv[2:] or sorted(name[:-4] for name in os.listdir(DESIGNS) if name.endswith(".aig"))
+    seconds, *names = [*sys.argv[1:]] or ["60"]
     sums, count = [0, 0], 0
-    print("| design | bmc3 | pdr | aigprove | answer |\n|---|---|---|---|---|")
-    with tempfile.TemporaryDirectory() as folder:
-        for name in names:
-            file = os.path.join(DESIGNS, f"{name}.aig")
-            bounded, proved = (abc(file, command, folder, seconds) for command in ["bmc3 -F 65", "pdr"])
-            took, printed = timed([PROVE, "--bound", "64", "--timeout", str(seconds), file], seconds + 5)
-            answer = [line for line in printed.splitlines() if line.startswith(("a bad", "no bad state at any", "no bad state up"))]
-            print(f"| {name} | {shown(bounded)} | {shown(proved)} | {took:.2f} | {answer[-1] if answer else '-'} |", flush=True)
-            answered = [it for it in (bounded, proved) if it is not None]
-            if answered:
-                sums, count = [sums[0] + min(answered), sums[1] + took], count + 1
+    heads("design", "bmc3", "pdr", "aigprove", "answer")
+    for file in [DESIGNS / f"{name}.aig" for name in names] or sorted(DESIGNS.glob("*.aig")):
+        by_abc = [abc(file, command, float(seconds)) for command in ["bmc3 -F 65", "pdr"]]
+        took, printed = timed([PROVE, "--bound", "64", "--timeout", seconds, file], float(seconds) + 5)
+        answers = [line for line in printed.splitlines() if line.startswith(("a bad", "no bad state at any", "no bad state up"))]
+        row(file.stem, *("-" if it is None else f"{it:.2f}" for it in by_abc), f"{took:.2f}", (answers or "-")[-1])
+        if by_abc != [None, None]:
+            sums, count = [sums[0] + min(it for it in by_abc if it is not None), sums[1] + took], count + 1
     print(f"ABC {sums[0]:.2f} s, aigprove {sums[1]:.2f} s for {count} designs; wanted: at most {2 * sums[0] + 0.3 * count:.2f} s")
 
 

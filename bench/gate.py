@@ -13,7 +13,8 @@ import re
 import sys
 import time
 
-ROOT = pathlib.Path(__file__).resolve().parent.parent
+from measuring import TOP, heads, row
+
 TICK = os.sysconf("SC_CLK_TCK")
 PARTS = ("proof", "tests", "edits")
 QUIET = 60
@@ -36,7 +37,7 @@ def share(words):
     """Which crate a process works on, and whether on its proof, its tests or its edits. A library is built and a program is checked, so
     that a check of a library is one of its edits; the build of a program comes after its check, and counts as its proof."""
     name = words[words.index("--crate-name") + 1]
-    is_library = (ROOT / "crates" / name / "src" / "lib.rt").exists()
+    is_library = (TOP / "crates" / name / "src" / "lib.rt").exists()
     return name, "tests" if "--test" in words else "edits" if words[1] == "check" and is_library else "proof"
 
 
@@ -56,13 +57,11 @@ def main():
     for name, part, took, peak in watched():
         seconds[name, part] += took
         peaks[name] = max(peaks[name], peak)
-    print("| crate | its proof | its tests | its edits | how many edits | peak MB |\n|---|---|---|---|---|---|")
+    heads("crate", "its proof", "its tests", "its edits", "how many edits", "peak MB")
     for name in sorted(peaks, key=lambda it: -sum(seconds[it, part] for part in PARTS)):
-        edits = len(list((ROOT / "crates" / name / "must-fail").glob("*.edit")))
-        cells = [f"`{name}`", *(f"{seconds[name, part]:.0f}" for part in PARTS), edits, peaks[name]]
-        print("| " + " | ".join(map(str, cells)) + " |")
-    sums = [f"{sum(seconds[name, part] for name in peaks):.0f}" for part in PARTS]
-    print("| all | " + " | ".join(sums) + " | | |")
+        edits = len(list((TOP / "crates" / name / "must-fail").glob("*.edit")))
+        row(f"`{name}`", *(f"{seconds[name, part]:.0f}" for part in PARTS), edits, peaks[name])
+    row("all", *(f"{sum(seconds[name, part] for name in peaks):.0f}" for part in PARTS), "", "")
     return 0 if peaks else 1
 
 

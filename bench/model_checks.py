@@ -7,15 +7,10 @@ last one, isn't reached up to step BOUND (50). Each row has seconds of processor
 what part of the first the last is."""
 import os
 import subprocess
-import sys
-import tempfile
 import time
 
 from circuits import pipeline
-
-TOP = os.path.join(os.path.dirname(os.path.abspath(__file__)), "..")
-PROVE = os.path.join(TOP, "bin", "aigprove")
-TOOL = os.path.join(TOP, "crates", "aigtool", "out", "aigtool")
+from measuring import PROVE, TOOL, new_folder, numbers, row
 
 
 def measured(call):
@@ -23,29 +18,26 @@ def measured(call):
     clock, before = time.monotonic(), os.times()
     call()
     after = os.times()
-    programs = after.children_user + after.children_system - before.children_user - before.children_system
-    return programs, time.monotonic() - clock
+    return sum(after[2:4]) - sum(before[2:4]), time.monotonic() - clock
 
 
-def ask(words, folder):
+def ask(words, clauses):
     """Prints clauses and has them solved."""
-    clauses, proof = (os.path.join(folder, name) for name in ["clauses.cnf", "proof"])
-    with open(clauses, "wb") as out:
+    with clauses.open("wb") as out:
         subprocess.run(words, stdout=out, check=True)
-    subprocess.run(["cadical", "-q", "--no-binary", clauses, proof], stdout=subprocess.DEVNULL)
+    subprocess.run(["cadical", "-q", "--no-binary", clauses, clauses.with_name("proof")], stdout=subprocess.DEVNULL)
 
 
 def main():
-    gates, bound = [int(word) for word in sys.argv[1:]] + [10000, 50][len(sys.argv) - 1 :]
-    with tempfile.TemporaryDirectory() as folder:
-        file = os.path.join(folder, "made.aag")
-        with open(file, "w", encoding="ascii") as out:
-            out.write(pipeline(gates))
-        steps = measured(lambda: [ask([TOOL, "query", file, str(k)], folder) for k in range(bound + 1)])
+    gates, bound = numbers(10000, 50)
+    with new_folder() as folder:
+        file, clauses = folder / "made.aag", folder / "clauses.cnf"
+        file.write_text(pipeline(gates))
+        steps = measured(lambda: [ask([TOOL, "query", file, str(k)], clauses) for k in range(bound + 1)])
         words = [PROVE, "--engine", "steps", "--bound", str(bound), file]
         proved = measured(lambda: subprocess.run(words, stdout=subprocess.DEVNULL, check=True))
-    for name, times in [("query and solver", steps), ("aigprove", proved)]:
-        print(f"| {name} | {times[0]:.1f} s | {times[1]:.1f} s |")
+    for name, (processor, clock) in [("query and solver", steps), ("aigprove", proved)]:
+        row(name, f"{processor:.1f} s", f"{clock:.1f} s")
     print(f"aigprove / query and solver: {proved[0] / steps[0]:.2f} of processor time, {proved[1] / steps[1]:.2f} by the clock")
 
 

@@ -9,12 +9,11 @@ For each of BITS (6 7 8) two multipliers that add up their rows in other orders 
 processor time of the solver and of the check, what part the one is of the other, the proof's size, and the check's peak memory,
 which is seen only above this script's own, some 14 MiB.
 """
-import os
+import itertools
 import sys
-import tempfile
 
 from circuits import multipliers
-from measuring import row, run
+from measuring import heads, new_folder, row, run
 
 FORMS = [("DRAT", []), ("LRAT", ["--lrat=1"])]
 
@@ -22,10 +21,9 @@ FORMS = [("DRAT", []), ("LRAT", ["--lrat=1"])]
 def measure(tools, name, text, raw, folder):
     """Prints the rows of one file."""
     aigtool, aigcheck, solver = tools
-    file, clauses, proof = (os.path.join(folder, part) for part in ["file.aag", "clauses", "proof"])
-    with open(file, "w", encoding="ascii") as made:
-        made.write(text)
-    with open(clauses, "wb") as made:
+    file, clauses, proof = (folder / part for part in ["file.aag", "clauses", "proof"])
+    file.write_text(text)
+    with clauses.open("wb") as made:
         if run([aigtool, "query", file, "0", *raw], made)[0] != 0:
             sys.exit(f"{aigtool} prints no clauses")
     for form, words in FORMS:
@@ -37,22 +35,18 @@ def measure(tools, name, text, raw, folder):
         status, checking, peak = run([aigcheck, "refuted", file, "0", proof, *raw])
         if status != 0:
             sys.exit(f"{aigcheck} ended with status {status} on a proof of {name} in the {form} format")
-        size = os.path.getsize(proof) / 1e6
-        part = f"{100 * checking / solving:.0f} %"
-        row([name, form, f"{solving:.2f} s", f"{size:.1f} MB", f"{checking:.2f} s", part, f"{peak / 1024:.1f} MiB"])
+        size, part = f"{proof.stat().st_size / 1e6:.1f} MB", f"{100 * checking / solving:.0f} %"
+        row(name, form, f"{solving:.2f} s", size, f"{checking:.2f} s", part, f"{peak / 1024:.1f} MiB")
 
 
 def main():
     if len(sys.argv) < 3:
         sys.exit(__doc__.split("\n", maxsplit=1)[0])
-    tools = (sys.argv[1], sys.argv[2], sys.argv[3] if len(sys.argv) > 3 else "cadical")
-    row(["file", "proof", "solving", "proof's size", "checking", "of solving", "peak"])
-    row(["---"] * 7)
-    for bits in [int(word) for word in sys.argv[4:]] or [6, 7, 8]:
-        for raw in ([], ["raw"]):
-            with tempfile.TemporaryDirectory() as folder:
-                name = " ".join([f"multipliers of {bits} bits", *raw])
-                measure(tools, name, multipliers(bits), raw, folder)
+    tools = (sys.argv[1:4] + ["cadical"])[:3]
+    heads("file", "proof", "solving", "proof's size", "checking", "of solving", "peak")
+    for bits, raw in itertools.product([int(word) for word in sys.argv[4:]] or [6, 7, 8], ([], ["raw"])):
+        with new_folder() as folder:
+            measure(tools, " ".join([f"multipliers of {bits} bits", *raw]), multipliers(bits), raw, folder)
 
 
 main()

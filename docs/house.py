@@ -10,6 +10,7 @@ import sys
 
 TOP = pathlib.Path(__file__).resolve().parent.parent
 sys.path.insert(0, str(TOP / "tests"))
+import harness
 import promises
 
 DRAWING = TOP / "docs" / "house.svg"
@@ -21,14 +22,13 @@ PROGRAM, PROMISE, LAW, ENGINE, TEST = "program", "public calls and values", "def
 COLOURS = {PROGRAM: "#f6b26b", PROMISE: "#9fc5e8", LAW: "#b6d7a8", ENGINE: "#d9d9d9", TEST: "#ffe599"}
 # Whose types the public calls take and give.
 VALUES = ["aig_base", "aig_circuit"]
-TESTS = ["aig_tests", "aig_script", "aig_sample", "aig_tests"]
+TESTS = ["aig_tests", "aig_script", "aig_sample"]
 
 
 def needs():
     """What each crate stands on, without what follows, and its row, from the bottom."""
-    lines = [line.partition(":") for line in (TOP / "crates.txt").read_text().splitlines() if line and line[0] != "#"]
-    words = {name.split()[0]: names.split() for name, _, names in lines}
-    below = {name: [other for other in names if other in words] for name, names in words.items()}
+    lines = harness.crates()
+    below = {name: [other for other in line.partition(":")[2].split() if other in lines] for name, line in lines.items()}
 
     def row(name):
         return 1 + max(map(row, below[name]), default=-1)
@@ -63,7 +63,7 @@ def rectangle(x, y, width, height, colour):
 
 def drawing():
     """The text of the drawing."""
-    (below, rows), (_, code, found) = needs(), promises.layers(promises.ROOT)
+    (below, rows), (_, code, found) = needs(), promises.layers()
     told = {}
     for name in below:
         count = sum(word.crate == name for word in found[-1][1])

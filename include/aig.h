@@ -45,7 +45,7 @@ enum aig_status {
   AIG_NO_BADS = 6,    /* There is no bad state property, so that nothing is asked. */
   AIG_CROWDED = 7,    /* The clauses of a window may have more variables than the limit. */
   AIG_MISFIT = 8,     /* The counts of two files don't fit. */
-  AIG_UNWRITABLE = 9, /* The circuit of two files is too large for the format. */
+  AIG_UNWRITABLE = 9, /* The circuit that is made is too large for the format. */
 
   /* The file is refused. */
   AIG_HEADER = 10,   /* The first line isn't a good header line. */
@@ -72,6 +72,12 @@ enum aig_status {
   AIG_LITERAL_JUSTICE = 29,
   AIG_LITERAL_FAIRNESS = 30,
   AIG_LITERAL_GATES = 31,
+
+  /* The file is taken, and there is no answer. */
+  AIG_SETTLED = 32,        /* No bad state is reached up to step `k`, so that there are no clauses to solve. */
+  AIG_HAS_BADS = 33,       /* Outputs would become bad state properties, and there are some. */
+  AIG_NO_OUTPUT = 34,      /* There is no output of this number. */
+  AIG_LARGE_QUESTION = 35, /* The question has more nodes than the limit while it is made. */
 
   /* A proof is refused. */
   AIG_PROOF_CLAUSES = 40,    /* Never: a literal of the clauses has no variable. */
@@ -129,6 +135,40 @@ uint32_t aig_binary(const uint8_t *file, size_t file_len, uint8_t *out, size_t o
 /* The text form of a file's circuit after structural hashing. */
 uint32_t aig_strash(const uint8_t *file, size_t file_len, uint8_t *out, size_t out_len, size_t *needed);
 
+/* The text form of a file's circuit, cut to its cone of influence: what no property reads is gone. */
+uint32_t aig_refine(const uint8_t *file, size_t file_len, uint8_t *out, size_t out_len, size_t *needed);
+
+/* The text form of a file's circuit in the numbering of the binary form. */
+uint32_t aig_reencode(const uint8_t *file, size_t file_len, uint8_t *out, size_t out_len, size_t *needed);
+
+/* The text form of a file's circuit with `k` further steps: its bad state properties are those of the steps 0 to `k`. */
+uint32_t aig_unroll(const uint8_t *file, size_t file_len, uint64_t k, uint8_t *out, size_t out_len, size_t *needed);
+
+/* The text form of a file's circuit with its constraints joined to the first bad state property and the first output. */
+uint32_t aig_move_constraints(const uint8_t *file, size_t file_len, uint8_t *out, size_t out_len, size_t *needed);
+
+/* The text form of a file's circuit with its bad state properties as one. */
+uint32_t aig_compress_bads(const uint8_t *file, size_t file_len, uint8_t *out, size_t out_len, size_t *needed);
+
+/* The text form of a file's circuit with its outputs as its bad state properties, and no outputs: files from before AIGER 1.9 have
+ * no others. A file with bad state properties is refused. */
+uint32_t aig_outputs_as_bads(const uint8_t *file, size_t file_len, uint8_t *out, size_t out_len, size_t *needed);
+
+/* The text form of the cone of a file's output `n`, from 0 on: what it, the constraints and the latches read, with that output and the
+ * constraints as the only properties. */
+uint32_t aig_cone(const uint8_t *file, size_t file_len, size_t n, uint8_t *out, size_t out_len, size_t *needed);
+
+/* The text form of what of a file's circuit its bad state properties and constraints read, with equal gates merged. */
+uint32_t aig_reduce(const uint8_t *file, size_t file_len, uint8_t *out, size_t out_len, size_t *needed);
+
+/* The text form of one question: a circuit without latches, whose one output can be true exactly where a bad state of a file's
+ * machine is reached at a step from 0 to `k`. A file without bad state properties is refused. */
+uint32_t aig_question(const uint8_t *file, size_t file_len, uint64_t k, uint8_t *out, size_t out_len, size_t *needed);
+
+/* The counts of a file's circuit, a line each: inputs, latches, outputs, gates, bads, constraints, justice, fairness and levels, which
+ * is the greatest number of gates on a path. */
+uint32_t aig_info(const uint8_t *file, size_t file_len, uint8_t *out, size_t out_len, size_t *needed);
+
 /* The clauses, in DIMACS form, of a file's circuit that is unrolled by `k` steps. */
 uint32_t aig_cnf(const uint8_t *file, size_t file_len, uint64_t k, bool optimize, uint8_t *out, size_t out_len, size_t *needed);
 
@@ -148,6 +188,12 @@ uint32_t aig_query_numbers(const uint8_t *file, size_t file_len, uint64_t k, boo
 uint32_t aig_clauses(const uint8_t *file, size_t file_len, uint64_t k, bool optimize, uint8_t *out, size_t out_len,
                      size_t *needed);
 
+/* The clauses, in DIMACS form, of `aig_question`, and that its output is true; before them comments that say which input or latch each
+ * input of the question is, at which step, and its variable. AIG_SETTLED only where no bad state is reached up to step `k`: then there
+ * are no clauses to solve. */
+uint32_t aig_bounded(const uint8_t *file, size_t file_len, uint64_t k, bool optimize, uint8_t *out, size_t out_len,
+                     size_t *needed);
+
 /* The clauses, in DIMACS form, that ask for a window of a file's machine: `k` + 2 steps from any state with a bad state first at
  * their end; where `distinct`, on which no state comes twice. */
 uint32_t aig_window(const uint8_t *file, size_t file_len, uint64_t k, bool distinct, bool optimize, uint8_t *out,
@@ -157,6 +203,11 @@ uint32_t aig_window(const uint8_t *file, size_t file_len, uint64_t k, bool disti
  * at step `k`. `proof` is of the clauses of `aig_query`. */
 uint32_t aig_check_refuted(const uint8_t *file, size_t file_len, uint64_t k, bool optimize, const uint8_t *proof,
                            size_t proof_len);
+
+/* AIG_DONE only where no such run reaches a bad state at a step from 0 to `k`. `proof` is of the clauses of `aig_bounded`; where these
+ * are settled it isn't read. */
+uint32_t aig_check_refuted_to(const uint8_t *file, size_t file_len, uint64_t k, bool optimize, const uint8_t *proof,
+                              size_t proof_len);
 
 /* AIG_DONE only where no such run ever reaches a bad state, if none does at the steps 0 to `k`. `proof` is of the clauses of
  * `aig_window`. */
@@ -179,6 +230,10 @@ uint32_t aig_check_equal(const uint8_t *file, size_t file_len, const uint8_t *ot
 uint32_t aig_witness(const uint8_t *file, size_t file_len, uint64_t k, bool optimize, const uint8_t *solution,
                      size_t solution_len, uint8_t *out, size_t out_len, size_t *needed);
 
+/* The witness, of the first step with a bad state, that a solver's answer to the clauses of `aig_bounded` says. It was checked, too. */
+uint32_t aig_witness_to(const uint8_t *file, size_t file_len, uint64_t k, bool optimize, const uint8_t *solution,
+                        size_t solution_len, uint8_t *out, size_t out_len, size_t *needed);
+
 /* AIG_DONE only where the witness shows that a file's machine reaches a bad state. `*bad` is which bad state property that is, and
  * `*step` the step at which it is reached, both from 0 on. What follows the first witness isn't read. */
 uint32_t aig_check_run(const uint8_t *file, size_t file_len, const uint8_t *witness, size_t witness_len, size_t *bad,
@@ -192,6 +247,15 @@ uint32_t aig_miter(const uint8_t *file, size_t file_len, const uint8_t *other, s
 /* The text form of a file's circuit beside its certificate, of which both proofs of `aig_check_certified` are. */
 uint32_t aig_join(const uint8_t *file, size_t file_len, const uint8_t *certificate, size_t certificate_len, uint8_t *out,
                   size_t out_len, size_t *needed);
+
+/* The text form of two files side by side: each list of the first, and then that of the second. */
+uint32_t aig_merge(const uint8_t *file, size_t file_len, const uint8_t *other, size_t other_len, uint8_t *out, size_t out_len,
+                   size_t *needed);
+
+/* The clauses, in DIMACS form, that the proofs of `aig_check_certified` are of: after the line `c base` those of `base`, and after the
+ * line `c step` those of `step`. */
+uint32_t aig_obligations(const uint8_t *file, size_t file_len, const uint8_t *certificate, size_t certificate_len, bool optimize,
+                         uint8_t *out, size_t out_len, size_t *needed);
 
 #ifdef __cplusplus
 }

@@ -1,10 +1,15 @@
-"""Machines as files in AIGER form have them, read, written and run: what tests know of the form without the library.
+"""Machines as files in AIGER form have them, read by aigprove's reader, written and run: what tests know of the form without the library.
 
 Literals are those of the text form. A latch is its own literal, the next one and perhaps its reset, which is its own literal where the
 latch begins with either value.
 """
 import dataclasses
 import itertools
+
+# Which finds the package of aigprove.
+import harness
+
+from aigprove.aiger import Circuit, Lines, difference
 
 # The and of two inputs, in both forms.
 AND = b"aag 3 2 0 1 1\n2\n4\n6\n6 4 2\n"
@@ -115,32 +120,26 @@ class Machine:
         return values[self.bads[witness.bad]]
 
 
+class Gates(list):
+    """Gates over so many leaves, whose literals are 2, 4 and so on, in the order in which they are made."""
+
+    def __init__(self, leaves):
+        super().__init__()
+        self.first = 2 * (leaves + 1)
+
+    def both(self, left, right):
+        """The literal of an and."""
+        self.append((self.first + 2 * len(self), max(left, right), min(left, right)))
+        return self[-1][0]
+
+
 def joined(lines):
     """Lines as a text."""
     return "".join(f"{line}\n" for line in lines)
 
 
-def difference(number):
-    """A number as binary files spell it: groups of seven bits, the lowest first, each but the last with the eighth bit set."""
-    groups = []
-    while number > 127:
-        groups.append(number & 127 | 128)
-        number >>= 7
-    return bytes([*groups, number])
-
-
 def machine_of(text):
-    """The machine of a text file, without its names; each latch has a reset."""
-    header, *lines = text.splitlines()
-    inputs, latches, outputs, gates, bads, constraints, justice, fairness = ([int(word) for word in header.split()[2:]] + [0] * 4)[:8]
-    rest = iter(lines)
-
-    def rows(count):
-        return [[int(word) for word in next(rest).split()] for _ in range(count)]
-
-    def literals(count):
-        return [literal for (literal,) in rows(count)]
-
-    heads = literals(inputs), [[*row, 0][:3] for row in rows(latches)], literals(outputs), literals(bads), literals(constraints)
-    sets = [literals(size) for size in literals(justice)]
-    return Machine(*heads, sets, literals(fairness), rows(gates), {})
+    """The machine of a text file, whose last line may lack its end, without its names; each latch has a reset."""
+    it = Circuit(Lines(text.removesuffix("\n").encode() + b"\n", "FILE"))
+    latches = [list(row) for row in zip(it.latches, it.nexts, it.resets)]
+    return Machine(it.inputs, latches, it.outputs, it.bads, it.constraints, it.justice, it.fairness, it.gates, {})

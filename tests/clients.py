@@ -30,7 +30,11 @@ CLIENTS = TESTS / "clients"
 EXPORTS = TOP / "crates" / "aig_c" / "src" / "lib.rt"
 STATUSES = TOP / "crates" / "aig_calls" / "src" / "status.rt"
 # What a status can't tell: the number of a step.
-NUMBERED = [(r"\bstep \d+ has not a value", "a step has not a value"), (r"\bhold at step \d+\n", "hold at a step\n")]
+NUMBERED = [
+    (r"\bstep \d+ has not a value", "a step has not a value"),
+    (r"\bhold at step \d+\n", "hold at a step\n"),
+    (r"\bup to step \d+\n", "up to the step\n"),
+]
 
 # Rows of the calls that no program makes: the words, files by their names below, and what is printed. A certificate of a latch that
 # stays 0 and an input, and equal ands, as the tests of aig_certificates have them, which were worked by hand too.
@@ -56,6 +60,7 @@ MADE = {
 # Of a latch that holds its input back by a step, and is bad where it is 0: at step 1 by the input at step 0.
 HELD_BACK = "c i0 at step 0 is 2\nc i0 at step 1 is 4\nc l0 at step 0 is 3\nc b0 at step 1 is -2\n"
 SAFE, SAME = "no bad state at any step\n", "equal at step 0\n"
+PAST = "calls: step past 2^32 - 1\n"
 FOLLOWS, UNNAMED = "proof step does not follow", "number of no clause in proof"
 ROWS = [
     ("certified differing held base step", SAFE),
@@ -78,19 +83,28 @@ ROWS = [
     ("equal and three 0 proof", "calls: files do not fit\n"),
     ("equal and past 0 proof", "calls: other file: bad literal in outputs\n"),
     ("equal and and 4294967295 proof", "calls: query: unrolled circuit may pass the limit\n"),
-    ("equal and and 4294967296 proof", "calls: step past 2^32 - 1\n"),
-    ("equal and and 18446744073709551615 proof", "calls: step past 2^32 - 1\n"),
-    *((f"{words} 4294967296", "calls: step past 2^32 - 1\n") for words in ("cnf and", "query and", "clauses differing", "window differing", "numbers differing")),
-    *((f"{words} 4294967296 {given}", "calls: step past 2^32 - 1\n") for words, given in (("refuted past", "proof"), ("inductive past", "proof"), ("witness past", "proof"))),
+    ("equal and and 4294967296 proof", PAST),
+    ("equal and and 18446744073709551615 proof", PAST),
+    *((f"{words} 4294967296", PAST) for words in ("cnf and", "query and", "clauses differing", "window differing", "numbers differing")),
+    *((f"{words} 4294967296", PAST) for words in ("unroll past", "question past", "bounded past")),
+    *((f"{words} 4294967296 proof", PAST) for words in ("refuted past", "inductive past", "witness past", "refuted past to", "witness past to")),
+    ("unroll and 4294967295", "calls: unrolled circuit may pass the limit\n"),
+    ("cone and 4294967296", "calls: no such output\n"),
+    ("cone and 18446744073709551615", "calls: no such output\n"),
     ("window differing 4294967295", "calls: unrolled circuit may pass the limit\n"),
     ("binary and", "aig 3 2 0 1 1\n6\n\x02\x02"),
     ("numbers toggle 0", "c l0 at step 0 is 2\nc b0 at step 0 is 2\np cnf 2 3\n-1 0\n-2 0\n2 0\n"),
     ("numbers held_back 1", f"{HELD_BACK}p cnf 4 3\n-1 0\n-3 0\n-2 0\n"),
-    ("numbers and 0", "calls: no bad state property\n"),
+    ("numbers and 0", "calls: no bad state property (aigedit bads makes outputs such)\n"),
     ("numbers past 0", "calls: bad literal in outputs\n"),
 ]
 # The commands of the programs that have a call.
-CALLED = "text strash cnf query clauses window refuted inductive witness run certified equal miter join".split()
+CALLED = "text strash cnf query clauses window refuted inductive witness run certified equal miter join merge obligations bounded".split()
+# The edits among them, with the names of their calls.
+EDITS = {name: name for name in "refine reencode unroll cone reduce question info".split()}
+EDITS |= {"move": "move_constraints", "compress": "compress_bads", "bads": "outputs_as_bads"}
+# The words of a command that name no file.
+WORDS = ["raw", "distinct", "to"]
 # What Python's declarations stand for, to which a uint64_t is a size_t.
 OF_PYTHON = {
     ctypes.c_char_p: "uint8_t*",
@@ -122,8 +136,8 @@ def table_rows():
                 continue
             words, given, printed = prepared(row)
             program, *words = shlex.split(form.format(words))
-            known = [(path.parent / word).is_file() or word in ("GIVEN", "raw", "distinct") or word.isdigit() for word in words[1:]]
-            if printed != "usage" and all(known) and len(words) > 1 and words[0] in CALLED:
+            known = [(path.parent / word).is_file() or word in ("GIVEN", *WORDS) or word.isdigit() for word in words[1:]]
+            if printed != "usage" and all(known) and len(words) > 1 and words[0] in [*CALLED, *EDITS]:
                 yield path.parent, program, words, spelled(given), printed
                 if words[0] == "clauses":
                     yield path.parent, program, ["numbers", *words[1:]], spelled(given), printed
@@ -163,10 +177,10 @@ class Clients:
 
     def check_memory(self):
         """Refuses each request for memory of each call."""
-        whole = {"whole.aag": memory.WHOLE, **memory.CHECKED}
+        whole = {"whole.aag": memory.WHOLE, "and.aag": AND, **memory.CHECKED}
         harness.write_files(self.folder, whole)
         refusing = self.build_c("memory", "-Wl,--wrap=malloc,--wrap=realloc,--wrap=free")
-        files = ["whole.aag", "waiting.aag", "conflict", "hints", "delayed.aag", "solution", "counter.aag", "witness"]
+        files = ["whole.aag", "waiting.aag", "conflict", "hints", "delayed.aag", "solution", "counter.aag", "witness", "apart.aag", "solved", "and.aag"]
         status, out, said = harness.run([refusing, *files], cwd=self.folder)
         self.tally.check(status == 0, f"refused memory: status {status}\n{out.decode()}{said.decode()}")
         made = dict(re.findall(r"^(\w+): (\d+) requests", out.decode(), re.M))
@@ -178,7 +192,7 @@ class Clients:
         header = (TOP / "include" / "aig.h").read_text(encoding="utf-8")
         c = {name: [re.sub(r"\s*\w+$", "", it).replace(" *", "*") for it in re.sub(r"\s+", " ", args).split(", ")] for name, args in re.findall(r"^uint32_t (\w+)\(([^)]*)\);", header, re.M)}
         names = {name: [it.split()[-1].lstrip("*") for it in re.sub(r"\s+", " ", args).split(", ")] for name, args in re.findall(r"^uint32_t (\w+)\(([^)]*)\);", header, re.M)}
-        kinds = {"&[u8]": ["const uint8_t*", "size_t"], "&mut [u8]": ["uint8_t*", "size_t"], "&mut [i32]": ["int32_t*", "size_t"], "&mut usize": ["size_t*"], "u64": ["uint64_t"], "u32": ["uint32_t"], "bool": ["bool"]}
+        kinds = {"&[u8]": ["const uint8_t*", "size_t"], "&mut [u8]": ["uint8_t*", "size_t"], "&mut [i32]": ["int32_t*", "size_t"], "&mut usize": ["size_t*"], "usize": ["size_t"], "u64": ["uint64_t"], "u32": ["uint32_t"], "bool": ["bool"]}
         source = EXPORTS.read_text(encoding="utf-8")
         rust, rust_names = {}, {}
         for name, args in re.findall(r'^pub extern "C" fn (\w+)\(([^)]*)\) -> u32', source, re.M):
@@ -260,7 +274,7 @@ class Clients:
         status, out, said = harness.run([checker, TOP / SAFE_DESIGN, "6"])
         self.tally.wants(f"C++: {SAFE_DESIGN}", (0, "".join(f"no bad state at step {k}\n" for k in range(7)), b""), (status, out.decode(), said))
         self.tally.wants("C++: no file", (2, b"", b"bmc: cannot open\n"), harness.run([checker, self.folder / "missing"]))
-        self.tally.wants("C++: no bads", (2, b"", b"bmc: no bad state property\n"), harness.run([checker, answers.FILES / "no_bads.aag"]))
+        self.tally.wants("C++: no bads", (2, b"", b"bmc: no bad state property (aigedit bads makes outputs such)\n"), harness.run([checker, answers.FILES / "no_bads.aag"]))
 
 
 def text_of(clauses):
@@ -276,7 +290,7 @@ def by_python(aig, place, program, words, given):
     """How a command ends through the Python module, as its program would."""
     command, *rest = words
     setting = {"optimize": "raw" not in rest}
-    paths = [word for i, word in enumerate(rest) if word not in ("raw", "distinct") and (i == 0 or not word.isdigit())]
+    paths = [word for i, word in enumerate(rest) if word not in WORDS and (i == 0 or not word.isdigit())]
     file, *beside = [given if path == "GIVEN" else (place / path).read_bytes() for path in paths]
     k = next((int(word) for word in rest[1:] if word.isdigit()), 0)
     if command in ("window", "inductive"):
@@ -284,16 +298,25 @@ def by_python(aig, place, program, words, given):
     try:
         if command in ("text", "binary", "strash"):
             out = getattr(aig, command)(file)
-        elif command in ("miter", "join"):
+        elif command in ("unroll", "cone", "question"):
+            out = getattr(aig, EDITS[command])(file, k)
+        elif command in EDITS:
+            out = getattr(aig, EDITS[command])(file)
+        elif command in ("miter", "join", "merge"):
             out = getattr(aig, command)(file, beside[0])
-        elif command in ("cnf", "query", "clauses", "window"):
+        elif command == "obligations":
+            out = aig.obligations(file, beside[0], **setting)
+        elif command in ("cnf", "query", "clauses", "window", "bounded"):
             out = getattr(aig, command)(file, k, **setting)
         elif command == "numbers":
             out = text_of(aig.query_numbers(file, k, **setting)).encode()
         elif command == "witness":
-            out = aig.witness(file, k, beside[0], **setting)
+            out = (aig.witness_to if "to" in rest else aig.witness)(file, k, beside[0], **setting)
         elif command == "run":
             out = "b{} at step {}\n".format(*aig.check_run(file, beside[0])).encode()
+        elif command == "refuted" and "to" in rest:
+            aig.check_refuted_to(file, k, beside[0], **setting)
+            out = f"no bad state up to step {k}\n".encode()
         elif command == "refuted":
             aig.check_refuted(file, k, beside[0], **setting)
             out = f"no bad state at step {k}\n".encode()
@@ -306,6 +329,8 @@ def by_python(aig, place, program, words, given):
         else:
             aig.check_certified(file, *beside, **setting)
             out = SAFE.encode()
+    except aig.Settled as refusal:
+        return 20, b"", f"{program}: {refusal}\n".encode()
     except aig.Refused as refusal:
         return 1, b"", f"{program}: {refusal}\n".encode()
     return 0, out, b""

@@ -2,60 +2,26 @@
 """Asks bin/aigprove about designs, and turns what it keeps: designs.py [SECONDS]
 
 For each file of tests/designs the answer has to come within SECONDS (60), and to be the one of answers.tsv, which bmc3 and pdr of ABC
-agree on: a bad state at that step or a later one, or none at any step. For those in Verilog, which yosys makes files, if it is there, a
-row has the words, the exit status, and lines that are printed or, where there is no answer, said on standard error. The values of a run
-that nothing asks for are the solver's choice, and stand in no row. What is kept is shown again by check.sh. It isn't with the first bad
-literal of the file's copy or of the certificate inverted, with another bad state or no end in the witness, or with a sign before
-a proof that is no step, where unit propagation alone doesn't show the line."""
+agree on: a bad state at that step or a later one, or none at any step. Those in Verilog, which yosys makes files, if it is there, stand
+in the rows of tests/verilog. What is kept is shown again by check.sh. It isn't with the first bad literal of the file's copy or of the
+certificate inverted, with another bad state or no end in the witness, or with a sign before a proof that is no step, where unit
+propagation alone doesn't show the line."""
 import shlex
 import shutil
 import subprocess
 import sys
-import tempfile
-from pathlib import Path
 
 import harness
 from harness import CHECK, PROVE, TESTS, TOP
 
 from aigprove.aiger import Header, Lines
 
-DESIGNS = TESTS / "designs"
-VERILOG = [
-    (["tests/verilog/mailbox.v"], 10, [
-        "a bad state at step 2: b0",
-        "start: count.stored=2'h0 store.memory[0]=8'hff",
-        "step 0: d=8'hff put=1 rst=0",
-        "step 1: d=8'hff put=1 rst=0",
-        "assertion mailbox.known (tests/verilog/mailbox.v:23.5-23.45) fails, as yosys runs it",
-    ]),
-    (["tests/verilog/falling.v", "falling"], 10, [
-        "a bad state at step 0: b0",
-        "assertion falling.same (tests/verilog/falling.v:7.5-7.48) fails, as yosys runs it",
-    ]),
-    (["tests/verilog/states.sv"], 10, [
-        "a bad state at step 16: b2",
-        "step 1: go=1 rst_n=1",
-        "assertion states.seven (tests/verilog/states.sv:32.5-32.31) fails, as yosys runs it",
-    ]),
-    (["tests/verilog/combinational.v"], 20, ["no bad state at any step"]),
-    (["examples/queue.v"], 10, ["a bad state at step 4: b0", "start: count=3'h0", "step 3: pop=1 push=1"]),
-    (["examples/pipeline.v"], 20, ["no bad state at any step"]),
-    (["examples/handshake.v", "handshake"], 20, ["no bad state at any step"]),
-    (["tests/verilog/clocks.v"], 1, ["aigprove: clocks has several clocks, and one is taken: clk_a (rising) and clk_b (rising)"]),
-    (["tests/verilog/edges.v"], 1, ["aigprove: edges has several clocks, and one is taken: clk (falling) and clk (rising)"]),
-    (["tests/verilog/gated.v"], 1, ["aigprove: gated reads its clock clk as a value too"]),
-    (["tests/verilog/mailbox.v", "cells"], 1, ["aigprove: tests/verilog/mailbox.v: cells has no assertion"]),
-    (["tests/verilog/mailbox.v", "letters"], 1, ["aigprove: ERROR: Module `letters' not found!"]),
-    (["tests/verilog/nothing.v"], 1, ["aigprove: ERROR: Can't open input file `tests/verilog/nothing.v' for reading"]),
-    # Each register beside itself, and a design beside one that was made of it with its inputs in another order.
-    (["tests/verilog/states.sv", "--equal", "tests/verilog/states.sv"], 20, ["equal at step 0", "equal at every step"]),
-    (["examples/queue.v", "--equal", "examples/queue.aag"], 10, [
-        "inputs are matched by position: i0 is pop and push",
-        "a difference at step 4: b0",
-        "start: count=3'h0 other.count=3'h0",
-    ]),
-    (["examples/queue.aag", "queue"], 1, ["aigprove: examples/queue.aag is no design in Verilog"]),
-]
+DESIGNS, VERILOG = TESTS / "designs", TESTS / "verilog"
+
+
+def rows(folder):
+    """The rows of a folder's table of answers."""
+    return [line.split("\t") for line in (folder / "answers.tsv").read_text().splitlines() if line[0] != "#"]
 
 
 def is_right(answer, status, printed):
@@ -131,24 +97,22 @@ def file_faults(design, answer, folder, seconds):
 
 def verilog_faults(words, wanted_status, wanted, folder):
     """What is wrong of an answer about a design in Verilog, which is looked for by the engines that find the first step."""
-    status, printed, said = answered(["--engine", "steps,windows", "--keep", folder, *words])
-    lines = (printed if wanted_status != 1 else said).splitlines()
-    if status != wanted_status or not all(any(line.startswith(it) for line in lines) for it in wanted):
+    status, printed, said = answered(["--engine", "steps,windows", "--keep", folder, *words.split()])
+    lines = (printed if wanted_status != "1" else said).splitlines()
+    if status != int(wanted_status) or not all(any(line.startswith(it) for line in lines) for it in wanted):
         yield f"ended with status {status}: {printed}{said}"
-    if wanted_status != 1:
+    if wanted_status != "1":
         yield from kept_faults(folder)
 
 
 def main():
     tally, seconds = harness.Tally(), (sys.argv[1:] or ["60"])[0]
-    files = [line.split() for line in (DESIGNS / "answers.tsv").read_text().splitlines() if line[0] != "#"]
-    designs = VERILOG if shutil.which("yosys") else print("designs in Verilog: passed over, without yosys") or []
-    with tempfile.TemporaryDirectory() as name:
-        folder = Path(name)
-        for design, answer in files:
+    designs = rows(VERILOG) if shutil.which("yosys") else print("designs in Verilog: passed over, without yosys") or []
+    with harness.new_folder() as folder:
+        for design, answer in rows(DESIGNS):
             tally.wants(design, [], list(file_faults(design, answer, folder / design, seconds)))
-        for i, (words, status, wanted) in enumerate(designs):
-            tally.wants(" ".join(words), [], list(verilog_faults(words, status, wanted, folder / str(i))))
+        for i, (words, status, *wanted) in enumerate(designs):
+            tally.wants(words, [], list(verilog_faults(words, status, wanted, folder / str(i))))
     return tally.end()
 
 

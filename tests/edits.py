@@ -5,21 +5,20 @@ Copies this tree, puts the edits of tests/edits/NAME beside those of crates/NAME
 these edits break is refused by a lemma, a test or another edit that the gate has, as docs/PROOFS.md tells; here the prover is asked
 itself. By hand, since a crate's first edit costs a check of the crate.
 """
-import pathlib
 import shutil
 import subprocess
 import sys
-import tempfile
 
-ROOT = pathlib.Path(__file__).resolve().parent.parent
-EDITS = ROOT / "tests" / "edits"
+from harness import TESTS, TOP, new_folder
+
+EDITS = TESTS / "edits"
 
 
 def main():
     names = sys.argv[1:] or sorted(it.name for it in EDITS.iterdir())
-    with tempfile.TemporaryDirectory() as folder:
-        tree = pathlib.Path(folder) / "tree"
-        subprocess.run(["git", "clone", "-q", str(ROOT), str(tree)], check=True)
+    with new_folder() as folder:
+        tree = folder / "tree"
+        subprocess.run(["git", "clone", "-q", TOP, tree], check=True)
         for name in names:
             place = tree / "crates" / name / "must-fail"
             place.mkdir(exist_ok=True)

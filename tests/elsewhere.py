@@ -11,10 +11,9 @@ import pathlib
 import shutil
 import subprocess
 import sys
-import tempfile
 import time
 
-from harness import TOP
+from harness import TOP, crates, new_folder
 
 CALLER = TOP / "examples" / "caller"
 # Whose words its contracts cite, and whose items it calls.
@@ -23,9 +22,7 @@ STANDS_ON = ["aig", "aig_base", "aig_circuit", "aig_encode", "aig_format", "aig_
 
 def lines_below(names):
     """The lines of crates.txt of these crates and of all that they stand on."""
-    text = (TOP / "crates.txt").read_text()
-    lines = {line.split(":")[0].split()[0]: line for line in text.splitlines() if line and line[0] != "#"}
-    found, todo = set(), list(names)
+    lines, found, todo = crates(), set(), list(names)
     while todo:
         name = todo.pop()
         if name in lines and name not in found:
@@ -76,8 +73,8 @@ def main():
     if given.folder:
         given.folder.mkdir()
         return try_in(given.folder.resolve(), given.proved, jobs)
-    with tempfile.TemporaryDirectory() as folder:
-        return try_in(pathlib.Path(folder), given.proved, jobs)
+    with new_folder() as folder:
+        return try_in(folder, given.proved, jobs)
 
 
 if __name__ == "__main__":

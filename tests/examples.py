@@ -5,27 +5,16 @@ An example is a block between lines of three backquotes in the docstring of an i
 one after another in the body of one function of the kind #[test], in any crate. The test may have further lines around them, as
 those that give `rt` and `alloc`.
 """
-import os
 import re
 import sys
 import textwrap
 
-ROOT = os.path.normpath(os.path.join(os.path.dirname(os.path.abspath(__file__)), ".."))
+from harness import TOP
+
 TEST = re.compile(r"^#\[test\]\nfn \w+\(.*?\{\n(.*?)^\}", re.DOTALL | re.MULTILINE)
 DOCSTRING = re.compile(r"(?:^ *///.*\n)+", re.MULTILINE)
 HEADING = "# Examples\n"
 FENCE = re.compile(r"^```.*\n", re.MULTILINE)
-
-
-def sources():
-    """The path of each file of code, and its text."""
-    for parent, folders, names in os.walk(os.path.join(ROOT, "crates")):
-        folders[:] = sorted(name for name in folders if name != "out")
-        for name in sorted(names):
-            if name.endswith(".rt"):
-                path = os.path.join(parent, name)
-                with open(path, encoding="utf-8") as file:
-                    yield os.path.relpath(path, ROOT), file.read()
 
 
 def examples(text):
@@ -40,7 +29,8 @@ def examples(text):
 
 
 def main():
-    texts = list(sources())
+    paths = (path.relative_to(TOP) for path in sorted(TOP.glob("crates/**/*.rt")))
+    texts = [(path, (TOP / path).read_text()) for path in paths if "out" not in path.parts]
     bodies = ["\n" + textwrap.dedent(body) for _, text in texts for body in TEST.findall(text)]
     count, failed = 0, []
     for path, text in texts:

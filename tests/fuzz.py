@@ -11,13 +11,12 @@ showed a fault stand in ROWS and are tried first.
 A run is repeated by its seed and the same count of files: --seed S --files N.
 """
 import concurrent.futures
+import itertools
 import os
-import pathlib
 import random
 import re
 import resource
 import sys
-import tempfile
 import time
 
 import harness
@@ -26,8 +25,7 @@ from aiger import Machine
 SECTIONS = ["inputs", "latches", "outputs", "bads", "constraints", "justice", "fairness", "gates"]
 TEXTS = {
     *("out of memory", "bad header line", "too many variables", "bad difference", "bad name line"),
-    *(f"bad line in {section}" for section in SECTIONS),
-    *(f"bad literal in {section}" for section in SECTIONS),
+    *(f"bad {what} in {section}" for what in ("line", "literal") for section in SECTIONS),
 }
 TOO_LARGE = "unrolled circuit may pass the limit"
 # The bytes of memory that each run may take, those for each byte of its file, and those that a variable of a header may take.
@@ -55,35 +53,21 @@ ROWS = [
 # ---- files
 
 
-def number(rng, spelled):
-    """A number that lies near another or near a border, or spells it longer."""
-    value = int(spelled)
-    near = [value + 1, max(value - 1, 0), value ^ 1, 2 * value]
-    borders = [0, 1, 2, 16_777_215, 16_777_216, 2**31, 2**32 - 1, 2**32]
-    return b"0" * rng.choice([0, 0, 0, 1, 40]) + b"%d" % rng.choice(near + borders)
-
-
 def made_machine(rng):
-    """A machine of random gates, whose literals are 2, 4, .. in the order of a binary file."""
+    """A machine of random gates, whose literals are 2, 4, .. in the order of a binary file, with names for some places, in any order."""
     inputs, latches, gates = rng.randint(0, 4), rng.randint(0, 4), rng.randint(0, 12)
     leaves = inputs + latches
     some = lambda *counts: [rng.randrange(2 * (leaves + gates) + 2) for _ in range(rng.choice(counts))]
-    operands = [sorted((rng.randrange(own), rng.randrange(own)), reverse=True) for own in range(2 * leaves + 2, 2 * (leaves + gates) + 2, 2)]
+    ands = [[own, *sorted((rng.randrange(own), rng.randrange(own)), reverse=True)] for own in range(2 * leaves + 2, 2 * (leaves + gates) + 2, 2)]
     states = [[2 * v, *some(1), *rng.choice([[], [0], [1], [2 * v]])] for v in range(inputs + 1, leaves + 1)]
     outputs, bads, constraints = (some(0, 0, 1, 2) for _ in range(3))
     justice = [some(0, 1, 2) for _ in range(rng.choice([0, 0, 1, 2]))]
-    ands = [[2 * (leaves + 1 + i), *pair] for i, pair in enumerate(operands)]
     made = Machine([2 * v for v in range(1, inputs + 1)], states, outputs, bads, constraints, justice, some(0, 0, 1), ands, {})
-    name_some(rng, made)
-    return made
-
-
-def name_some(rng, machine):
-    """Gives names to some places, in any order."""
-    lists = [machine.inputs, machine.latches, machine.outputs, machine.bads, machine.constraints, machine.justice]
+    lists = [made.inputs, states, outputs, bads, constraints, justice]
     places = [f"{letter}{i}" for letter, one in zip("ilobcj", lists) for i in range(len(one)) if rng.random() < 0.3]
     rng.shuffle(places)
-    machine.names = {place: rng.choice(["", "a", "a b", "0", "é", "i0 x"]) for place in places}
+    made.names = {place: rng.choice(["", "a", "a b", "0", "é", "i0 x"]) for place in places}
+    return made
 
 
 def renumbered(rng, machine):
@@ -91,12 +75,10 @@ def renumbered(rng, machine):
     count = len(machine.inputs) + len(machine.latches) + len(machine.gates)
     most = count + rng.choice([0, 0, 1, 5])
     new = [0, *rng.sample(range(1, most + 1), count)]
-    turn = lambda literals: [2 * new[literal // 2] + literal % 2 for literal in literals]
-    lists = [machine.outputs, machine.bads, machine.constraints]
-    ands = rng.sample(machine.gates, len(machine.gates))
-    sets, last = [turn(one) for one in machine.justice], turn(machine.fairness)
-    leaves = turn(machine.inputs), list(map(turn, machine.latches))
-    return Machine(*leaves, *map(turn, lists), sets, last, list(map(turn, ands)), machine.names), most
+    turn = lambda it: 2 * new[it // 2] + it % 2 if isinstance(it, int) else list(map(turn, it))
+    made = {name: turn(section) for name, section in vars(machine).items() if name != "names"}
+    rng.shuffle(made["gates"])
+    return Machine(**made, names=machine.names), most
 
 
 def undamaged(rng):
@@ -120,12 +102,14 @@ def damaged_bytes(rng, data):
 
 
 def damaged_number(rng, data):
-    """The bytes with one of their numbers changed."""
+    """The bytes with one of their numbers made one near it or near a border, or spelled longer."""
     found = list(re.finditer(rb"\d+", data))
     if not found:
         return data
     one = rng.choice(found)
-    return data[: one.start()] + number(rng, one[0][:20]) + data[one.end() :]
+    value = int(one[0][:20])
+    near, borders = [value + 1, max(value - 1, 0), value ^ 1, 2 * value], [0, 1, 2, 16_777_215, 16_777_216, 2**31, 2**32 - 1, 2**32]
+    return data[: one.start()] + b"0" * rng.choice([0, 0, 0, 1, 40]) + b"%d" % rng.choice(near + borders) + data[one.end() :]
 
 
 def damaged_lines(rng, data):
@@ -162,10 +146,10 @@ class Fault(Exception):
     """What doesn't hold of a file."""
 
 
-def greatest_variable(data):
-    """The first number of a header line, if it has one."""
-    found = re.match(rb"a[ai]g (\d+)", data)
-    return int(found[1]) if found else 0
+def wants(holds, what):
+    """Ends the checks of a file with a fault, unless something holds."""
+    if not holds:
+        raise Fault(what)
 
 
 class Tool:
@@ -174,23 +158,22 @@ class Tool:
     def __init__(self, tool, folder):
         self.tool, self.folder = tool, folder
 
+    def ended(self, data, program, command, *further):
+        """How a program ends on a file of these bytes, with as much memory as it may take."""
+        (self.folder / "file").write_bytes(data)
+        before = harness.limit(resource.RLIMIT_AS, MEMORY + OF_A_BYTE * len(data))
+        return harness.run([program, command, "file", *further], cwd=self.folder, preexec_fn=before)
+
     def run(self, data, command, *further):
         """Runs a command on a file of these bytes. Returns what it prints, or nothing if it was refused."""
-        (self.folder / "file").write_bytes(data)
-        most = MEMORY + OF_A_BYTE * len(data)
-        status, out, error = harness.run(
-            [self.tool, command, "file", *further], cwd=self.folder, preexec_fn=harness.limit(resource.RLIMIT_AS, most)
-        )
+        status, out, error = self.ended(data, self.tool, command, *further)
         what = f"{command} {' '.join(further)}: status {status}, {error}"
         if status == 0 and not error:
             return out
-        told = re.fullmatch(r"aigtool: (.*)\n", error.decode())
-        if status != 1 or out or not told:
-            raise Fault(what)
-        if told[1] not in TEXTS and (command not in ["cnf", "query"] or told[1] != TOO_LARGE):
-            raise Fault(what)
-        if told[1] == "out of memory" and greatest_variable(data) * OF_A_VARIABLE < MEMORY:
-            raise Fault(what)
+        told, header = re.fullmatch(r"aigtool: (.*)\n", error.decode()), re.match(rb"a[ai]g (\d+)", data)
+        wants(status == 1 and not out and told, what)
+        wants(told[1] in TEXTS or (command in ["cnf", "query"] and told[1] == TOO_LARGE), what)
+        wants(told[1] != "out of memory" or (header and int(header[1]) * OF_A_VARIABLE >= MEMORY), what)
         return None
 
     def binary(self, data):
@@ -198,14 +181,21 @@ class Tool:
         out = self.folder / "out"
         out.unlink(missing_ok=True)
         printed = self.run(data, "binary", "out")
-        if printed is None and out.exists() or printed:
-            raise Fault("binary: prints, or leaves a file")
+        wants(not printed and (printed is not None or not out.exists()), "binary: prints, or leaves a file")
         return None if printed is None else out.read_bytes()
 
-
-def wants(holds, what):
-    if not holds:
-        raise Fault(what)
+    def check_beside(self, data, is_accepted):
+        """What aigedit and aigcheck say of the same file: reductions and counts of what is accepted, questions where it has bad literals
+        too, and else one line."""
+        for program, command, *further in BESIDE:
+            status, out, error = self.ended(data, program, command, *further)
+            done = (status, error) == (0, b"")
+            refused = out == b"" and re.fullmatch(rb"aig(edit|check): .*\n", error)
+            wants(done or (refused and status in (1, 20)), f"{command}: status {status}, {error}")
+            if not is_accepted:
+                wants(status == 1, f"{command} takes it")
+            elif not further or b"no bad state property" not in error:
+                wants(done or status == 20, f"{command} refuses it: {error}")
 
 
 def check_clauses(printed, what):
@@ -222,41 +212,25 @@ def counts_and_names(text):
     return lines[0], [line for line in lines if line[:1] in (b"i", b"l")]
 
 
-def check_beside(folder, data, is_accepted):
-    """What aigedit and aigcheck say of the same file: reductions and counts of what is accepted, questions where it has bad literals too, and
-    else one line."""
-    (folder / "file").write_bytes(data)
-    before = harness.limit(resource.RLIMIT_AS, MEMORY + OF_A_BYTE * len(data))
-    for program, command, *further in BESIDE:
-        status, out, error = harness.run([program, command, "file", *further], cwd=folder, preexec_fn=before)
-        done = (status, error) == (0, b"")
-        refused = out == b"" and re.fullmatch(rb"aig(edit|check): .*\n", error)
-        wants(done or (refused and status in (1, 20)), f"{command}: status {status}, {error}")
-        if not is_accepted:
-            wants(status == 1, f"{command} takes it")
-        elif not further or b"no bad state property" not in error:
-            wants(done or status == 20, f"{command} refuses it: {error}")
-
-
 def check(tool, rng, data):
     """What holds of a file. Returns whether it is accepted."""
     text = tool.run(data, "text")
-    check_beside(tool.folder, data, text is not None)
+    tool.check_beside(data, text is not None)
     steps, setting = str(rng.choice([0, 1, 3])), rng.choice([[], ["raw"]])
     answers = [tool.binary(data), tool.run(data, "strash")]
     answers += [tool.run(data, command, steps, *setting) for command in ["cnf", "query"]]
     wants(all((answer is None) == (text is None) for answer in answers), "commands differ in what they accept")
     if text is None:
         return False
-    binary, hashed, clauses, query = answers
+    binary, hashed, *clauses = answers
     wants(tool.run(text, "text") == text, "the text is read as another")
     wants(tool.binary(text) == binary, "the text is another circuit than the file")
     again = tool.run(binary, "text")
     wants(again is not None and tool.binary(again) == binary, "the binary form is read as another")
     wants(counts_and_names(again) == counts_and_names(text), "the binary form has other counts or names")
     wants(tool.run(hashed, "strash") == hashed, "hashing twice is another circuit")
-    check_clauses(clauses, "cnf")
-    check_clauses(query, "query")
+    for printed, what in zip(clauses, ["cnf", "query"]):
+        check_clauses(printed, what)
     return True
 
 
@@ -264,8 +238,8 @@ def search(given, worker):
     """Checks each file of a worker's until the time ends. Returns how many were accepted, how many refused, and the faults."""
     end = time.monotonic() + given.seconds
     seen, faults, i = [0, 0], [], worker
-    with tempfile.TemporaryDirectory() as folder:
-        tool = Tool(given.aigtool, pathlib.Path(folder))
+    with harness.new_folder() as folder:
+        tool = Tool(given.aigtool, folder)
         while time.monotonic() < end and (given.files is None or i < given.files):
             rng = random.Random(given.seed * 1_000_003 + i)
             data = ROWS[i] if i < len(ROWS) else made_file(rng)
@@ -283,14 +257,13 @@ def main():
     parser.add_argument("--seconds", type=float, default=10, help="how long files are made (10)")
     parser.add_argument("--files", type=int, help="how many files are made at most")
     parser.add_argument("--jobs", type=int, default=os.cpu_count(), help="how many are checked side by side")
-    given, tally, seen = parser.parse_args(), harness.Tally(), [0, 0]
+    given, tally = parser.parse_args(), harness.Tally()
     with concurrent.futures.ProcessPoolExecutor(given.jobs) as pool:
-        for *counts, faults in pool.map(search, [given] * given.jobs, range(given.jobs)):
-            seen = [sum(both) for both in zip(seen, counts)]
-            for fault in faults:
-                tally.check(False, fault)
-    tally.passed += sum(seen)
-    print(f"seed {given.seed}: {seen[0]} files accepted, {seen[1]} refused")
+        accepted, refused, faults = zip(*pool.map(search, [given] * given.jobs, range(given.jobs)))
+    for fault in itertools.chain(*faults):
+        tally.check(False, fault)
+    tally.passed += sum(accepted + refused)
+    print(f"seed {given.seed}: {sum(accepted)} files accepted, {sum(refused)} refused")
     return tally.end()
 
 

@@ -16,7 +16,6 @@ import re
 import shutil
 import subprocess
 import sys
-import tempfile
 
 import harness
 from harness import TOP, spelled
@@ -90,8 +89,7 @@ def main():
     parser.add_argument("folders", nargs="*", type=os.path.abspath, help="where programs are looked for first")
     given = parser.parse_args()
     places = [*given.folders, *(str(TOP / "crates" / name / "out") for name in PROGRAMS), os.environ["PATH"]]
-    with tempfile.TemporaryDirectory() as name:
-        folder = pathlib.Path(name)
+    with harness.new_folder() as folder:
         for part in filter(pathlib.Path.is_dir, TOP.glob("[!.]*")):
             (folder / part.name).symlink_to(part)
         pages = Pages(folder, os.pathsep.join(places), given.tools, tally)

@@ -1,5 +1,6 @@
 """What the scripts of this folder stand on: where the programs are, how one is run, spelled bytes, and checks that are counted."""
 import argparse
+import contextlib
 import os
 import pathlib
 import re
@@ -9,6 +10,7 @@ import shutil
 import signal
 import subprocess
 import sys
+import tempfile
 
 TESTS = pathlib.Path(__file__).resolve().parent
 TOP = TESTS.parent
@@ -127,3 +129,21 @@ def repeated(line):
 def spelled(text):
     """The bytes of a text in which `\\n` is a line feed and `\\x` a byte in hexadecimal."""
     return SPELLED.sub(lambda found: chr(int(found[1], 16)) if found[1] else "\n", text).encode("latin-1")
+
+
+def numbers(*defaults):
+    """The numbers of the command line, and those of these that stand behind as many."""
+    return [*map(int, sys.argv[1:]), *defaults[len(sys.argv) - 1 :]]
+
+
+@contextlib.contextmanager
+def new_folder():
+    """A new folder, as a path, which is removed again."""
+    with tempfile.TemporaryDirectory() as name:
+        yield pathlib.Path(name)
+
+
+def crates():
+    """The lines of crates.txt by the crates' names: what each stands on is behind the colon."""
+    lines = (TOP / "crates.txt").read_text().splitlines()
+    return {line.split(":")[0].split()[0]: line for line in lines if line and line[0] != "#"}

@@ -8,25 +8,21 @@ hundred thousand gates, each on the one before, which no call may take for a dee
 of what is written.
 """
 import itertools
-import pathlib
+import random
 import re
 import sys
-import tempfile
 
 import harness
 import scripts
-from aiger import AND, BINARY_AND, machine_of
+from aiger import AND, BINARY_AND, joined, machine_of
 
 
 def answers(program, steps, files={}):
     """The lines that the program prints for each of the steps, with files that they name."""
-    with tempfile.TemporaryDirectory() as folder:
-        texts = {**files, "steps": "".join(it + "\n" for it in steps)}
-        harness.write_files(pathlib.Path(folder), {name: text.encode() for name, text in texts.items()})
+    with harness.new_folder() as folder:
+        harness.write_files(folder, {"steps": joined(steps).encode(), **{name: text.encode() for name, text in files.items()}})
         status, out, error = harness.run([program, "steps"], cwd=folder)
-    if status != 0:
-        sys.exit(f"{program} ended with {status}: {error}")
-    return scripts.answers(out.decode())
+    return scripts.answers(out.decode()) if status == 0 else sys.exit(f"{program} ended with {status}: {error}")
 
 
 # ---- circuits, as they are printed
@@ -81,16 +77,11 @@ def value(values, literal):
 
 def fixed(clauses, values):
     """All values that the clauses and the given values leave no choice about."""
-    values = dict(values)
-
-    def is_false(literal):
-        return literal // 2 in values and not value(values, literal)
-
-    grown = True
+    values, grown = dict(values), True
     while grown:
         grown = False
         for clause in clauses:
-            opened = [literal for literal in clause if not is_false(literal)]
+            opened = [literal for literal in clause if literal // 2 not in values or value(values, literal)]
             if len(opened) == 1 and opened[0] // 2 not in values:
                 values[opened[0] // 2] = not opened[0] % 2
                 grown = True
@@ -109,8 +100,7 @@ def query(program, text, k, name):
     """The circuit with k further steps, its clauses, and the further ones, as the program prints them."""
     (lines,) = answers(program, [f"{name} file {k}"], {"file": text})
     end = lines.index("extra")
-    clauses = [[int(word) for word in re.findall(r"\d+", line)] for line in lines[:end] if line.startswith("clause")]
-    extra = [[int(word) for word in re.findall(r"\d+", line)] for line in lines[end:] if line.startswith("clause")]
+    clauses, extra = ([list(map(int, re.findall(r"\d+", line))) for line in part if line.startswith("clause")] for part in (lines[:end], lines[end:]))
     return sections([line for line in lines[:end] if not line.startswith(("clause", "variable"))][:-1]), clauses, extra
 
 
@@ -146,81 +136,32 @@ def check_runs(tally, program, row, name):
     machine, what = machine_of(text), f"{name} of {text.splitlines()[0]} with {k} steps"
     machine.inputs.sort()
     circuit, clauses, extra = query(program, text, k, name)
-    count = 0
+    found = []
     for number in range(runs):
         steps = run_of(machine, k, number)
         values = fixed(clauses, leaves(machine, circuit, steps))
-        witness = is_witness(machine, steps)
-        right = holds(values, clauses) and agree(machine, circuit, steps, values) and holds(values, extra) == witness
+        found.append(is_witness(machine, steps))
+        right = holds(values, clauses) and agree(machine, circuit, steps, values) and holds(values, extra) == found[-1]
         tally.check(right, f"{what}: run {number}")
-        count += witness
-    tally.wants(what, witnesses, count)
+    tally.wants(what, witnesses, sum(found))
 
 
 # A counter of two bits, which begins odd, has to count at each step, and is bad where both bits are set. It has two exclusive ors, and
 # an inner gate of the first is an operand of the second.
-COUNTER = """aag 10 1 2 1 7 1 1
-2
-4 12 1
-6 18 6
-18
-20
-2
-8 4 2
-10 5 3
-12 11 9
-14 8 6
-16 9 7
-18 17 15
-20 6 4
-"""
+COUNTER = "aag 10 1 2 1 7 1 1\n2\n4 12 1\n6 18 6\n18\n20\n2\n8 4 2\n10 5 3\n12 11 9\n14 8 6\n16 9 7\n18 17 15\n20 6 4\n"
 # A bit that takes the value of the second input where the first is set, by a choice, and is bad where it is set. While it is set the
 # first input has to be, too. The lines of the inputs stand in falling order.
-BIT = """aag 6 2 1 1 3 2 1 1 1
-4
-2
-6 13
-12
-6
-0
-11
-2
-6
-13
-3
-8 4 2
-10 6 3
-12 11 9
-"""
+BIT = "aag 6 2 1 1 3 2 1 1 1\n4\n2\n6 13\n12\n6\n0\n11\n2\n6\n13\n3\n8 4 2\n10 6 3\n12 11 9\n"
 # A file, the steps, how many runs it has, and how many of these end in a bad state.
-RUNS = [
-    (COUNTER, 0, 8, 1),
-    (COUNTER, 1, 16, 0),
-    (COUNTER, 2, 32, 1),
-    (BIT, 0, 8, 0),
-    (BIT, 1, 32, 2),
-    (BIT, 2, 128, 8),
-]
+RUNS = [(COUNTER, 0, 8, 1), (COUNTER, 1, 16, 0), (COUNTER, 2, 32, 1), (BIT, 0, 8, 0), (BIT, 1, 32, 2), (BIT, 2, 128, 8)]
 
 # ---- hashing
 
 
 def random_gates(seed, gates):
-    """The literals of gates over two inputs and over one another that look random."""
-    state, pairs = seed, []
-
-    def number():
-        nonlocal state
-        state = (state * 6364136223846793005 + 1442695040888963407) % 2**64
-        return state >> 33
-
-    def literal(size):
-        node = number() % size
-        return 2 * node + number() % 2
-
-    for size in range(3, 3 + gates):
-        pairs.append((literal(size), literal(size)))
-    return pairs
+    """The literals of random gates over two inputs and over one another."""
+    rng = random.Random(seed)
+    return [(rng.randrange(2 * size), rng.randrange(2 * size)) for size in range(3, 3 + gates)]
 
 
 def hashed(circuit):
@@ -288,12 +229,10 @@ def held(data):
 
 def leaves_beginnings(program):
     """Whether a sink without room for all of a file holds the beginning for which it has room, and the answer is that it failed."""
-    for name, data in (("put_text", AND), ("put_binary", BINARY_AND)):
-        rooms = [(most, room) for most in PIECES for room in range(len(data) + 1)]
-        found = put(program, AND, [f"{name} {most} {room}" for most, room in rooms])
-        if found != [["Stream"] * (room < len(data)) + [held(data[:room])] for _, room in rooms]:
-            return False
-    return True
+    forms = ("put_text", AND), ("put_binary", BINARY_AND)
+    cases = [(name, data, most, room) for name, data in forms for most in PIECES for room in range(len(data) + 1)]
+    found = put(program, AND, [f"{name} {most} {room}" for name, _, most, room in cases])
+    return found == [["Stream"] * (room < len(data)) + [held(data[:room])] for _, data, _, room in cases]
 
 
 def writes_long(program):

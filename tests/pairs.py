@@ -17,15 +17,13 @@ import concurrent.futures
 import itertools
 import random
 import re
-import sys
-import tempfile
 from pathlib import Path
 
 import harness
 from aiger import Machine, machine_of
 from designs import inverted
-from harness import CHECK, EDIT, PROVE, TOOL, output
-from random_machines import Files, random_machine
+from harness import CHECK, EDIT, PROVE, TOOL, numbers, output
+from random_machines import Files, random_machine, told
 
 from aigprove.aiger import Circuit, Lines
 from aigprove.plain import Plain
@@ -193,13 +191,12 @@ class Invariant(Files):
 
 
 def main():
-    pairs, seed = [int(word) for word in sys.argv[1:]] + [300, 1][len(sys.argv) - 1 :]
+    pairs, seed = numbers(300, 1)
     tried = [Pair] * pairs + [Invariant] * (pairs // 3)
-    with tempfile.TemporaryDirectory() as folder, concurrent.futures.ThreadPoolExecutor(2) as pool:
-        compare = lambda i: tried[i](random.Random(f"{seed}-{i}"), f"{folder}/{i}").compare()
+    with harness.new_folder() as folder, concurrent.futures.ThreadPoolExecutor(2) as pool:
+        compare = lambda i: tried[i](random.Random(f"{seed}-{i}"), folder / str(i)).compare()
         counts = sum(pool.map(compare, range(len(tried))), collections.Counter())
-    said = ", ".join(f"{counts[what]} {what}" for what in sorted(counts))
-    print(f"seed {seed}: {pairs} pairs and {pairs // 3} invariants agree ({said})")
+    print(f"seed {seed}: {pairs} pairs and {pairs // 3} invariants agree ({told(counts)})")
 
 
 if __name__ == "__main__":

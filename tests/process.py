@@ -7,11 +7,9 @@ and, in outs.py, what becomes of OUT.
 import contextlib
 import inspect
 import os
-import pathlib
 import resource
 import shutil
 import sys
-import tempfile
 
 import harness
 import memory
@@ -75,13 +73,29 @@ class Room:
         found = self.run(*words, **how)
         self.check(found == (status, out, err), f"{words}: status {found[0]}, {found[1][:80]}, {found[2][:80]}")
 
-    def fails(self, *words, text, **how):
-        """Checks that a run is refused with this text, and writes nothing else."""
-        self.ends(*words, status=1, err=b"aigtool: %s\n" % text, **how)
+    def fails(self, text, *commands, **how):
+        """Checks that each command, by its words, is refused with this text, and writes nothing else."""
+        for words in commands:
+            self.ends(*words, status=1, err=b"aigtool: %s\n" % text, **how)
+
+    def refuses(self, text, *outs, file="and.aag", **how):
+        """Checks that `binary` is refused with this text, with each OUT."""
+        self.fails(text, *(["binary", file, out] for out in outs), **how)
+
+    def writes(self, name, file="and.aag", **how):
+        """Checks how `binary` ends with this name as OUT."""
+        self.ends("binary", file, name, **how)
+
+    def makes(self, *outs, file="and.aag", data=BINARY_AND, **how):
+        """Checks that `binary` writes this to each OUT."""
+        for out in outs:
+            self.writes(out, file, **how)
+            self.holds(out, data)
 
     def holds(self, name, data):
+        """Checks what a file holds."""
         found = self.path(name).read_bytes() if self.path(name).is_file() else None
-        self.check(found == data, f"{name} holds {found and found[:80]}")
+        self.check(found == data, f"{name!r} holds {found and found[:80]}")
 
     def has(self, *names, below="."):
         self.check(self.names(below) == sorted(names), f"files {self.names(below)}")
@@ -96,8 +110,7 @@ def words_give_commands(room):
     room.ends("cnf", "and.aag", "0", "raw", out=CLAUSES_OF_AND)
     room.ends("cnf", "and.aag", "00", out=CLAUSES_OF_AND)
     room.ends("query", "and.aag", "0", out=CLAUSES_OF_AND.replace(b"4 4", b"4 5", 1) + b"0\n")
-    room.ends("binary", "and.aag", "out")
-    room.holds("out", BINARY_AND)
+    room.makes("out")
     room.has("and.aag", "out")
 
 
@@ -118,14 +131,9 @@ def other_words_are_wrong(room):
 
 
 def files_that_cannot_be_read(room):
-    room.fails("text", "missing", text=b"cannot open")
-    room.fails("text", "", text=b"cannot open")
-    room.fails("text", "and.aag/below", text=b"cannot open")
-    room.fails("text", ".", text=b"read failed")
-    room.fails("cnf", ".", "1", text=b"read failed")
-    room.fails("text", "/dev/null", text=b"bad header line")
-    room.fails("binary", "missing", "out", text=b"cannot open")
-    room.fails("binary", ".", "out", text=b"read failed")
+    room.fails(b"cannot open", ["text", "missing"], ["text", ""], ["text", "and.aag/below"], ["binary", "missing", "out"])
+    room.fails(b"read failed", ["text", "."], ["cnf", ".", "1"], ["binary", ".", "out"])
+    room.fails(b"bad header line", ["text", "/dev/null"])
     room.ends("text", "/dev/stdin", input=AND, out=AND)
     room.has("and.aag")
 
@@ -133,9 +141,9 @@ def files_that_cannot_be_read(room):
 def the_limit_is_on_variables(room):
     for variables, text in [(16_777_215, b"bad line in inputs"), (16_777_216, b"too many variables")]:
         room.write("file", b"aag %d %d 0 0 0\n" % (variables, variables))
-        room.fails("text", "file", text=text)
+        room.fails(text, ["text", "file"])
     room.write("latch", b"aag 2 1 1 0 0\n2\n4 2\n")
-    room.fails("cnf", "latch", "4294967295", text=b"unrolled circuit may pass the limit")
+    room.fails(b"unrolled circuit may pass the limit", ["cnf", "latch", "4294967295"])
 
 
 # ---- standard output
@@ -143,13 +151,12 @@ def the_limit_is_on_variables(room):
 
 def a_failed_output_is_told(room):
     with open("/dev/full", "wb") as full:
-        for words in [["text", "and.aag"], ["strash", "and.aag"], ["cnf", "and.aag", "1"], ["query", "and.aag", "1"]]:
-            room.fails(*words, text=b"write failed", stdout=full)
-    room.fails("text", "and.aag", text=b"write failed", before=lambda: os.close(1), stdout=None)
+        room.fails(b"write failed", ["text", "and.aag"], ["strash", "and.aag"], ["cnf", "and.aag", "1"], ["query", "and.aag", "1"], stdout=full)
+    room.fails(b"write failed", ["text", "and.aag"], before=lambda: os.close(1), stdout=None)
     room.ends("text", "missing", status=1, before=lambda: os.close(2), stderr=None)
     read_end, write_end = os.pipe()
     os.close(read_end)
-    room.fails("text", "and.aag", text=b"write failed", stdout=write_end)
+    room.fails(b"write failed", ["text", "and.aag"], stdout=write_end)
     os.close(write_end)
 
 
@@ -157,7 +164,7 @@ def a_limit_on_the_printed_file_is_told(room):
     text = chain(20_000)
     room.write("deep", text)
     with open(room.path("printed"), "wb") as printed:
-        room.fails("text", "deep", text=b"write failed", stdout=printed, before=limit_files(10_000))
+        room.fails(b"write failed", ["text", "deep"], stdout=printed, before=limit_files(10_000))
     room.holds("printed", text[:10_000])
 
 
@@ -166,8 +173,8 @@ def a_limit_on_the_printed_file_is_told(room):
 
 def memory_is_limited(room):
     room.write("deep", chain(DEEP))
-    for words in [["text", "deep"], ["binary", "deep", "out"], ["strash", "deep"], ["cnf", "deep", "1"]]:
-        room.fails(*words, text=b"out of memory", before=limit(resource.RLIMIT_AS, 32 << 20))
+    commands = [["text", "deep"], ["binary", "deep", "out"], ["strash", "deep"], ["cnf", "deep", "1"]]
+    room.fails(b"out of memory", *commands, before=limit(resource.RLIMIT_AS, 32 << 20))
     room.has("and.aag", "deep")
 
 
@@ -176,11 +183,9 @@ def depth_takes_no_stack(room):
     room.write("deep", text)
     room.write("falling", chain(DEEP, falling=True))
     small = limit(resource.RLIMIT_STACK, STACK)
-    room.ends("text", "deep", out=text, before=small)
-    room.ends("text", "falling", out=text, before=small)
-    room.ends("strash", "deep", out=text, before=small)
-    room.ends("binary", "deep", "out", before=small)
-    room.ends("text", "out", out=text, before=small)
+    room.writes("out", "deep", before=small)
+    for words in [["text", "deep"], ["text", "falling"], ["strash", "deep"], ["text", "out"]]:
+        room.ends(*words, out=text, before=small)
     for command in ["cnf", "query"]:
         status, out, _ = room.run(command, "deep", "0", before=small)
         extra = command == "query"
@@ -226,8 +231,7 @@ def main():
     parser = harness.parser(__doc__, "aigtool", "aigcheck")
     parser.add_argument("names", nargs="*", help="the tests to run (all)")
     given, tally = parser.parse_args(), harness.Tally()
-    with tempfile.TemporaryDirectory() as name:
-        folder = pathlib.Path(name)
+    with harness.new_folder() as folder:
         folder.chmod(0o755)
         tool, faults = program(given.aigtool, folder), harness.shim("outs/faults.c", folder)
         for test in tests():

@@ -14,18 +14,19 @@ the lines.
 It is a search of text and no compiler. It takes a word for each definition that the word can name, so it may count too many.
 """
 import collections
-import os
 import re
 import sys
 
-ROOT = os.path.normpath(os.path.join(os.path.dirname(os.path.abspath(__file__)), ".."))
+import harness
+from harness import TOP
 
 # The crates whose exported calls are promised, in the order in which they are told.
 CALLS = [
     ("aig and aig_encode", ["aig", "aig_encode"]),
     ("with the programs", ["aigtool", "aig_commands", "aigcheck"]),
     ("with checked answers, witnesses and DIMACS", [
-        "aig_answers", "aig_bounded", "aig_bounded_answers", "aig_edits", "aig_certificates", "aig_reduction", "aig_refutation", "aig_witness", "aig_witness", "aig_solutions", "aig_dimacs"]),
+        *("aig_answers", "aig_bounded", "aig_bounded_answers", "aig_edits", "aig_certificates", "aig_refutation"),
+        *("aig_witness", "aig_solutions", "aig_dimacs")]),
     ("from C", ["aig_c"]),
 ]
 LAWS = "with the laws"
@@ -43,47 +44,39 @@ Word = collections.namedtuple("Word", "crate module name")
 WORD = re.compile(r"[^\W\d][\w'\-]*|◌\S+")
 USE = re.compile(r"^[ ]*(?:pub )?(?:ghost )?use Rattle\.([\w.]+?)(?:\.\{([^}]*)\})?(?: as (\w+))?;?$", re.M)
 DEFINES = re.compile(r"^(?:pub )?(?:abbrev|unfoldable|record|data)(?: pub)? (\S+)")
+IMPORT = re.compile(r"\b(pub )?use ([\w:]+?)::(?:\{([^}]*)\}|(\w+));")
+FUNCTION = re.compile(r"^pub (?:extern\s+)?fn (\w+)", re.M)
 
 
-def read(path):
-    with open(path, encoding="utf-8") as file:
-        return file.read()
-
-
-def files_below(folder, ending):
-    for parent, folders, names in os.walk(folder):
-        folders.sort()
-        for name in sorted(names):
-            if name.endswith(ending):
-                yield os.path.join(parent, name)
+def files_below(folder, *endings):
+    """The files of a folder and those in it that end so."""
+    return sorted(path for path in folder.rglob("*") if path.suffix in endings)
 
 
 class Uses:
     """What the words of a text stand for, by its `use` lines."""
 
     def __init__(self, text):
-        self.words = collections.defaultdict(set)
-        self.prefixes = collections.defaultdict(set)
+        self.words, self.prefixes = collections.defaultdict(set), collections.defaultdict(set)
         for path, listed, alias in USE.findall(text):
-            crate, *module = path.split(".")
-            module = ".".join(module)
+            crate, _, module = path.partition(".")
             if alias:
                 self.prefixes[alias].add((crate, module))
-            for entry in filter(None, (part.strip() for part in listed.split(","))):
+            for entry in filter(None, map(str.strip, listed.split(","))):
                 name, _, new = entry.partition(" as ")
                 self.words[new or name].add(Word(crate, module, name))
 
     def cited(self, text):
         """The words that a text cites. Between the parts of an operator its operands stand."""
         text = re.sub(r"^[ ]*(?:ghost )?use .*$", "", text, flags=re.M)
-        found, parts = set(), set(WORD.findall(text)) | set(re.findall(r"[^\w\s(){}]+", text))
+        found, parts = set(), {*WORD.findall(text), *re.findall(r"[^\w\s(){}]+", text)}
         for word, targets in self.words.items():
             needed = [part for part in word.split("◌") if part]
-            if all(part in parts for part in needed) and not is_of_if(needed, text):
+            if parts.issuperset(needed) and not is_of_if(needed, text):
                 found |= targets
         for prefix, targets in self.prefixes.items():
-            for name in re.findall(r"(?<![\w.])%s\.(\w+)" % re.escape(prefix), text):
-                found |= {Word(crate, module, name) for crate, module in targets}
+            names = re.findall(rf"(?<![\w.]){re.escape(prefix)}\.(\w+)", text)
+            found |= {Word(*target, name) for target in targets for name in names}
         return found
 
 
@@ -95,35 +88,30 @@ def is_of_if(needed, text):
 class Specs:
     """The definitions of all specs/."""
 
-    def __init__(self, root):
+    def __init__(self):
         self.lines, self.cites, self.paths, self.constructors = {}, {}, {}, {}
-        for crate in sorted(os.listdir(os.path.join(root, "crates"))):
-            for path in files_below(os.path.join(root, "crates", crate, "specs"), ".antt"):
-                if os.path.basename(path) != "Lib.antt":
-                    self.add(crate, path)
+        for folder in sorted(TOP.glob("crates/*/specs")):
+            for path in files_below(folder, ".antt"):
+                if path.name != "Lib.antt":
+                    self.add(folder.parent.name, f"specs.{path.stem}", path)
 
-    def add(self, crate, path):
-        text, name = read(path), os.path.splitext(os.path.basename(path))[0]
-        module = "specs." + name
+    def add(self, crate, module, path):
+        """Takes the definitions of a file."""
+        text, own, lines = path.read_text(), {}, []
         self.paths[crate, module] = path
-        uses, own, now = Uses(text), {}, None
         for line in text.split("\n"):
-            found = DEFINES.match(line)
-            if found:
-                now = found.group(1)
-                own[now] = []
-            if now and line.strip() and not line.lstrip().startswith("--"):
-                own[now].append(line)
-        for name in own:
-            uses.words[name].add(Word(crate, module, name))
-        for name, lines in own.items():
+            if found := DEFINES.match(line):
+                lines = own[Word(crate, module, found[1])] = []
+            if line.strip() and not line.lstrip().startswith("--"):
+                lines.append(line)
+        uses = Uses(text)
+        for word, lines in own.items():
+            uses.words[word.name].add(word)
             for constructor in re.findall(r"^  (\w+) :", "\n".join(lines), re.M) if lines[0].startswith("pub data") else ():
-                self.constructors[Word(crate, module, constructor)] = Word(crate, module, name)
-                uses.words[constructor].add(Word(crate, module, name))
-        for name, lines in own.items():
-            word = Word(crate, module, name)
-            self.lines[word] = len(lines)
-            self.cites[word] = uses.cited("\n".join(lines)) - {word}
+                self.constructors[word._replace(name=constructor)] = word
+                uses.words[constructor].add(word)
+        for word, lines in own.items():
+            self.lines[word], self.cites[word] = len(lines), uses.cited("\n".join(lines)) - {word}
 
 
 def end_of(text, start):
@@ -133,12 +121,26 @@ def end_of(text, start):
         depth += (text[at] in "({[") - (text[at] in ")}]")
         if depth == 0:
             return at + 1
-    raise ValueError("open bracket: " + text[start:start + 60])
+    raise ValueError(f"open bracket: {text[start:start + 60]}")
 
 
-def plain(text):
-    """The text without comments, strings and letters."""
-    return re.sub(r'//[^\n]*|b?"(?:\\.|[^"\\])*"|b?\'(?:\\.[^\']*|[^\'\\])\'', "", text, flags=re.S)
+def body_of(text, at):
+    """The place of the first brace or semicolon that stands in no other brackets."""
+    while text[at] not in "{;":
+        at = end_of(text, at) if text[at] in "([" else at + 1
+    return at
+
+
+def plain(path):
+    """The text of a file of code without comments, strings and letters."""
+    return re.sub(r'//[^\n]*|b?"(?:\\.|[^"\\])*"|b?\'(?:\\.[^\']*|[^\'\\])\'', "", path.read_text(), flags=re.S)
+
+
+def used(text):
+    """The names that `use` lines of code have, each with the first part of its path, and whether it is passed on."""
+    for passed_on, path, listed, one in IMPORT.findall(text):
+        for name in re.findall(r"\w+", listed or one):
+            yield path.split("::")[0], name, bool(passed_on)
 
 
 class Part:
@@ -155,121 +157,106 @@ class Part:
 
 def function_part(crate, name, text, start, uses):
     """A function from its name on: its signature and its clauses."""
-    at, clauses = start, []
-    while text[at] not in "{;":
-        at = end_of(text, at) if text[at] in "([" else at + 1
+    at, clauses = body_of(text, start), []
     signature = re.split(r"\b(?:requires|ensures)\b", text[start:at])[0]
     while text[at] == "{" and (found := re.search(r"\b(requires|ensures)\b\*?\s*(\w*)\s*$", text[start:at])):
         end = end_of(text, at)
-        clauses.append((found.group(1) == "ensures" and (found.group(2) or "ensures"), text[at:end]))
-        at = end
-        while text[at] not in "{;":
-            at += 1
+        clauses.append((found[1] == "ensures" and (found[2] or "ensures"), text[at:end]))
+        at = body_of(text, end)
     return Part(crate, clauses, signature, uses, name, signature.strip() == "()")
 
 
 class Code:
     """The functions and types of all src/."""
 
-    def __init__(self, root, crates):
-        self.functions = collections.defaultdict(list)
-        self.types = collections.defaultdict(list)
-        self.constants = set()
-        self.imports = collections.defaultdict(set)
-        self.exports = {}
-        self.crates = crates
-        for crate in crates:
-            folder = os.path.join(root, "crates", crate, "src")
+    def __init__(self):
+        self.functions, self.types, self.imports = (collections.defaultdict(list) for _ in range(3))
+        self.constants, self.exports, self.crates = set(), {}, list(harness.crates())
+        for crate in self.crates:
+            folder = TOP / "crates" / crate / "src"
             for path in files_below(folder, ".rt"):
-                if "tests" not in os.path.relpath(path, folder).replace(".rt", "").split(os.sep):
-                    self.add(crate, plain(read(path)))
+                if "tests" not in path.relative_to(folder).with_suffix("").parts:
+                    self.add(crate, plain(path))
             self.exports[crate] = self.exports_of(crate, folder)
 
     def exports_of(self, crate, folder):
         """The names that a crate's root exports, each with the crate that has it."""
-        names = ["lib.rt", "main.rt"]
-        text = plain(read(next(p for p in (os.path.join(folder, n) for n in names) if os.path.exists(p))))
-        found = []
-        for path, listed, one in re.findall(r"\bpub use ([\w:]+?)::(?:\{([^}]*)\}|(\w+));", text):
-            first = path.split("::")[0]
-            owner = first if first in self.crates else crate
-            found += [(owner, name) for name in re.findall(r"\w+", listed or one)]
-        for name in re.findall(r"^pub (?:extern\s+)?fn (\w+)", text, re.M):
-            found.append((crate, name))
-        return found
+        text = plain(next(path for path in (folder / "lib.rt", folder / "main.rt") if path.exists()))
+        passed_on = [(owner if owner in self.crates else crate, name) for owner, name, is_passed_on in used(text) if is_passed_on]
+        return passed_on + [(crate, name) for name in FUNCTION.findall(text)]
 
     def add(self, crate, text):
+        """Takes what a file of code has."""
         uses = Uses(text)
-        for path, listed, one in re.findall(r"\buse ([\w:]+?)::(?:\{([^}]*)\}|(\w+));", text):
-            owner = path.split("::")[0]
-            for name in re.findall(r"\w+", listed or one):
-                if owner in self.crates:
-                    self.imports[crate, name].add(owner)
-        for found in re.finditer(r"^pub (?:extern\s+)?fn (\w+)", text, re.M):
-            self.functions[crate, found.group(1)].append(function_part(crate, found.group(1), text, found.end(), uses))
+        for owner, name, _ in used(text):
+            if owner in self.crates:
+                self.imports[crate, name].append(owner)
+        for found in FUNCTION.finditer(text):
+            self.functions[crate, found[1]].append(function_part(crate, found[1], text, found.end(), uses))
         self.constants |= {(crate, name) for name in re.findall(r"^pub const (\w+)", text, re.M)}
-        for found in re.finditer(r"^pub (?:struct|enum|trait) (\w+)", text, re.M):
-            self.add_type(crate, found.group(1), text, found.end(), uses)
+        for found in re.finditer(r"^pub (struct|enum|trait) (\w+)", text, re.M):
+            self.add_type(crate, *found.groups(), text, found.end(), uses)
         for found in re.finditer(r"^impl\b([^{]*)", text, re.M):
-            header = re.sub(r"^\s*<(?:[^<>]|<[^<>]*>)*>", "", found.group(1))
-            of_trait = header.partition(" for ")[0].strip() if " for " in header else ""
-            name = re.match(r"\W*(?:\w+::)*(\w+)", header.split(" for ")[-1]).group(1)
-            block = text[found.end():end_of(text, found.end())]
-            self.add_block(crate, name, block, of_trait, uses)
+            of_trait, _, of_type = re.sub(r"^\s*<(?:[^<>]|<[^<>]*>)*>", "", found[1]).rpartition(" for ")
+            name = re.match(r"\W*(?:\w+::)*(\w+)", of_type)[1]
+            self.add_block(crate, name, text[found.end():end_of(text, found.end())], of_trait.strip(), uses)
 
-    def add_type(self, crate, name, text, at, uses):
+    def add_type(self, crate, kind, name, text, start, uses):
         """A type or trait: the names that its public fields, its cases or its methods have."""
-        while text[at] not in "{;":
-            at = end_of(text, at) if text[at] in "([" else at + 1
+        at = body_of(text, start)
         block = text[at:end_of(text, at)] if text[at] == "{" else ""
-        head = text[:at].rsplit("\npub ", 1)[-1]
-        if head.startswith("trait"):
-            self.add_block(crate, name, block, name, uses)
-            return
-        held = r"\bpub \w+: ([^\n]*)" if head.startswith("struct") else r"\b\w+(\([^)]*\)| \{[^}]*\})"
-        names = "\n".join(re.findall(held, block)) + head.partition("(")[2]
+        if kind == "trait":
+            return self.add_block(crate, name, block, name, uses)
+        held = r"\bpub \w+: ([^\n]*)" if kind == "struct" else r"\b\w+(\([^)]*\)| \{[^}]*\})"
+        names = "\n".join(re.findall(held, block)) + text[start:at].partition("(")[2]
         self.types[crate, name].append(Part(crate, [], names, uses))
 
     def add_block(self, crate, name, block, of_trait, uses):
         """A block of methods: what contracts see of the type, and its public methods."""
+        seen_as = "" if of_trait in ("", "Model", name) else "as " + of_trait.split("<")[0].split("::")[-1]
         for found in re.finditer(r"\bghost (\w+)\s*[:=]\s*(?=\{)", block):
             ghost = block[found.end():end_of(block, found.end())]
-            trait = "" if of_trait in ("Model", name) else of_trait.split("<")[0].split("::")[-1]
-            self.types[crate, name].append(Part(crate, [(found.group(1), ghost)], "", uses, trait and "as " + trait))
+            self.types[crate, name].append(Part(crate, [(found[1], ghost)], "", uses, seen_as))
         for found in re.finditer(r"^    (pub )?fn (\w+)", block, re.M):
-            if of_trait or found.group(1):
-                self.types[crate, name].append(function_part(crate, found.group(2), block, found.end(), uses))
+            if of_trait or found[1]:
+                self.types[crate, name].append(function_part(crate, found[2], block, found.end(), uses))
 
     def owners(self, crate, name):
         """The crates whose type a name of this crate may be."""
         if (crate, name) in self.types:
             return {crate}
-        for owner in self.imports.get((crate, name), ()):
-            home = {home for home, exported in self.exports[owner] if exported == name}
-            return home & {home for home, known in self.types if known == name}
-        return set()
+        homes = {home for owner in self.imports.get((crate, name), ()) for home, exported in self.exports[owner] if exported == name}
+        return {home for home in homes if (home, name) in self.types}
 
 
-def promised_words(code, crates, takes):
+def is_call(part):
+    """Whether a part of what is exported, or a type, which has none, is of the calls."""
+    return part is None or not part.is_law
+
+
+def is_law(part):
+    """Whether it is a law."""
+    return not is_call(part)
+
+
+def promised_words(code, crates, takes=is_call):
     """The words that the exported items of crates cite, and those of all types that they name."""
     words, seen, todo = set(), set(), []
-    for crate in crates:
-        for owner, name in code.exports[crate]:
-            if not any((owner, name) in known for known in (code.functions, code.types, code.constants)):
-                raise ValueError("exported and not found: %s of %s" % (name, crate))
-            for part in filter(takes, code.functions.get((owner, name), [])):
-                words |= part.words
-                todo += [(part.crate, used) for used in part.names]
-            if takes(None) and (owner, name) in code.types:
-                todo.append((owner, name))
+    for exporter, (owner, name) in ((crate, item) for crate in crates for item in code.exports[crate]):
+        if not any((owner, name) in known for known in (code.functions, code.types, code.constants)):
+            raise ValueError(f"exported and not found: {name} of {exporter}")
+        for part in filter(takes, code.functions.get((owner, name), [])):
+            words |= part.words
+            todo += [(part.crate, used) for used in part.names]
+        if takes(None) and (owner, name) in code.types:
+            todo.append((owner, name))
     while todo:
         crate, name = todo.pop()
         for owner in code.owners(crate, name):
-            if (owner, name) not in seen:
-                seen.add((owner, name))
-                for part in code.types[owner, name]:
-                    words |= part.words
-                    todo += [(part.crate, used) for used in part.names]
+            for part in code.types[owner, name] if (owner, name) not in seen else ():
+                words |= part.words
+                todo += [(part.crate, used) for used in part.names]
+            seen.add((owner, name))
     return words
 
 
@@ -289,112 +276,86 @@ def closed(words, specs, code):
         word = specs.constructors.get(word, word)
         if word.crate not in code.crates:
             std.add(word)
-        elif word in seen:
-            continue
-        elif word in specs.lines:
+        elif word not in seen:
             seen.add(word)
-            todo += specs.cites[word]
-        elif word.module.startswith("specs.declared."):
-            seen.add(word)
-            todo += seen_of_type(word, code)
-        else:
-            raise ValueError("no definition: %s.%s.%s" % word)
+            if word not in specs.lines and not word.module.startswith("specs.declared."):
+                raise ValueError(f"no definition: {'.'.join(word)}")
+            todo += specs.cites[word] if word in specs.lines else seen_of_type(word, code)
     return seen & specs.lines.keys(), std
 
 
-def crates_of(root):
-    lines = read(os.path.join(root, "crates.txt")).split("\n")
-    return [line.split(":")[0].split()[0] for line in lines if line and not line.startswith("#")]
-
-
-def layers(root):
+def layers():
     """What is promised, in layers: a title, the definitions of this layer and those before, and the words of std."""
-    crates = crates_of(root)
-    specs, code = Specs(root), Code(root, crates)
-    found, std, out = set(), set(), []
-    steps = [(title, names, lambda part: part is None or not part.is_law) for title, names in CALLS]
-    of_laws = [crate for crate in crates if crate != SERVES_PROOFS]
-    for title, names, takes in steps + [(LAWS, of_laws, lambda part: part is not None and part.is_law)]:
+    specs, code, found, std, out = Specs(), Code(), set(), set(), []
+    of_laws = [crate for crate in code.crates if crate != SERVES_PROOFS]
+    for title, names, takes in [*((*calls, is_call) for calls in CALLS), (LAWS, of_laws, is_law)]:
         more, of_std = closed(promised_words(code, names, takes), specs, code)
         found, std = found | more, std | of_std
         out.append((title, found, std))
     return specs, code, out
 
 
+def files_of(words):
+    """The files of definitions, each by its crate and module."""
+    return {word[:2] for word in words}
+
+
 def passed_on(specs, code, crate, before):
     """The lines by which a crate passes on the files of others that its promises rest on, but for the files before: a file has
     its own name, and its crate's before it where a file of the crate or of a lower one has that name."""
-    words, _ = closed(promised_words(code, [crate], lambda part: part is None or not part.is_law), specs, code)
-    files = {word[:2] for word in words} - before
-    taken = {module for owner, module in specs.paths if owner == crate}
-    lines = []
+    files = files_of(closed(promised_words(code, [crate]), specs, code)[0]) - before
+    taken, lines = {module for owner, module in specs.paths if owner == crate}, []
     for owner in code.crates:
         for module in sorted(module for home, module in files if home == owner != crate):
-            name = module.removeprefix("specs.")
-            of_owner = "".join(part.capitalize() for part in owner.split("_")[1:])
-            alias = "" if module not in taken else " as " + of_owner + name
+            of_owner = "".join(map(str.capitalize, owner.split("_")[1:])) + module.removeprefix("specs.")
+            lines.append(f"pub use Rattle.{owner}.{module}" + f" as {of_owner}" * (module in taken))
             taken.add(module)
-            lines.append("pub use Rattle.%s.%s%s" % (owner, module, alias))
     return lines, files
 
 
-def lists_of_specs(root, specs, code):
-    """The files specs/Lib.antt that pass on others' files, each with the text that it has to have."""
-    before = set()
+def wanted_texts(specs, code, found):
+    """The files of specs/ whose text is another, each with the text that it has to have, and why."""
+    (*_, (_, of_calls, _), (_, of_laws, _)), before = found, set()
+    for file, path in sorted(specs.paths.items()):
+        mark = PROMISED if file in files_of(of_calls) else CITED if file in files_of(of_laws) else PRIVATE
+        text = path.read_text()
+        first, _, rest = text.partition("\n")
+        yield path, f"{mark}\n{rest if first in (PROMISED, CITED, PRIVATE) else text}", f"the first line has to be '{mark}'"
     for crate in PASS_ON:
         lines, files = passed_on(specs, code, crate, before)
         before |= files
-        path = os.path.join(root, "crates", crate, "specs", "Lib.antt")
-        own = [line for line in read(path).split("\n") if line and not line.startswith("pub use ")]
-        yield path, "\n".join(own + lines) + "\n"
+        path = TOP / "crates" / crate / "specs" / "Lib.antt"
+        own = [line for line in path.read_text().split("\n") if line and not line.startswith("pub use ")]
+        yield path, "\n".join([*own, *lines, ""]), "passes on other files than its promises rest on"
 
 
-def wanted_mark(file, files_of_calls, files_of_laws):
-    if file in files_of_calls:
-        return PROMISED
-    return CITED if file in files_of_laws else PRIVATE
+def told(title, specs, words):
+    """The line of counts of definitions."""
+    files = files_of(words)
+    counts = f"{len(words):3} definitions, {sum(specs.lines[word] for word in words):4} lines, {len(files):2} files"
+    return f"{title + ':':45} {counts} of {len({crate for crate, _ in files}):2} crates"
 
 
 def main():
-    option = sys.argv[1] if len(sys.argv) > 1 else ""
+    option = (sys.argv[1:] or [""])[0]
     if option not in ("", "--list", "--mark"):
         sys.exit(__doc__)
-    specs, code, found = layers(ROOT)
+    specs, code, found = layers()
     for title, words, std in found:
-        files = {word[:2] for word in words}
-        print("%-45s %3d definitions, %4d lines, %2d files of %2d crates, over %2d words of std" % (
-            title + ":", len(words), sum(specs.lines[w] for w in words), len(files), len({c for c, _ in files}), len(std)))
-    everything = found[-1][1]
-    print("%-45s %3d definitions, %4d lines, %2d files of %2d crates" % (
-        "all:", len(specs.lines), sum(specs.lines.values()), len(specs.paths), len({c for c, _ in specs.paths})))
+        print(f"{told(title, specs, words)}, over {len(std):2} words of std")
+    print(told("all", specs, specs.lines))
+    _, everything, std = found[-1]
     if option == "--list":
-        for crate, module in sorted({word[:2] for word in everything}):
-            names = sorted(word.name for word in everything if word[:2] == (crate, module))
-            print("%s: %s" % (os.path.relpath(specs.paths[crate, module], ROOT), " ".join(names)))
-        print("std: " + " ".join(sorted({word.name for word in found[-1][2]})))
-    of_calls, of_laws = ({word[:2] for word in found[at][1]} for at in (-2, -1))
-    wrong = 0
-    for file, path in sorted(specs.paths.items()):
-        text, mark = read(path), wanted_mark(file, of_calls, of_laws)
-        first, _, rest = text.partition("\n")
-        if first == mark:
-            continue
+        for file in sorted(files_of(everything)):
+            print(f"{specs.paths[file].relative_to(TOP)}: {' '.join(sorted(word.name for word in everything if word[:2] == file))}")
+        print("std: " + " ".join(sorted({word.name for word in std})))
+    wrong = [it for it in wanted_texts(specs, code, found) if it[0].read_text() != it[1]]
+    for path, text, why in wrong:
         if option == "--mark":
-            with open(path, "w", encoding="utf-8") as out:
-                out.write(mark + "\n" + (rest if first in (PROMISED, CITED, PRIVATE) else text))
+            path.write_text(text)
         else:
-            wrong += 1
-            print("%s: the first line has to be '%s'" % (os.path.relpath(path, ROOT), mark))
-    for path, text in lists_of_specs(ROOT, specs, code):
-        if read(path) == text:
-            continue
-        if option == "--mark":
-            with open(path, "w", encoding="utf-8") as out:
-                out.write(text)
-        else:
-            wrong += 1
-            print("%s: passes on other files than its promises rest on" % os.path.relpath(path, ROOT))
-    sys.exit(1 if wrong else 0)
+            print(f"{path.relative_to(TOP)}: {why}")
+    sys.exit(1 if wrong and option != "--mark" else 0)
 
 
 if __name__ == "__main__":

@@ -10,14 +10,12 @@ It ends with the first that differs, and else prints one line. It is no part of 
 import collections
 import concurrent.futures
 import random
-import sys
-import tempfile
 from pathlib import Path
 
 import harness
-from aiger import Machine
-from harness import CHECK, output
-from random_machines import Files, random_machine
+from aiger import Gates, Machine
+from harness import CHECK, numbers, output
+from random_machines import Files, mangled, random_machine, text_of, told
 
 # How often a proof is mangled.
 MANGLED = 2
@@ -87,6 +85,10 @@ class Formula:
         self.variables = int(header[2])
         self.clauses = [tuple(map(int, words[:-1])) for words in lines]
 
+    def has(self, literals):
+        """Whether its variables have these literals."""
+        return all(abs(literal) <= self.variables for literal in literals)
+
     def is_in_conflict(self):
         """Whether there is the empty clause, or a literal and its inverse alone."""
         units = {clause[0] for clause in self.clauses if len(clause) == 1}
@@ -97,48 +99,45 @@ class Refusal(Exception):
     """A proof is refused."""
 
 
-def numbers_of(line):
+def needs(holds):
+    """Refuses a proof, unless something holds."""
+    if not holds:
+        raise Refusal
+
+
+def numbers_of(words):
     """The numbers of a line up to its 0, and those after it."""
     try:
-        numbers = [int(word) for word in line]
-        end = numbers.index(0)
+        found = list(map(int, words))
+        return found[: found.index(0)], found[found.index(0) + 1 :]
     except ValueError:
-        raise Refusal(f"bad line {line}") from None
-    return numbers[:end], numbers[end + 1 :]
+        raise Refusal from None
 
 
 def step_of(formula, line):
     """Whether the line of a DRAT file deletes a clause, and that clause."""
     deletes = line[:1] == ["d"]
     clause, rest = numbers_of(line[deletes:])
-    if rest or any(abs(literal) > formula.variables for literal in clause):
-        raise Refusal(f"bad line {line}")
+    needs(not rest and formula.has(clause))
     return deletes, clause
 
 
 def check_unnumbered(formula, lines):
-    """Takes the lines of a DRAT file up to a conflict, or raises why not."""
+    """Takes the lines of a DRAT file up to a conflict, or refuses them."""
     clauses, number = Clauses(formula.clauses), len(formula.clauses)
     # The first line says which form the others have, and so it is read in any case.
     if lines:
         step_of(formula, lines[0])
-    if clauses.propagate([]) is not None:
-        return
-    for line in lines:
-        deletes, clause = step_of(formula, line)
-        if deletes:
-            found = clauses.find(clause)
-            # What has one literal alone is never deleted, nor is what was fixed, as in the checkers that are in use.
-            if found and len(set(clause)) > 1:
-                clauses.remove(found)
-            continue
-        if clauses.follow(clause) is None:
-            raise Refusal(f"{line} doesn't follow")
-        number += 1
-        clauses.add(number, tuple(clause))
-        if clauses.propagate([]) is not None:
-            return
-    raise Refusal("unfinished")
+    lines = iter(lines)
+    while clauses.propagate([]) is None:
+        deletes, clause = step_of(formula, next(lines, []))
+        if not deletes:
+            needs(clauses.follow(clause) is not None)
+            number += 1
+            clauses.add(number, tuple(clause))
+        # What has one literal alone is never deleted, nor is what was fixed, as in the checkers that are in use.
+        elif len(set(clause)) > 1 and (found := clauses.find(clause)):
+            clauses.remove(found)
 
 
 def follows(clauses, clause, hints):
@@ -157,42 +156,39 @@ def follows(clauses, clause, hints):
 
 
 def check_numbered(formula, lines):
-    """Takes the lines of an LRAT file up to the empty clause, or raises why not."""
+    """Takes the lines of an LRAT file up to the empty clause, or refuses them."""
     clauses = Clauses(formula.clauses)
     used = set(clauses.all)
     for line in lines:
         if line[1:2] == ["d"]:
-            numbers, rest = numbers_of(line[2:])
-            if rest or int(line[0]) < 1 or min(numbers, default=1) < 1:
-                raise Refusal(f"bad line {line}")
-            for number in numbers:
-                if number not in clauses.all:
-                    raise Refusal(f"no clause {number}")
+            deleted, rest = numbers_of(line[2:])
+            needs(not rest and int(line[0]) > 0 and min(deleted, default=1) > 0)
+            for number in deleted:
+                needs(number in clauses.all)
                 clauses.remove(number)
             continue
         clause, hints = numbers_of(line[1:])
-        hints, rest = numbers_of(map(str, hints))
+        hints, rest = numbers_of(hints)
         number = int(line[0])
-        if rest or number < 1 or min(hints, default=1) < 1 or any(abs(literal) > formula.variables for literal in clause):
-            raise Refusal(f"bad line {line}")
-        if any(hint not in clauses.all for hint in hints) or not follows(clauses, clause, hints):
-            raise Refusal(f"{line} doesn't follow")
-        if number in used:
-            raise Refusal(f"{number} is used")
+        needs(not rest and min([number, *hints]) > 0 and formula.has(clause) and number not in used)
+        needs(clauses.all.keys() >= set(hints) and follows(clauses, clause, hints))
         if not clause:
             return
         clauses.add(number, tuple(clause))
         used.add(number)
-    raise Refusal("unfinished")
+    raise Refusal
 
 
-def check(formula, lines):
-    """Takes a proof, or raises why not: one of numbers and hints where the first line has more behind its clause."""
-    if formula.is_in_conflict():
-        return
+def is_taken(formula, lines):
+    """Whether a proof is taken: as one of numbers and hints where the first line has more behind its clause."""
     first = lines[0] if lines else []
-    has_numbers = first[:1] != ["d"] and (first[1:2] == ["d"] or (first[:1] != ["0"] and first.index("0") < len(first) - 1 if "0" in first else False))
-    (check_numbered if has_numbers else check_unnumbered)(formula, lines)
+    has_numbers = first[:1] != ["d"] and (first[1:2] == ["d"] or (first[:1] != ["0"] and "0" in first[:-1]))
+    try:
+        if not formula.is_in_conflict():
+            (check_numbered if has_numbers else check_unnumbered)(formula, lines)
+        return True
+    except Refusal:
+        return False
 
 
 def numbered(formula, lines):
@@ -218,25 +214,14 @@ def numbered(formula, lines):
     return made
 
 
-def text_of(lines):
-    """The text of lines of words."""
-    return "".join(" ".join(line) + "\n" for line in lines)
-
-
 def random_formula(rng):
     """A machine without latches that is bad where random clauses of three literals are all true, most often nowhere."""
     inputs = rng.randint(4, 9)
-    gates = []
-
-    def both(left, right):
-        gates.append((2 * (inputs + len(gates) + 1), max(left, right), min(left, right)))
-        return gates[-1][0]
-
-    bad = 1
+    gates, bad = Gates(inputs), 1
     for _ in range(round(inputs * rng.uniform(5, 6))):
         a, b, c = (2 * variable + rng.randrange(2) for variable in rng.sample(range(1, inputs + 1), 3))
-        bad = both(bad, both(both(a, b), c) ^ 1)
-    return Machine([2 * v for v in range(1, inputs + 1)], [], [], [bad], [], [], [], gates, {})
+        bad = gates.both(bad, gates.both(gates.both(a, b), c) ^ 1)
+    return Machine(list(range(2, gates.first, 2)), [], [], [bad], [], [], [], gates, {})
 
 
 class Trial(Files):
@@ -277,15 +262,11 @@ class Trial(Files):
         if not self.is_taken(self.put("proof", text_of(lines))):
             self.fail(f"a proof of {kind} is refused:\n{text_of(lines)}")
         for _ in range(MANGLED):
-            self.compare_mangled(kind, mangled(self.rng, lines))
+            self.compare_mangled(kind, mangled(self.rng, lines, self.rng.randint(1, 3)))
 
     def compare_mangled(self, kind, lines):
         """Compares a mangled proof."""
-        try:
-            check(self.formula, lines)
-            taken = True
-        except Refusal:
-            taken = False
+        taken = is_taken(self.formula, lines)
         self.counts[f"{kind} mangled, {'taken' if taken else 'refused'}"] += 1
         if self.is_taken(self.put("mangled", text_of(lines))) != taken:
             self.fail(f"a mangled proof of {kind} is {'refused' if taken else 'taken'}:\n{text_of(lines)}")
@@ -311,45 +292,19 @@ class Trial(Files):
             self.fail(f"a binary proof that begins with {first}: {said}")
 
 
-def mangled(rng, lines):
-    """Lines of a proof with some dropped, turned, swapped, cut or doubled, and then perhaps the empty clause."""
-    lines = [list(line) for line in lines]
-    for _ in range(rng.randint(1, 3)):
-        if not lines:
-            break
-        i, j = rng.randrange(len(lines)), rng.randrange(len(lines))
-        change = rng.choice(["drop", "turn", "turn", "swap", "cut", "double", "word"])
-        place = rng.randrange(len(lines[i]))
-        if change == "drop":
-            del lines[i]
-        elif change == "swap":
-            lines[i], lines[j] = lines[j], lines[i]
-        elif change == "cut":
-            del lines[i:]
-        elif change == "double":
-            lines.insert(j, list(lines[i]))
-        elif change == "word":
-            del lines[i][place]
-            lines = [line for line in lines if line]
-        elif lines[i][place] not in ["0", "d"]:
-            lines[i][place] = str(int(lines[i][place]) * -1 if rng.random() < 0.7 else int(lines[i][place]) + rng.choice([-1, 1]))
-    return lines
-
-
 def counts_of(words):
     """What is counted of a trial."""
     return Trial(*words).run().counts
 
 
 def main():
-    proofs, seed = [int(word) for word in sys.argv[1:]] + [1000, 1][len(sys.argv) - 1 :]
+    proofs, seed = numbers(1000, 1)
     counts, count = collections.Counter(), 0
-    with tempfile.TemporaryDirectory() as folder, concurrent.futures.ProcessPoolExecutor() as pool:
+    with harness.new_folder() as folder, concurrent.futures.ProcessPoolExecutor() as pool:
         while sum(counts[kind] for kind in ["cadical", "hints", "binary"]) < proofs:
-            for made in pool.map(counts_of, [(f"{seed} {i}", f"{folder}/{i}") for i in range(count, count + 50)]):
-                counts += made
+            counts = sum(pool.map(counts_of, [(f"{seed} {i}", folder / str(i)) for i in range(count, count + 50)]), counts)
             count += 50
-    print(f"seed {seed}: {count} steps agree (" + ", ".join(f"{counts[what]} {what}" for what in sorted(counts)) + ")")
+    print(f"seed {seed}: {count} steps agree ({told(counts)})")
 
 
 if __name__ == "__main__":

@@ -13,17 +13,17 @@ no part of tests/run."""
 import collections
 import concurrent.futures
 import dataclasses
+import functools
 import json
 import random
 import re
 import signal
 import sys
-import tempfile
 from pathlib import Path
 
 import harness
-from aiger import Machine, machine_of
-from harness import CHECK, PROVE, TOOL, TOP, output
+from aiger import Gates, Machine, machine_of
+from harness import CHECK, PROVE, TOOL, TOP, numbers, output
 
 from aigprove.aiger import Lines
 from aigprove.witness import Witness, read
@@ -49,32 +49,18 @@ def turned(witness):
 def random_machine(rng):
     """A machine of random gates, with constraints that hold for most inputs."""
     inputs, latches, gates = rng.randint(0, 3), rng.randint(1, 5), rng.randint(3, 20)
-    leaves = [2 * v for v in range(1, inputs + latches + 1)]
-    made = []
-
-    def literal():
-        return rng.randrange(2 * (len(leaves) + len(made)) + 2)
-
-    def both(left, right):
-        made.append((2 * (len(leaves) + len(made) + 1), max(left, right), min(left, right)))
-        return made[-1][0]
-
+    made = Gates(inputs + latches)
+    leaves, literal = list(range(2, made.first, 2)), lambda: rng.randrange(made.first + 2 * len(made))
     for _ in range(gates):
-        both(max(literal(), 2), max(literal(), 2))
+        made.both(max(literal(), 2), max(literal(), 2))
     rng.shuffle(leaves)
     states = leaves[inputs:]
     resets = [(leaf, literal(), rng.choice([0, 0, 1, 1, leaf])) for leaf in states]
-    constraints = [both(literal(), literal()) ^ 1 for _ in range(rng.choice([0, 0, 1, 2]))]
+    constraints = [made.both(literal(), literal()) ^ 1 for _ in range(rng.choice([0, 0, 1, 2]))]
     # Some states are bad, and now and then a literal.
-    bads = []
-    for _ in range(rng.choice([1, 1, 2, 3])):
-        bad = 1
-        for leaf in states:
-            bad = both(bad, leaf + rng.randrange(2))
-        bads.append(bad)
+    bads = [functools.reduce(lambda bad, leaf: made.both(bad, leaf + rng.randrange(2)), states, 1) for _ in range(rng.choice([1, 1, 2, 3]))]
     bads += [literal() for _ in range(rng.choice([0] * 7 + [1]))]
-    sections = {"i": inputs, "l": latches, "b": len(bads)}
-    places = [f"{letter}{i}" for letter, count in sections.items() for i in range(count)]
+    places = [f"{letter}{i}" for letter, count in [("i", inputs), ("l", latches), ("b", len(bads))] for i in range(count)]
     names = {place: rng.choice(NAMES) for place in places if rng.random() < 0.7}
     return Machine(leaves[:inputs], resets, [], bads, constraints, [], [], made, names)
 
@@ -263,6 +249,39 @@ class Trial(Files):
         return Witness(bad, start, [line[:count] for line in lines])
 
 
+def mangled(rng, lines, count, others=()):
+    """Lines of a proof, which are lists of words, with so many dropped, turned, swapped, cut, doubled, or put in from others."""
+    lines = [list(line) for line in lines]
+    for _ in range(count):
+        if not lines:
+            break
+        i, j = rng.randrange(len(lines)), rng.randrange(len(lines))
+        change = rng.choice(["drop", "turn", "turn", "swap", "cut", "double", "word"] + ["take"] * len(others[:2]))
+        place = rng.randrange(len(lines[i]))
+        if change == "drop":
+            del lines[i]
+        elif change == "swap":
+            lines[i], lines[j] = lines[j], lines[i]
+        elif change == "cut":
+            del lines[i:]
+        elif change == "double":
+            lines.insert(j, list(lines[i]))
+        elif change == "take":
+            lines[i:i] = map(list, rng.choice(others)[: j + 1])
+        elif change == "word":
+            del lines[i][place]
+            lines = [line for line in lines if line]
+        elif lines[i][place] not in ["0", "d"]:
+            word = int(lines[i][place])
+            lines[i][place] = str(-word if rng.random() < 0.7 else word + rng.choice([-1, 1]))
+    return lines
+
+
+def text_of(lines):
+    """The text of lines of words."""
+    return "".join(" ".join(line) + "\n" for line in lines)
+
+
 class Mangler:
     """Proofs of clauses, mangled, for steps at which a bad state is reached."""
 
@@ -280,55 +299,32 @@ class Mangler:
             lines = "".join(f"{literal} 0\n" for literal in fixed)
             proof = trial.proof(f"p cnf {variables} {int(count) + len(fixed)}\n{clauses}{lines}", "proof")
             if proof:
-                yield Path(proof).read_text().splitlines()
-
-    def mangled(self):
-        """A proof with some lines dropped, turned, swapped, cut, or put in from another, and then perhaps the empty clause."""
-        lines = list(self.rng.choice(self.proofs))
-        for _ in range(self.rng.randint(0, 4)):
-            i, j = (self.rng.randint(0, len(lines)) for _ in range(2))
-            change = self.rng.choice(["drop", "turn", "swap", "cut", "take"])
-            if change == "take":
-                lines[i:i] = self.rng.choice(self.proofs)[:j]
-            elif change == "cut":
-                lines = lines[:i]
-            elif max(i, j) < len(lines):
-                self.change(lines, change, i, j)
-        return lines + self.rng.choice([[], ["0"], ["0"]])
-
-    def change(self, lines, change, i, j):
-        """Drops or turns a line, or swaps two."""
-        if change == "drop":
-            del lines[i]
-        elif change == "swap":
-            lines[i], lines[j] = lines[j], lines[i]
-        else:
-            words = lines[i].split(" ")
-            place = self.rng.randrange(len(words))
-            if words[place] not in ["0", "d"]:
-                words[place] = str(-int(words[place]))
-            lines[i] = " ".join(words)
+                yield [line.split() for line in Path(proof).read_text().splitlines()]
 
     def attempt(self):
-        """Tries a proof, and gives its length."""
-        trial, lines = self.rng.choice(self.trials), self.mangled()
-        proof = trial.put("mangled", "".join(line + "\n" for line in lines))
+        """Tries a proof, perhaps with the empty clause behind it, and gives its length."""
+        trial, lines = self.rng.choice(self.trials), self.rng.choice(self.proofs)
+        lines = mangled(self.rng, lines, self.rng.randint(0, 4), self.proofs) + self.rng.choice([[], [["0"]], [["0"]]])
+        proof = trial.put("mangled", text_of(lines))
         if trial.takes(f"no bad state at step {trial.first}", "refuted", trial.text, str(trial.first), proof):
-            trial.fail("a proof is taken:\n" + "\n".join(lines))
+            trial.fail(f"a proof is taken:\n{text_of(lines)}")
         return len(lines)
 
 
+def told(counts):
+    """Counts as they are printed."""
+    return ", ".join(f"{counts[what]} {what}" for what in sorted(counts))
+
+
 def main():
-    files, tries, seed = [int(word) for word in sys.argv[1:]] + [300, 1000, 1][len(sys.argv) - 1 :]
+    files, tries, seed = numbers(300, 1000, 1)
     rng = random.Random(seed)
     machines = [machine_of(output([TOOL, "text", file])) for file in EXAMPLES] + [deep_machine(rng) for _ in range(files)]
-    with tempfile.TemporaryDirectory() as folder, concurrent.futures.ThreadPoolExecutor() as pool:
-        trial = lambda i: Trial(machines[i], f"{folder}/{i}").compare()
-        trials = list(pool.map(trial, range(len(machines))))
+    with harness.new_folder() as folder, concurrent.futures.ThreadPoolExecutor() as pool:
+        trials = list(pool.map(lambda i: Trial(machines[i], folder / str(i)).compare(), range(len(machines))))
         mangler = Mangler(rng, trials)
         steps = sum(mangler.attempt() for _ in range(tries))
-    counts = sum((trial.counts for trial in trials), collections.Counter())
-    said = ", ".join(f"{counts[what]} {what}" for what in sorted(counts))
+    said = told(sum((trial.counts for trial in trials), collections.Counter()))
     print(f"seed {seed}: {len(EXAMPLES)} examples and {files} random files agree ({said}); {tries} mangled proofs of {steps} lines are refused")
 
 

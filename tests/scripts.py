@@ -9,10 +9,8 @@ a line that begins with `##`, below which the circuit is a new one. `{PIECE}*N` 
 lines that begin with `#` say something.
 """
 import ast
-import pathlib
 import re
 import sys
-import tempfile
 
 import harness
 
@@ -128,8 +126,8 @@ def is_as_wanted(line, prints, found):
 def check(tally, path, program):
     """Checks what is printed for each step of a file."""
     steps = list(unrolled(path))
-    with tempfile.TemporaryDirectory() as folder:
-        found, status, error = printed(steps, program, pathlib.Path(folder))
+    with harness.new_folder() as folder:
+        found, status, error = printed(steps, program, folder)
     for (number, line, prints), got in zip(steps, found):
         tally.check(is_as_wanted(line, prints, got), f"{path.name}:{number}: {line}: {got}")
     if status != 0 or len(found) != len(steps):

@@ -4,6 +4,7 @@
 The engines are shell scripts that were written by hand: a SAT solver, and one in the place of ABC. Each row says what is wanted:
 the exit status, the lines of standard output and standard error (its first line, where more follow). After each nothing is left
 in the temporary folder, and no program that was started by an engine runs."""
+import contextlib
 import gzip
 import os
 import pty
@@ -11,13 +12,11 @@ import shlex
 import signal
 import subprocess
 import sys
-import tempfile
 import time
+from pathlib import Path
 
 import harness
-from harness import TOP
-
-PROVE = TOP / "bin" / "aigprove"
+from harness import PROVE, TOP
 
 # Bad at step 1, and a latch that keeps 0, which is never bad.
 TOGGLE = "aag 1 0 1 0 0 1\n2 3\n2\n"
@@ -151,34 +150,33 @@ def file_rows():
     yield b"\x1f\x8b\x08", "aigprove: t.aag: "
 
 
-def write(folder, name, text):
-    """Writes a file, which is a program where it is a script."""
-    path = os.path.join(folder, name)
-    with open(path, "wb") as out:
-        out.write(text if isinstance(text, bytes) else text.encode())
-    if text[:2] == "#!":
-        os.chmod(path, 0o755)
-
-
 class Run:
-    """A folder with a file and engines, and a temporary folder in it."""
+    """A folder with a file and engines, which are scripts, and a temporary folder in it."""
 
-    def __init__(self, folder, file, solver="exit 3", abc="exit 3"):
-        self.folder, self.temporary = folder, os.path.join(folder, "temporary")
-        os.mkdir(self.temporary)
-        write(folder, "t.aag", file)
-        write(folder, "solver", f"#!/bin/sh\n{solver}\n")
-        write(folder, "abc", f"#!/bin/sh\n{abc}\n")
-        self.words = [str(PROVE), *TOOLS, "--solver", "./solver", "--abc", "./abc", "t.aag"]
-        self.environment = {**os.environ, "TMPDIR": self.temporary, "FOLDER": folder}
+    def __init__(self, folder, file, solver, abc, files):
+        self.folder, self.temporary = folder, folder / "temporary"
+        self.temporary.mkdir()
+        for name, text in {"t.aag": file, "solver": f"#!/bin/sh\n{solver}\n", "abc": f"#!/bin/sh\n{abc}\n", **files}.items():
+            (folder / name).write_bytes(text if isinstance(text, bytes) else text.encode())
+        for name in ["solver", "abc"]:
+            (folder / name).chmod(0o755)
+        self.words = [PROVE, *TOOLS, "--solver", "./solver", "--abc", "./abc", "t.aag"]
+        self.environment = {**os.environ, "TMPDIR": str(self.temporary), "FOLDER": str(folder)}
 
-    def start(self, words, **streams):
-        """Starts it."""
-        return subprocess.Popen(words, cwd=self.folder, env=self.environment, encoding="ascii", errors="backslashreplace", **streams)
+    def start(self, words, stdout=subprocess.PIPE, stderr=subprocess.PIPE):
+        """Starts a program."""
+        streams = {"stdout": stdout, "stderr": stderr, "encoding": "ascii", "errors": "backslashreplace"}
+        return subprocess.Popen(words, cwd=self.folder, env=self.environment, **streams)
 
-    def result(self, options):
+    def started(self, **streams):
+        """The process, once an engine has said that it runs."""
+        process = self.start(self.words, **streams)
+        wait(lambda: (self.folder / "started").exists())
+        return process
+
+    def result(self, options, words=None, **streams):
         """The status, standard output and standard error with further words, and what is left."""
-        process = self.start([*self.words, *options], stdout=subprocess.PIPE, stderr=subprocess.PIPE)
+        process = self.start([*(words or self.words), *options], **streams)
         given, said = finish(process)
         return process.returncode, given, said, self.left()
 
@@ -189,10 +187,29 @@ class Run:
     def is_ours(self, process):
         """Whether a process has the environment of this run."""
         try:
-            with open(f"/proc/{process}/environ", "rb") as file:
-                return f"FOLDER={self.folder}".encode() in file.read().split(b"\0")
+            return f"FOLDER={self.folder}".encode() in Path("/proc", process, "environ").read_bytes().split(b"\0")
         except OSError:
             return False
+
+
+@contextlib.contextmanager
+def running(file, solver="exit 3", abc="exit 3", files={}):
+    """A run in a new folder."""
+    with harness.new_folder() as folder:
+        yield Run(folder, file, solver, abc, files)
+
+
+def asked(options, *run):
+    """What a run with these options gives."""
+    with running(*run) as made:
+        return made.result(options)
+
+
+def wait(until, seconds=100):
+    """Waits until something holds, or so many seconds."""
+    begun = time.monotonic()
+    while not until() and time.monotonic() - begun < seconds:
+        time.sleep(0.01)
 
 
 def finish(process):
@@ -207,65 +224,47 @@ def finish(process):
         return "", "it did not end"
 
 
-def compared(given, error):
-    """What a run gave, with the first line of standard error, or whether it begins as it is wanted."""
-    status, out, said, left = given
+def compared(what, wanted, given):
+    """What a run is about, what is wanted of it, and what it gave, with whether standard error begins so, or else its first line."""
+    (wanted_status, wanted_out, error), (status, out, said, left) = wanted, given
     first = said.partition("\n")[0]
     same = first.startswith(error) if error else said == ""
-    return status, out, same or first, left
+    return what, (wanted_status, wanted_out, True, []), (status, out, same or first, left)
 
 
 def answers():
     """What the rows give, and what is wanted."""
-    for file, script, options, (status, out, error) in solver_rows():
-        with tempfile.TemporaryDirectory() as folder:
-            given = Run(folder, file, solver=script).result(["--engine", *(options or ["steps"])] + ["--bound", "3"] * (len(options) < 3))
-            yield script, (status, out, True, []), compared(given, error)
-    for file, script, engine, (status, out, error) in abc_rows():
-        with tempfile.TemporaryDirectory() as folder:
-            given = Run(folder, file, solver=REFUTES, abc=script).result(["--engine", *engine])
-            yield script, (status, out, True, []), compared(given, error)
-    for file, text, option, (status, out, error) in given_rows():
-        with tempfile.TemporaryDirectory() as folder:
-            run = Run(folder, file, solver=REFUTES)
-            write(folder, "given", text)
-            yield (option, text), (status, out, True, []), compared(run.result([option, "given"]), error)
-    for file, other, script, options, (status, out, error) in equal_rows():
-        with tempfile.TemporaryDirectory() as folder:
-            run = Run(folder, file, solver=script, abc=ANYTHING)
-            write(folder, "other.aag", other)
-            write(folder, "given", options[-1])
-            options = ["--run", "given"] if options[0] == "--run" else ["--engine", *options]
-            yield (file, other, options), (status, out, True, []), compared(run.result(["--equal", "other.aag", *options]), error)
+    for file, script, options, wanted in solver_rows():
+        yield compared(script, wanted, asked(["--engine", *(options or ["steps"])] + ["--bound", "3"] * (len(options) < 3), file, script))
+    for file, script, engine, wanted in abc_rows():
+        yield compared(script, wanted, asked(["--engine", *engine], file, REFUTES, script))
+    for file, text, option, wanted in given_rows():
+        yield compared((option, text), wanted, asked([option, "given"], file, REFUTES, "exit 3", {"given": text}))
+    for file, other, script, options, wanted in equal_rows():
+        given = {"other.aag": other, "given": options[-1]}
+        options = ["--run", "given"] if options[0] == "--run" else ["--engine", *options]
+        yield compared((file, other, options), wanted, asked(["--equal", "other.aag", *options], file, script, ANYTHING, given))
 
 
 def files():
     """Files that are refused, one that is packed, and one whose names would drive a terminal."""
     for data, error in file_rows():
-        with tempfile.TemporaryDirectory() as folder:
-            yield data, (1, "", True, []), compared(Run(folder, data).result([]), error)
-    with tempfile.TemporaryDirectory() as folder:
-        run = Run(folder, "")
-        os.rename(os.path.join(folder, "t.aag"), os.path.join(folder, "\x1b[2J.aag"))
-        process = run.start([*run.words[:-1], "\x1b[2J.aag"], stdout=subprocess.PIPE, stderr=subprocess.PIPE)
-        yield "a path", ("", "aigprove: \\x1b[2J.aag: bad header line\n"), finish(process)
+        yield compared(data, (1, "", error), asked([], data))
+    with running("", files={"\x1b[2J.aag": ""}) as run:
+        yield "a path", (1, "", "aigprove: \\x1b[2J.aag: bad header line\n", []), run.result(["\x1b[2J.aag"], run.words[:-1])
     named = TOGGLE + "l0 a\x1b[2J\nb0 \x1b]0;t\x07\n"
     shown = 'a bad state at step 1: b0 "\\u001b]0;t\\u0007"\nstart: "a\\u001b[2J"=0\nstep 0:\nstep 1:\n'
     for data in [named.encode(), gzip.compress(named.encode())]:
-        with tempfile.TemporaryDirectory() as folder:
-            yield data, (10, shown, True, []), compared(Run(folder, data, abc=RUN).result(["--engine", "bmc3"]), "")
+        yield compared(data, (10, shown, ""), asked(["--engine", "bmc3"], data, "exit 3", RUN))
 
 
 def hung():
     """An engine that hangs, where there is a limit of time, and where standard error is a terminal."""
-    with tempfile.TemporaryDirectory() as folder:
-        run = Run(folder, TOGGLE, abc="sleep 1000")
-        yield "a limit of time", (0, "nothing was shown\n", True, []), compared(run.result(["--engine", "pdr", "--timeout", "0.5"]), "")
-    with tempfile.TemporaryDirectory() as folder:
-        run = Run(folder, TOGGLE, abc="sleep 1000")
+    hangs = TOGGLE, "exit 3", "sleep 1000"
+    yield compared("a limit of time", (0, "nothing was shown\n", ""), asked(["--engine", "pdr", "--timeout", "0.5"], *hangs))
+    with running(*hangs) as run:
         own, other = pty.openpty()
-        process = run.start([*run.words, "--engine", "pdr", "--timeout", "2"], stdout=subprocess.PIPE, stderr=other)
-        given, _ = finish(process)
+        given = run.result(["--engine", "pdr", "--timeout", "2"], stderr=other)[1]
         said = os.read(own, 4096).decode()
         yield "a terminal", (True, True, True, "nothing was shown\n"), ("pdr: 0 s" in said, "pdr: 1 s" in said, said.endswith("\r\x1b[K"), given)
 
@@ -273,35 +272,28 @@ def hung():
 def together():
     """Engines of which all but one lie, break or hang: the answer of that one comes, and the others are ended."""
     hang = "trap '' TERM INT; setsid sleep 1000 & sleep 1000"
-    for abc in [hang, ANYTHING, FILES + "kill -SEGV $$", "printf 'l0@0=0\\n' > run", "while :; do mkdir d; cd d; done"]:
-        with tempfile.TemporaryDirectory() as folder:
-            status, out, _, left = Run(folder, TOGGLE, solver="sleep 1; " + SOLVES, abc=abc).result([])
-            yield abc, (10, REACHED, []), (status, out[-len(REACHED):], left)
-    for solver in [hang, "exit 0", FILES + REFUTES, "kill -KILL $$"]:
-        with tempfile.TemporaryDirectory() as folder:
-            status, out, _, left = Run(folder, TOGGLE, solver=solver, abc=f"sleep 1; {RUN}").result(["--jobs", "1"])
-            yield solver, (10, REACHED, []), (status, out[-len(REACHED):], left)
+    runs = [([], "sleep 1; " + SOLVES, abc) for abc in [
+        hang, ANYTHING, FILES + "kill -SEGV $$", "printf 'l0@0=0\\n' > run", "while :; do mkdir d; cd d; done"]]
+    runs += [(["--jobs", "1"], solver, f"sleep 1; {RUN}") for solver in [hang, "exit 0", FILES + REFUTES, "kill -KILL $$"]]
+    for options, *scripts in runs:
+        status, out, _, left = asked(options, TOGGLE, *scripts)
+        yield scripts, (10, REACHED, []), (status, out[-len(REACHED):], left)
 
 
 def closed():
     """Standard output that is closed, or takes nothing: one line, and no traceback."""
     for redirection in [">&-", "> /dev/full"]:
-        with tempfile.TemporaryDirectory() as folder:
-            run = Run(folder, TOGGLE, REFUTES)
-            process = run.start(["sh", "-c", f"{shlex.join(run.words)} --engine steps {redirection}"], stderr=subprocess.PIPE)
-            _, said = finish(process)
-            yield redirection, (1, 1, "aigprove:", []), (process.returncode, said.count("\n"), said[:9], run.left())
+        with running(TOGGLE, REFUTES) as run:
+            status, _, said, left = run.result([], ["sh", "-c", f"{shlex.join(run.words)} --engine steps {redirection}"], stdout=None)
+            yield redirection, (1, 1, "aigprove:", []), (status, said.count("\n"), said[:9], left)
 
 
 def ended():
     """Signals while engines run: all is ended and removed in time, and the status tells which. On a quiet machine that is a tenth
     of a second."""
     for number in [signal.SIGTERM, signal.SIGHUP, signal.SIGINT]:
-        with tempfile.TemporaryDirectory() as folder:
-            run = Run(folder, TOGGLE, "touch $FOLDER/started; setsid sleep 1000 & sleep 1000", "sleep 1000")
-            process = run.start(run.words, stdout=subprocess.DEVNULL, stderr=subprocess.PIPE)
-            while not os.path.exists(os.path.join(folder, "started")):
-                time.sleep(0.01)
+        with running(TOGGLE, "touch $FOLDER/started; setsid sleep 1000 & sleep 1000", "sleep 1000") as run:
+            process = run.started(stdout=subprocess.DEVNULL)
             process.send_signal(number)
             begun = time.monotonic()
             _, said = finish(process)
@@ -310,44 +302,34 @@ def ended():
 
 def killed():
     """A prover that is killed: its engines end too, though its folder is left."""
-    with tempfile.TemporaryDirectory() as folder:
-        run = Run(folder, TOGGLE, "sleep 2; touch $FOLDER/started; sleep 1000", "sleep 1000")
-        process = run.start(run.words, stdout=subprocess.DEVNULL)
-        while not os.path.exists(os.path.join(folder, "started")):
-            time.sleep(0.01)
+    with running(TOGGLE, "sleep 2; touch $FOLDER/started; sleep 1000", "sleep 1000") as run:
+        process = run.started(stdout=subprocess.DEVNULL, stderr=None)
         process.kill()
         process.wait()
-        begun = time.monotonic()
-        while len(run.left()) > 1 and time.monotonic() - begun < 10:
-            time.sleep(0.01)
+        wait(lambda: len(run.left()) <= 1, 10)
         yield "SIGKILL", 1, len(run.left())
 
 
 def missing():
     """Engines that aren't installed: each is passed over with a line."""
-    with tempfile.TemporaryDirectory() as folder:
-        run = Run(folder, TOGGLE)
-        run.environment["PATH"] = run.temporary
-        words = [sys.executable, *run.words[:7], "t.aag"]
-        process = run.start(words, stdout=subprocess.PIPE, stderr=subprocess.PIPE)
+    with running(TOGGLE) as run:
+        run.environment["PATH"] = str(run.temporary)
         solver, abc = "passed over: cadical is not installed", "passed over: none of berkeley-abc, yosys-abc, abc is installed"
         wanted = "".join(f"aigprove: {name}: {why}\n" for name, why in [("steps", solver), ("windows", solver), ("bmc3", abc), ("pdr", abc)])
-        yield "nothing is installed", ("", wanted, 1), (*finish(process), process.returncode)
+        yield "nothing is installed", (1, "", wanted, []), run.result(["t.aag"], [sys.executable, *run.words[:7]])
 
 
 def installed():
     """Programs that are installed, and run with nothing but their folder in PATH."""
-    with tempfile.TemporaryDirectory() as folder:
-        run = Run(folder, TOGGLE, abc=RUN)
-        status = subprocess.run([TOP / "install", "prefix"], cwd=folder).returncode
+    with running(TOGGLE, abc=RUN) as run:
+        programs = run.folder / "prefix" / "bin"
+        status = subprocess.run([TOP / "install", "prefix"], cwd=run.folder).returncode
         names = ["aigcheck", "aigedit", "aigprove", "aigtool", "aigwaves"]
-        yield "install", (0, names), (status, sorted(os.listdir(os.path.join(folder, "prefix", "bin"))))
-        prove = os.path.join("prefix", "bin", "aigprove")
-        process = run.start([prove, "--abc", "./abc", "--engine", "bmc3", "--witness", "w", "t.aag"], stdout=subprocess.PIPE, stderr=subprocess.PIPE)
-        yield "installed aigprove", (REACHED, ""), finish(process)
-        process = run.start([os.path.join("prefix", "bin", "aigwaves"), "t.aag", "w"], stdout=subprocess.PIPE, stderr=subprocess.PIPE)
-        given, said = finish(process)
-        yield "installed aigwaves", (True, ""), (given.endswith("#2\n"), said)
+        yield "install", (0, names), (status, sorted(os.listdir(programs)))
+        words = ["--abc", "./abc", "--engine", "bmc3", "--witness", "w", "t.aag"]
+        yield "installed aigprove", (10, REACHED, "", []), run.result(words, [programs / "aigprove"])
+        status, given, said, _ = run.result(["t.aag", "w"], [programs / "aigwaves"])
+        yield "installed aigwaves", (0, True, ""), (status, given.endswith("#2\n"), said)
 
 
 def main():

@@ -5,91 +5,79 @@ Each call that is exported and each law has to stand in a row, with each clause 
 one of its calls'. The last column has the words of specs/ that these clauses cite, each with a link to its file, but for those that
 the page links before its first table; --write fills it. So a row more is one line, whose last cell is left empty.
 """
+import collections
 import os
 import re
 import sys
 
-sys.dont_write_bytecode = True
 import promises
 
-PAGE = os.path.join(promises.ROOT, "docs", "PROMISES.md")
+PAGE = promises.TOP / "docs" / "PROMISES.md"
+NAMED = re.compile(r"`([^`]+)`")
 
 
 def calls_of(code):
-    """The parts of each call and law by its names: `encode`, `Aig::new`, `Aig as Clone`, and of a program `aigtool::run` too."""
-    named = [crate for _, crates in promises.CALLS for crate in crates]
-    calls, needed = {}, set()
-    for crate in code.crates:
-        for owner, name in code.exports[crate]:
-            for part in code.functions.get((owner, name), ()):
-                if crate in named or part.is_law:
-                    calls.setdefault(name, []).append(part)
-                    calls["%s::%s" % (crate, name)] = [part]
-                    if crate != promises.SERVES_PROOFS:
-                        needed.add((crate, name))
-            for part in code.types.get((owner, name), ()) if crate in named else ():
-                if part.name and part.ensures:
-                    item = name + (" " if part.name.startswith("as ") else "::") + part.name
-                    calls.setdefault(item, []).append(part)
-                    if owner == crate and not part.name.startswith("as From"):
-                        needed.add((crate, item))
+    """The parts of each call and law by its names: `encode`, `Aig::new`, `Aig as Clone`, and with the crate's `aigtool::run`; and what has to
+    stand in rows: crate, name, and the name of the crate's own parts."""
+    named = {crate for _, crates in promises.CALLS for crate in crates}
+    calls, needed = collections.defaultdict(list), set()
+    for crate, (owner, name) in ((crate, item) for crate in code.crates for item in code.exports[crate]):
+        for part in code.functions.get((owner, name), ()):
+            if crate in named or part.is_law:
+                calls[name].append(part)
+                calls[f"{crate}::{name}"] = [part]
+                if crate != promises.SERVES_PROOFS:
+                    needed.add((crate, name, f"{crate}::{name}"))
+        for part in code.types.get((owner, name), ()) if crate in named else ():
+            if part.name and part.ensures:
+                item = name + (" " if part.name.startswith("as ") else "::") + part.name
+                calls[item].append(part)
+                if owner == crate and not part.name.startswith("as From"):
+                    needed.add((crate, item, item))
     return calls, needed
-
-
-def link_to(specs, word):
-    """A word of specs/ as a link."""
-    return "[`%s`](%s)" % (word.name, os.path.relpath(specs.paths[word[:2]], os.path.dirname(PAGE)))
 
 
 def row_of(calls, specs, items, clauses, common):
     """The words of a row, as links, and what is wrong with it."""
-    words, wrong = set(), []
-    for item in items:
-        if item not in calls:
-            wrong.append("no call: " + item)
+    words, wrong = set(), [f"no call: {item}" for item in items if item not in calls]
     for clause in clauses:
         found = [part.ensures[clause] for item in items for part in calls.get(item, ()) if clause in part.ensures]
-        if not found:
-            wrong.append("no clause of %s: %s" % (", ".join(items), clause))
+        wrong += [f"no clause of {', '.join(items)}: {clause}"] * (not found)
         words |= {specs.constructors.get(word, word) for cited in found for word in cited}
-    links = [link_to(specs, word) for word in sorted(words & specs.lines.keys(), key=lambda word: (word.name.lower(), word))]
+    told = sorted(words & specs.lines.keys(), key=lambda word: (word.name.lower(), word))
+    links = (f"[`{word.name}`]({os.path.relpath(specs.paths[word[:2]], PAGE.parent)})" for word in told)
     return ", ".join(link for link in links if link not in common), wrong
 
 
 def main():
-    option = sys.argv[1] if len(sys.argv) > 1 else ""
+    option = (sys.argv[1:] or [""])[0]
     if option not in ("", "--write"):
         sys.exit(__doc__)
-    specs, code = promises.Specs(promises.ROOT), promises.Code(promises.ROOT, promises.crates_of(promises.ROOT))
+    specs, code = promises.Specs(), promises.Code()
     calls, needed = calls_of(code)
-    text, told, wrong, lines = promises.read(PAGE), set(), [], []
-    common = set(re.findall(r"\[`[^`]+`\]\([^)]+\)", text.partition("\n|")[0]))
+    text, told, wrong, lines = PAGE.read_text(), set(), [], []
+    common = re.findall(r"\[`[^`]+`\]\([^)]+\)", text.partition("\n|")[0])
     for line in text.split("\n"):
         cells = [cell.strip() for cell in line.split("|")[1:-1]]
-        items = re.findall(r"`([^`]+)`", cells[0]) if len(cells) == 4 else []
+        items = NAMED.findall(cells[0]) if len(cells) == 4 else []
         if items:
-            crate = re.search(r"` of `(\w+)`$", cells[0])
-            items = items[:-1] if crate else items
-            clauses = re.findall(r"`([^`]+)`", cells[2])
+            items = items[:-1] if re.search(r"` of `\w+`$", cells[0]) else items
+            clauses = NAMED.findall(cells[2])
             cells[3], faults = row_of(calls, specs, items, clauses, common)
             wrong += faults
             told |= {(item, clause) for item in items for clause in clauses}
-            line = "| " + " | ".join(cells) + " |"
+            line = f"| {' | '.join(cells)} |"
         lines.append(line.replace("|  |", "| |"))
-    for crate, item in sorted(needed):
-        for part in calls["%s::%s" % (crate, item)] if "::" not in item and " " not in item else calls[item]:
-            for clause in part.ensures:
-                if not {(item, clause), ("%s::%s" % (crate, item), clause)} & told:
-                    wrong.append("no row: %s of %s, clause %s" % (item, crate, clause))
-    for link in re.findall(r"\]\(([^)#]+)\)", text):
-        if "://" not in link and not os.path.exists(os.path.join(os.path.dirname(PAGE), link)):
-            wrong.append("leads nowhere: " + link)
+    for crate, item, own in needed:
+        clauses = [clause for part in calls[own] for clause in part.ensures]
+        wrong += [f"no row: {item} of {crate}, clause {clause}" for clause in clauses if not {(item, clause), (f"{crate}::{item}", clause)} & told]
+    links = re.findall(r"\]\(([^)#]+)\)", text)
+    wrong += [f"leads nowhere: {link}" for link in links if "://" not in link and not (PAGE.parent / link).exists()]
     if option == "--write":
-        with open(PAGE, "w", encoding="utf-8") as out:
-            out.write("\n".join(lines))
+        PAGE.write_text("\n".join(lines))
     elif lines != text.split("\n"):
         wrong.append("the words of docs/PROMISES.md aren't those of the contracts: tests/theorems.py --write")
-    print("\n".join(sorted(wrong)) or "%d calls and laws, each clause in a row" % len(needed))
+    print("\n".join(sorted(wrong)) or f"{len(needed)} calls and laws, each clause in a row")
     sys.exit(1 if wrong else 0)
 
 

@@ -5,9 +5,7 @@ A row of waves/rows.tsv is the words that the script is given in that folder, an
 with status 0, or a line to standard error, with status 1. The texts were worked by hand. Each dump is also written to a file, and
 wrong words are tried.
 """
-import pathlib
 import sys
-import tempfile
 
 import harness
 from harness import TESTS, TOP
@@ -32,8 +30,8 @@ def main():
             continue
         wanted = (FOLDER / printed).read_bytes()
         tally.wants(words, (0, wanted, b""), run(words.split()))
-        with tempfile.TemporaryDirectory() as folder:
-            out = pathlib.Path(folder) / "out.vcd"
+        with harness.new_folder() as folder:
+            out = folder / "out.vcd"
             tally.wants(f"{words} OUT", ((0, b"", b""), wanted), (run([*words.split(), out]), out.read_bytes()))
     for words in WRONG_WORDS:
         status, out, fault = run(words.split())

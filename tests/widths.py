@@ -2,7 +2,6 @@
 """Holds the lines of specs/ and the clauses of src/ to 100 columns, but for imports and lines with a string. Of proofs/ it counts the
 lines that are longer, which may only become fewer.
 """
-import pathlib
 import re
 import sys
 
@@ -28,8 +27,8 @@ def clause_lines(text):
 
 
 def main():
-    crates, proofs, wrong = pathlib.Path(promises.ROOT) / "crates", 0, []
-    for path in map(pathlib.Path, promises.files_below(crates, (".antt", ".rt"))):
+    crates, proofs, wrong = promises.TOP / "crates", 0, []
+    for path in promises.files_below(crates, ".antt", ".rt"):
         text, place = path.read_text(), path.relative_to(crates)
         part = place.parts[1]
         if part == "proofs":

@@ -91,9 +91,8 @@ class Circuit:
         counts = [header.outputs, header.bads, header.constraints]
         self.outputs, self.bads, self.constraints = ([lines.number() for _ in range(count)] for count in counts)
         sizes = [lines.number() for _ in range(header.justice)]
-        # Of justice and fairness nothing is kept.
-        for _ in range(sum(sizes) + header.fairness):
-            lines.number()
+        self.justice = [[lines.number() for _ in range(size)] for size in sizes]
+        self.fairness = [lines.number() for _ in range(header.fairness)]
         if header.is_text:
             self.gates = [lines.numbers(3, 3) for _ in range(header.gates)]
         else:
@@ -151,6 +150,15 @@ class Circuit:
                 values[gate] = both(value(values, left), value(values, right))
             yield values
             state = [value(values, literal) for literal in self.nexts]
+
+
+def difference(number):
+    """A number as binary files spell it: groups of seven bits, the lowest first, each but the last with the eighth bit set."""
+    groups = []
+    while number > 127:
+        groups.append(number & 127 | 128)
+        number >>= 7
+    return bytes([*groups, number])
 
 
 def binary_gate(lines, gate):

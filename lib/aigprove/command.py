@@ -38,25 +38,15 @@ Exit status 20: no bad state at any step, or no difference. 10: a bad state is r
 """
 
 
-def number(word):
-    """A number of steps."""
-    if not re.fullmatch("[0-9]{1,10}", word) or int(word) >= 1 << 32:
-        raise argparse.ArgumentTypeError(f"{word} is no number of steps")
-    return int(word)
+def count(pattern, what, kind=int):
+    """The type of words that are spelled so, which are numbers below 2^32 of something."""
 
+    def taken(word):
+        if not re.fullmatch(pattern, word) or kind(word) >= 1 << 32:
+            raise argparse.ArgumentTypeError(f"{word} is no number of {what}")
+        return kind(word)
 
-def jobs(word):
-    """A number of programs."""
-    if not re.fullmatch("[1-9][0-9]{0,4}", word):
-        raise argparse.ArgumentTypeError(f"{word} is no number of programs")
-    return int(word)
-
-
-def seconds(word):
-    """A number of seconds."""
-    if not re.fullmatch(r"[0-9]{1,9}(\.[0-9]{1,9})?", word):
-        raise argparse.ArgumentTypeError(f"{word} is no number of seconds")
-    return float(word)
+    return taken
 
 
 def engines(word):
@@ -78,9 +68,9 @@ def parser():
     it.add_argument("top", metavar="TOP", nargs="?", help="the top module of a design (the one that no other has)")
     it.add_argument("--version", action="version", version=f"aigprove {VERSION}")
     it.add_argument("--equal", metavar="OTHER", help="compare FILE with this file")
-    it.add_argument("--bound", metavar="N", type=number, help=bound)
-    it.add_argument("--timeout", metavar="S", type=seconds, help="end after so many seconds (never)")
-    it.add_argument("--jobs", metavar="N", type=jobs, default=processors, help=running)
+    it.add_argument("--bound", metavar="N", type=count("[0-9]{1,10}", "steps"), help=bound)
+    it.add_argument("--timeout", metavar="S", type=count(r"[0-9]{1,9}(\.[0-9]{1,9})?", "seconds", float), help="end after so many seconds (never)")
+    it.add_argument("--jobs", metavar="N", type=count("[1-9][0-9]{0,4}", "programs"), default=processors, help=running)
     it.add_argument("--engine", metavar="NAMES", type=engines, help="ask these engines alone, with commas between; abc is bmc3 and pdr")
     it.add_argument("--certificate", metavar="CERT", help="check an inductive machine in AIGER form that somebody else made")
     it.add_argument("--run", metavar="WITNESS", help="check a witness that somebody else made, or what ABC's write_cex wrote")

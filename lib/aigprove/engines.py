@@ -16,6 +16,8 @@ CHECKS = 2
 # How many variables the windows without repeated states may have to tell states apart.
 PAIRS = 1 << 22
 ABCS = ["berkeley-abc", "yosys-abc", "abc"]
+# Bounded model checking, where 0 is no bound; and property directed reachability, whose invariant becomes a certificate.
+COMMANDS = {"bmc3": "bmc3 -F {steps}", "pdr": "pdr -d -I inv.pla"}
 
 
 class Missing(Fault):
@@ -27,17 +29,20 @@ def powers(bound):
     return itertools.takewhile(lambda k: bound is None or k <= bound, itertools.chain([0], (1 << i for i in itertools.count())))
 
 
-class Steps:
-    """Asks about step 0, 1 and so on, up to the bound; while proofs are checked the next question is asked."""
+class Asking:
+    """An engine that asks a solver about the file."""
 
     def __init__(self, race):
         self.race, self.solver, self.judge, self.source = race, race.needs_solver(), race.judge, race.source
-        # Steps that unit propagation is tried on, and claims that are being checked.
-        self.tried, self.checking = {}, collections.deque()
+
+
+class Steps(Asking):
+    """Asks about step 0, 1 and so on, up to the bound; while proofs are checked the next question is asked."""
 
     def run(self):
         """Asks step by step."""
-        propagates = False
+        # Steps that unit propagation is tried on, and claims that are being checked.
+        self.tried, self.checking, propagates = {}, collections.deque(), False
         with concurrent.futures.ThreadPoolExecutor(CHECKS) as self.checker:
             for k in itertools.count() if self.race.bound is None else range(self.race.bound + 1):
                 is_power = k & (k - 1) == 0
@@ -86,11 +91,8 @@ class Steps:
             self.race.step(k, claim)
 
 
-class Bounded:
+class Bounded(Asking):
     """Asks one question about all steps up to K, where K is 1, 2, 4 and so on, and the bound; then for the least step by halves."""
-
-    def __init__(self, race):
-        self.race, self.solver, self.judge, self.source = race, race.needs_solver(), race.judge, race.source
 
     def run(self):
         """Asks about more and more steps."""
@@ -134,11 +136,8 @@ class Bounded:
         return len(witness.read(aiger.Lines(run, "WITNESS"), header.latches, header.inputs).steps) - 1
 
 
-class Windows:
+class Windows(Asking):
     """Asks about windows of K + 2 steps, where K is 0 or a power of two: all, and then those on which no state comes twice."""
-
-    def __init__(self, race):
-        self.race, self.solver = race, race.needs_solver()
 
     def run(self):
         """Asks about longer and longer windows."""
@@ -146,10 +145,10 @@ class Windows:
             for form in self.forms(k):
                 self.race.progress("window", k)
                 question = Question("window", k, form)
-                has_solution, given = self.solver.ask(question, self.race.source.asked)
+                has_solution, given = self.solver.ask(question, self.source.asked)
                 if not has_solution:
-                    claim = self.race.source.window(question, given)
-                    self.race.judge.check(claim)
+                    claim = self.source.window(question, given)
+                    self.judge.check(claim)
                     self.race.window(k, claim)
                     return
 
@@ -162,8 +161,8 @@ class Windows:
 class Abc:
     """A command of ABC on the plain machine of the file."""
 
-    def __init__(self, race):
-        self.race = race
+    def __init__(self, name, race):
+        self.name, self.race = name, race
         self.program = race.words.abc or next(filter(None, map(shutil.which, ABCS)), None)
         if self.program is None:
             raise Missing(f"none of {', '.join(ABCS)} is installed")
@@ -172,10 +171,11 @@ class Abc:
         """Runs it, and hands in what it found."""
         self.race.progress(self.name)
         self.plain = self.race.plain
+        command = COMMANDS[self.name].format(steps=0 if self.race.bound is None else self.race.bound + 1)
         with Folder(self.race.above) as folder:
             with folder.make("machine.aig") as out:
                 out.write(self.plain.binary())
-            status = folder.run(self.race.programs, [self.program, "-q", f"read_aiger machine.aig; {self.command()}; write_cex -n run"])
+            status = folder.run(self.race.programs, [self.program, "-q", f"read_aiger machine.aig; {command}; write_cex -n run"])
             found, invariant = (self.read(folder, name) for name in ["run", "inv.pla"])
         if status != 0:
             raise Fault(f"ABC {ending(status)}")
@@ -206,39 +206,19 @@ class Abc:
         Certificate(self.race, made).run()
 
 
-class Bmc3(Abc):
-    """Bounded model checking, up to the bound."""
-
-    name = "bmc3"
-
-    def command(self):
-        """The command, which takes the number of steps, or 0 for no bound."""
-        return f"bmc3 -F {0 if self.race.bound is None else self.race.bound + 1}"
-
-
-class Pdr(Abc):
-    """Property directed reachability, whose invariant becomes a certificate."""
-
-    name = "pdr"
-
-    def command(self):
-        """The command, which writes its invariant to a file."""
-        return "pdr -d -I inv.pla"
-
-
-class Certificate:
+class Certificate(Asking):
     """A certificate, as bytes."""
 
     def __init__(self, race, data):
-        self.race, self.solver, self.certificate = race, race.needs_solver(), Sealed(data)
+        super().__init__(race)
+        self.certificate = Sealed(data)
 
     def run(self):
         """Has the certificate checked, by proofs about the file beside it, and hands it in."""
-        judge, source = self.race.judge, self.race.source
-        joint = judge.made("join", source.asked, self.certificate)
+        joint = self.judge.made("join", self.source.asked, self.certificate)
         proofs = [self.solver.refute(Question(command, 0), joint) for command in ["query", "window"]]
-        claim = source.certified(self.certificate, *proofs)
-        judge.check(claim)
+        claim = self.source.certified(self.certificate, *proofs)
+        self.judge.check(claim)
         self.race.certificate(claim)
 
 

@@ -5,6 +5,7 @@ A latch that is 1 at first is inverted; one that is open at first takes an input
 and the latch `broken` is 1 once a constraint didn't hold. A machine without latches gets one that is spare. Inputs and latches
 are named by their places in the file (i0, l0), and the value of an open latch l0 is the input r0, so that what an engine says is
 told by names."""
+from aigprove.aiger import difference
 from aigprove.witness import Named
 
 BEGAN, BROKEN, SPARE = "began", "broken", "spare"
@@ -98,11 +99,8 @@ class Plain:
         lines = [f"aig {inputs + latches + len(gates)} {inputs} {latches} 1 {len(gates)}", *self.nexts, self.bad]
         names = [f"{letter}{i} {name}" for letter, own in [("i", self.inputs), ("l", self.latches)] for i, name in enumerate(own)]
         names = "".join(f"{name}\n" for name in names).encode()
-        differences = bytearray()
-        for gate, left, right in gates:
-            put_difference(differences, gate - left)
-            put_difference(differences, left - right)
-        return b"".join(b"%s\n" % str(line).encode() for line in lines) + differences + names
+        differences = b"".join(difference(gate - left) + difference(left - right) for gate, left, right in gates)
+        return "".join(f"{line}\n" for line in lines).encode() + differences + names
 
     def run(self, text):
         """The first state and the inputs of each step in a counterexample of the plain machine, as `write_cex -n` of ABC writes
@@ -130,14 +128,6 @@ class Plain:
         states = [f"{latch} {latch} {reset if reset < 2 else latch}" for latch, reset in zip(latches, resets)]
         lines = [header, *range(2, latches.start, 2), *states, bad, *(" ".join(map(str, row)) for row in gates.rows)]
         return "".join(f"{line}\n" for line in lines).encode()
-
-
-def put_difference(out, number):
-    """Writes a number in groups of seven bits, the lowest first."""
-    while number >= 128:
-        out.append(number & 127 | 128)
-        number >>= 7
-    out.append(number)
 
 
 def excluded_by(pla, places):

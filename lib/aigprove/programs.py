@@ -1,6 +1,8 @@
 """Programs that are run: each in a group of its own that is ended whole, by turns, and with limits on what it writes."""
+import contextlib
 import ctypes
 import fcntl
+import io
 import os
 import resource
 import shutil
@@ -33,12 +35,8 @@ class Stopped(Exception):
 
 def ending(status):
     """How a program ended, in words."""
-    if status >= 0:
-        return f"ended with status {status}"
-    try:
-        return f"was ended by {signal.Signals(-status).name}"
-    except ValueError:
-        return f"was ended by signal {-status}"
+    names = {number: number.name for number in signal.Signals}
+    return f"ended with status {status}" if status >= 0 else f"was ended by {names.get(-status, f'signal {-status}')}"
 
 
 def plain(said):
@@ -58,10 +56,7 @@ class Sealed:
     def __init__(self, data):
         self.descriptor = os.memfd_create("sealed", os.MFD_ALLOW_SEALING)
         with open(self.descriptor, "wb", closefd=False) as out:
-            if isinstance(data, bytes):
-                out.write(data)
-            else:
-                shutil.copyfileobj(data, out, 1 << 20)
+            shutil.copyfileobj(io.BytesIO(data) if isinstance(data, bytes) else data, out, 1 << 20)
         fcntl.fcntl(self.descriptor, fcntl.F_ADD_SEALS, SEALS)
         self.path = f"/dev/fd/{self.descriptor}"
 
@@ -79,21 +74,18 @@ class Sealed:
 
 def signal_group(group, number):
     """Sends a signal to a group of processes, if there is one."""
-    try:
+    with contextlib.suppress(ProcessLookupError):
         os.killpg(group, number)
-    except ProcessLookupError:
-        pass
 
 
 class Group:
     """A program that was started in a session of its own, so that all that it starts is stopped, continued and ended with it."""
 
     def __init__(self, words, folder=None, **streams):
-        environment = {**os.environ, **({"TMPDIR": folder} if folder else {})}
-        streams = {"stdin": subprocess.DEVNULL, **streams}
+        environment = {**os.environ, "TMPDIR": folder} if folder else None
         # The folder whose limit it keeps.
         self.folder = None
-        self.process = subprocess.Popen(words, cwd=folder, env=environment, start_new_session=True, **streams)
+        self.process = subprocess.Popen(words, cwd=folder, env=environment, start_new_session=True, stdin=subprocess.DEVNULL, **streams)
 
     def signal(self, number):
         """Sends a signal to all of it."""
@@ -116,10 +108,8 @@ class Keeper:
 
     def tell(self, number):
         """Tells that a group began, by its number, or that it ended, by its negative."""
-        try:
+        with contextlib.suppress(BrokenPipeError):
             os.write(self.telling, b"%d\n" % number)
-        except BrokenPipeError:
-            pass
 
 
 def end_left(told):
@@ -225,47 +215,32 @@ def adopt():
 
 def children():
     """The processes whose parent is this one."""
-    for name in os.listdir("/proc"):
-        try:
-            with open(f"/proc/{name}/stat", "rb") as file:
-                if name.isdecimal() and int(file.read().rpartition(b")")[2].split()[1]) == os.getpid():
-                    yield int(name)
-        except OSError:
-            pass
+    for name in filter(str.isdecimal, os.listdir("/proc")):
+        with contextlib.suppress(OSError), open(f"/proc/{name}/stat", "rb") as file:
+            if int(file.read().rpartition(b")")[2].split()[1]) == os.getpid():
+                yield int(name)
 
 
 def bury():
     """Ends all processes that this one is the parent of, until there are none."""
     while found := list(children()):
         for process in found:
-            try:
+            with contextlib.suppress(ProcessLookupError, ChildProcessError):
                 os.kill(process, signal.SIGKILL)
                 os.waitpid(process, 0)
-            except (ProcessLookupError, ChildProcessError):
-                pass
 
 
 def entries_of(path):
     """The path and the status of each entry of a folder, as far as they can be seen."""
-    try:
-        with os.scandir(path) as entries:
-            for entry in entries:
-                yield entry.path, entry.stat(follow_symlinks=False)
-    except OSError:
-        pass
-
-
-def drop(remove, path):
-    """Removes an entry, if that can be done."""
-    try:
-        remove(path)
-    except OSError:
-        pass
+    with contextlib.suppress(OSError), os.scandir(path) as entries:
+        for entry in entries:
+            yield entry.path, entry.stat(follow_symlinks=False)
 
 
 def remove(path):
     """Removes a folder, however deep it is and whatever its rights."""
-    drop(os.rmdir, path)
+    with contextlib.suppress(OSError):
+        os.rmdir(path)
     for words in [["rm", "-rf"], ["chmod", "-R", "u+rwx"], ["rm", "-rf"]]:
         if os.path.lexists(path):
             subprocess.run([*words, "--", path], stdin=subprocess.DEVNULL, stdout=subprocess.DEVNULL, stderr=subprocess.DEVNULL)
@@ -285,8 +260,10 @@ class Folder:
     def __exit__(self, *_):
         """Removes it, but for folders that are in it, which are removed at the end."""
         for path, _ in entries_of(self.path):
-            drop(os.unlink, path)
-        drop(os.rmdir, self.path)
+            with contextlib.suppress(OSError):
+                os.unlink(path)
+        with contextlib.suppress(OSError):
+            os.rmdir(self.path)
 
     def place(self, name):
         """The path of a file in it."""
@@ -307,13 +284,11 @@ class Folder:
         """Sets limits: no file of a program's grows past the folder's, and it is the first to go where memory runs out."""
         process = group.process.pid
         group.folder = self
-        try:
+        with contextlib.suppress(OSError):
             resource.prlimit(process, resource.RLIMIT_FSIZE, (self.limit, self.limit))
             resource.prlimit(process, resource.RLIMIT_CORE, (0, 0))
             with open(f"/proc/{process}/oom_score_adj", "w", encoding="ascii") as out:
                 out.write("1000")
-        except OSError:
-            pass
 
     def is_full(self):
         """Whether its files are more than they may be, or have more bytes."""
@@ -327,20 +302,18 @@ class Folder:
 
     def taken(self, name, what):
         """A sealed copy of a regular file that a program left in it."""
+        flags = os.O_RDONLY | os.O_NOFOLLOW | os.O_NONBLOCK
         try:
-            descriptor = os.open(self.place(name), os.O_RDONLY | os.O_NOFOLLOW | os.O_NONBLOCK)
+            file = open(self.place(name), "rb", opener=lambda path, _: os.open(path, flags))
         except OSError:
             raise Fault(f"left no file as its {what}") from None
-        try:
-            status = os.fstat(descriptor)
+        with file:
+            status = os.fstat(file.fileno())
             if not stat.S_ISREG(status.st_mode):
                 raise Fault(f"left no file as its {what}")
             if status.st_size > self.limit:
                 raise Fault(f"left too long a file as its {what}")
-            with open(descriptor, "rb", closefd=False) as file:
-                return Sealed(file)
-        finally:
-            os.close(descriptor)
+            return Sealed(file)
 
     def text(self, name, what):
         """The text of a file that a program left in it."""

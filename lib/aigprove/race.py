@@ -7,7 +7,7 @@ import threading
 import time
 
 from aigprove import aiger, plain, waves, witness
-from aigprove.engines import Bmc3, Bounded, Certificate, Missing, Pdr, Run, Steps, Windows
+from aigprove.engines import COMMANDS, Abc, Bounded, Certificate, Missing, Run, Steps, Windows
 from aigprove.evidence import Evidence
 from aigprove.programs import Fault, Sealed, Stopped, say
 from aigprove.questions import Solver
@@ -162,7 +162,7 @@ class Race:
             given["certificate"] = lambda: Certificate(self, words.certificate)
         if words.run:
             given["run"] = lambda: Run(self, words.run)
-        own = {"steps": Steps, "bounded": Bounded, "windows": Windows, "bmc3": Bmc3, "pdr": Pdr}
+        own = {"steps": Steps, "bounded": Bounded, "windows": Windows, **{name: functools.partial(Abc, name) for name in COMMANDS}}
         return given | {name: functools.partial(own[name], self) for name in words.engines}
 
     def start(self, name, make):

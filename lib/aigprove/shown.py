@@ -7,7 +7,7 @@ import collections
 import json
 import re
 
-from aigprove.waves import words
+from aigprove.waves import grouped, words
 
 PLAIN = re.compile(r"(?![ilb][0-9]+(:|$))[!#-<>-\[\]-~]+")
 
@@ -58,15 +58,10 @@ class Shown:
 
     def values(self, label, letter, values):
         """A line with the values of all inputs or latches."""
-        buses = {places[0]: (name, places) for name, places in self.buses[letter].items()}
-        inner = {i for _, places in buses.values() for i in places}
-        shown = []
-        for i, value in enumerate(values):
-            if i in buses:
-                name, places = buses[i]
-                shown.append(f"{name}={number([values[n] for n in places])}")
-            elif i not in inner:
-                shown.append(f"{self.signal(f'{letter}{i}')}={value}")
+        shown = [
+            f"{name}={number([values[n] for n in places])}" if name else f"{self.signal(f'{letter}{places[0]}')}={values[places[0]]}"
+            for name, places in grouped(len(values), self.buses[letter])
+        ]
         return " ".join([f"{label}:", *shown])
 
     def lines(self, witness):

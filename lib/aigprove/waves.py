@@ -25,6 +25,13 @@ def words(names):
     }
 
 
+def grouped(count, found):
+    """The name and the places of each of these words, where its lowest bit is, and no name and the place of what is in none."""
+    starts = {places[0]: (name, places) for name, places in found.items()}
+    inner = {i for places in found.values() for i in places[1:]}
+    return [starts.get(i, (None, [i])) for i in range(count) if i not in inner]
+
+
 def reference(name):
     """A name as VCD has it: an identifier, or one that is escaped, of printable bytes."""
     if SIMPLE_NAME.fullmatch(name):
@@ -67,17 +74,8 @@ def variables(circuit):
     for letter, group in itertools.groupby(circuit.signals(), key=lambda signal: signal[0]):
         literals = [literal for _, _, literal in group]
         names = [circuit.name(letter, i) for i in range(len(literals))]
-        found = words(names) if letter in "ilo" else {}
-        starts = {places[0]: (name, places) for name, places in found.items()}
-        inner = {i for places in found.values() for i in places[1:]}
-        made = []
-        for i, (name, literal) in enumerate(zip(names, literals)):
-            if i in starts:
-                name, places = starts[i]
-                made.append(Variable(next(numbers), name, [literals[n] for n in places]))
-            elif i not in inner:
-                made.append(Variable(next(numbers), name, [literal]))
-        yield letter, made
+        places = grouped(len(names), words(names) if letter in "ilo" else {})
+        yield letter, [Variable(next(numbers), name or names[own[0]], [literals[i] for i in own]) for name, own in places]
 
 
 def declarations(made, depth=0):

@@ -20,26 +20,42 @@ from typing import NamedTuple
 __all__ = [
     "Clauses",
     "Refused",
+    "Settled",
     "Shown",
     "binary",
+    "bounded",
     "check_certified",
     "check_equal",
     "check_inductive",
     "check_refuted",
+    "check_refuted_to",
     "check_run",
     "clauses",
     "cnf",
+    "compress_bads",
+    "cone",
+    "info",
     "join",
+    "merge",
     "miter",
+    "move_constraints",
+    "obligations",
+    "outputs_as_bads",
     "query",
     "query_numbers",
+    "question",
+    "reduce",
+    "reencode",
+    "refine",
     "strash",
     "text",
+    "unroll",
     "window",
     "witness",
+    "witness_to",
 ]
 
-DONE, SMALL, MEMORY = 0, 1, 2
+DONE, SMALL, MEMORY, SETTLED = 0, 1, 2, 32
 
 _here = pathlib.Path(__file__).resolve().parent
 _library = ctypes.CDLL(os.environ.get("LIBAIG", str(_here.parent / "libaig.so")))
@@ -54,19 +70,34 @@ _TAKES = {
     "aig_text": [*_BYTES, *_OUT],
     "aig_binary": [*_BYTES, *_OUT],
     "aig_strash": [*_BYTES, *_OUT],
+    "aig_refine": [*_BYTES, *_OUT],
+    "aig_reencode": [*_BYTES, *_OUT],
+    "aig_unroll": [*_BYTES, _step, *_OUT],
+    "aig_move_constraints": [*_BYTES, *_OUT],
+    "aig_compress_bads": [*_BYTES, *_OUT],
+    "aig_outputs_as_bads": [*_BYTES, *_OUT],
+    "aig_cone": [*_BYTES, _size, *_OUT],
+    "aig_reduce": [*_BYTES, *_OUT],
+    "aig_question": [*_BYTES, _step, *_OUT],
+    "aig_info": [*_BYTES, *_OUT],
     "aig_cnf": [*_BYTES, *_STEP, *_OUT],
     "aig_query": [*_BYTES, *_STEP, *_OUT],
     "aig_query_numbers": [*_BYTES, *_STEP, *_NUMBERS_OUT],
     "aig_clauses": [*_BYTES, *_STEP, *_OUT],
+    "aig_bounded": [*_BYTES, *_STEP, *_OUT],
     "aig_window": [*_BYTES, _step, _bool, _bool, *_OUT],
     "aig_check_refuted": [*_BYTES, *_STEP, *_BYTES],
+    "aig_check_refuted_to": [*_BYTES, *_STEP, *_BYTES],
     "aig_check_inductive": [*_BYTES, _step, _bool, _bool, *_BYTES],
     "aig_check_certified": [*_BYTES, *_BYTES, _bool, *_BYTES, *_BYTES],
     "aig_check_equal": [*_BYTES, *_BYTES, *_STEP, *_BYTES],
     "aig_witness": [*_BYTES, *_STEP, *_BYTES, *_OUT],
+    "aig_witness_to": [*_BYTES, *_STEP, *_BYTES, *_OUT],
     "aig_check_run": [*_BYTES, *_BYTES, ctypes.POINTER(_size), ctypes.POINTER(_size)],
     "aig_miter": [*_BYTES, *_BYTES, *_OUT],
     "aig_join": [*_BYTES, *_BYTES, *_OUT],
+    "aig_merge": [*_BYTES, *_BYTES, *_OUT],
+    "aig_obligations": [*_BYTES, *_BYTES, _bool, *_OUT],
     "aig_message": [ctypes.c_uint32, *_OUT],
 }
 for _name, _takes in _TAKES.items():
@@ -83,6 +114,10 @@ class Refused(Exception):
     def __init__(self, status: int):
         super().__init__(_message(status))
         self.status = status
+
+
+class Settled(Refused):
+    """There are no clauses to solve: no bad state is reached up to the step."""
 
 
 class Clauses(NamedTuple):
@@ -116,6 +151,20 @@ def _steps(k: int) -> int:
     return min(k, 1 << 32)
 
 
+def _number(n: int) -> int:
+    """The number of an output: no file has so many as a call can't be given."""
+    if n < 0:
+        raise ValueError("an output has a number from 0 on")
+    return min(n, (1 << 64) - 1)
+
+
+def _refusal(status: int) -> Exception:
+    """What is raised for a status that is no answer."""
+    if status == MEMORY:
+        return MemoryError(_message(status))
+    return Settled(status) if status == SETTLED else Refused(status)
+
+
 def _answer(name: str, *words, kind=ctypes.c_uint8, more: int = 0) -> tuple:
     """The items of an answer, and the further numbers. It is asked for at most twice: at first with room for twice what is given."""
     call = getattr(_library, name)
@@ -126,7 +175,7 @@ def _answer(name: str, *words, kind=ctypes.c_uint8, more: int = 0) -> tuple:
         if status == DONE:
             return (out, *(count.value for count in counts))
         if status != SMALL:
-            raise Refused(status) if status != MEMORY else MemoryError(_message(status))
+            raise _refusal(status)
         room = counts[0].value
 
 
@@ -152,10 +201,8 @@ def _message(status: int) -> str:
 def _hold(name: str, *words) -> None:
     """Makes a call that checks something, and raises where that isn't done."""
     status = getattr(_library, name)(*words)
-    if status == MEMORY:
-        raise MemoryError(_message(status))
     if status != DONE:
-        raise Refused(status)
+        raise _refusal(status)
 
 
 def text(file: bytes) -> bytes:
@@ -171,6 +218,56 @@ def binary(file: bytes) -> bytes:
 def strash(file: bytes) -> bytes:
     """The text form of a file's circuit after structural hashing."""
     return _bytes("aig_strash", *_given(file))
+
+
+def refine(file: bytes) -> bytes:
+    """The text form of a file's circuit, cut to its cone of influence."""
+    return _bytes("aig_refine", *_given(file))
+
+
+def reencode(file: bytes) -> bytes:
+    """The text form of a file's circuit in the numbering of the binary form."""
+    return _bytes("aig_reencode", *_given(file))
+
+
+def unroll(file: bytes, k: int) -> bytes:
+    """The text form of a file's circuit with `k` further steps."""
+    return _bytes("aig_unroll", *_given(file), _steps(k))
+
+
+def move_constraints(file: bytes) -> bytes:
+    """The text form of a file's circuit with its constraints joined to the first bad state property and the first output."""
+    return _bytes("aig_move_constraints", *_given(file))
+
+
+def compress_bads(file: bytes) -> bytes:
+    """The text form of a file's circuit with its bad state properties as one."""
+    return _bytes("aig_compress_bads", *_given(file))
+
+
+def outputs_as_bads(file: bytes) -> bytes:
+    """The text form of a file's circuit with its outputs as its bad state properties. A file that has some is refused."""
+    return _bytes("aig_outputs_as_bads", *_given(file))
+
+
+def cone(file: bytes, n: int) -> bytes:
+    """The text form of what output `n` of a file, its constraints and its latches read."""
+    return _bytes("aig_cone", *_given(file), _number(n))
+
+
+def reduce(file: bytes) -> bytes:
+    """The text form of what of a file's circuit its bad state properties and constraints read, with equal gates merged."""
+    return _bytes("aig_reduce", *_given(file))
+
+
+def question(file: bytes, k: int) -> bytes:
+    """The text form of a circuit whose output can be true exactly where a bad state is reached at a step from 0 to `k`."""
+    return _bytes("aig_question", *_given(file), _steps(k))
+
+
+def info(file: bytes) -> bytes:
+    """The counts of a file's circuit, a line each."""
+    return _bytes("aig_info", *_given(file))
 
 
 def cnf(file: bytes, k: int, *, optimize: bool = True) -> bytes:
@@ -200,6 +297,12 @@ def clauses(file: bytes, k: int, *, optimize: bool = True) -> bytes:
     return _bytes("aig_clauses", *_given(file), _steps(k), optimize)
 
 
+def bounded(file: bytes, k: int, *, optimize: bool = True) -> bytes:
+    """The clauses, in DIMACS form, of a file's `question`, after comments that say what its inputs are. Raises `Settled` only where no bad
+    state is reached up to step `k`."""
+    return _bytes("aig_bounded", *_given(file), _steps(k), optimize)
+
+
 def window(file: bytes, k: int, *, distinct: bool = False, optimize: bool = True) -> bytes:
     """The clauses, in DIMACS form, that ask for `k` + 2 steps with a bad state first at their end; if distinct, with no state twice."""
     return _bytes("aig_window", *_given(file), _steps(k), distinct, optimize)
@@ -208,6 +311,11 @@ def window(file: bytes, k: int, *, distinct: bool = False, optimize: bool = True
 def witness(file: bytes, k: int, solution: bytes, *, optimize: bool = True) -> bytes:
     """The witness, checked, that a solver's answer to a file's query for step `k` says."""
     return _bytes("aig_witness", *_given(file), _steps(k), optimize, *_given(solution))
+
+
+def witness_to(file: bytes, k: int, solution: bytes, *, optimize: bool = True) -> bytes:
+    """The witness, checked, of the first step with a bad state, that a solver's answer to `bounded` says."""
+    return _bytes("aig_witness_to", *_given(file), _steps(k), optimize, *_given(solution))
 
 
 def miter(file: bytes, other: bytes) -> bytes:
@@ -220,9 +328,24 @@ def join(file: bytes, certificate: bytes) -> bytes:
     return _bytes("aig_join", *_given(file), *_given(certificate))
 
 
+def merge(file: bytes, other: bytes) -> bytes:
+    """The text form of two files side by side."""
+    return _bytes("aig_merge", *_given(file), *_given(other))
+
+
+def obligations(file: bytes, certificate: bytes, *, optimize: bool = True) -> bytes:
+    """The clauses, in DIMACS form, that both proofs of `check_certified` are of, after the lines `c base` and `c step`."""
+    return _bytes("aig_obligations", *_given(file), *_given(certificate), optimize)
+
+
 def check_refuted(file: bytes, k: int, proof: bytes, *, optimize: bool = True) -> None:
     """Returns only where no run of a file's machine reaches a bad state at step `k`, by a proof for `query`."""
     _hold("aig_check_refuted", *_given(file), _steps(k), optimize, *_given(proof))
+
+
+def check_refuted_to(file: bytes, k: int, proof: bytes, *, optimize: bool = True) -> None:
+    """Returns only where no bad state is reached at a step from 0 to `k`, by a proof for `bounded`."""
+    _hold("aig_check_refuted_to", *_given(file), _steps(k), optimize, *_given(proof))
 
 
 def check_inductive(file: bytes, k: int, proof: bytes, *, distinct: bool = False, optimize: bool = True) -> None:

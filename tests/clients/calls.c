@@ -17,7 +17,7 @@ struct bytes {
 struct words {
   struct bytes file, given, further;
   uint64_t k;
-  bool optimize, distinct;
+  bool optimize, distinct, to;
 };
 
 /* A call that gives an answer, with its words. */
@@ -25,9 +25,13 @@ typedef uint32_t call(const struct words *, uint8_t *out, size_t out_len, size_t
 
 static const char *program;
 
-static _Noreturn void stop(const char *why) {
+static _Noreturn void end(int status, const char *why) {
   fprintf(stderr, "%s: %s\n", program, why);
-  exit(1);
+  exit(status);
+}
+
+static _Noreturn void stop(const char *why) {
+  end(1, why);
 }
 
 static _Noreturn void wrong(const char *what) {
@@ -62,7 +66,7 @@ static _Noreturn void refuse(uint32_t status) {
   size_t needed = 0;
   if (aig_message(status, (uint8_t *)text, sizeof text - 1, &needed) != AIG_DONE) wrong("a text doesn't fit");
   text[needed] = 0;
-  stop(text);
+  end(status == AIG_SETTLED ? 20 : 1, text);
 }
 
 /* The calls that give an answer. */
@@ -75,6 +79,36 @@ static uint32_t binary(const struct words *w, uint8_t *out, size_t len, size_t *
 static uint32_t strash(const struct words *w, uint8_t *out, size_t len, size_t *needed) {
   return aig_strash(w->file.at, w->file.len, out, len, needed);
 }
+static uint32_t refine(const struct words *w, uint8_t *out, size_t len, size_t *needed) {
+  return aig_refine(w->file.at, w->file.len, out, len, needed);
+}
+static uint32_t reencode(const struct words *w, uint8_t *out, size_t len, size_t *needed) {
+  return aig_reencode(w->file.at, w->file.len, out, len, needed);
+}
+static uint32_t unroll(const struct words *w, uint8_t *out, size_t len, size_t *needed) {
+  return aig_unroll(w->file.at, w->file.len, w->k, out, len, needed);
+}
+static uint32_t move(const struct words *w, uint8_t *out, size_t len, size_t *needed) {
+  return aig_move_constraints(w->file.at, w->file.len, out, len, needed);
+}
+static uint32_t compress(const struct words *w, uint8_t *out, size_t len, size_t *needed) {
+  return aig_compress_bads(w->file.at, w->file.len, out, len, needed);
+}
+static uint32_t bads(const struct words *w, uint8_t *out, size_t len, size_t *needed) {
+  return aig_outputs_as_bads(w->file.at, w->file.len, out, len, needed);
+}
+static uint32_t cone(const struct words *w, uint8_t *out, size_t len, size_t *needed) {
+  return aig_cone(w->file.at, w->file.len, w->k, out, len, needed);
+}
+static uint32_t reduce(const struct words *w, uint8_t *out, size_t len, size_t *needed) {
+  return aig_reduce(w->file.at, w->file.len, out, len, needed);
+}
+static uint32_t question(const struct words *w, uint8_t *out, size_t len, size_t *needed) {
+  return aig_question(w->file.at, w->file.len, w->k, out, len, needed);
+}
+static uint32_t info(const struct words *w, uint8_t *out, size_t len, size_t *needed) {
+  return aig_info(w->file.at, w->file.len, out, len, needed);
+}
 static uint32_t cnf(const struct words *w, uint8_t *out, size_t len, size_t *needed) {
   return aig_cnf(w->file.at, w->file.len, w->k, w->optimize, out, len, needed);
 }
@@ -84,17 +118,26 @@ static uint32_t query(const struct words *w, uint8_t *out, size_t len, size_t *n
 static uint32_t clauses(const struct words *w, uint8_t *out, size_t len, size_t *needed) {
   return aig_clauses(w->file.at, w->file.len, w->k, w->optimize, out, len, needed);
 }
+static uint32_t bounded(const struct words *w, uint8_t *out, size_t len, size_t *needed) {
+  return aig_bounded(w->file.at, w->file.len, w->k, w->optimize, out, len, needed);
+}
 static uint32_t window(const struct words *w, uint8_t *out, size_t len, size_t *needed) {
   return aig_window(w->file.at, w->file.len, w->k, w->distinct, w->optimize, out, len, needed);
 }
 static uint32_t witness(const struct words *w, uint8_t *out, size_t len, size_t *needed) {
-  return aig_witness(w->file.at, w->file.len, w->k, w->optimize, w->given.at, w->given.len, out, len, needed);
+  return (w->to ? aig_witness_to : aig_witness)(w->file.at, w->file.len, w->k, w->optimize, w->given.at, w->given.len, out, len, needed);
 }
 static uint32_t miter(const struct words *w, uint8_t *out, size_t len, size_t *needed) {
   return aig_miter(w->file.at, w->file.len, w->given.at, w->given.len, out, len, needed);
 }
 static uint32_t join(const struct words *w, uint8_t *out, size_t len, size_t *needed) {
   return aig_join(w->file.at, w->file.len, w->given.at, w->given.len, out, len, needed);
+}
+static uint32_t merge(const struct words *w, uint8_t *out, size_t len, size_t *needed) {
+  return aig_merge(w->file.at, w->file.len, w->given.at, w->given.len, out, len, needed);
+}
+static uint32_t obligations(const struct words *w, uint8_t *out, size_t len, size_t *needed) {
+  return aig_obligations(w->file.at, w->file.len, w->given.at, w->given.len, w->optimize, out, len, needed);
 }
 
 /* Whether each byte is the one that was put there. */
@@ -176,8 +219,8 @@ static void print_run(const struct words *w) {
 
 /* Checks a proof, and prints what holds. */
 static void print_refuted(const struct words *w) {
-  hold(aig_check_refuted(w->file.at, w->file.len, w->k, w->optimize, w->given.at, w->given.len));
-  printf("no bad state at step %llu\n", (unsigned long long)w->k);
+  hold((w->to ? aig_check_refuted_to : aig_check_refuted)(w->file.at, w->file.len, w->k, w->optimize, w->given.at, w->given.len));
+  printf("no bad state %s step %llu\n", w->to ? "up to" : "at", (unsigned long long)w->k);
 }
 static void print_inductive(const struct words *w) {
   hold(aig_check_inductive(w->file.at, w->file.len, w->k, w->distinct, w->optimize, w->given.at, w->given.len));
@@ -200,8 +243,11 @@ static const struct {
   call *makes;
   int paths;
 } ANSWERS[] = {
-  {"text", text, 1}, {"binary", binary, 1}, {"strash", strash, 1}, {"cnf", cnf, 1}, {"query", query, 1},
-  {"clauses", clauses, 1}, {"window", window, 1}, {"witness", witness, 2}, {"miter", miter, 2}, {"join", join, 2},
+  {"text", text, 1}, {"binary", binary, 1}, {"strash", strash, 1}, {"refine", refine, 1}, {"reencode", reencode, 1},
+  {"unroll", unroll, 1}, {"move", move, 1}, {"compress", compress, 1}, {"bads", bads, 1}, {"cone", cone, 1},
+  {"reduce", reduce, 1}, {"question", question, 1}, {"info", info, 1}, {"cnf", cnf, 1}, {"query", query, 1},
+  {"clauses", clauses, 1}, {"bounded", bounded, 1}, {"window", window, 1}, {"witness", witness, 2}, {"miter", miter, 2},
+  {"join", join, 2}, {"merge", merge, 2}, {"obligations", obligations, 2},
 };
 
 int main(int argc, char **argv) {
@@ -218,6 +264,8 @@ int main(int argc, char **argv) {
       w.optimize = false;
     else if (!strcmp(argv[i], "distinct"))
       w.distinct = true;
+    else if (!strcmp(argv[i], "to"))
+      w.to = true;
     else if (!*end && i > 3)
       w.k = k;
     else if (count < 4)

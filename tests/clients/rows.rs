@@ -19,9 +19,9 @@ fn text_of(clauses: &aig::Clauses) -> String {
 fn main() -> ExitCode {
     let words: Vec<String> = std::env::args().skip(1).collect();
     let has = |name: &str| words.iter().any(|word| word == name);
-    let (optimize, distinct) = (!has("raw"), has("distinct"));
+    let (optimize, distinct, to) = (!has("raw"), has("distinct"), has("to"));
     let step = words.iter().skip(2).find_map(|word| word.parse().ok()).unwrap_or(0);
-    let is_path = |word: &&String| word.parse::<u64>().is_err() && !["raw", "distinct"].contains(&word.as_str());
+    let is_path = |word: &&String| word.parse::<u64>().is_err() && !["raw", "distinct", "to"].contains(&word.as_str());
     let files: Vec<Vec<u8>> = words.iter().skip(1).filter(is_path).map(|path| std::fs::read(path).expect("a file")).collect();
     let file = files[0].as_slice();
     let beside = |at: usize| files.get(at).map_or(&[][..], Vec::as_slice);
@@ -31,15 +31,31 @@ fn main() -> ExitCode {
         "text" => aig::text(file),
         "strash" => aig::strash(file),
         "binary" => aig::binary(file).and_then(|binary| aig::text(&binary)),
+        "refine" => aig::refine(file),
+        "reencode" => aig::reencode(file),
+        "unroll" => aig::unroll(file, step),
+        "move" => aig::move_constraints(file),
+        "compress" => aig::compress_bads(file),
+        "bads" => aig::outputs_as_bads(file),
+        "cone" => aig::cone(file, step as usize),
+        "reduce" => aig::reduce(file),
+        "question" => aig::question(file, step),
+        "info" => aig::info(file),
         "cnf" => aig::cnf(file, step, optimize),
         "query" => aig::query(file, step, optimize),
         "clauses" => aig::clauses(file, step, optimize),
         "numbers" => aig::query_numbers(file, step, optimize).map(|clauses| line(text_of(&clauses))),
+        "bounded" => aig::bounded(file, step, optimize),
         "window" => aig::window(file, step, distinct, optimize),
+        "witness" if to => aig::witness_to(file, step, optimize, given),
         "witness" => aig::witness(file, step, optimize, given),
         "miter" => aig::miter(file, given),
         "join" => aig::join(file, given),
+        "merge" => aig::merge(file, given),
+        "obligations" => aig::obligations(file, given, optimize),
         "run" => aig::check_run(file, given).map(|shown| line(format!("b{} at step {}\n", shown.bad, shown.step))),
+        "refuted" if to => aig::check_refuted_to(file, step, optimize, given)
+            .map(|()| line(format!("no bad state up to step {step}\n"))),
         "refuted" => aig::check_refuted(file, step, optimize, given).map(|()| line(format!("no bad state at step {step}\n"))),
         "inductive" => aig::check_inductive(file, step, distinct, optimize, given)
             .map(|()| line(format!("no bad state at any step, if none up to step {step}\n"))),
@@ -55,7 +71,7 @@ fn main() -> ExitCode {
         }
         Err(status) => {
             eprintln!("rows: {status}");
-            ExitCode::FAILURE
+            ExitCode::from(if status == aig::Status::SETTLED { 20 } else { 1 })
         }
     }
 }

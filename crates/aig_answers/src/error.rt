@@ -18,7 +18,7 @@ pub enum AnswerError {
     #[error("{0}")]
     Encode(EncodeError),
     /// The file has no bad state property, so that nothing is asked.
-    #[error("no bad state property")]
+    #[error("no bad state property (aigedit bads makes outputs such)")]
     NoBads,
     /// By the bound of the circuit with its further steps, the clauses and those that tell states
     /// apart have more variables than the limit.

@@ -6,5 +6,6 @@ mod Joined
 mod Reached
 mod Read
 mod Marked
+mod Counted
 mod Cut
 pub mod Witnesses

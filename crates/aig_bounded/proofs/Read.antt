@@ -9,11 +9,13 @@ use Rattle.aig_circuit.specs.declared.edge.AigEdge.{AigEdge}
 use Rattle.aig_circuit.specs.declared.node.AigLatch.{AigLatch}
 use Rattle.aig_circuit.specs.Edge.{edge_to}
 use Rattle.aig_circuit.specs.Circuit.{Circuit, IsCircuit, latch_leaves}
-use Rattle.aig_circuit.specs.Edges.{HasConstantInit}
-use Rattle.aig_circuit.specs.Runs.{IsInitial, IsRun}
+use Rattle.aig_circuit.specs.Runs.{IsRun}
 use Rattle.aig_circuit.specs.Tree.{edge_value}
 use Rattle.aig_bounded.specs.declared.place.Place.{Place}
-use Rattle.aig_bounded.specs.Question.{IsPlace, ReadsPlaces}
+use Rattle.aig_bounded.specs.declared.asked.Start.{Start}
+use Rattle.aig_bounded.specs.declared.asked.Start.TheVariants.{Any, Initial}
+use Rattle.aig_bounded.specs.Asked.{HasStarts, IsFree, IsStart, first_state}
+use Rattle.aig_bounded.specs.Question.{IsPlaceOf, ReadsPlaces}
 use Rattle.aig_bounded.proofs.Shown.{value-constant}
 
 -- ---- places
@@ -130,7 +132,7 @@ latch_at-back (l ∷ ls) n latch is = by (latch_at-back ls n latch) (eqb l.input
 
 -- ---- the run
 
-module _ (c : Circuit) (circuit : IsCircuit c) (starts : All HasConstantInit c.latchs)
+module _ (c : Circuit) (circuit : IsCircuit c) (from : Start) (starts : HasStarts from c)
     (inputs : List ℕ) (places : List Place) (y : ℕ → Bool) where
   -- a leaf's value at the start: a latch's constant, or what the input there has
   starting : ℕ → Option AigEdge → Bool
@@ -139,7 +141,7 @@ module _ (c : Circuit) (circuit : IsCircuit c) (starts : All HasConstantInit c.l
 
   start_of : ℕ → Option AigLatch → Bool
   start_of n None = at_place inputs places y 0 n
-  start_of n (Some latch) = starting n latch.init
+  start_of n (Some latch) = starting n (first_state from latch)
 
   -- a leaf's value at a later step, after these values: a latch's next edge, or what the input there has
   after : (ℕ → Bool) → ℕ → ℕ → Option AigLatch → Bool
@@ -165,19 +167,31 @@ module _ (c : Circuit) (circuit : IsCircuit c) (starts : All HasConstantInit c.l
       let same : edge_to 0 e.compl ≡ e = ap (λ m. edge_to m e.compl) (sym constant) in
       sym (ap (edge_value c.nodes (built 0)) same) ∙ value-constant c.nodes circuit.nodes (built 0) e.compl ∙ sym (is e refl)
 
-  built_starts : IsInitial c (built 0)
+  built_state : (k : ℕ) (d : AigLatch) (e : AigEdge) → k < length c.latchs
+      → first_state from (get_or c.latchs k d) ≡ Some e
+      → built 0 (get_or c.latchs k d).input ≡ e.compl
   unfolding built start_of starting
-  built_starts i d h =
+  built_state k d e h is =
+      let latch = get_or c.latchs k d in
+      ap (start_of latch.input) (latch_at-found c.latchs k d h circuit.latchs_distinct) ∙ ap (starting latch.input) is
+
+  starts_by : (s : Start) → HasStarts s c
+      → ((k : ℕ) (d : AigLatch) (e : AigEdge) → k < length c.latchs
+      → first_state s (get_or c.latchs k d) ≡ Some e
+      → built 0 (get_or c.latchs k d).input ≡ e.compl)
+      → IsStart s c (built 0)
+  starts_by Initial are state = λ i d h.
       let latch = get_or c.latchs i d in
-      start_is latch.input latch.init (starts i d h) (built 0 latch.input)
-      (λ e is. ap (start_of latch.input) (latch_at-found c.latchs i d h circuit.latchs_distinct) ∙ start_with latch e is)
-    where
-      start_with : (latch : AigLatch) (e : AigEdge) → latch.init ≡ Some e
-          → start_of latch.input (Some latch) ≡ e.compl
-      start_with latch e is = rw is refl
+      start_is latch.input latch.init (are i d h) (built 0 latch.input) (λ e is. state i d e h is)
+  starts_by Any are state = tt
+
+  -- a free latch has no constant at the start
+  no_state : (s : Start) (latch : AigLatch) → IsFree s latch → first_state s latch ≡ None
+  no_state Initial latch free = free
+  no_state Any latch free = refl
 
   -- at a place the run has the input's value
-  built_at : (p : Place) → IsPlace c p → built p.step p.leaf ≡ at_place inputs places y p.step p.leaf
+  built_at : (p : Place) → IsPlaceOf (IsFree from) c p → built p.step p.leaf ≡ at_place inputs places y p.step p.leaf
   unfolding built start_of starting after
   built_at p is = by (latch_at c.latchs p.leaf) refl p.step refl
     where
@@ -188,25 +202,21 @@ module _ (c : Circuit) (circuit : IsCircuit c) (starts : All HasConstantInit c.l
       by (Some latch) found zero step =
           let back = latch_at-back c.latchs p.leaf latch found in
           let start = is.start latch back.0 back.1 in
-          ap (start_of p.leaf) found ∙ free_start latch start.1
-        where
-          free_start : (latch : AigLatch) → latch.init ≡ None
-              → start_of p.leaf (Some latch) ≡ at_place inputs places y 0 p.leaf
-          free_start latch none = rw none refl
+          ap (start_of p.leaf) found ∙ ap (starting p.leaf) (no_state from latch start.1)
       by (Some latch) found (suc t) step =
           let back = latch_at-back c.latchs p.leaf latch found in
           let start = is.start latch back.0 back.1 in
           absurd (omega (arith, start.0, step))
 
   built_reads : length places ≡ length inputs → AllPairs (λ p q. p ≢ q) places
-      → All (IsPlace c) places → ReadsPlaces inputs places y built
+      → All (IsPlaceOf (IsFree from) c) places → ReadsPlaces inputs places y built
   built_reads same differ are =
       zip_all (λ n p. y n ≡ built p.step p.leaf) inputs places same (λ j d e h.
       sym (built_at (get_or places j e) (are j e (omega arith)) ∙ at_place-found inputs places y j d e same h differ))
 
   -- so there is a run that has y at the places
   pub run_of : (last : ℕ) → length places ≡ length inputs → AllPairs (λ p q. p ≢ q) places
-      → All (IsPlace c) places
-      → (run : ℕ → ℕ → Bool) × IsRun c last run × IsInitial c (run 0)
+      → All (IsPlaceOf (IsFree from) c) places
+      → (run : ℕ → ℕ → Bool) × IsRun c last run × IsStart from c (run 0)
       × ReadsPlaces inputs places y run
-  run_of last same differ are = (built, built_is_run last, built_starts, built_reads same differ are)
+  run_of last same differ are = (built, built_is_run last, starts_by from starts built_state, built_reads same differ are)

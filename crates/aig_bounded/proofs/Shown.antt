@@ -1,5 +1,5 @@
 -- Edges that have a value on each run.
-use Rattle.std.proofs.Common.{◌≡◌, ℕ, ◌+◌, Bool, true, false, ◌&&◌, ◌||◌, List, [], ◌∷◌, get_or, length, Some, refl, sym, ap, ◌∙◌, suc, arith}
+use Rattle.std.proofs.Common.{◌≡◌, ℕ, ◌+◌, Bool, true, false, ◌&&◌, ◌||◌, List, [], ◌∷◌, get_or, length, Some, refl, sym, ap, subst, ◌∙◌, suc, arith}
 use Rattle.std.specs.Prelude.{All}
 use Rattle.std.specs.List.{list_all, list_any}
 use Rattle.aig_circuit.specs.declared.edge.AigEdge.{AigEdge}
@@ -8,19 +8,25 @@ use Rattle.aig_circuit.specs.declared.node.AigNodeType.TheVariants.{And, False, 
 use Rattle.aig_circuit.specs.Edge.{edge_to, inverted_if}
 use Rattle.aig_circuit.specs.Node.{kind_at}
 use Rattle.aig_circuit.specs.Circuit.{AreNodes, Circuit, IsCircuit, IsInRange}
-use Rattle.aig_circuit.specs.Runs.{IsInitial, IsRun}
+use Rattle.aig_circuit.specs.Runs.{IsRun}
 use Rattle.aig_circuit.specs.Tree.{edge_value, node_value}
 use Rattle.aig_circuit.proofs.Trees.{kind_at-last, kind_at-within, node_value-and, node_value-false, node_value-leaf}
 use Rattle.aig_bounded.specs.declared.frames.Frames.{Frames}
+use Rattle.aig_bounded.specs.Asked.{IsStart}
 use Rattle.aig_bounded.specs.Frames.{AddsAnds, AreFrames, Extends, Opens, ReadsOff, Shows}
 use Rattle.aig_bounded.specs.Steps.{ShowsNode, image_at, image_in}
 use Rattle.aig_bounded.proofs.Extended.{Extends-ands, opened_reads}
+
+-- a start of the new nodes' runs is one of the old ones'
+started : (c : Circuit) (old new : Frames) (run : ℕ → ℕ → Bool) → new.start ≡ old.start
+    → IsStart new.start c (run 0) → IsStart old.start c (run 0)
+started c old new run same start = subst (λ s. IsStart s c (run 0)) same start
 
 pub Shows-extends : (c : Circuit) (t : ℕ) (old new : Frames) (e : AigEdge)
     (v : (ℕ → ℕ → Bool) → Bool) → Extends old new → Shows c t old e v → Shows c t new e v
 Shows-extends c t old new e v extends s = record {
   there = omega (arith, s.there, extends.grows.longer);
-  shown = λ y run is start reads. extends.grows.values y e s.there ∙ s.shown y run is start (extends.reads y run reads);
+  shown = λ y run is start reads. extends.grows.values y e s.there ∙ s.shown y run is (started c old new run extends.start start) (extends.reads y run reads);
 }
 
 pub Shows-same : (c : Circuit) (t : ℕ) (f : Frames) (e : AigEdge) (v w : (ℕ → ℕ → Bool) → Bool)
@@ -67,28 +73,21 @@ both_same a b x y p q = ap (λ v. v && b) p ∙ ap (λ v. x && v) q
 either_same : (a b x y : Bool) → a ≡ x → b ≡ y → (a || b) ≡ (x || y)
 either_same a b x y p q = ap (λ v. v || b) p ∙ ap (λ v. x || v) q
 
-module _ (c : Circuit) (t : ℕ) (old new : Frames) (a b e : AigEdge) (v w : (ℕ → ℕ → Bool) → Bool)
-    (shows_a : Shows c t old a v) (shows_b : Shows c t old b w) (adds : AddsAnds old new)
-    (there : IsInRange new.nodes.items e) where
-  pub Shows-and : ((y : ℕ → Bool) → edge_value new.nodes.items y e
-      ≡ (edge_value old.nodes.items y a && edge_value old.nodes.items y b))
-      → Shows c t new e (λ run. v run && w run)
-  Shows-and value = record {
-    there = there;
-    shown = λ y run is start reads.
-        let before = (Extends-ands old new adds).reads y run reads in
-        value y ∙ both_same _ _ _ _ (shows_a.shown y run is start before) (shows_b.shown y run is start before);
-  }
-
-  pub Shows-or : ((y : ℕ → Bool) → edge_value new.nodes.items y e
-      ≡ (edge_value old.nodes.items y a || edge_value old.nodes.items y b))
-      → Shows c t new e (λ run. v run || w run)
-  Shows-or value = record {
-    there = there;
-    shown = λ y run is start reads.
-        let before = (Extends-ands old new adds).reads y run reads in
-        value y ∙ either_same _ _ _ _ (shows_a.shown y run is start before) (shows_b.shown y run is start before);
-  }
+-- two edges that are joined
+pub Shows-join : (c : Circuit) (t : ℕ) (join : Bool → Bool → Bool) (old new : Frames)
+    (a b e : AigEdge) (v w : (ℕ → ℕ → Bool) → Bool) → Shows c t old a v → Shows c t old b w
+    → AddsAnds old new → IsInRange new.nodes.items e
+    → ((y : ℕ → Bool) → edge_value new.nodes.items y e
+    ≡ join (edge_value old.nodes.items y a) (edge_value old.nodes.items y b))
+    → Shows c t new e (λ run. join (v run) (w run))
+Shows-join c t join old new a b e v w shows_a shows_b adds there value = record {
+  there = there;
+  shown = λ y run is start reads.
+      let before = (Extends-ands old new adds).reads y run reads in
+      let from = started c old new run adds.start start in
+      value y ∙ ap (λ x. join x (edge_value old.nodes.items y b)) (shows_a.shown y run is from before)
+      ∙ ap (join (v run)) (shows_b.shown y run is from before);
+}
 
 -- ---- images
 
@@ -168,7 +167,7 @@ module _ (c : Circuit) (t : ℕ) (old new : Frames) (images es : List AigEdge) (
     (shows : All (λ f. ShowsNode c t old images f.node_id) es) (adds : AddsAnds old new)
     (there : IsInRange new.nodes.items e) where
   -- the image of each has its value
-  each : (y : ℕ → Bool) (run : ℕ → ℕ → Bool) → IsRun c t run → IsInitial c (run 0)
+  each : (y : ℕ → Bool) (run : ℕ → ℕ → Bool) → IsRun c t run → IsStart old.start c (run 0)
       → ReadsOff old y run
       → All (λ f. edge_value old.nodes.items y (image_in images f) ≡ edge_value c.nodes (run t) f) es
   each y run is start reads k d h =
@@ -183,7 +182,8 @@ module _ (c : Circuit) (t : ℕ) (old new : Frames) (images es : List AigEdge) (
     there = there;
     shown = λ y run is start reads.
         let before = (Extends-ands old new adds).reads y run reads in
-        value y ∙ both_same _ _ _ _ (s.shown y run is start before) (all_same _ _ es (each y run is start before));
+        let from = started c old new run adds.start start in
+        value y ∙ both_same _ _ _ _ (s.shown y run is from before) (all_same _ _ es (each y run is from before));
   }
 
   pub Shows-any : ((y : ℕ → Bool) → edge_value new.nodes.items y e
@@ -193,5 +193,5 @@ module _ (c : Circuit) (t : ℕ) (old new : Frames) (images es : List AigEdge) (
     there = there;
     shown = λ y run is start reads.
         let before = (Extends-ands old new adds).reads y run reads in
-        value y ∙ any_same _ _ es (each y run is start before);
+        value y ∙ any_same _ _ es (each y run is (started c old new run adds.start start) before);
   }

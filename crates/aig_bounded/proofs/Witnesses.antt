@@ -11,7 +11,7 @@ use Rattle.aig_circuit.specs.Runs.{IsInitial, IsRun}
 use Rattle.aig_circuit.specs.Tree.{edge_value}
 use Rattle.aig_runs.specs.CircuitQueries.{HasCircuitWitness, IsCircuitWitness}
 use Rattle.aig_bounded.specs.declared.place.Place.{Place}
-use Rattle.aig_bounded.specs.Question.{IsQuestion, Reaches}
+use Rattle.aig_bounded.specs.Question.{Asks, HasNoInit, IsQuestion, IsWindowQuestion, Reaches, ReachesFirst}
 use Rattle.aig_bounded.proofs.Cut.{place_value, reads_whole}
 use Rattle.aig_bounded.proofs.Read.{latch_at, latch_at-found, zip_length}
 
@@ -76,6 +76,28 @@ module _ (c : Circuit) (circuit : IsCircuit c) (t : ℕ) (run : ℕ → ℕ → 
           ap (λ (x : ℕ → Bool). x (get_or c.latchs i d).input) (on (s + 1) (suc j) (omega arith)) ∙ later_moves j i d h
           ∙ ap (λ (x : ℕ → Bool). edge_value c.nodes x (get_or c.latchs i d).next) (sym (on s j (omega arith)))
 
+-- ---- what a question asks for
+
+module _ (IsFree : AigLatch → Type 0) (IsStart : (ℕ → Bool) → Type 0)
+    (IsSought : (ℕ → ℕ → Bool) → Type 0) (c : Circuit) (last : ℕ) (asks : Circuit)
+    (output : AigEdge) (places : List Place)
+    (is : Asks IsFree IsStart IsSought c last asks output places) where
+  counted : length places ≡ length asks.inputs
+  counted = let run = is.runs (λ n. false) in zip_length _ asks.inputs places run.3
+
+  sought_of : (y : ℕ → Bool) → IsTrue (edge_value asks.nodes y output)
+      → (run : ℕ → ℕ → Bool) × IsRun c last run × IsStart (run 0) × IsSought run
+  sought_of y holds =
+      let run = is.runs y in
+      (run.0, run.1, run.2, (is.value run.0 y run.1 run.2 run.3).0 holds)
+
+  holds_on : (run : ℕ → ℕ → Bool) → IsRun c last run → IsStart (run 0) → IsSought run
+      → (y : ℕ → Bool) × IsTrue (edge_value asks.nodes y output)
+  holds_on run moves start sought =
+      let y = place_value [] [] (λ n. n) (λ n. false) run asks.inputs places in
+      let reads = reads_whole [] [] (λ n. n) (λ n. false) run asks.inputs places counted is.circuit.inputs_distinct in
+      (y, (is.value run y moves start reads).1 sought)
+
 -- ---- questions and witnesses
 
 module _ (c : Circuit) (k : ℕ) (asks : Circuit) (output : AigEdge) (places : List Place)
@@ -83,31 +105,26 @@ module _ (c : Circuit) (k : ℕ) (asks : Circuit) (output : AigEdge) (places : L
   forth : ((y : ℕ → Bool) × IsTrue (edge_value asks.nodes y output))
       → (t : ℕ) × (t ≤ k) × HasCircuitWitness c t
   forth (y, holds) =
-      let run = is.runs y in
-      let reaches = (is.value run.0 y run.1 run.2 run.3).0 holds in (
+      let found = sought_of HasNoInit (IsInitial c) (Reaches c k) c k asks output places is y holds in
+      let reaches = found.3 in (
         reaches.step,
         reaches.within,
         (
-          run.0,
+          found.0,
           record {
-            is_run = λ s l. run.1 s (omega (arith, reaches.within));
-            start = run.2;
+            is_run = λ s l. found.1 s (omega (arith, reaches.within));
+            start = found.2;
             constraints = reaches.constraints;
             bad = reaches.bad;
           },
         ),
       )
 
-  counted : length places ≡ length asks.inputs
-  counted = let run = is.runs (λ n. false) in zip_length _ asks.inputs places run.3
-
   back : (t : ℕ) → t ≤ k → (run : ℕ → ℕ → Bool) → IsCircuitWitness c t run
       → (y : ℕ → Bool) × IsTrue (edge_value asks.nodes y output)
   back t h run w =
       let all = longer c circuit t run in
       let same = same_to c circuit t run in
-      let y = place_value [] [] (λ n. n) (λ n. false) all asks.inputs places in
-      let reads = reads_whole [] [] (λ n. n) (λ n. false) all asks.inputs places counted is.circuit.inputs_distinct in
       let start : IsInitial c (all 0) = subst (IsInitial c) (sym (same 0 (omega arith))) w.start in
       let reaches : Reaches c k all = record {
         step = t;
@@ -115,8 +132,27 @@ module _ (c : Circuit) (k : ℕ) (asks : Circuit) (output : AigEdge) (places : L
         constraints = λ s l. subst (λ (x : ℕ → Bool). All (λ (e : AigEdge). IsTrue (edge_value c.nodes x e)) c.properties.constraints) (sym (same s l)) (w.constraints s l);
         bad = subst (λ (x : ℕ → Bool). IsTrue (list_any (edge_value c.nodes x) c.properties.bads)) (sym (same t (omega arith))) w.bad;
       } in
-      (y, (is.value all y (longer_is_run c circuit t run w.is_run k) start reads).1 reaches)
+      holds_on HasNoInit (IsInitial c) (Reaches c k) c k asks output places is all (longer_is_run c circuit t run w.is_run k) start reaches
 
   pub question_asks : ((y : ℕ → Bool) × IsTrue (edge_value asks.nodes y output))
       ↔ ((t : ℕ) × (t ≤ k) × HasCircuitWitness c t)
   question_asks = (forth, λ (t, h, w). back t h w.0 w.1)
+
+-- ---- questions and windows
+
+pub window_asks : (c : Circuit) (last : ℕ) (asks : Circuit) (output : AigEdge)
+    (places : List Place) → IsWindowQuestion c last asks output places
+    → ((y : ℕ → Bool) × IsTrue (edge_value asks.nodes y output))
+    ↔ ((run : ℕ → ℕ → Bool) × IsRun c last run × ReachesFirst c last run)
+window_asks c last asks output places is = (forth_window, back_window)
+  where
+    forth_window : ((y : ℕ → Bool) × IsTrue (edge_value asks.nodes y output))
+        → (run : ℕ → ℕ → Bool) × IsRun c last run × ReachesFirst c last run
+    forth_window (y, holds) =
+        let found = sought_of (λ latch. Unit {0}) (λ values. Unit {0}) (ReachesFirst c last) c last asks output places is y holds in
+        (found.0, found.1, found.3)
+
+    back_window : ((run : ℕ → ℕ → Bool) × IsRun c last run × ReachesFirst c last run)
+        → (y : ℕ → Bool) × IsTrue (edge_value asks.nodes y output)
+    back_window (run, moves, reaches) =
+        holds_on (λ latch. Unit {0}) (λ values. Unit {0}) (ReachesFirst c last) c last asks output places is run moves tt reaches

@@ -1,4 +1,5 @@
 pub mod Question
+pub mod Asked
 pub mod Depths
 pub mod Frames
 pub mod Steps

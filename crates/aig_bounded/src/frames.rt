@@ -1,10 +1,11 @@
 //! The nodes of a question while it is made.
 
-ghost use Rattle.std.specs.Prelude.{◌≡◌, ◌≤◌, ◌&&◌, ◌||◌, ℕ, Bool, IfOk, OnOk};
+ghost use Rattle.std.specs.Prelude.{◌≡◌, ◌≤◌, ◌&&◌, ◌||◌, ℕ, Bool, IfOk, OnOk, length};
 ghost use Rattle.aig_circuit.specs.Circuit.{AreNodes, Circuit, IsInRange};
 ghost use Rattle.aig_circuit.specs.Tree.{edge_value};
-ghost use Rattle.aig_bounded.specs.Frames.{AddsAnds, AreFrames, Opens};
+ghost use Rattle.aig_bounded.specs.Frames.{AddsAnds, AddsUpTo, AreFrames, Opens};
 
+use crate::asked::Start;
 use crate::error::BoundedError;
 use crate::gates::Gates;
 use crate::place::Place;
@@ -26,14 +27,18 @@ pub(crate) struct Frames {
     pub(crate) places: Vec<Place>,
     /// How many nodes there may be.
     pub(crate) limit: usize,
+    /// In which states the runs start.
+    pub(crate) start: Start,
 }
 
 impl Frames {
     /// Returns the false node alone.
-    pub(crate) fn new(alloc: Global, limit: usize) -> Result<Frames, MemoryError>
+    pub(crate) fn new(alloc: Global, limit: usize, start: Start) -> Result<Frames, MemoryError>
         requires { 1 ≤ limit }
         ensures frames { IfOk result (λ made. (c : Circuit) → AreFrames c 0 0 made) }
         ensures limit { IfOk result (λ made. made.limit ≡ limit) }
+        ensures start { IfOk result (λ made. made.start ≡ start) }
+        ensures one { IfOk result (λ made. length made.nodes.items ≡ 1) }
     {
         let mut nodes = Vec::new(alloc);
         nodes.push(false_node())?;
@@ -43,13 +48,15 @@ impl Frames {
             inputs: Vec::new(alloc),
             places: Vec::new(alloc),
             limit,
+            start,
         })
     }
 
     /// Adds a leaf, which is the input of this place.
     pub(crate) fn open(&mut self, place: Place) -> Result<AigEdge, BoundedError>
         requires { AreNodes self.old.nodes.items }
-        ensures { IfOk result (Opens self.old self.new place) }
+        ensures opens { IfOk result (Opens self.old self.new place) }
+        ensures size { AddsUpTo 1 self.old self.new result }
     {
         let id = new_leaf_node(&mut self.nodes)?;
         self.inputs.push(id)?;
@@ -70,6 +77,7 @@ impl Frames {
             ≡ (edge_value self.old.nodes.items y fanin0
             && edge_value self.old.nodes.items y fanin1)) }
         ensures adds { OnOk result (AddsAnds self.old self.new) }
+        ensures size { AddsUpTo 1 self.old self.new result }
     {
         if fanin1 < fanin0 {
             self.and_in_order(fanin1, fanin0)
@@ -88,6 +96,7 @@ impl Frames {
             ≡ (edge_value self.old.nodes.items y fanin0
             && edge_value self.old.nodes.items y fanin1)) }
         ensures adds { OnOk result (AddsAnds self.old self.new) }
+        ensures size { AddsUpTo 1 self.old self.new result }
     {
         if let Some(n) = self.gates.find(&self.nodes, fanin0, fanin1) {
             return Ok(AigEdge::from(n));
@@ -105,6 +114,7 @@ impl Frames {
             ≡ (edge_value self.old.nodes.items y fanin0
             && edge_value self.old.nodes.items y fanin1)) }
         ensures adds { OnOk result (AddsAnds self.old self.new) }
+        ensures size { AddsUpTo 1 self.old self.new result }
     {
         let before = self.nodes.len();
         let edge = new_and_node(&mut self.nodes, fanin0, fanin1)?;
@@ -127,6 +137,7 @@ impl Frames {
             ≡ (edge_value self.old.nodes.items y fanin0
             || edge_value self.old.nodes.items y fanin1)) }
         ensures adds { OnOk result (AddsAnds self.old self.new) }
+        ensures size { AddsUpTo 1 self.old self.new result }
     {
         Ok(!self.and(!fanin0, !fanin1)?)
     }

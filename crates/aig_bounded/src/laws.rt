@@ -3,10 +3,11 @@
 ghost use Rattle.std.specs.Prelude.{◌↔◌, ◌≤◌, ℕ, Bool, IsTrue, List};
 ghost use Rattle.aig_circuit.specs.declared.edge.AigEdge.{AigEdge};
 ghost use Rattle.aig_circuit.specs.Circuit.{Circuit, IsCircuit};
+ghost use Rattle.aig_circuit.specs.Runs.{IsRun};
 ghost use Rattle.aig_circuit.specs.Tree.{edge_value};
 ghost use Rattle.aig_runs.specs.CircuitQueries.{HasCircuitWitness};
 ghost use Rattle.aig_bounded.specs.declared.place.Place.{Place};
-ghost use Rattle.aig_bounded.specs.Question.{IsQuestion};
+ghost use Rattle.aig_bounded.specs.Question.{IsQuestion, IsWindowQuestion, ReachesFirst};
 
 /// Law: the output of a question can be true exactly where the circuit has a witness of some step up to the last.
 pub fn questions_ask_for_witnesses()
@@ -14,4 +15,13 @@ pub fn questions_ask_for_witnesses()
         → IsCircuit c → IsQuestion c k asks output places
         → ((y : ℕ → Bool) × IsTrue (edge_value asks.nodes y output))
         ↔ ((t : ℕ) × (t ≤ k) × HasCircuitWitness c t) }
+{}
+
+/// Law: the output of a window's question can be true exactly where the circuit has a run, from any state, that reaches a bad
+/// state first at its last step.
+pub fn window_questions_ask_for_windows()
+    ensures { (c asks : Circuit) (last : ℕ) (output : AigEdge) (places : List Place)
+        → IsWindowQuestion c last asks output places
+        → ((y : ℕ → Bool) × IsTrue (edge_value asks.nodes y output))
+        ↔ ((run : ℕ → ℕ → Bool) × IsRun c last run × ReachesFirst c last run) }
 {}

@@ -1,6 +1,7 @@
-//! A bounded check as one small question.
+//! A bounded check, or the step of an induction, as one small question.
 #![tactic(auto)]
 
+mod asked;
 mod depths;
 mod error;
 mod frames;
@@ -11,6 +12,6 @@ mod question;
 mod steps;
 
 pub use error::BoundedError;
-pub use laws::questions_ask_for_witnesses;
+pub use laws::{questions_ask_for_witnesses, window_questions_ask_for_windows};
 pub use place::Place;
-pub use question::{Question, bounded_question};
+pub use question::{Question, bounded_question, window_question};

@@ -1,14 +1,16 @@
 //! A bounded check as one question.
 
-ghost use Rattle.std.specs.Prelude.{◌≡◌, ◌<◌, ◌≤◌, ◌^◌, ℕ, IfOk, All, length};
+ghost use Rattle.std.specs.Prelude.{◌≡◌, ◌<◌, ◌≤◌, ◌^◌, ℕ, IfOk, IsErrOf, All, length};
 ghost use Rattle.aig_circuit.specs.Circuit.{Circuit, IsInRange};
 ghost use Rattle.aig_circuit.specs.declared.edge.AigEdge.{AigEdge};
 ghost use Rattle.aig_circuit.specs.Edges.{HasConstantInit};
 ghost use Rattle.aig_circuit.specs.View.{lists_circuit};
+ghost use Rattle.aig_bounded.specs.Asked.{HasStarts, IsAskedOf};
 ghost use Rattle.aig_bounded.specs.Cut.{IsCutOf, IsKeptOf, KeepsReached, marked_places, whole_question};
 ghost use Rattle.aig_bounded.specs.Frames.{AreFrames};
-ghost use Rattle.aig_bounded.specs.Question.{IsQuestion};
+ghost use Rattle.aig_bounded.specs.Question.{IsQuestion, IsWindowQuestion, question_size};
 
+use crate::asked::{Sought, Start};
 use crate::error::BoundedError;
 use crate::frames::Frames;
 use crate::place::Place;
@@ -43,7 +45,8 @@ pub struct Question {
 ///
 /// # Errors
 ///
-/// - `TooLarge`: more than `limit` nodes are made.
+/// - `TooLarge`: more than `limit` nodes are made. Never where the bound `question_size` is within the limit: one node, and for
+///   each of the `last + 1` steps one for each node, bad edge and constraint, and one more.
 /// - `Memory`: memory was refused.
 pub fn bounded_question(
     alloc: Global,
@@ -57,10 +60,70 @@ pub fn bounded_question(
     ensures question { IfOk result (λ made. (output : AigEdge)
         × IsQuestion circuit.now last (lists_circuit made.circuit) output made.places.items) }
     ensures small { IfOk result (λ made. length made.circuit.nodes.items ≤ limit) }
+    // TooLarge only where the bound of what is made passes the limit.
+    ensures large { IsErrOf result BoundedError.TooLarge → limit < question_size circuit.now last }
+{
+    question_of(
+        alloc,
+        circuit,
+        Start::Initial,
+        Sought::Somewhere,
+        last,
+        limit,
+    )
+}
+
+/// Makes one question of a window of steps: whether on some run of the steps 0 to `last`, from any state, every constraint
+/// holds at each step, and a bad state is reached at step `last` and at none before.
+///
+/// It is made as by `bounded_question`, with the latches open at step 0, whatever their initial edges are. With `last` = k + 1
+/// it is the step of an induction over k + 1 steps.
+///
+/// # Requirements
+///
+/// - `1 <= limit <= 2^31`.
+///
+/// # Errors
+///
+/// Those of `bounded_question`.
+pub fn window_question(
+    alloc: Global,
+    circuit: &CircuitView<'_>,
+    last: usize,
+    limit: usize,
+) -> Result<Question, BoundedError>
+    requires some { 1 ≤ limit }
+    requires few { limit ≤ 2 ^ 31 }
+    ensures question { IfOk result (λ made. (output : AigEdge) × IsWindowQuestion circuit.now last
+        (lists_circuit made.circuit) output made.places.items) }
+    ensures small { IfOk result (λ made. length made.circuit.nodes.items ≤ limit) }
+    // TooLarge only where the bound of what is made passes the limit.
+    ensures large { IsErrOf result BoundedError.TooLarge → limit < question_size circuit.now last }
+{
+    question_of(alloc, circuit, Start::Any, Sought::First, last, limit)
+}
+
+/// The question of what is sought on runs from these starts.
+fn question_of(
+    alloc: Global,
+    circuit: &CircuitView<'_>,
+    start: Start,
+    sought: Sought,
+    last: usize,
+    limit: usize,
+) -> Result<Question, BoundedError>
+    requires starts { HasStarts start circuit.now }
+    requires some { 1 ≤ limit }
+    requires few { limit ≤ 2 ^ 31 }
+    ensures question { IfOk result (λ made. (output : AigEdge)
+        × IsAskedOf start sought circuit.now last (lists_circuit made.circuit) output
+        made.places.items) }
+    ensures small { IfOk result (λ made. length made.circuit.nodes.items ≤ limit) }
+    ensures large { IsErrOf result BoundedError.TooLarge → limit < question_size circuit.now last }
 {
     refining_is_circuit();
     refining_keeps_runs();
-    let (frames, reached) = expanded(alloc, circuit, last, limit)?;
+    let (frames, reached) = expanded(alloc, circuit, start, sought, last, limit)?;
     let made = cut(alloc, frames, reached)?;
     Ok(made)
 }

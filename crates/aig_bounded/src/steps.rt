@@ -1,32 +1,33 @@
 //! The steps of a circuit as nodes of a question.
 
-ghost use Rattle.std.specs.Prelude.{◌≡◌, ◌+◌, ◌-◌, ◌<◌, ◌≤◌, ◌&&◌, ℕ, Bool, true, false, None, Some, IfOk, IfSome, OnOk, List, All, length, slice_index_or};
+ghost use Rattle.std.specs.Prelude.{◌≡◌, ◌+◌, ◌-◌, ◌*◌, ◌<◌, ◌≤◌, ◌&&◌, ℕ, Bool, true, false, None, Some, IfOk, IfSome, IsErrOf, OnOk, List, All, length, min, slice_index_or};
 ghost use Rattle.std.specs.List.{list_all, list_any};
 ghost use Rattle.aig_circuit.specs.Circuit.{AreNodes, IsCircuit, IsInRange, IsLeaf};
 ghost use Rattle.aig_circuit.specs.Edge.{edge_to};
-ghost use Rattle.aig_circuit.specs.Edges.{HasConstantInit};
 ghost use Rattle.aig_circuit.specs.Reach.{IsFanin};
 ghost use Rattle.aig_circuit.specs.Tree.{edge_value};
 ghost use Rattle.aig_bounded.specs.declared.frames.Frames.{Frames};
-ghost use Rattle.aig_bounded.specs.Question.{IsPlace};
+ghost use Rattle.aig_bounded.specs.Asked.{HasStarts, IsFree, first_state, next_reached, next_within, reached_to};
+ghost use Rattle.aig_bounded.specs.Question.{IsPlaceOf, question_size, step_size};
 ghost use Rattle.aig_bounded.specs.Depths.{AreDepths};
-ghost use Rattle.aig_bounded.specs.Frames.{AddsAnds, AreFrames, Extends, Shows};
-ghost use Rattle.aig_bounded.specs.Steps.{HasImages, HasStates, MakesImage, SetsStates, ShowsNode, Sum, image_in, reached_to};
+ghost use Rattle.aig_bounded.specs.Frames.{AddsAnds, AddsUpTo, AreFrames, Extends, Shows};
+ghost use Rattle.aig_bounded.specs.Steps.{HasImages, HasStates, MakesImage, SetsStates, ShowsNode, Sum, image_in};
 
+use crate::asked::{Sought, Start};
 use crate::depths::depths;
 use crate::error::BoundedError;
 use crate::frames::Frames;
 use crate::place::Place;
 use aig_base::MemoryError;
-use aig_circuit::{AigEdge, AigNodeType, CircuitView};
+use aig_circuit::{AigEdge, AigLatch, AigNodeType, CircuitView};
 use std::alloc::Global;
 
 /// What is known of the steps so far.
 #[derive(Clone, Copy)]
 pub(crate) struct Sums {
-    /// Every constraint holds at each of them.
+    /// Every constraint holds at each of them, and what is sought can still come.
     pub(crate) within: AigEdge,
-    /// Some bad state is reached at one of them, within the constraints up to there.
+    /// What is sought is reached at one of them.
     pub(crate) reached: AigEdge,
 }
 
@@ -70,8 +71,9 @@ impl Frames {
         requires known { IfSome (slice_index_or states.now id None) (λ e.
             Shows circuit.now step self.old e (λ run. run step id)) }
         requires free { IsLeaf circuit.now.nodes id → slice_index_or states.now id None ≡ None
-            → IsPlace circuit.now (record { step = step; leaf = id }) }
-        ensures { IfOk result (MakesImage circuit.now step id self.old self.new) }
+            → IsPlaceOf (IsFree self.old.start) circuit.now (record { step = step; leaf = id }) }
+        ensures makes { IfOk result (MakesImage circuit.now step id self.old self.new) }
+        ensures size { AddsUpTo (min id 1) self.old self.new result }
     {
         match *circuit.nodes()[id].typ() {
             AigNodeType::False => Ok(AigEdge::constant(false)),
@@ -105,6 +107,7 @@ impl Frames {
             (length circuit.now.nodes) self.new images.new) }
         ensures frames { OnOk result (AreFrames circuit.now (step + 1) 0 self.new) }
         ensures extends { OnOk result (Extends self.old self.new) }
+        ensures size { AddsUpTo (length circuit.now.nodes - 1) self.old self.new result }
     {
         for id in 0..circuit.nodes().len() {
             if depths[id] <= left {
@@ -133,6 +136,7 @@ impl Frames {
             && list_all
             (λ e. edge_value self.old.nodes.items y (image_in images.now e)) edges.now)) }
         ensures adds { OnOk result (AddsAnds self.old self.new) }
+        ensures size { AddsUpTo (length edges.now) self.old self.new result }
     {
         let mut all = first;
         for edge in edges {
@@ -151,6 +155,7 @@ impl Frames {
         ensures value { IfOk result (λ any. (y : ℕ → Bool) → edge_value self.new.nodes.items y any
             ≡ list_any (λ e. edge_value self.old.nodes.items y (image_in images.now e)) edges.now) }
         ensures adds { OnOk result (AddsAnds self.old self.new) }
+        ensures size { AddsUpTo (length edges.now) self.old self.new result }
     {
         let mut any = AigEdge::constant(false);
         for edge in edges {
@@ -159,10 +164,54 @@ impl Frames {
         Ok(any)
     }
 
+    /// What is known with one step more, where every constraint holds up to it where `within` does, some bad edge at it
+    /// where `bad` does, and both where `now` does.
+    fn next_sums(
+        &mut self,
+        sought: Sought,
+        reached: AigEdge,
+        within: AigEdge,
+        bad: AigEdge,
+        now: AigEdge,
+    ) -> Result<Sums, BoundedError>
+        requires sound { AreNodes self.old.nodes.items }
+        requires reached { IsInRange self.old.nodes.items reached }
+        requires within { IsInRange self.old.nodes.items within }
+        requires bad { IsInRange self.old.nodes.items bad }
+        requires now { IsInRange self.old.nodes.items now }
+        ensures there { IfOk result (λ sums. IsInRange self.new.nodes.items sums.within
+            × IsInRange self.new.nodes.items sums.reached) }
+        ensures within { IfOk result (λ sums. (y : ℕ → Bool)
+            → edge_value self.new.nodes.items y sums.within
+            ≡ next_within sought (edge_value self.old.nodes.items y within)
+            (edge_value self.old.nodes.items y bad)) }
+        ensures reached { IfOk result (λ sums. (y : ℕ → Bool)
+            → edge_value self.new.nodes.items y sums.reached
+            ≡ next_reached sought (edge_value self.old.nodes.items y reached)
+            (edge_value self.old.nodes.items y now)) }
+        ensures adds { OnOk result (AddsAnds self.old self.new) }
+        ensures size { AddsUpTo 1 self.old self.new result }
+    {
+        match sought {
+            Sought::Somewhere => {
+                let reached = self.or(reached, now)?;
+                Ok(Sums { within, reached })
+            }
+            Sought::First => {
+                let within = self.and(within, !bad)?;
+                Ok(Sums {
+                    within,
+                    reached: now,
+                })
+            }
+        }
+    }
+
     /// What is known of the steps with one more, of which these are the images.
     fn add_sums(
         &mut self,
         circuit: &CircuitView<'_>,
+        sought: Sought,
         images: &[AigEdge],
         step: usize,
         sums: Sums,
@@ -173,22 +222,25 @@ impl Frames {
             circuit.now.properties.bads }
         requires constraints { All (λ e. ShowsNode circuit.now step self.old images.now e.node_id)
             circuit.now.properties.constraints }
-        requires sums { Sum circuit.now step step self.old sums }
-        ensures sums { IfOk result (Sum circuit.now step (step + 1) self.new) }
+        requires sums { Sum circuit.now sought step step self.old sums }
+        ensures sums { IfOk result (Sum circuit.now sought step (step + 1) self.new) }
         ensures frames { OnOk result (AreFrames circuit.now (step + 1) 0 self.new) }
         ensures extends { OnOk result (Extends self.old self.new) }
+        ensures size { AddsUpTo (length circuit.now.properties.bads
+            + length circuit.now.properties.constraints + 2) self.old self.new result }
     {
         let within = self.and_all(sums.within, circuit.constraints(), images)?;
         let bad = self.or_all(circuit.bads(), images)?;
         let now = self.and(within, bad)?;
-        let reached = self.or(sums.reached, now)?;
-        Ok(Sums { within, reached })
+        let more = self.next_sums(sought, sums.reached, within, bad, now)?;
+        Ok(more)
     }
 
-    /// Adds the last step, and returns the edge that is true where a bad state is reached at one of all.
+    /// Adds the last step, and returns the edge that is true where what is sought is reached.
     fn add_last(
         &mut self,
         circuit: &CircuitView<'_>,
+        sought: Sought,
         depths: &[usize],
         last: usize,
         images: &mut [AigEdge],
@@ -200,21 +252,25 @@ impl Frames {
         requires depths { AreDepths circuit.now last depths.now }
         requires frames { AreFrames circuit.now last 0 self.old }
         requires states { HasStates circuit.now last depths.now 0 self.old states.now }
-        requires sums { Sum circuit.now last last self.old sums }
+        requires sums { Sum circuit.now sought last last self.old sums }
         ensures shows { IfOk result (λ e.
-            Shows circuit.now last self.new e (λ run. reached_to circuit.now run (last + 1))) }
+            Shows circuit.now last self.new e
+            (λ run. reached_to sought circuit.now run (last + 1))) }
         ensures frames { OnOk result (AreFrames circuit.now (last + 1) 0 self.new) }
         ensures limit { OnOk result (self.new.limit ≡ self.old.limit) }
+        ensures start { OnOk result (self.new.start ≡ self.old.start) }
+        ensures size { AddsUpTo (step_size circuit.now) self.old self.new result }
     {
         self.add_nodes(circuit, depths, 0, last, images, states)?;
-        let all = self.add_sums(circuit, images, last, sums)?;
+        let all = self.add_sums(circuit, sought, images, last, sums)?;
         Ok(all.reached)
     }
 
-    /// Adds the steps 0 to `last`, and returns the edge that is true where a bad state is reached at one of them.
+    /// Adds the steps 0 to `last`, and returns the edge that is true where what is sought is reached.
     fn add_steps(
         &mut self,
         circuit: &CircuitView<'_>,
+        sought: Sought,
         depths: &[usize],
         last: usize,
         images: &mut [AigEdge],
@@ -226,17 +282,20 @@ impl Frames {
         requires depths { AreDepths circuit.now last depths.now }
         requires states { HasStates circuit.now 0 depths.now last self.old states.old }
         ensures shows { IfOk result (λ e.
-            Shows circuit.now last self.new e (λ run. reached_to circuit.now run (last + 1))) }
+            Shows circuit.now last self.new e
+            (λ run. reached_to sought circuit.now run (last + 1))) }
         ensures frames { OnOk result (AreFrames circuit.now (last + 1) 0 self.new) }
         ensures limit { OnOk result (self.new.limit ≡ self.old.limit) }
+        ensures start { OnOk result (self.new.start ≡ self.old.start) }
+        ensures size { AddsUpTo ((last + 1) * step_size circuit.now) self.old self.new result }
     {
         let mut sums = Sums::start();
         for step in 0..last {
             self.add_nodes(circuit, depths, last - step, step, images, states)?;
-            sums = self.add_sums(circuit, images, step, sums)?;
+            sums = self.add_sums(circuit, sought, images, step, sums)?;
             advance(circuit, images, states);
         }
-        self.add_last(circuit, depths, last, images, states, sums)
+        self.add_last(circuit, sought, depths, last, images, states, sums)
     }
 }
 
@@ -253,42 +312,58 @@ fn advance(circuit: &CircuitView<'_>, images: &[AigEdge], states: &mut [Option<A
     }
 }
 
-/// The states of latches at the start: constant where their initial edges are, and open where they have none.
+/// The state of a latch at the start: constant where runs start in its initial edge, and else open.
+fn first_state(start: Start, latch: &AigLatch) -> Option<AigEdge>
+    ensures { result ≡ first_state start latch.now }
+{
+    match start {
+        Start::Initial => latch.init(),
+        Start::Any => None,
+    }
+}
+
+/// The states of latches at the start.
 fn start_states(
     alloc: Global,
     circuit: &CircuitView<'_>,
+    start: Start,
 ) -> Result<Vec<Option<AigEdge>>, MemoryError>
-    requires { All HasConstantInit circuit.now.latchs }
+    requires { HasStarts start circuit.now }
     ensures { IfOk result (λ states. (depths : List ℕ) (left : ℕ) (f : Frames)
-        → AreNodes f.nodes.items → HasStates circuit.now 0 depths left f states.items) }
+        → AreNodes f.nodes.items → f.start ≡ start
+        → HasStates circuit.now 0 depths left f states.items) }
 {
     let mut states = vec![in alloc; None; circuit.nodes().len()]?;
     for latch in circuit.latchs() {
-        states[latch.input()] = latch.init();
+        states[latch.input()] = first_state(start, latch);
     }
     Ok(states)
 }
 
-/// The nodes of the steps 0 to `last`, and the edge that is true where a bad state is reached at one of them.
+/// The nodes of the steps 0 to `last`, and the edge that is true where what is sought is reached.
 pub(crate) fn expanded(
     alloc: Global,
     circuit: &CircuitView<'_>,
+    start: Start,
+    sought: Sought,
     last: usize,
     limit: usize,
 ) -> Result<(Frames, AigEdge), BoundedError>
-    requires starts { All HasConstantInit circuit.now.latchs }
+    requires starts { HasStarts start circuit.now }
     requires some { 1 ≤ limit }
     ensures shows { IfOk result (λ made. Shows circuit.now last made.0 made.1
-        (λ run. reached_to circuit.now run (last + 1))) }
+        (λ run. reached_to sought circuit.now run (last + 1))) }
     ensures frames { IfOk result (λ made. AreFrames circuit.now (last + 1) 0 made.0) }
     ensures limit { IfOk result (λ made. made.0.limit ≡ limit) }
+    ensures start { IfOk result (λ made. made.0.start ≡ start) }
+    ensures large { IsErrOf result BoundedError.TooLarge → limit < question_size circuit.now last }
     ensures circuit { IsCircuit circuit.now }
 {
     let count = circuit.nodes().len();
     let depths = depths(alloc, circuit, last)?;
     let mut images = vec![in alloc; AigEdge::constant(false); count]?;
-    let mut states = start_states(alloc, circuit)?;
-    let mut frames = Frames::new(alloc, limit)?;
-    let reached = frames.add_steps(circuit, &depths, last, &mut images, &mut states)?;
+    let mut states = start_states(alloc, circuit, start)?;
+    let mut frames = Frames::new(alloc, limit, start)?;
+    let reached = frames.add_steps(circuit, sought, &depths, last, &mut images, &mut states)?;
     Ok((frames, reached))
 }

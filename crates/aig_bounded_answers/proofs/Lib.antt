@@ -1,4 +1,5 @@
 mod Safe
+mod Inductive
 mod Asked
 mod Names
 mod Saying

@@ -10,14 +10,9 @@ use Rattle.aig_circuit.specs.declared.node.AigLatch.{AigLatch}
 use Rattle.aig_circuit.specs.Circuit.{Circuit, IsCircuit, IsClosed, IsLeaf, latch_leaves}
 use Rattle.aig_circuit.proofs.Trees.{kind_at-within}
 use Rattle.aig_bounded.specs.declared.place.Place.{Place}
-use Rattle.aig_bounded.specs.Question.{IsPlace}
 use Rattle.aig_bounded_answers.specs.declared.naming.Named.{Named}
 use Rattle.aig_bounded_answers.specs.Encoded.{HasName}
 use Rattle.aig_bounded_answers.specs.Naming.{IsNamed, leaf_of}
-
-pub places_are_leaves : (c : Circuit) (places : List Place) → All (IsPlace c) places
-    → All (λ p. IsLeaf c.nodes p.leaf) places
-places_are_leaves c places are i d h = (are i d h).leaf
 
 module _ (c : Circuit) (names : List Named) (n : ℕ) (name : Named) (there : n < length names) (is :
     leaf_of c name.is_latch name.number ≡ Some n) where

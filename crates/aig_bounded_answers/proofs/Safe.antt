@@ -1,5 +1,5 @@
 -- What refuted clauses of a question say of a file's machine.
-use Rattle.std.proofs.Common.{◌≡◌, ◌↔◌, ◌++◌, ◌∷◌, [], ◌||◌, ℕ, Bool, true, false, IsTrue, List, suc, refl, sym, ap, subst, ◌∙◌, arith}
+use Rattle.std.proofs.Common.{◌≡◌, ◌≤◌, ◌↔◌, ◌++◌, ◌∷◌, [], ◌||◌, ℕ, Bool, true, false, IsTrue, List, suc, refl, sym, ap, subst, ◌∙◌, arith}
 use Rattle.std.proofs.lemmas.Bool.{false≢true}
 use Rattle.std.proofs.lemmas.List.Elements.{All-cons, All-nil}
 use Rattle.std.proofs.lemmas.List.Folds.{list_all-append}
@@ -25,7 +25,12 @@ use Rattle.aig_runs.proofs.Witnesses.{witness_back, witness_forth}
 use Rattle.aig_format_laws.specs.Nodes.{values_over}
 use Rattle.aig_bounded.proofs.Witnesses.{question_asks}
 use Rattle.aig_bounded_answers.specs.declared.clauses.BoundedClauses.{BoundedClauses}
-use Rattle.aig_bounded_answers.specs.Asking.{AsksBounded}
+use Rattle.aig_bounded_answers.specs.declared.questions.Asked.TheVariants.{Reached}
+use Rattle.aig_bounded_answers.specs.Asking.{AsksBounded, AsksBy}
+use Rattle.aig_bounded_answers.proofs.Asked.{IsPlain, plain_of}
+use Rattle.aig_bounded.specs.declared.place.Place.{Place}
+use Rattle.aig_bounded.specs.Question.{IsQuestion}
+use Rattle.aig_runs.specs.CircuitQueries.{HasCircuitWitness}
 
 and_first : (a b : Bool) → (a && b) ≡ true → a ≡ true
 and_first true b h = refl
@@ -85,14 +90,15 @@ output_holds asks made output fixes properties exact literals v h =
     properties fixes.properties.outputs in
     sym (outputs 0 output (omega arith) v first) ∙ sym (literals v output) ∙ literal
 
-module _ (f : File) (limit k : ℕ) (optimize : Bool) (made : BoundedClauses) (fits : Fits f limit)
-    (is : AsksBounded f k optimize made)
+-- ---- refuted clauses
+
+module _ (IsAsked : Circuit → Circuit → AigEdge → List Place → Type 0) (f : File) (optimize : Bool)
+    (made : BoundedClauses) (is : AsksBy IsAsked f optimize made)
+    (plain : IsPlain (circuit_of f) (lists_circuit made.question.circuit) is.output
+    made.question.places.items)
     (literals : (v : ℕ → Bool) (e : AigEdge) → literal_value v (lit_of e) ≡ edge_in v e) where
   abbrev asks : Circuit
   asks = lists_circuit made.question.circuit
-
-  circuit : IsCircuit (circuit_of f)
-  circuit = IsCircuit-of_file f limit fits
 
   satisfied_where : (y : ℕ → Bool) → IsTrue (edge_value asks.nodes y is.output)
       → IsSatisfiable (clauses_in made.clauses ++ made.further)
@@ -113,37 +119,65 @@ module _ (f : File) (limit k : ℕ) (optimize : Bool) (made : BoundedClauses) (f
       → (y : ℕ → Bool) × IsTrue (edge_value asks.nodes y is.output)
   true_where (v, h) = (
     v,
-    output_holds asks made is.output is.fixes is.asks.properties is.exact
-        literals v h,
+    output_holds asks made is.output is.fixes plain.properties is.exact literals v h,
   )
 
-  safe_where : ((y : ℕ → Bool) → IsTrue (edge_value asks.nodes y is.output) → ⊥) → IsSafeTo f k
+  -- the question's output is never true
+  abbrev Never : Type 0
+  Never = (y : ℕ → Bool) → IsTrue (edge_value asks.nodes y is.output) → ⊥
+
+  pub refuted_never : (¬ IsSatisfiable (clauses_in made.clauses ++ made.further)) ↔ Never
+  refuted_never = (
+    λ none y holds. none (satisfied_where y holds),
+    λ never s. let y = true_where s in never y.0 y.1,
+  )
+
+  pub folded_never : All (λ e. e ≡ edge_to 0 false) asks.properties.outputs → Never
+  folded_never all y holds =
+      let outputs = subst (λ (p : Properties AigEdge). All (λ e. e ≡ edge_to 0 false) p.outputs)
+      plain.properties all in
+      let false_is : is.output ≡ edge_to 0 false = outputs 0 is.output (omega arith) in
+      false≢true (sym (node_value-false asks.nodes y 0 plain.circuit.nodes.false_first) ∙ sym (ap
+      (edge_value asks.nodes y) false_is) ∙ holds)
+
+-- ---- a bad state that is reached
+
+module _ (f : File) (limit k : ℕ) (optimize : Bool) (made : BoundedClauses) (fits : Fits f limit)
+    (is : AsksBounded f k optimize made)
+    (literals : (v : ℕ → Bool) (e : AigEdge) → literal_value v (lit_of e) ≡ edge_in v e) where
+  abbrev question : Circuit
+  question = lists_circuit made.question.circuit
+
+  abbrev NeverReached : Type 0
+  NeverReached = (y : ℕ → Bool) → IsTrue (edge_value question.nodes y is.output) → ⊥
+
+  asked : ((y : ℕ → Bool) × IsTrue (edge_value question.nodes y is.output))
+      ↔ ((t : ℕ) × (t ≤ k) × HasCircuitWitness (circuit_of f) t)
+  asked = question_asks (circuit_of f) k question is.output made.question.places.items
+      (IsCircuit-of_file f limit fits) is.asks
+
+  safe_where : NeverReached → IsSafeTo f k
   safe_where none =
       (safe_is f k).0 (λ t h w.
       let x = witness_forth f limit t w.0 fits w.1 in
-      let y = (question_asks (circuit_of f) k asks is.output made.question.places.items circuit
-      is.asks).1 (t, h, (x.0, x.1)) in
+      let y = asked.1 (t, h, (x.0, x.1)) in
       none y.0 y.1)
 
-  none_where : IsSafeTo f k → (y : ℕ → Bool) → IsTrue (edge_value asks.nodes y is.output) → ⊥
+  none_where : IsSafeTo f k → NeverReached
   none_where safe y holds =
-      let reached = (question_asks (circuit_of f) k asks is.output made.question.places.items
-      circuit is.asks).0 (y, holds) in
+      let reached = asked.0 (y, holds) in
       let t = reached.0 in
       let x = reached.2.0 in
       (safe_is f k).1 safe t reached.1 (values_over f x, witness_back f limit t x fits reached.2.1)
 
-  pub refuted_is_safe : (¬ IsSatisfiable (clauses_in made.clauses ++ made.further)) ↔ IsSafeTo f k
-  refuted_is_safe = (
-    λ none. safe_where (λ y holds. none (satisfied_where y holds)),
-    λ safe s. let y = true_where s in none_where safe y.0 y.1,
-  )
+  plain : IsPlain (circuit_of f) question is.output made.question.places.items
+  plain = plain_of Reached k (circuit_of f) question is.output made.question.places.items is.asks
 
-  pub folded_is_safe : All (λ e. e ≡ edge_to 0 false) asks.properties.outputs → IsSafeTo f k
+  pub refuted_is_safe : (¬ IsSatisfiable (clauses_in made.clauses ++ made.further)) ↔ IsSafeTo f k
+  refuted_is_safe =
+      let never = refuted_never (λ c. IsQuestion c k) f optimize made is plain literals in
+      (λ none. safe_where (never.0 none), λ safe. never.1 (none_where safe))
+
+  pub folded_is_safe : All (λ e. e ≡ edge_to 0 false) question.properties.outputs → IsSafeTo f k
   folded_is_safe all =
-      let outputs = subst (λ (p : Properties AigEdge). All (λ e. e ≡ edge_to 0 false) p.outputs)
-      is.asks.properties all in
-      let false_is : is.output ≡ edge_to 0 false = outputs 0 is.output (omega arith) in
-      safe_where (λ y holds.
-      false≢true (sym (node_value-false asks.nodes y 0 is.asks.circuit.nodes.false_first) ∙ sym (ap
-      (edge_value asks.nodes y) false_is) ∙ holds))
+      safe_where (folded_never (λ c. IsQuestion c k) f optimize made is plain literals all)

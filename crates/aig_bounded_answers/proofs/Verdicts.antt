@@ -21,7 +21,7 @@ use Rattle.aig_solutions.specs.declared.error.SolutionError.TheVariants as solut
 use Rattle.aig_bounded_answers.specs.declared.clauses.BoundedClauses.{BoundedClauses}
 use Rattle.aig_bounded_answers.specs.declared.error.BoundedAnswerError.{BoundedAnswerError}
 use Rattle.aig_bounded_answers.specs.declared.error.BoundedAnswerError.TheVariants as errors
-use Rattle.aig_bounded_answers.specs.Asking.{IsOfCheck, IsOfQuestion, IsOfWitness, RefusesAnswer, bounded_verdict, verdict_of}
+use Rattle.aig_bounded_answers.specs.Asking.{IsOfCheck, IsOfQuestion, IsOfWitness, RefusesAnswer, TellsOfSize, bounded_verdict, verdict_of}
 use Rattle.aig_bounded_answers.specs.Encoded.{IsSaidOfBads}
 
 -- ---- of a file
@@ -98,6 +98,17 @@ module _ (r : Result Unit BoundedAnswerError) (own : IfErr r (λ e. (x : Refutat
     where
       by_result : (r : Result Unit BoundedAnswerError)
           → IfErr r (λ e. (x : RefutationError) × (e ≡ errors.Refutation x)) → IfErr r IsOfCheck
+      by_result (Ok done) own = tt
+      by_result (Err e) own = rw own.1 tt
+
+  -- and no question is too large then
+  pub proof_small : (limit k : ℕ) (old new : Option (List ℕ))
+      → IfErr r (TellsOfSize limit k old new)
+  proof_small limit k old new = by_result r own
+    where
+      by_result : (r : Result Unit BoundedAnswerError)
+          → IfErr r (λ e. (x : RefutationError) × (e ≡ errors.Refutation x))
+          → IfErr r (TellsOfSize limit k old new)
       by_result (Ok done) own = tt
       by_result (Err e) own = rw own.1 tt
 

@@ -1,13 +1,14 @@
 -- Part of what is promised.
 -- The clauses of a bounded check of a file's machine, and what an answer says of the bytes of the
 -- file and of a proof. (Bounded model checking; Tseitin encoding.)
-use Rattle.std.specs.Prelude.{◌≡◌, ◌≢◌, ℕ, ◌==◌, ◌≤◌, ◌^◌, if◌then◌else◌, Bool, true, false, IsTrue, Option, IfSome, List, [], ◌∷◌, ◌++◌, length, All, slice_index_or, Result, Ok, Err}
+use Rattle.std.specs.Prelude.{◌≡◌, ◌≢◌, ℕ, ◌==◌, ◌+◌, ◌<◌, ◌≤◌, ◌^◌, if◌then◌else◌, Bool, true, false, IsTrue, Option, IfSome, List, [], ◌∷◌, ◌++◌, length, All, slice_index_or, Result, Ok, Err}
 use Rattle.std.specs.List.{AllZip}
 use Rattle.aig_base.specs.declared.logic.three.Lbool.{Lbool}
 use Rattle.aig_base.specs.declared.logic.three.Lbool.TheVariants.{TRUE, NONE}
 use Rattle.aig_base.specs.Clauses.{are_true}
 use Rattle.aig_base.specs.Formula.{clauses_in}
 use Rattle.aig_circuit.specs.declared.edge.AigEdge.{AigEdge}
+use Rattle.aig_circuit.specs.Circuit.{Circuit}
 use Rattle.aig_circuit.specs.Edge.{edge_to, lit_of}
 use Rattle.aig_circuit.specs.View.{lists_circuit}
 use Rattle.aig_cnf.specs.Cnf.{FixesRoots, HasClauses, NodeValuesSatisfy}
@@ -22,7 +23,9 @@ use Rattle.aig_refutation.specs.Checking.{Shows}
 use Rattle.aig_solutions.specs.declared.error.SolutionError.{SolutionError}
 use Rattle.aig_solutions.specs.declared.error.SolutionError.TheVariants as solutions
 use Rattle.aig_solutions.specs.Reading.{GivesSolution, solution_in}
-use Rattle.aig_bounded.specs.Question.{IsQuestion}
+use Rattle.aig_bounded.specs.declared.error.BoundedError.TheVariants.{TooLarge}
+use Rattle.aig_bounded.specs.declared.place.Place.{Place}
+use Rattle.aig_bounded.specs.Question.{IsQuestion, IsWindowQuestion, question_size}
 use Rattle.aig_bounded_answers.specs.declared.clauses.BoundedClauses.{BoundedClauses}
 use Rattle.aig_bounded_answers.specs.declared.error.BoundedAnswerError.{BoundedAnswerError}
 use Rattle.aig_bounded_answers.specs.declared.error.BoundedAnswerError.TheVariants as errors
@@ -35,9 +38,10 @@ abbrev pub IsAskedWithin : ℕ → List ℕ → File → Type 0
 IsAskedWithin limit bytes f = Accepts bytes limit f × (f.properties.bads ≢ [])
 
 -- The clauses of a question of the file's circuit, and the one that its output is true.
-pub record AsksBounded (f : File) (k : ℕ) (optimize : Bool) (made : BoundedClauses) : Type 0 where
+pub record AsksBy (IsAsked : Circuit → Circuit → AigEdge → List Place → Type 0) (f : File)
+    (optimize : Bool) (made : BoundedClauses) : Type 0 where
   pub output : AigEdge
-  pub asks : IsQuestion (circuit_of f) k (lists_circuit made.question.circuit) output
+  pub asks : IsAsked (circuit_of f) (lists_circuit made.question.circuit) output
       made.question.places.items
   -- what stands at these places, one for one
   pub named : AllZip (IsNamed (circuit_of f)) made.question.places.items made.named.items
@@ -46,6 +50,14 @@ pub record AsksBounded (f : File) (k : ℕ) (optimize : Bool) (made : BoundedCla
   pub fixes : FixesRoots (lists_circuit made.question.circuit) made.clauses
   pub satisfied : NodeValuesSatisfy (lists_circuit made.question.circuit) made.clauses
   pub exact : made.further ≡ (lit_of output ∷ []) ∷ []
+
+-- the question is whether a bad state is reached up to step k
+abbrev pub AsksBounded : File → ℕ → Bool → BoundedClauses → Type 0
+AsksBounded f k optimize made = AsksBy (λ c. IsQuestion c k) f optimize made
+
+-- the question is whether one is reached, from any state, at step k + 1 first
+abbrev pub AsksWindowBounded : File → ℕ → Bool → BoundedClauses → Type 0
+AsksWindowBounded f k optimize made = AsksBy (λ c. IsWindowQuestion c (k + 1)) f optimize made
 
 -- the question's output is the constant false
 abbrev pub IsSettled : BoundedClauses → Type 0
@@ -95,6 +107,13 @@ IsOfWitness (errors.Refutation e) = ⊥
 IsOfWitness (errors.Solution (solutions.Check e)) = ⊥
 IsOfWitness (errors.Solution e) = Unit {0}
 
+-- a question is too large only where the bytes are a file for which the bound of what is made for
+-- the steps 0 to k passes the limit
+abbrev pub TellsOfSize : ℕ → ℕ → Option (List ℕ) → Option (List ℕ) → BoundedAnswerError → Type 0
+TellsOfSize limit k old new (errors.Question TooLarge) =
+    IsReadAs (IsAskedWithin limit) (λ f u. limit < question_size (circuit_of f) k) old new (tt {0})
+TellsOfSize limit k old new e = Unit {0}
+
 -- ---- a proof's bytes
 
 -- it is what the bytes of a proof show of the clauses
@@ -113,10 +132,22 @@ pub record TellsOfProof {P : Type 0} (left : P → Option (List ℕ)) (made : Bo
   pub shown : ¬ IsSettled made → ShowsProof made (left p) result
 
 -- the same of the clauses of a question of the file
+abbrev pub AnswersProofBy : {P : Type 0} → (Circuit → Circuit → AigEdge → List Place → Type 0)
+    → (P → Option (List ℕ)) → Bool → P → P → File → Result Unit BoundedAnswerError → Type 0
+AnswersProofBy IsAsked left optimize p rest f result =
+    (made : BoundedClauses) × AsksBy IsAsked f optimize made × TellsOfProof left made p rest result
+
+-- whether a bad state is reached up to step k
 abbrev pub AnswersProof : {P : Type 0} → (P → Option (List ℕ)) → ℕ → Bool → P → P → File
     → Result Unit BoundedAnswerError → Type 0
 AnswersProof left k optimize p rest f result =
-    (made : BoundedClauses) × AsksBounded f k optimize made × TellsOfProof left made p rest result
+    AnswersProofBy (λ c. IsQuestion c k) left optimize p rest f result
+
+-- whether one is reached, from any state, at step k + 1 first
+abbrev pub AnswersWindowProof : {P : Type 0} → (P → Option (List ℕ)) → ℕ → Bool → P → P → File
+    → Result Unit BoundedAnswerError → Type 0
+AnswersWindowProof left k optimize p rest f result =
+    AnswersProofBy (λ c. IsWindowQuestion c (k + 1)) left optimize p rest f result
 
 -- ---- a solver's answer
 

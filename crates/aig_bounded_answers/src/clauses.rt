@@ -1,6 +1,6 @@
 //! The clauses of a bounded check.
 
-ghost use Rattle.std.specs.Prelude.{◌≡◌, ◌↔◌, ◌≤◌, ◌^◌, All, IfErr, IfOk, IsTrue, length};
+ghost use Rattle.std.specs.Prelude.{◌≡◌, ◌↔◌, ◌+◌, ◌<◌, ◌≤◌, ◌^◌, All, IfErr, IfOk, IsErrOf, IsTrue, length};
 ghost use Rattle.aig_base.specs.Clauses.{AreBelow};
 ghost use Rattle.aig_circuit.specs.Circuit.{IsCircuit, IsClosed};
 ghost use Rattle.aig_circuit.specs.Edges.{HasConstantInit};
@@ -8,13 +8,15 @@ ghost use Rattle.aig_runs.specs.Queries.{unit_clauses};
 ghost use Rattle.aig_circuit.specs.View.{lists_circuit};
 ghost use Rattle.aig_reader.specs.Reading.{IsReadAs};
 ghost use Rattle.aig_reader.specs.Verdicts.{Judges, verdict_by};
-ghost use Rattle.aig_bounded_answers.specs.Asking.{AsksBounded, IsAskedWithin, IsOfQuestion, IsSettled, bounded_verdict, verdict_of};
-ghost use Rattle.aig_bounded_answers.specs.Encoded.{IsEncoded, IsEncodedQuestion, IsSaidOfBads};
+ghost use Rattle.aig_bounded.specs.Question.{question_size};
+ghost use Rattle.aig_bounded_answers.specs.Asking.{AsksBounded, AsksBy, AsksWindowBounded, IsAskedWithin, IsOfQuestion, IsSettled, TellsOfSize, bounded_verdict, verdict_of};
+ghost use Rattle.aig_bounded_answers.specs.Encoded.{IsEncoded, IsEncodedQuestion, IsQuestionBy, IsSaidOfBads};
 
 use crate::error::BoundedAnswerError;
 use crate::naming::{Named, name_places};
+use crate::questions::{Asked, question_of};
 use aig_base::{DagCnf, LitVvec, MemoryError, Source};
-use aig_bounded::{BoundedError, Question, bounded_question};
+use aig_bounded::{BoundedError, Question};
 use aig_circuit::{CircuitLists, CircuitView};
 use aig_cnf::encode;
 use aig_query::push_units;
@@ -81,21 +83,23 @@ fn clauses_of(
     })
 }
 
-/// The clauses of the question of a circuit.
+/// The clauses of the question of a circuit for the steps 0 to `last`.
 fn ask(
     alloc: Global,
     circuit: &CircuitView<'_>,
+    asked: Asked,
     limit: usize,
-    k: usize,
+    last: usize,
     optimize: bool,
 ) -> Result<BoundedClauses, BoundedError>
     requires closed { IsClosed circuit.now }
     requires starts { All HasConstantInit circuit.now.latchs }
     requires some { 1 ≤ limit }
     requires few { limit ≤ 2 ^ 31 }
-    ensures { IfOk result (IsEncodedQuestion circuit.now k optimize) }
+    ensures asks { IfOk result (IsEncodedQuestion asked circuit.now last optimize) }
+    ensures large { IsErrOf result BoundedError.TooLarge → limit < question_size circuit.now last }
 {
-    let question = bounded_question(alloc, circuit, k, limit)?;
+    let question = question_of(alloc, circuit, asked, last, limit)?;
     let named = name_places(alloc, circuit, &question.places)?;
     let made = clauses_of(alloc, question, named, optimize)?;
     Ok(made)
@@ -105,8 +109,9 @@ fn ask(
 pub(crate) fn ask_file(
     alloc: Global,
     lists: &CircuitLists,
+    asked: Asked,
     limit: usize,
-    k: usize,
+    last: usize,
     optimize: bool,
 ) -> Result<BoundedClauses, BoundedAnswerError>
     requires circuit { IsCircuit (lists_circuit lists.now) }
@@ -114,14 +119,47 @@ pub(crate) fn ask_file(
     requires starts { All HasConstantInit lists.now.latchs.items }
     requires some { 1 ≤ limit }
     requires few { limit ≤ 2 ^ 31 }
-    ensures asks { IfOk result (IsEncodedQuestion (lists_circuit lists.now) k optimize) }
+    ensures asks { IfOk result (IsEncodedQuestion asked (lists_circuit lists.now) last optimize) }
     ensures said { IsSaidOfBads lists.now.properties.bads.items (verdict_by verdict_of result) }
     ensures own { IfErr result IsOfQuestion }
+    ensures large { IsErrOf result (BoundedAnswerError.Question BoundedError.TooLarge)
+        → limit < question_size (lists_circuit lists.now) last }
 {
     if lists.properties.bads.is_empty() {
         return Err(BoundedAnswerError::NoBads);
     }
-    let made = ask(alloc, &CircuitView::new(lists), limit, k, optimize)?;
+    let made = ask(
+        alloc,
+        &CircuitView::new(lists),
+        asked,
+        limit,
+        last,
+        optimize,
+    )?;
+    Ok(made)
+}
+
+/// Reads a circuit from the bytes of an AIGER file, and makes the clauses of its question for the steps 0 to `last`.
+pub(crate) fn ask_bytes<R: Source>(
+    alloc: Global,
+    r: &mut R,
+    asked: Asked,
+    limit: usize,
+    last: usize,
+    optimize: bool,
+) -> Result<BoundedClauses, BoundedAnswerError>
+    requires some { 1 ≤ limit }
+    requires few { limit ≤ 2 ^ 31 }
+    ensures answer { IfOk result (IsReadAs (IsAskedWithin limit)
+        (λ f. AsksBy (IsQuestionBy asked last) f optimize) (R.left r.old) (R.left r.new)) }
+    ensures below { IfOk result (λ made. AreBelow (length made.clauses) made.further) }
+    ensures verdict { Judges bounded_verdict limit (R.left r.old) (R.left r.new) (R.failed r.new)
+        (verdict_by verdict_of result) }
+    ensures own { IfErr result IsOfQuestion }
+    ensures large { IfErr result (TellsOfSize limit last (R.left r.old) (R.left r.new)) }
+{
+    let lists = read(alloc, r, limit)?;
+    let made = ask_file(alloc, &lists, asked, limit, last, optimize)?;
     Ok(made)
 }
 
@@ -147,8 +185,38 @@ pub fn bounded<R: Source>(
     ensures verdict { Judges bounded_verdict limit (R.left r.old) (R.left r.new) (R.failed r.new)
         (verdict_by verdict_of result) }
     ensures own { IfErr result IsOfQuestion }
+    // A question is too large only where its bound passes the limit.
+    ensures large { IfErr result (TellsOfSize limit k (R.left r.old) (R.left r.new)) }
 {
-    let lists = read(alloc, r, limit)?;
-    let made = ask_file(alloc, &lists, limit, k, optimize)?;
-    Ok(made)
+    ask_bytes(alloc, r, Asked::Reached, limit, k, optimize)
+}
+
+/// Reads a circuit from the bytes of an AIGER file, and makes the clauses of one question about windows of `k + 2` steps:
+/// whether on some run of the steps 0 to `k + 1`, from any state, every constraint holds at each step, and a bad state is
+/// reached at step `k + 1` and at none before. It is the step of an induction over `k + 1` steps.
+///
+/// The clauses are as those of `bounded`, and so are the refusals. Requires `1 <= limit <= 2^31`.
+pub fn window_bounded<R: Source>(
+    alloc: Global,
+    r: &mut R,
+    limit: usize,
+    k: usize,
+    optimize: bool,
+) -> Result<BoundedClauses, BoundedAnswerError>
+    requires some { 1 ≤ limit }
+    requires few { limit ≤ 2 ^ 31 }
+    requires steps { k < 2 ^ 32 }
+    // The bytes that were read are a file within the limit, with a bad literal, and the clauses are those of its window's question.
+    ensures answer { IfOk result (IsReadAs (IsAskedWithin limit)
+        (λ f. AsksWindowBounded f k optimize) (R.left r.old) (R.left r.new)) }
+    // The further clause is of variables that are there.
+    ensures below { IfOk result (λ made. AreBelow (length made.clauses) made.further) }
+    // A file is refused exactly where it isn't within the limit or has no bad literal, and a refusal says why.
+    ensures verdict { Judges bounded_verdict limit (R.left r.old) (R.left r.new) (R.failed r.new)
+        (verdict_by verdict_of result) }
+    ensures own { IfErr result IsOfQuestion }
+    // A question is too large only where its bound passes the limit.
+    ensures large { IfErr result (TellsOfSize limit (k + 1) (R.left r.old) (R.left r.new)) }
+{
+    ask_bytes(alloc, r, Asked::Window, limit, k + 1, optimize)
 }

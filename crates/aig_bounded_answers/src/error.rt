@@ -18,7 +18,7 @@ pub enum BoundedAnswerError {
     #[error("{0}")]
     Read(ReadError),
     /// The file has no bad state property, so that nothing is asked.
-    #[error("no bad state property")]
+    #[error("no bad state property (aigedit bads makes outputs such)")]
     NoBads,
     /// There is no question, or there are no clauses of it.
     #[error("{0}")]

@@ -5,9 +5,11 @@ ghost use Rattle.aig_base.specs.Formula.{IsSatisfiable, clauses_in};
 ghost use Rattle.aig_circuit.specs.Edge.{edge_to};
 ghost use Rattle.aig_format.specs.File.{File};
 ghost use Rattle.aig_format.specs.Fits.{Fits};
+ghost use Rattle.aig_runs.specs.Induction.{IsKInductive};
 ghost use Rattle.aig_runs.specs.Queries.{IsSafeTo};
+ghost use Rattle.aig_runs.specs.declared.window.Window.TheVariants.{Plain};
 ghost use Rattle.aig_bounded_answers.specs.declared.clauses.BoundedClauses.{BoundedClauses};
-ghost use Rattle.aig_bounded_answers.specs.Asking.{AsksBounded};
+ghost use Rattle.aig_bounded_answers.specs.Asking.{AsksBounded, AsksWindowBounded};
 
 /// Law: the clauses of a file's question can't be satisfied exactly where no bad state is reached up to the last step; and none
 /// is where the question's output is the constant false.
@@ -19,4 +21,16 @@ pub fn refuted_questions_are_safe()
         → Fits f limit → AsksBounded f k optimize made
         → All (λ e. e ≡ edge_to 0 false) made.question.circuit.properties.outputs.items
         → IsSafeTo f k }
+{}
+
+/// Law: the clauses of a file's window question can't be satisfied exactly where its windows are inductive: no run of `k + 2`
+/// steps, from any state, reaches a bad state first at its end. And none does where the question's output is the constant false.
+pub fn refuted_window_questions_are_inductive()
+    ensures refuted { (f : File) (limit k : ℕ) (optimize : Bool) (made : BoundedClauses)
+        → Fits f limit → AsksWindowBounded f k optimize made
+        → (¬ IsSatisfiable (clauses_in made.clauses ++ made.further)) ↔ IsKInductive Plain f k }
+    ensures folded { (f : File) (limit k : ℕ) (optimize : Bool) (made : BoundedClauses)
+        → Fits f limit → AsksWindowBounded f k optimize made
+        → All (λ e. e ≡ edge_to 0 false) made.question.circuit.properties.outputs.items
+        → IsKInductive Plain f k }
 {}

@@ -9,12 +9,14 @@ ghost use Rattle.aig_reader.specs.Verdicts.{Accepted, Judges, verdict_by};
 ghost use Rattle.aig_witness.specs.Machine.{ShowsBad};
 ghost use Rattle.aig_witness.specs.Shown.{IsKnownWitness};
 ghost use Rattle.aig_witness.specs.Witness.{said_by};
-ghost use Rattle.aig_bounded_answers.specs.Asking.{AreSolution, IsAskedWithin, IsOfWitness, RefusesAnswer, TellsOfSolution, bounded_verdict, verdict_of};
+ghost use Rattle.aig_bounded_answers.specs.declared.questions.Asked.TheVariants.{Reached};
+ghost use Rattle.aig_bounded_answers.specs.Asking.{AreSolution, IsAskedWithin, IsOfWitness, RefusesAnswer, TellsOfSize, TellsOfSolution, bounded_verdict, verdict_of};
 ghost use Rattle.aig_bounded_answers.specs.Encoded.{IsEncodedQuestion};
 ghost use Rattle.aig_bounded_answers.specs.Solving.{WitnessWithin};
 
 use crate::clauses::{BoundedClauses, ask_file};
 use crate::error::BoundedAnswerError;
+use crate::questions::Asked;
 use crate::simulating::find_bad;
 use crate::values::said_values;
 use aig_base::{Lbool, MemoryError, Source};
@@ -37,7 +39,7 @@ fn witness_of(
     requires closed { IsClosed (lists_circuit lists.now) }
     requires starts { All HasConstantInit lists.now.latchs.items }
     requires asks { (optimize : Bool)
-        × IsEncodedQuestion (lists_circuit lists.now) k optimize made.now }
+        × IsEncodedQuestion Reached (lists_circuit lists.now) k optimize made.now }
     ensures known { IfOk result (λ found. IfSome found
         (λ w. WitnessWithin (lists_circuit lists.now) k (said_by w))) }
     ensures none { IfOk result (λ found. IfNone found
@@ -64,7 +66,7 @@ fn solve<P: Source>(
     requires closed { IsClosed (lists_circuit lists.now) }
     requires starts { All HasConstantInit lists.now.latchs.items }
     requires asks { (optimize : Bool)
-        × IsEncodedQuestion (lists_circuit lists.now) k optimize made.now }
+        × IsEncodedQuestion Reached (lists_circuit lists.now) k optimize made.now }
     ensures known { IfOk result (λ w. WitnessWithin (lists_circuit lists.now) k (said_by w)) }
     ensures refusal { IfErr result (RefusesAnswer (P.left solution.old) (P.failed solution.new)
         (length lists.now.properties.bads.items) made.now) }
@@ -106,6 +108,8 @@ pub fn bounded_witness<R: Source, P: Source>(
     ensures verdict { Judges bounded_verdict limit (R.left r.old) (R.left r.new) (R.failed r.new)
         (verdict_by verdict_of result) }
     ensures own { IfErr result IsOfWitness }
+    // A question is too large only where its bound passes the limit.
+    ensures large { IfErr result (TellsOfSize limit k (R.left r.old) (R.left r.new)) }
     // The answer is read only where the file is taken.
     ensures unread { verdict_by verdict_of result ≢ Accepted → solution.new ≡ solution.old }
     // An answer is refused for the reason that its bytes have, or since its values don't satisfy the clauses of a question of the
@@ -115,7 +119,7 @@ pub fn bounded_witness<R: Source, P: Source>(
 {
     known_witnesses_show();
     let lists = read(alloc, r, limit)?;
-    let made = ask_file(alloc, &lists, limit, k, optimize)?;
+    let made = ask_file(alloc, &lists, Asked::Reached, limit, k, optimize)?;
     let witness = solve(alloc, &lists, &made, k, solution)?;
     Ok(witness)
 }

@@ -6,21 +6,26 @@
 
 ghost use Rattle.std.specs.Prelude.{◌≡◌, ◌≤◌, ◌<◌, List, ℕ, None, Some};
 ghost use Rattle.aig_answers.specs.Answers.{asked_verdict, window_verdict};
+ghost use Rattle.aig_bounded_answers.specs.Asking.{bounded_verdict};
 ghost use Rattle.aig_runs.specs.Safety.{IsSafeAt};
+ghost use Rattle.aig_checks.specs.Bounded.{IsWitnessToText};
+ghost use Rattle.aig_checks.specs.Pairs.{IsObligationsText};
 ghost use Rattle.aig_checks.specs.Running.{IsClausesText, IsWindowText, IsWitnessText};
 ghost use Rattle.aig_commands.specs.Running.{Answers, file_verdict};
 ghost use Rattle.aig_commands.specs.declared.command.Command.TheVariants as commands;
-ghost use Rattle.aig_edits.specs.declared.pairing.Pairing.TheVariants.{Certificate, Miter};
+ghost use Rattle.aig_edits.specs.Info.{IsInfo};
+ghost use Rattle.aig_edits.specs.declared.edit.Edit.TheVariants as edits;
+ghost use Rattle.aig_edits.specs.declared.pairing.Pairing.TheVariants.{Certificate, Merge, Miter};
 ghost use Rattle.aig_join.specs.Files.{AreEqualMachinesAt, HasLinesOf, HaveSameFileCounts};
 ghost use Rattle.aig_reader.specs.Verdicts.{Accepted};
 ghost use Rattle.aig_runs.specs.Queries.{IsSafeTo};
 ghost use Rattle.aig_witness.specs.Files.{ShowsNext};
-ghost use Rattle.aig_calls.specs.Calls.{Checks, ChecksPair, Gives, IsGiven, Joins, form_of, shown_at};
+ghost use Rattle.aig_calls.specs.Calls.{Checks, ChecksPair, Gives, GivesBounded, GivesEdit, GivesPair, IsGiven, IsQuestionText, IsReductionText, Joins, form_of, shown_at};
 ghost use Rattle.aig_calls.specs.Numbers.{IsListed};
-ghost use Rattle.aig_calls.specs.Statuses.{AtStep, IsOfPairProof, IsOfProof, IsOfSolution, IsOfText, IsOfWitness};
+ghost use Rattle.aig_calls.specs.Statuses.{AtStep, IsOfBounded, IsOfBoundedProof, IsOfBoundedSolution, IsOfEdit, IsOfObligations, IsOfPairProof, IsOfProof, IsOfQuestion, IsOfSolution, IsOfText, IsOfWitness};
 
 use aig_commands::LIMIT;
-use aig_edits::Pairing;
+use aig_edits::{Edit, Pairing};
 use std::alloc::Global;
 
 /// What a status says, in words: those of the programs. The one error is refused memory.
@@ -59,6 +64,134 @@ pub extern "C" fn aig_strash(alloc: Global, file: &[u8], out: &mut [u8], needed:
         result out.old out.new needed.old needed.new }
 {
     aig_calls::print_strash(alloc, file, out, needed)
+}
+
+/// The text form of a file's circuit, cut to its cone of influence.
+#[unsafe(no_mangle)]
+pub extern "C" fn aig_refine(alloc: Global, file: &[u8], out: &mut [u8], needed: &mut usize) -> u32
+    ensures { GivesEdit edits.Refine LIMIT IsOfEdit file.now result out.old out.new needed.old
+        needed.new }
+{
+    aig_calls::print_edit(alloc, &Edit::Refine, file, out, needed)
+}
+
+/// The text form of a file's circuit in the numbering of the binary form.
+#[unsafe(no_mangle)]
+pub extern "C" fn aig_reencode(
+    alloc: Global,
+    file: &[u8],
+    out: &mut [u8],
+    needed: &mut usize,
+) -> u32
+    ensures { GivesEdit edits.Reencode LIMIT IsOfEdit file.now result out.old out.new needed.old
+        needed.new }
+{
+    aig_calls::print_edit(alloc, &Edit::Reencode, file, out, needed)
+}
+
+/// The text form of a file's circuit with `k` further steps.
+#[unsafe(no_mangle)]
+pub extern "C" fn aig_unroll(
+    alloc: Global,
+    file: &[u8],
+    k: u64,
+    out: &mut [u8],
+    needed: &mut usize,
+) -> u32
+    ensures { GivesEdit (edits.Unroll k) LIMIT (AtStep k IsOfEdit) file.now result out.old out.new
+        needed.old needed.new }
+{
+    aig_calls::print_unrolled(alloc, file, k, out, needed)
+}
+
+/// The text form of a file's circuit with its constraints joined to the first bad literal and the first output.
+#[unsafe(no_mangle)]
+pub extern "C" fn aig_move_constraints(
+    alloc: Global,
+    file: &[u8],
+    out: &mut [u8],
+    needed: &mut usize,
+) -> u32
+    ensures { GivesEdit edits.Move LIMIT IsOfEdit file.now result out.old out.new needed.old
+        needed.new }
+{
+    aig_calls::print_edit(alloc, &Edit::Move, file, out, needed)
+}
+
+/// The text form of a file's circuit with its bad literals as one.
+#[unsafe(no_mangle)]
+pub extern "C" fn aig_compress_bads(
+    alloc: Global,
+    file: &[u8],
+    out: &mut [u8],
+    needed: &mut usize,
+) -> u32
+    ensures { GivesEdit edits.Compress LIMIT IsOfEdit file.now result out.old out.new needed.old
+        needed.new }
+{
+    aig_calls::print_edit(alloc, &Edit::Compress, file, out, needed)
+}
+
+/// The text form of a file's circuit with its outputs as its bad literals. A file with bad literals is refused.
+#[unsafe(no_mangle)]
+pub extern "C" fn aig_outputs_as_bads(
+    alloc: Global,
+    file: &[u8],
+    out: &mut [u8],
+    needed: &mut usize,
+) -> u32
+    ensures { GivesEdit edits.Bads LIMIT IsOfEdit file.now result out.old out.new needed.old
+        needed.new }
+{
+    aig_calls::print_edit(alloc, &Edit::Bads, file, out, needed)
+}
+
+/// The text form of the cone of a file's output `n`, from 0 on.
+#[unsafe(no_mangle)]
+pub extern "C" fn aig_cone(
+    alloc: Global,
+    file: &[u8],
+    n: usize,
+    out: &mut [u8],
+    needed: &mut usize,
+) -> u32
+    ensures { GivesEdit (edits.Cone n) LIMIT IsOfEdit file.now result out.old out.new needed.old
+        needed.new }
+{
+    aig_calls::print_edit(alloc, &Edit::Cone(n), file, out, needed)
+}
+
+/// The text form of what of a file's circuit its query needs.
+#[unsafe(no_mangle)]
+pub extern "C" fn aig_reduce(alloc: Global, file: &[u8], out: &mut [u8], needed: &mut usize) -> u32
+    ensures { Gives (λ _. Accepted) LIMIT IsReductionText IsOfText file.now result out.old out.new
+        needed.old needed.new }
+{
+    aig_calls::print_reduction(alloc, file, out, needed)
+}
+
+/// The text form of the question whether a bad state of a file's machine is reached up to step `k`.
+#[unsafe(no_mangle)]
+pub extern "C" fn aig_question(
+    alloc: Global,
+    file: &[u8],
+    k: u64,
+    out: &mut [u8],
+    needed: &mut usize,
+) -> u32
+    ensures { Gives bounded_verdict LIMIT (IsQuestionText k LIMIT) (AtStep k IsOfQuestion) file.now
+        result out.old out.new needed.old needed.new }
+{
+    aig_calls::print_question(alloc, file, k, out, needed)
+}
+
+/// The counts of a file's circuit, a line each.
+#[unsafe(no_mangle)]
+pub extern "C" fn aig_info(alloc: Global, file: &[u8], out: &mut [u8], needed: &mut usize) -> u32
+    ensures { Gives (λ _. Accepted) LIMIT IsInfo IsOfText file.now result out.old out.new needed.old
+        needed.new }
+{
+    aig_calls::print_info(alloc, file, out, needed)
 }
 
 /// The clauses, in DIMACS form, of a file's circuit that is unrolled by `k` steps.
@@ -143,6 +276,23 @@ pub extern "C" fn aig_clauses(
     aig_calls::print_clauses(alloc, file, k, optimize, out, needed)
 }
 
+/// The clauses, in DIMACS form, that ask for a bad state of a file's machine at a step up to `k`, and before them comments that say
+/// what each input of the question is. Where the question is settled no bad state is reached, and nothing is given.
+#[unsafe(no_mangle)]
+pub extern "C" fn aig_bounded(
+    alloc: Global,
+    file: &[u8],
+    k: u64,
+    optimize: bool,
+    out: &mut [u8],
+    needed: &mut usize,
+) -> u32
+    ensures { GivesBounded k optimize LIMIT (AtStep k IsOfBounded) file.now result out.old out.new
+        needed.old needed.new }
+{
+    aig_calls::print_bounded(alloc, file, k, optimize, out, needed)
+}
+
 /// The clauses, in DIMACS form, that ask for a window of `k + 2` steps of a file's machine with a bad state first at its end; where
 /// `distinct`, for one on which no state comes twice.
 #[unsafe(no_mangle)]
@@ -176,6 +326,22 @@ pub extern "C" fn aig_check_refuted(
         result }
 {
     aig_calls::check_refuted(alloc, file, k, optimize, proof)
+}
+
+/// Checks a proof, in LRAT or DRAT, that the clauses of a file's question up to step `k` can't be satisfied: then no run of its
+/// machine reaches a bad state at a step from 0 to `k`. A question that is settled needs no proof.
+#[unsafe(no_mangle)]
+pub extern "C" fn aig_check_refuted_to(
+    alloc: Global,
+    file: &[u8],
+    k: u64,
+    optimize: bool,
+    proof: &[u8],
+) -> u32
+    ensures { Checks bounded_verdict LIMIT (λ f. IsSafeTo f k) (AtStep k IsOfBoundedProof) file.now
+        result }
+{
+    aig_calls::check_refuted_to(alloc, file, k, optimize, proof)
 }
 
 /// Checks a proof, in LRAT or DRAT, that the clauses of a window of `k + 2` steps of a file's machine can't be satisfied: then no
@@ -247,6 +413,24 @@ pub extern "C" fn aig_witness(
     aig_calls::print_witness(alloc, file, k, optimize, solution, out, needed)
 }
 
+/// The witness that a solver's answer to the clauses of a file's question up to step `k` says, up to the first step with a bad state.
+/// It was checked: nothing of the answer is trusted.
+#[unsafe(no_mangle)]
+pub extern "C" fn aig_witness_to(
+    alloc: Global,
+    file: &[u8],
+    k: u64,
+    optimize: bool,
+    solution: &[u8],
+    out: &mut [u8],
+    needed: &mut usize,
+) -> u32
+    ensures { Gives bounded_verdict LIMIT (λ f text. IsWitnessToText f k text)
+        (AtStep k IsOfBoundedSolution) file.now result out.old out.new needed.old needed.new }
+{
+    aig_calls::print_witness_to(alloc, file, k, optimize, solution, out, needed)
+}
+
 /// Checks that a witness shows a bad state of a file's machine, and says which bad state property that is and at which step.
 /// Else both numbers are as they were.
 #[unsafe(no_mangle)]
@@ -292,4 +476,35 @@ pub extern "C" fn aig_join(
         needed.new }
 {
     aig_calls::print_pair(alloc, Pairing::Certificate, file, certificate, out, needed)
+}
+
+/// The text form of two files side by side.
+#[unsafe(no_mangle)]
+pub extern "C" fn aig_merge(
+    alloc: Global,
+    file: &[u8],
+    other: &[u8],
+    out: &mut [u8],
+    needed: &mut usize,
+) -> u32
+    ensures { Joins Merge LIMIT file.now other.now result out.old out.new needed.old needed.new }
+{
+    aig_calls::print_pair(alloc, Pairing::Merge, file, other, out, needed)
+}
+
+/// The clauses, in DIMACS form, that the proofs of `aig_check_certified` are of: after the line `c base` those of the joint circuit's
+/// query for step 0, and after the line `c step` those of its window.
+#[unsafe(no_mangle)]
+pub extern "C" fn aig_obligations(
+    alloc: Global,
+    file: &[u8],
+    certificate: &[u8],
+    optimize: bool,
+    out: &mut [u8],
+    needed: &mut usize,
+) -> u32
+    ensures { GivesPair Certificate LIMIT (IsObligationsText optimize) IsOfObligations file.now
+        certificate.now result out.old out.new needed.old needed.new }
+{
+    aig_calls::print_obligations(alloc, file, certificate, optimize, out, needed)
 }

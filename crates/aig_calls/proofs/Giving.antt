@@ -14,7 +14,8 @@ answer_said zero lt = refl
 answer_said (suc zero) lt = refl
 answer_said (suc (suc n)) lt = absurd (omega (arith, lt))
 
-answer_own : (IsOwn : ℕ → Type 0) (status : ℕ) → status < 2 → IsOwn done → IsOwn small → IsOwn status
+pub answer_own : (IsOwn : ℕ → Type 0) (status : ℕ) → status < 2 → IsOwn done → IsOwn small → IsOwn
+    status
 answer_own IsOwn zero lt has_done has_small = has_done
 answer_own IsOwn (suc zero) lt has_done has_small = has_small
 answer_own IsOwn (suc (suc n)) lt has_done has_small = absurd (omega (arith, lt))
@@ -46,7 +47,8 @@ module _ (of : File → Verdict) (limit : ℕ) (bytes : List ℕ) where
     }
 
     -- what was made is put into the caller's memory
-    pub gives : (IsOwn : ℕ → Type 0) (made : Result (Vec X Global) ℕ) (status : ℕ) (old new : List X)
+    pub gives : (IsOwn : ℕ → Type 0) (made : Result (Vec X Global) ℕ) (status : ℕ)
+        (old new : List X)
         (before needed : ℕ)
         → Makes of limit (λ f (made : Vec X Global). Means f made.items) IsOwn bytes made
         → Puts made status old new before needed
@@ -109,7 +111,8 @@ module _ (of : File → Verdict) (limit : ℕ) (bytes : List ℕ) (IsOwn : ℕ �
       (λ f. IsListed k optimize n m f made.numbers.items) in
       let counted = subst (λ n. Means n made.clauses_len) (sym puts.1) makes.answer in
       given of limit bytes (IsListed k optimize variables clauses_len) IsOwn made.numbers.items
-      status old new before needed makes.said makes.own (subst (Means variables) (sym puts.2) counted) puts.0
+      status old new before needed makes.said makes.own
+      (subst (Means variables) (sym puts.2) counted) puts.0
   lists (Err error) status makes puts =
       not_given of limit bytes (IsListed k optimize variables clauses_len) IsOwn error status old
       new before needed makes.said makes.own.0 makes.own.1 puts.0 puts.1 puts.2

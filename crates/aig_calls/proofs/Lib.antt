@@ -4,3 +4,6 @@ mod Saying
 mod Pairing
 mod Listing
 mod Placing
+mod Taken
+mod Editing
+mod Bounding

@@ -8,36 +8,50 @@ use Rattle.aig_format.specs.File.{File}
 use Rattle.aig_format.specs.Fits.{Accepts}
 use Rattle.aig_reader.specs.Reading.{IsReadAs}
 use Rattle.aig_reader.specs.Verdicts.{Accepted, Judges, Verdict, verdict_by}
-use Rattle.aig_calls.specs.Statuses.{AtStep, IsOfPair, done, many_steps, misfit, said_by, said_of_other}
-use Rattle.aig_calls.specs.Calls.{AreFilesWith, ChecksPair, Joins, TellsMisfit, TellsOfPair}
-use Rattle.aig_calls.specs.Parts.{IsPairStatus, JoinsText, Puts, SaysOnly}
+use Rattle.aig_calls.specs.Statuses.{AtStep, done, many_steps, misfit, said_by, said_of_other, small}
+use Rattle.aig_calls.specs.Calls.{AreFilesWith, ChecksPair, GivesPair, TellsMisfit, TellsOfPair}
+use Rattle.aig_calls.specs.Parts.{IsPairStatus, MakesOfPair, Puts, SaysOnly}
+use Rattle.aig_calls.proofs.Giving.{answer_own}
 use Rattle.aig_calls.proofs.Making.{tells, whole}
 
 -- what is said where it is that a file is taken
-taken : (said : Option Verdict) (v : Verdict) → SaysOnly said v → said ≡ Some Accepted → v ≡ Accepted
+taken : (said : Option Verdict) (v : Verdict) → SaysOnly said v → said ≡ Some Accepted → v ≡
+    Accepted
 taken said v says is = sym (subst (λ s. SaysOnly s v) is says).0
 
 module _ {R S T E : Type 0} {left : R → Option (List ℕ)} {failed : R → Bool}
     {left_of : S → Option (List ℕ)} {failed_of : S → Bool} {limit : ℕ}
     {Means : File → File → Result T E → Type 0} {first second : E → Verdict} {Own : E → Type 0}
     {r rest : R} {s other : S} {result : Result T E}
-    (told : ReadsPair left failed left_of failed_of limit Means first second Own r s result rest other)
+    (told : ReadsPair left failed left_of failed_of limit Means first second Own r s result rest
+    other)
     (bytes others : List ℕ) (is : left r ≡ Some bytes) (also : left_of s ≡ Some others) where
-  judged : Judges (λ _. Accepted) limit (Some bytes) (left rest) (failed rest) (verdict_by first result)
-  judged = subst (λ o. Judges (λ _. Accepted) limit o (left rest) (failed rest) (verdict_by first result)) is told.verdict
+  judged : Judges (λ _. Accepted) limit (Some bytes) (left rest) (failed rest)
+      (verdict_by first result)
+  judged = subst
+      (λ o. Judges (λ _. Accepted) limit o (left rest) (failed rest) (verdict_by first result)) is
+      told.verdict
 
   judged_other : verdict_by first result ≡ Accepted
-      → Judges (λ _. Accepted) limit (Some others) (left_of other) (failed_of other) (verdict_by second result)
-  judged_other one = subst (λ o. Judges (λ _. Accepted) limit o (left_of other) (failed_of other) (verdict_by second result)) also (told.other_verdict one)
+      → Judges (λ _. Accepted) limit (Some others) (left_of other) (failed_of other)
+      (verdict_by second result)
+  judged_other one = subst
+      (λ o. Judges (λ _. Accepted) limit o (left_of other) (failed_of other)
+      (verdict_by second result)) also (told.other_verdict one)
 
   -- both files were taken, and read to their ends
   pub both_whole : verdict_by first result ≡ Accepted → verdict_by second result ≡ Accepted
       → AreFilesWith limit bytes others (λ f g. Means f g result)
   both_whole one two =
       let Takes = λ (bs : List ℕ) (f : File). Accepts bs limit f in
-      let judges = subst (λ v. Judges (λ _. Accepted) limit (Some bytes) (left rest) (failed rest) v) one judged in
-      let judges_other = subst (λ v. Judges (λ _. Accepted) limit (Some others) (left_of other) (failed_of other) v) two (judged_other one) in
-      let read = subst (λ o. IsReadAs Takes (λ f. IsReadAs Takes (Means f) (left_of s) (left_of other)) o (left rest) result) is (told.answer one two) in
+      let judges = subst
+      (λ v. Judges (λ _. Accepted) limit (Some bytes) (left rest) (failed rest) v) one judged in
+      let judges_other = subst
+      (λ v. Judges (λ _. Accepted) limit (Some others) (left_of other) (failed_of other) v) two
+      (judged_other one) in
+      let read = subst
+      (λ o. IsReadAs Takes (λ f. IsReadAs Takes (Means f) (left_of s) (left_of other)) o
+      (left rest) result) is (told.answer one two) in
       let f = whole (λ _. Accepted) limit bytes (left rest) (failed rest) Takes (λ bs f h. h)
       (λ f. IsReadAs Takes (Means f) (left_of s) (left_of other)) result judges read in
       let inner = subst (λ o. IsReadAs Takes (Means f.0) o (left_of other) result) also f.2 in (
@@ -49,13 +63,16 @@ module _ {R S T E : Type 0} {left : R → Option (List ℕ)} {failed : R → Boo
 
   -- a status says what the verdicts were
   pub pair_tells : (status : ℕ) → SaysOnly (said_by status) (verdict_by first result)
-      → (said_by status ≡ Some Accepted → SaysOnly (said_of_other status) (verdict_by second result))
+      → (said_by status ≡ Some Accepted → SaysOnly (said_of_other status)
+      (verdict_by second result))
       → TellsOfPair limit bytes others status
   pair_tells status says says_other = record {
-    first = tells (λ _. Accepted) limit bytes (left rest) (failed rest) (verdict_by first result) (said_by status) judged says;
+    first = tells (λ _. Accepted) limit bytes (left rest) (failed rest) (verdict_by first result)
+        (said_by status) judged says;
     second = λ accepted.
         let one = taken (said_by status) (verdict_by first result) says accepted in
-        tells (λ _. Accepted) limit others (left_of other) (failed_of other) (verdict_by second result)
+        tells (λ _. Accepted) limit others (left_of other) (failed_of other)
+        (verdict_by second result)
         (said_of_other status) (judged_other one) (says_other accepted);
   }
 
@@ -71,8 +88,12 @@ pub misfit_tells : {R S T E : Type 0} {left : R → Option (List ℕ)} {failed :
     → ((f g : File) → Means f g (Err counts) → ¬ DoFit pairing f g)
     → ((f g : File) → Means f g (Err format) → IsRefusalOf pairing f g TooLarge)
     → TellsMisfit pairing limit bytes others status
-misfit_tells {E = E} {left = left} {failed = failed} {left_of = left_of} {failed_of = failed_of} {limit = limit} {Means = Means} {first = first} {second = second} {Own = Own} {r = r} {rest = rest} {s = s} {other = other} {counts = counts} {format = format} pairing told says bytes others is also one two three four not large =
-    let Told = λ (x : E). ReadsPair left failed left_of failed_of limit Means first second Own r s (Err x) rest other in
+misfit_tells {E = E} {left = left} {failed = failed} {left_of = left_of} {failed_of = failed_of}
+    {limit = limit} {Means = Means} {first = first} {second = second} {Own = Own} {r = r}
+    {rest = rest} {s = s} {other = other} {counts = counts} {format = format} pairing told says
+    bytes others is also one two three four not large =
+    let Told = λ (x : E). ReadsPair left failed left_of failed_of limit Means first second Own r s
+    (Err x) rest other in
     record {
       counts = λ h.
           let both = both_whole (subst Told (says.misfit h) told) bytes others is also one two in
@@ -106,12 +127,13 @@ module _ (pairing : Pairing) (limit : ℕ) (bytes others : List ℕ) where
     -- it isn't
     pub pair_none : 2 ^ 32 ≤ k → status ≡ many_steps
         → ChecksPair pairing limit Holds (AtStep k IsOwn) bytes others status
-    pair_none many is = subst (ChecksPair pairing limit Holds (AtStep k IsOwn) bytes others) (sym is) (record {
-      said = record { first = tt; second = λ accepted. absurd cc };
-      own = (λ h. refl, λ few. absurd (omega (arith, few, many)));
-      misfit = no_misfit many_steps (omega arith);
-      answer = λ none. absurd (omega (arith, none));
-    })
+    pair_none many is = subst (ChecksPair pairing limit Holds (AtStep k IsOwn) bytes others)
+        (sym is) (record {
+          said = record { first = tt; second = λ accepted. absurd cc };
+          own = (λ h. refl, λ few. absurd (omega (arith, few, many)));
+          misfit = no_misfit many_steps (omega arith);
+          answer = λ none. absurd (omega (arith, none));
+        })
 
   -- an answer that doesn't fit says the same as one that does
   said_again : (status : ℕ) → status < 2 → TellsOfPair limit bytes others done
@@ -120,21 +142,26 @@ module _ (pairing : Pairing) (limit : ℕ) (bytes others : List ℕ) where
   said_again (suc zero) low told = record { first = told.first; second = told.second }
   said_again (suc (suc n)) low told = absurd (omega (arith, low))
 
-  -- the text of the circuit of two files is put into the caller's memory
-  pub joins : (made : Result (Vec ℕ Global) ℕ) (status : ℕ) (old new : List ℕ) (before needed : ℕ)
-      → JoinsText pairing limit bytes others made → Puts made status old new before needed
-      → Joins pairing limit bytes others status old new before needed
-  joins (Ok text) status old new before needed made puts = record {
-    said = said_again status puts.only made.said;
-    own = inl (omega (arith, puts.only));
-    misfit = no_misfit status (omega (arith, puts.only));
-    answer = λ low. (text.items, made.answer, puts);
-    kept = λ least. absurd (omega (arith, least, puts.only));
-  }
-  joins (Err error) status old new before needed made puts = record {
-    said = subst (TellsOfPair limit bytes others) (sym puts.0) made.said;
-    own = subst IsOfPair (sym puts.0) made.misfit.2;
-    misfit = subst (TellsMisfit pairing limit bytes others) (sym puts.0) made.misfit.0;
-    answer = λ low. absurd (omega (arith, low, made.misfit.1, puts.0));
-    kept = λ least. (puts.1, puts.2);
-  }
+-- what was made of two files is put into the caller's memory
+pub puts_pair : (pairing : Pairing) (limit : ℕ) (Means : File → File → List ℕ → Type 0)
+    (IsOwn : ℕ → Type 0) (bytes others : List ℕ) (made : Result (Vec ℕ Global) ℕ) (status : ℕ)
+    (old new : List ℕ) (before needed : ℕ) → IsOwn done → IsOwn small
+    → MakesOfPair pairing limit Means IsOwn bytes others made → Puts made status old new before
+    needed
+    → GivesPair pairing limit Means IsOwn bytes others status old new before needed
+puts_pair pairing limit Means IsOwn bytes others (Ok text) status old new before needed has_done
+    has_small made puts = record {
+      said = said_again pairing limit bytes others status puts.only made.said;
+      own = answer_own IsOwn status puts.only has_done has_small;
+      misfit = no_misfit pairing limit bytes others status (omega (arith, puts.only));
+      answer = λ low. (text.items, made.answer, puts);
+      kept = λ least. absurd (omega (arith, least, puts.only));
+    }
+puts_pair pairing limit Means IsOwn bytes others (Err error) status old new before needed has_done
+    has_small made puts = record {
+      said = subst (TellsOfPair limit bytes others) (sym puts.0) made.said;
+      own = subst IsOwn (sym puts.0) made.misfit.2;
+      misfit = subst (TellsMisfit pairing limit bytes others) (sym puts.0) made.misfit.0;
+      answer = λ low. absurd (omega (arith, low, made.misfit.1, puts.0));
+      kept = λ least. (puts.1, puts.2);
+    }

@@ -5,6 +5,15 @@ use Rattle.std.specs.Prelude.{◌≡◌, ℕ, ◌<◌, ◌≤◌, ◌++◌, if�
 use Rattle.aig_runs.specs.declared.window.Window.{Window}
 use Rattle.aig_runs.specs.declared.window.Window.TheVariants.{Distinct, Plain}
 use Rattle.aig_circuit.specs.Circuit.{Circuit}
+use Rattle.aig_bounded_answers.specs.Asking.{bounded_verdict}
+use Rattle.aig_checks.specs.Bounded.{IsBoundedText, IsSettledTo}
+use Rattle.aig_edits.specs.Edits.{IsEditRefusal, IsWrittenEdit}
+use Rattle.aig_edits.specs.Questions.{IsQuestionOf}
+use Rattle.aig_edits.specs.Reductions.{IsReductionOf}
+use Rattle.aig_edits.specs.declared.edit.Edit.{Edit}
+use Rattle.aig_edits.specs.declared.edit.Edit.TheVariants as edits
+use Rattle.aig_edits.specs.declared.edit_error.EditError.TheVariants as edit_errors
+use Rattle.aig_encode.specs.Encoding.{encoded_verdict}
 use Rattle.aig_edits.specs.Joints.{DoFit, IsJointOf, IsRefusalOf}
 use Rattle.aig_edits.specs.declared.error.PairError.TheVariants.{TooLarge}
 use Rattle.aig_edits.specs.declared.pairing.Pairing.{Pairing}
@@ -13,7 +22,7 @@ use Rattle.aig_format.specs.File.{File}
 use Rattle.aig_format.specs.Fits.{Accepts}
 use Rattle.aig_reader.specs.Verdicts.{Accepted, Verdict}
 use Rattle.aig_witness.specs.declared.file.Shown.{Shown}
-use Rattle.aig_calls.specs.Statuses.{IsOfPair, Tells, done, misfit, said_by, said_of_other, small, unwritable}
+use Rattle.aig_calls.specs.Statuses.{IsOfPair, Tells, done, has_bads, misfit, no_output, said_by, said_of_other, settled, small, unwritable}
 
 -- ---- words
 
@@ -66,6 +75,52 @@ pub record Checks (of : File → Verdict) (limit : ℕ) (Holds : File → Type 0
   pub own : IsOwn status
   pub answer : status ≡ done → IsFileWith limit bytes Holds
 
+-- ---- what is made of one file
+
+-- the verdict on a file that is edited: its further steps may pass the limit, or it is taken
+abbrev pub edited_verdict : Edit → ℕ → File → Verdict
+edited_verdict (edits.Unroll k) limit f = encoded_verdict limit k f
+edited_verdict edit limit f = Accepted
+
+-- the text is that of the circuit that the edit makes
+abbrev pub IsEditText : Edit → ℕ → File → List ℕ → Type 0
+IsEditText edit limit f text =
+    (m : Circuit) × IsWrittenEdit edit limit f m × (text ≡ text_of m)
+
+-- it is that of what the file's query needs
+abbrev pub IsReductionText : File → List ℕ → Type 0
+IsReductionText f text = (m : Circuit) × IsReductionOf f m × (text ≡ text_of m)
+
+-- it is that of the question whether a bad state is reached up to step k
+abbrev pub IsQuestionText : ℕ → ℕ → File → List ℕ → Type 0
+IsQuestionText k limit f text = (m : Circuit) × IsQuestionOf k limit f m × (text ≡ text_of m)
+
+-- why a file isn't edited
+pub record TellsEdit (edit : Edit) (limit : ℕ) (bytes : List ℕ) (status : ℕ) : Type 0 where
+  pub bads : status ≡ has_bads
+      → IsFileWith limit bytes (λ f. IsEditRefusal edit limit f edit_errors.HasBads)
+  pub output : status ≡ no_output
+      → IsFileWith limit bytes (λ f. IsEditRefusal edit limit f edit_errors.NoOutput)
+  pub format : status ≡ unwritable
+      → IsFileWith limit bytes (λ f. IsEditRefusal edit limit f edit_errors.TooLarge)
+
+-- what a call that gives the text of an edited file does
+pub record GivesEdit (edit : Edit) (limit : ℕ) (IsOwn : ℕ → Type 0) (bytes : List ℕ) (status : ℕ)
+    (old new : List ℕ) (before needed : ℕ) : Type 0 where
+  pub gives : Gives (edited_verdict edit limit) limit (IsEditText edit limit) IsOwn bytes status old
+      new before needed
+  pub refusal : TellsEdit edit limit bytes status
+
+-- ---- bounded checks
+
+-- what a call that gives the clauses of a question does: they are told to be settled only where no
+-- bad state is reached
+pub record GivesBounded (k : ℕ) (optimize : Bool) (limit : ℕ) (IsOwn : ℕ → Type 0)
+    (bytes : List ℕ) (status : ℕ) (old new : List ℕ) (before needed : ℕ) : Type 0 where
+  pub gives : Gives bounded_verdict limit (λ f text. IsBoundedText f k optimize text) IsOwn bytes
+      status old new before needed
+  pub safe : status ≡ settled → IsFileWith limit bytes (IsSettledTo k optimize)
+
 -- ---- two files
 
 -- what a status says of the bytes of two files: of the second one's, where the first one is taken
@@ -82,20 +137,25 @@ pub record TellsMisfit (pairing : Pairing) (limit : ℕ) (bytes others : List �
     pub format : status ≡ unwritable
         → AreFilesWith limit bytes others (λ f g. IsRefusalOf pairing f g TooLarge)
 
+-- what a call that gives an answer about two files does
+pub record GivesPair (pairing : Pairing) (limit : ℕ) (Means : File → File → List ℕ → Type 0)
+    (IsOwn : ℕ → Type 0) (bytes others : List ℕ) (status : ℕ) (old new : List ℕ)
+    (before needed : ℕ) : Type 0 where
+  pub said : TellsOfPair limit bytes others status
+  pub own : IsOwn status
+  pub misfit : TellsMisfit pairing limit bytes others status
+  pub answer : status < 2
+      → (text : List ℕ) × AreFilesWith limit bytes others (λ f g. Means f g text)
+      × IsGiven status text old new needed
+  pub kept : 2 ≤ status → (new ≡ old) × (needed ≡ before)
+
 -- the text is that of the circuit of the two files
 abbrev pub IsJointText : Pairing → File → File → List ℕ → Type 0
 IsJointText pairing f g text = (m : Circuit) × IsJointOf pairing f g m × (text ≡ text_of m)
 
 -- what a call that gives the text of the circuit of two files does
-pub record Joins (pairing : Pairing) (limit : ℕ) (bytes others : List ℕ) (status : ℕ)
-    (old new : List ℕ) (before needed : ℕ) : Type 0 where
-  pub said : TellsOfPair limit bytes others status
-  pub own : IsOfPair status
-  pub misfit : TellsMisfit pairing limit bytes others status
-  pub answer : status < 2
-      → (text : List ℕ) × AreFilesWith limit bytes others (λ f g. IsJointText pairing f g text)
-      × IsGiven status text old new needed
-  pub kept : 2 ≤ status → (new ≡ old) × (needed ≡ before)
+abbrev pub Joins : Pairing → ℕ → List ℕ → List ℕ → ℕ → List ℕ → List ℕ → ℕ → ℕ → Type 0
+Joins pairing limit = GivesPair pairing limit (IsJointText pairing) IsOfPair
 
 -- what a call that checks something of two files says: status 0 only where this holds of them
 pub record ChecksPair (pairing : Pairing) (limit : ℕ) (Holds : File → File → Type 0)

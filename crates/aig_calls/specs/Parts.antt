@@ -1,27 +1,77 @@
 -- Serves private clauses alone.
 -- What the parts of a call do.
-use Rattle.std.specs.Prelude.{◌≡◌, ℕ, ◌+◌, ◌≤◌, nat_lt, if◌then◌else◌, List, Option, Some, Result, Ok, Err, IfErr, IfOk, IfSome, Vec, ℤ}
+use Rattle.std.specs.Prelude.{◌≡◌, ℕ, ◌+◌, ◌≤◌, nat_lt, if◌then◌else◌, Bool, List, Option, None, Some, Result, Ok, Err, IfErr, IfOk, IfSome, Vec, ℤ}
 use Rattle.std.specs.declared.alloc.Global.{Global}
 use Rattle.aig_checks.specs.Running.{Answers, file_verdict}
 use Rattle.aig_checks.specs.declared.command.FileCommand.{FileCommand}
 use Rattle.aig_checks.specs.declared.command.FileCommand.TheVariants as commands
+use Rattle.aig_checks.specs.Bounded.{IsSettledTo}
+use Rattle.aig_edits.specs.declared.edit.Edit.{Edit}
+use Rattle.aig_edits.specs.declared.edit_error.EditError.{EditError}
+use Rattle.aig_edits.specs.declared.edit_error.EditError.TheVariants as edit
 use Rattle.aig_edits.specs.declared.pairing.Pairing.{Pairing}
 use Rattle.aig_format.specs.File.{File}
-use Rattle.aig_reader.specs.Verdicts.{Accepted, IsSettled, Verdict}
-use Rattle.aig_calls.specs.Statuses.{IsOfPair, IsOfSolution, IsOfText, Tells, done, misfit, said_by, said_of_other, small, unwritable}
+use Rattle.aig_reader.specs.Verdicts.{Accepted, IsSettled, Memory, NoBads, Short, TooLarge, Verdict, verdict_of}
+use Rattle.aig_calls.specs.Statuses.{IsOfBounded, IsOfBoundedSolution, IsOfEdit, IsOfSolution, IsOfText, Tells, done, has_bads, misfit, no_output, said_by, said_of_other, settled, small, unwritable}
 use Rattle.aig_calls.specs.declared.numbers.Listed.{Listed}
-use Rattle.aig_calls.specs.Calls.{AreFilesWith, IsFileWith, IsGiven, IsJointText, TellsMisfit, TellsOfPair}
+use Rattle.aig_calls.specs.Calls.{AreFilesWith, IsEditText, IsFileWith, IsGiven, TellsEdit, TellsMisfit, TellsOfPair, edited_verdict}
 
 -- what a status says is this verdict, and nothing where memory or the stream hides it
 abbrev pub SaysOnly : Option Verdict → Verdict → Type 0
 SaysOnly said v = IfSome said (λ x. (x ≡ v) × IsSettled v)
+
+-- the verdict that is told: a file that would be taken is
+abbrev pub told_as : Verdict → Verdict
+told_as Short = Accepted
+told_as v = v
 
 -- the statuses of a call that gives what a command prints
 abbrev pub IsOwnOf : FileCommand → ℕ → Type 0
 IsOwnOf (commands.Clauses k optimize) status = IsOfText status
 IsOwnOf (commands.Window k form optimize) status = IsOfText status
 IsOwnOf (commands.Witness k optimize) status = IsOfSolution status
+IsOwnOf (commands.Bounded k optimize) status = IsOfBounded status
+IsOwnOf (commands.WitnessTo k optimize) status = IsOfBoundedSolution status
 IsOwnOf c status = Unit {0}
+
+-- what is said of a file of which nothing is made: nothing, where memory or the writer hides it
+abbrev pub verdict_of_edit : EditError → Verdict
+verdict_of_edit (edit.Read e) = verdict_of e
+verdict_of_edit edit.NoBads = NoBads
+verdict_of_edit edit.PassesLimit = TooLarge
+verdict_of_edit edit.Memory = Memory
+verdict_of_edit edit.Write = Memory
+verdict_of_edit e = Accepted
+
+-- the error is one of an edit
+abbrev pub IsOfEditing : EditError → Type 0
+IsOfEditing edit.NoBads = ⊥
+IsOfEditing edit.QuestionTooLarge = ⊥
+IsOfEditing e = Unit {0}
+
+-- or of a question
+abbrev pub IsOfAsking : EditError → Type 0
+IsOfAsking (edit.Read e) = Unit {0}
+IsOfAsking edit.NoBads = Unit {0}
+IsOfAsking edit.QuestionTooLarge = Unit {0}
+IsOfAsking edit.Memory = Unit {0}
+IsOfAsking edit.Write = Unit {0}
+IsOfAsking e = ⊥
+
+-- or of what is always made
+abbrev pub IsOfMaking : EditError → Type 0
+IsOfMaking (edit.Read e) = Unit {0}
+IsOfMaking edit.Memory = Unit {0}
+IsOfMaking edit.Write = Unit {0}
+IsOfMaking e = ⊥
+
+-- what the status of a call that makes something of one file says that has this error
+pub record IsEditStatus (e : EditError) (status : ℕ) : Type 0 where
+  pub said : SaysOnly (said_by status) (verdict_of_edit e)
+  pub bads : status ≡ has_bads → e ≡ edit.HasBads
+  pub output : status ≡ no_output → e ≡ edit.NoOutput
+  pub format : status ≡ unwritable → e ≡ edit.TooLarge
+  pub least : 2 ≤ status
 
 -- What the status of a call on two files says that has this error: of the first file's bytes, of
 -- the second one's where the first one is taken, and why no circuit is made of them.
@@ -61,6 +111,20 @@ MakesChecked limit c given bytes result =
     Makes (file_verdict c limit) limit (λ f made. Answers c given f made.items) (IsOwnOf c) bytes
     result
 
+-- the text of an edited file, or a status that says why there is none
+pub record MakesEdit (change : Edit) (limit : ℕ) (bytes : List ℕ) (result : Result (Vec ℕ Global) ℕ)
+    : Type 0 where
+  pub makes : Makes (edited_verdict change limit) limit
+      (λ f made. IsEditText change limit f made.items) IsOfEdit bytes result
+  pub refusal : IfErr result (TellsEdit change limit bytes)
+
+-- the clauses of a question, or a status that says why there are none
+pub record MakesBounded (k : ℕ) (optimize : Bool) (limit : ℕ) (bytes : List ℕ)
+    (result : Result (Vec ℕ Global) ℕ) : Type 0 where
+  pub makes : MakesChecked limit (commands.Bounded k optimize) None bytes result
+  pub safe : IfErr result
+      (λ status. status ≡ settled → IsFileWith limit bytes (IsSettledTo k optimize))
+
 -- what was made is given, or there is a status
 abbrev pub Puts : {X : Type 0} → Result (Vec X Global) ℕ → ℕ → List X → List X → ℕ → ℕ → Type 0
 Puts (Ok made) status old new before needed = IsGiven status made.items old new needed
@@ -82,11 +146,11 @@ abbrev pub status_of : {T : Type 0} → Result T ℕ → ℕ
 status_of (Ok made) = done
 status_of (Err status) = status
 
--- the text of the circuit of two files, or a status that says why there is none
-pub record JoinsText (pairing : Pairing) (limit : ℕ) (bytes others : List ℕ)
-    (result : Result (Vec ℕ Global) ℕ) : Type 0 where
+-- what is made of two files, or a status that says why nothing is
+pub record MakesOfPair (pairing : Pairing) (limit : ℕ) (Means : File → File → List ℕ → Type 0)
+    (IsOwn : ℕ → Type 0) (bytes others : List ℕ) (result : Result (Vec ℕ Global) ℕ) : Type 0 where
   pub said : TellsOfPair limit bytes others (status_of result)
   pub answer : IfOk result
-      (λ text. AreFilesWith limit bytes others (λ f g. IsJointText pairing f g text.items))
+      (λ text. AreFilesWith limit bytes others (λ f g. Means f g text.items))
   pub misfit : IfErr result
-      (λ status. TellsMisfit pairing limit bytes others status × (2 ≤ status) × IsOfPair status)
+      (λ status. TellsMisfit pairing limit bytes others status × (2 ≤ status) × IsOwn status)

@@ -22,9 +22,25 @@ many_steps = 4
 abbrev pub misfit : ℕ
 misfit = 8
 
--- the circuit that is made of two files is too large for the format
+-- the circuit that is made is too large for the format
 abbrev pub unwritable : ℕ
 unwritable = 9
+
+-- the question of a bounded check is settled: no bad state is reached
+abbrev pub settled : ℕ
+settled = 32
+
+-- outputs would become bad literals, and there are some
+abbrev pub has_bads : ℕ
+has_bads = 33
+
+-- there is no output of this number
+abbrev pub no_output : ℕ
+no_output = 34
+
+-- the question of a bounded check passes the limit while it is made
+abbrev pub large_question : ℕ
+large_question = 35
 
 -- ---- what is said of a file's bytes
 
@@ -59,6 +75,10 @@ is_refusal status =
     nat_le 2 status && nat_lt status 4 || nat_le 5 status && nat_lt status 8
     || nat_le 10 status && nat_lt status 32
 
+-- the file isn't edited
+abbrev pub is_edit_fault : ℕ → Bool
+is_edit_fault status = status == 9 || nat_le 33 status && nat_lt status 35
+
 -- a proof is refused
 abbrev pub is_proof_fault : ℕ → Bool
 is_proof_fault status = nat_le 40 status && nat_lt status 60
@@ -71,6 +91,10 @@ is_witness_fault status = nat_le 60 status && nat_lt status 80
 abbrev pub is_solution_fault : ℕ → Bool
 is_solution_fault status = nat_le 70 status && nat_lt status 100
 
+-- a solver's answer alone is
+abbrev pub is_answer_fault : ℕ → Bool
+is_answer_fault status = nat_le 80 status && nat_lt status 100
+
 -- the statuses of a call that gives an answer about a file
 abbrev pub IsOfText : ℕ → Type 0
 IsOfText status = IsTrue (nat_lt status 2 || is_refusal status)
@@ -79,9 +103,36 @@ IsOfText status = IsTrue (nat_lt status 2 || is_refusal status)
 abbrev pub IsOfSolution : ℕ → Type 0
 IsOfSolution status = IsTrue (nat_lt status 2 || (is_refusal status || is_solution_fault status))
 
+-- or what an edit makes of one
+abbrev pub IsOfEdit : ℕ → Type 0
+IsOfEdit status = IsTrue (nat_lt status 2 || (is_refusal status || is_edit_fault status))
+
+-- or the question of a bounded check
+abbrev pub IsOfQuestion : ℕ → Type 0
+IsOfQuestion status =
+    IsTrue (nat_lt status 2 || (is_refusal status || status == large_question))
+
+-- or its clauses
+abbrev pub IsOfBounded : ℕ → Type 0
+IsOfBounded status =
+    IsTrue (status == settled
+    || (nat_lt status 2 || (is_refusal status || status == large_question)))
+
+-- or an answer about it and a solver's answer
+abbrev pub IsOfBoundedSolution : ℕ → Type 0
+IsOfBoundedSolution status =
+    IsTrue (is_answer_fault status
+    || (nat_lt status 2 || (is_refusal status || status == large_question)))
+
 -- and of one that checks a proof
 abbrev pub IsOfProof : ℕ → Type 0
 IsOfProof status = IsTrue (status == 0 || (is_refusal status || is_proof_fault status))
+
+-- or a proof about a question
+abbrev pub IsOfBoundedProof : ℕ → Type 0
+IsOfBoundedProof status =
+    IsTrue (status == large_question
+    || (status == 0 || (is_refusal status || is_proof_fault status)))
 
 -- or a witness
 abbrev pub IsOfWitness : ℕ → Type 0
@@ -91,6 +142,11 @@ IsOfWitness status = IsTrue (status == 0 || (is_refusal status || is_witness_fau
 abbrev pub IsOfPair : ℕ → Type 0
 IsOfPair status =
     (status < 4) ⊎ ((8 ≤ status) × (status < 32)) ⊎ ((264 ≤ status) × (status < 288))
+
+-- and of one that gives the clauses of their circuit's query and window: or one of these is
+abbrev pub IsOfObligations : ℕ → Type 0
+IsOfObligations status =
+    IsOfPair status ⊎ ((516 ≤ status) × (status < 544)) ⊎ ((1028 ≤ status) × (status < 1056))
 
 -- and of one that checks proofs about them: or the circuit's query, its window, or a proof is
 abbrev pub IsOfPairProof : ℕ → Type 0

@@ -4,7 +4,7 @@ ghost use Rattle.std.specs.Prelude.{◌≡◌, ◌<◌, ◌≤◌, IfErr, List, 
 ghost use Rattle.aig_calls.specs.Calls.{IsGiven};
 
 use crate::buffer::put;
-use crate::status::{MEMORY, OTHER, QUERY, WINDOW};
+use crate::status::{MEMORY, OTHER, PROOF, QUERY, WINDOW};
 use std::alloc::Global;
 
 /// What is said before the words of a status with a flag.
@@ -20,7 +20,7 @@ fn prefix_of(status: u32) -> &'static [u8] {
     }
 }
 
-/// The words of a status up to 31.
+/// The words of a status below 40.
 fn words_of_file(status: u32) -> &'static [u8] {
     match status {
         0 => b"done",
@@ -29,7 +29,7 @@ fn words_of_file(status: u32) -> &'static [u8] {
         3 => b"read failed",
         4 => b"step past 2^32 - 1",
         5 => b"unrolled circuit may pass the limit",
-        6 => b"no bad state property",
+        6 => b"no bad state property (aigedit bads makes outputs such)",
         7 => b"window may pass the limit",
         8 => b"files do not fit",
         9 => b"too large for the format",
@@ -53,11 +53,15 @@ fn words_of_file(status: u32) -> &'static [u8] {
         29 => b"bad literal in justice",
         30 => b"bad literal in fairness",
         31 => b"bad literal in gates",
+        32 => b"no bad state up to the step",
+        33 => b"has bad states already",
+        34 => b"no such output",
+        35 => b"question passes the limit",
         _ => b"no status",
     }
 }
 
-/// The words of a status from 32 on, without its flag: of what is given beside a file.
+/// The words of a status from 40 on, without its flag: of what is given beside a file.
 fn words_of_given(status: u32) -> &'static [u8] {
     match status {
         40 => b"literal of no variable in clauses",
@@ -97,7 +101,7 @@ fn words_of_given(status: u32) -> &'static [u8] {
 /// The words of a status.
 fn words_of(status: u32) -> &'static [u8] {
     let plain = status % OTHER;
-    if plain < 32 {
+    if plain < PROOF {
         words_of_file(plain)
     } else {
         words_of_given(plain)

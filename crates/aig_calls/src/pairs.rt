@@ -1,10 +1,13 @@
-//! Calls that give the text of a circuit made of two files.
+//! Calls that give the text of a circuit made of two files, or of its clauses.
 
-ghost use Rattle.aig_calls.specs.Calls.{Joins};
-ghost use Rattle.aig_calls.specs.Parts.{JoinsText};
+ghost use Rattle.aig_checks.specs.Pairs.{IsObligationsText};
+ghost use Rattle.aig_edits.specs.declared.pairing.Pairing.TheVariants.{Certificate};
+ghost use Rattle.aig_calls.specs.Calls.{GivesPair, IsJointText, Joins};
+ghost use Rattle.aig_calls.specs.Parts.{MakesOfPair};
+ghost use Rattle.aig_calls.specs.Statuses.{IsOfObligations, IsOfPair};
 
 use crate::buffer::put;
-use crate::status::of_pair;
+use crate::status::{of_obligations, of_pair};
 use aig_base::{FromRead, ToWrite};
 use aig_commands::LIMIT;
 use aig_edits::{Pairing, print_joint};
@@ -12,7 +15,7 @@ use std::alloc::Global;
 
 /// The text of the circuit of two files.
 fn joint_text(alloc: Global, pairing: Pairing, file: &[u8], other: &[u8]) -> Result<Vec<u8>, u32>
-    ensures { JoinsText pairing LIMIT file.now other.now result }
+    ensures { MakesOfPair pairing LIMIT (IsJointText pairing) IsOfPair file.now other.now result }
 {
     let mut first = FromRead::new(file);
     let mut second = FromRead::new(other);
@@ -23,7 +26,8 @@ fn joint_text(alloc: Global, pairing: Pairing, file: &[u8], other: &[u8]) -> Res
     }
 }
 
-/// Gives the text form of the circuit of two files: their miter, or the first one beside its certificate.
+/// Gives the text form of the circuit of two files: their miter, the first one beside its certificate, or both side
+/// by side.
 pub fn print_pair(
     alloc: Global,
     pairing: Pairing,
@@ -35,4 +39,44 @@ pub fn print_pair(
     ensures { Joins pairing LIMIT file.now other.now result out.old out.new needed.old needed.new }
 {
     put(joint_text(alloc, pairing, file, other), out, needed)
+}
+
+/// The clauses that the proofs of a certificate are of.
+fn obligations_text(
+    alloc: Global,
+    file: &[u8],
+    certificate: &[u8],
+    optimize: bool,
+) -> Result<Vec<u8>, u32>
+    ensures { MakesOfPair Certificate LIMIT (IsObligationsText optimize) IsOfObligations file.now
+        certificate.now result }
+{
+    let mut first = FromRead::new(file);
+    let mut second = FromRead::new(certificate);
+    let mut sink = ToWrite::new(Vec::new(alloc));
+    let (r, s) = (&mut first, &mut second);
+    match aig_checks::print_obligations(alloc, optimize, r, s, &mut sink) {
+        Ok(()) => Ok(sink.into_inner()),
+        Err(error) => Err(of_obligations(error)),
+    }
+}
+
+/// Gives the clauses, in DIMACS form, that the proofs of `check_certified` are of: after the line `c base` those of the joint
+/// circuit's query for step 0, and after the line `c step` those of its window.
+pub fn print_obligations(
+    alloc: Global,
+    file: &[u8],
+    certificate: &[u8],
+    optimize: bool,
+    out: &mut [u8],
+    needed: &mut usize,
+) -> u32
+    ensures { GivesPair Certificate LIMIT (IsObligationsText optimize) IsOfObligations file.now
+        certificate.now result out.old out.new needed.old needed.new }
+{
+    put(
+        obligations_text(alloc, file, certificate, optimize),
+        out,
+        needed,
+    )
 }

@@ -1,13 +1,17 @@
 //! The numbers by which calls say how they ended.
 
-ghost use Rattle.std.specs.Prelude.{◌≡◌, ◌⊎◌, ◌<◌, ◌≤◌, ◌||◌, IsTrue, Some};
+ghost use Rattle.std.specs.Prelude.{◌≡◌, ◌≢◌, ◌⊎◌, ◌<◌, ◌≤◌, ◌||◌, ℕ, Bool, IsTrue, Some};
 ghost use Rattle.aig_answers.specs.Answers as answering;
 ghost use Rattle.aig_answers.specs.Answers.{IsOfWindow};
 ghost use Rattle.aig_bounded_answers.specs.Asking as bounding;
 ghost use Rattle.aig_checks.specs.Running as checking;
 ghost use Rattle.aig_checks.specs.Running.{IsErrorOf};
+ghost use Rattle.aig_checks.specs.Pairs as checking_pairs;
+ghost use Rattle.aig_checks.specs.Pairs.{IsErrorOfPair};
 ghost use Rattle.aig_checks.specs.declared.command.FileCommand.{FileCommand};
-ghost use Rattle.aig_certificates.specs.Certificates.{first_verdict, second_verdict};
+ghost use Rattle.aig_checks.specs.declared.command.PairCommand.TheVariants as pair_commands;
+ghost use Rattle.aig_checks.specs.declared.tool.CheckError.TheVariants as checks;
+ghost use Rattle.aig_certificates.specs.Certificates.{IsOfClauses, first_verdict, second_verdict};
 ghost use Rattle.aig_certificates.specs.declared.error.CertificateError.TheVariants as certificate;
 ghost use Rattle.aig_commands.specs.Running as running;
 ghost use Rattle.aig_edits.specs.Joints as pairs;
@@ -16,16 +20,17 @@ ghost use Rattle.aig_encode.specs.Encoding as encoding;
 ghost use Rattle.aig_reader.specs.Verdicts as reading;
 ghost use Rattle.aig_reader.specs.Verdicts.{Refused};
 ghost use Rattle.aig_witness.specs.Files as showing;
-ghost use Rattle.aig_calls.specs.Parts.{IsOwnOf, IsPairStatus, SaysOnly, flagged};
-ghost use Rattle.aig_calls.specs.Statuses.{IsOfPair, IsOfPairProof, is_proof_fault, is_refusal, is_solution_fault, is_witness_fault, said_by};
+ghost use Rattle.aig_calls.specs.Parts.{IsEditStatus, IsOfAsking, IsOfEditing, IsOfMaking, IsOwnOf, IsPairStatus, SaysOnly, flagged, told_as};
+ghost use Rattle.aig_calls.specs.Statuses.{IsOfBounded, IsOfBoundedProof, IsOfBoundedSolution, IsOfObligations, IsOfPair, IsOfPairProof, IsOfQuestion, is_edit_fault, is_proof_fault, is_refusal, is_solution_fault, is_witness_fault, said_by, settled};
 
 use aig::ReadError;
 use aig_answers::AnswerError;
+use aig_bounded::BoundedError;
 use aig_bounded_answers::BoundedAnswerError;
 use aig_certificates::CertificateError;
 use aig_checks::CheckError;
 use aig_commands::ToolError;
-use aig_edits::PairError;
+use aig_edits::{EditError, PairError};
 use aig_encode::EncodeError;
 use aig_reader::Section;
 use aig_refutation::RefutationError;
@@ -50,7 +55,7 @@ const NO_BADS: u32 = 6;
 const CROWDED: u32 = 7;
 /// The counts of two files don't fit.
 const MISFIT: u32 = 8;
-/// The circuit of two files is too large for the format.
+/// The circuit that is made is too large for the format.
 const UNWRITABLE: u32 = 9;
 /// The first line isn't a good header line.
 const HEADER: u32 = 10;
@@ -64,8 +69,16 @@ const NAME: u32 = 13;
 const SYNTAX: u32 = 16;
 /// A number of a section is no literal that may stand there. The section's number is added.
 const LITERAL: u32 = 24;
+/// The question of a bounded check is settled: no bad state is reached.
+const SETTLED: u32 = 32;
+/// Outputs would become bad literals, and the file has some.
+const HAS_BADS: u32 = 33;
+/// The file has no output of the number.
+const NO_OUTPUT: u32 = 34;
+/// The question of a bounded check passes the limit while it is made.
+const LARGE_QUESTION: u32 = 35;
 /// A proof is refused. The fault's number is added.
-const PROOF: u32 = 40;
+pub(crate) const PROOF: u32 = 40;
 /// A witness is refused. The fault's number is added.
 const WITNESS: u32 = 60;
 /// A witness shows no bad state. The fault's number is added.
@@ -127,6 +140,25 @@ fn of_encode(error: EncodeError) -> u32
         EncodeError::Read(error) => of_read(error),
         EncodeError::Memory => MEMORY,
         EncodeError::TooLarge => TOO_LARGE,
+    }
+}
+
+/// The status of a file of which nothing is made. What is written to memory stops only where memory is refused.
+pub(crate) fn of_edit(error: EditError) -> u32
+    ensures said { IsEditStatus error result }
+    ensures editing { IsOfEditing error → IsTrue (is_refusal result || is_edit_fault result) }
+    ensures asking { IsOfAsking error → IsOfQuestion result }
+    ensures making { IsOfMaking error → IsTrue (is_refusal result) }
+{
+    match error {
+        EditError::Read(error) => of_read(error),
+        EditError::HasBads => HAS_BADS,
+        EditError::NoOutput => NO_OUTPUT,
+        EditError::NoBads => NO_BADS,
+        EditError::QuestionTooLarge => LARGE_QUESTION,
+        EditError::PassesLimit => TOO_LARGE,
+        EditError::TooLarge => UNWRITABLE,
+        EditError::Memory | EditError::Write => MEMORY,
     }
 }
 
@@ -234,6 +266,8 @@ pub(crate) fn of_show(error: ShowError) -> u32
 fn of_solution(error: SolutionError) -> u32
     ensures said { SaysOnly (said_by result) (checking.verdict_of (CheckError.Solution error)) }
     ensures own { IsTrue (is_refusal result || is_solution_fault result) }
+    ensures answer { bounding.IsOfWitness (BoundedAnswerError.Solution error)
+        → IsOfBoundedSolution result }
     ensures least { 2 ≤ result }
 {
     match error {
@@ -252,25 +286,30 @@ fn of_solution(error: SolutionError) -> u32
     }
 }
 
-/// The status of a question up to a step that has no answer. One that is too large is told as memory that was refused.
-fn of_bounded(error: BoundedAnswerError) -> u32
-    ensures said { SaysOnly (said_by result) (bounding.verdict_of error) }
+/// The status of a question up to a step that has no answer.
+pub(crate) fn of_bounded(error: BoundedAnswerError) -> u32
+    ensures said { SaysOnly (said_by result) (told_as (bounding.verdict_of error)) }
+    ensures question { bounding.IsOfQuestion error → IsOfBounded result }
+    ensures proof { bounding.IsOfCheck error → IsOfBoundedProof result }
+    ensures answer { bounding.IsOfWitness error → IsOfBoundedSolution result }
     ensures least { 2 ≤ result }
+    ensures unsettled { result ≢ settled }
 {
     match error {
         BoundedAnswerError::Read(error) => of_read(error),
         BoundedAnswerError::NoBads => NO_BADS,
-        BoundedAnswerError::Question(_) => MEMORY,
+        BoundedAnswerError::Question(BoundedError::TooLarge) => LARGE_QUESTION,
+        BoundedAnswerError::Question(BoundedError::Memory) => MEMORY,
         BoundedAnswerError::Refutation(error) => of_refutation(error),
         BoundedAnswerError::Solution(error) => of_solution(error),
     }
 }
 
 /// The status of a command of `aigcheck` that has no answer. What is written to memory stops only where memory is refused.
-/// A question that is settled has that of clauses that can't be satisfied.
 pub(crate) fn of_check(error: CheckError) -> u32
-    ensures said { SaysOnly (said_by result) (checking.verdict_of error) }
+    ensures said { SaysOnly (said_by result) (told_as (checking.verdict_of error)) }
     ensures own { (c : FileCommand) → IsErrorOf c error → IsOwnOf c result }
+    ensures settled { result ≡ settled → (k : ℕ) × (error ≡ checks.Settled k) }
     ensures least { 2 ≤ result }
 {
     match error {
@@ -281,7 +320,7 @@ pub(crate) fn of_check(error: CheckError) -> u32
         CheckError::Show(error) => of_show(error),
         CheckError::Certificate(error) => of_certificate(error),
         CheckError::Bounded(error) => of_bounded(error),
-        CheckError::Settled(_) => SOLUTION,
+        CheckError::Settled(_) => SETTLED,
     }
 }
 
@@ -327,10 +366,25 @@ pub(crate) fn of_certificate(error: CertificateError) -> u32
     ensures said { IsPairStatus first_verdict second_verdict (certificate.Pair pair.Misfit)
         (certificate.Pair pair.TooLarge) error result }
     ensures own { IsOfPairProof result }
+    ensures clauses { IsOfClauses error → IsOfObligations result }
 {
     match error {
         CertificateError::Pair(error) => of_pair(error),
         CertificateError::Query(error) => flagged(QUERY, of_answer(error)),
         CertificateError::Window(error) => flagged(WINDOW, of_answer(error)),
+    }
+}
+
+/// The status of two files whose clauses aren't printed. What is written to memory stops only where memory is refused.
+pub(crate) fn of_obligations(error: CheckError) -> u32
+    ensures said { IsPairStatus checking.verdict_of checking_pairs.other_verdict_of
+        (checks.Certificate (certificate.Pair pair.Misfit))
+        (checks.Certificate (certificate.Pair pair.TooLarge)) error result }
+    ensures own { (optimize : Bool) → IsErrorOfPair (pair_commands.Obligations optimize) error
+        → IsOfObligations result }
+{
+    match error {
+        CheckError::Certificate(error) => of_certificate(error),
+        _ => MEMORY,
     }
 }

@@ -30,7 +30,7 @@ use Rattle.aig_checks.specs.declared.command.FileCommand.TheVariants as commands
 use Rattle.aig_checks.specs.declared.tool.CheckError.{CheckError}
 use Rattle.aig_checks.specs.declared.tool.CheckError.TheVariants as errors
 use Rattle.aig_checks.specs.Printing.{IsOfSolution, IsOfText, Prints}
-use Rattle.aig_checks.specs.Running.{Answers, IsAskedBy, IsErrorOf, IsOfFileAlone, Runs, TakesProof, TellsOfGiven, TellsOfSolution, file_verdict, verdict_of}
+use Rattle.aig_checks.specs.Running.{Answers, IsAskedBy, IsErrorOf, IsOfFileAlone, Runs, TakesProof, TellsOfGiven, TellsOfQuestion, TellsOfSolution, file_verdict, verdict_of}
 
 pub is_error : (T E : Type 0) (e x : E) → IsErrOf {T = T} (Err e) x → e ≡ x
 is_error T E e x is = cc
@@ -48,10 +48,12 @@ tells_of_window c limit old new given failed e own = tt
 
 -- what one of a question up to a step tells of a proof: nothing
 tells_of_question : (c : FileCommand) (limit : ℕ) (old new given : Option (List ℕ)) (failed : Bool)
-    (e : BoundedAnswerError) → IsOfQuestion e → TellsOfGiven c limit old new given failed (errors.Bounded e)
-tells_of_question c limit old new given failed (bounded.Refutation e) own = absurd own
-tells_of_question c limit old new given failed (bounded.Solution e) own = absurd own
-tells_of_question c limit old new given failed e own = tt
+    (e : BoundedAnswerError) → IsOfQuestion e → TellsOfQuestion c limit old new e
+    → TellsOfGiven c limit old new given failed (errors.Bounded e)
+tells_of_question c limit old new given failed (bounded.Refutation e) own size = absurd own
+tells_of_question c limit old new given failed (bounded.Solution e) own size = absurd own
+tells_of_question c limit old new given failed (bounded.Question e) own size = size
+tells_of_question c limit old new given failed e own size = tt
 
 module _ {R P W : Type 0} {left : R → Option (List ℕ)} {read_failed : R → Bool} {given : P → Option (List ℕ)} {given_failed : P → Bool} {held : W → Option (List ℕ)} {write_failed : W → Bool} {c : FileCommand} {limit : ℕ} {r rest : R} {p used : P} {w made : W} where
   -- the file or what is given beside it is refused, or memory ran out
@@ -92,9 +94,9 @@ module _ {R P W : Type 0} {left : R → Option (List ℕ)} {read_failed : R → 
       (tells_of_window c limit (left r) (left rest) (given p) (given_failed used) e of_window)
 
   -- there is no question up to a step
-  pub question_refused : (e : BoundedAnswerError) → Judges (file_verdict c limit) limit (left r) (left rest) (read_failed rest) (bounding.verdict_of e) → IsErrorOf c (errors.Bounded e) → IsOfQuestion e → made ≡ w → used ≡ p
+  pub question_refused : (e : BoundedAnswerError) → Judges (file_verdict c limit) limit (left r) (left rest) (read_failed rest) (bounding.verdict_of e) → IsErrorOf c (errors.Bounded e) → IsOfQuestion e → TellsOfQuestion c limit (left r) (left rest) e → made ≡ w → used ≡ p
       → Runs left read_failed given given_failed held write_failed c limit r p w (Err (errors.Bounded e)) rest used made
-  question_refused e said own of_question same unread = refused (errors.Bounded e) said own (λ is. cc) same (λ alone. unread) (tells_of_question c limit (left r) (left rest) (given p) (given_failed used) e of_question)
+  question_refused e said own of_question size same unread = refused (errors.Bounded e) said own (λ is. cc) same (λ alone. unread) (tells_of_question c limit (left r) (left rest) (given p) (given_failed used) e of_question size)
 
   -- the answer was written
   pub answered : (u : Unit {0}) (text : List ℕ) → TakesProof c limit (left r) (left rest) (given p) → Judges (file_verdict c limit) limit (left r) (left rest) (read_failed rest) Accepted
@@ -183,19 +185,23 @@ refuses_bounded (bounded.Solution e) alone is = alone
 pub tells_of_bounded : (k limit : ℕ) (optimize : Bool) (old new given : Option (List ℕ)) (failed : Bool) (e : BoundedAnswerError) → IsOfCheck e
     → (bounding.verdict_of e ≡ Accepted → IsReadAs (IsAskedWithin limit) (TellsProof given k optimize) old new (Err e))
     → (e ≡ bounded.Refutation refutation.Stream → IsTrue failed)
+    → bounding.TellsOfSize limit k old new e
     → TellsOfGiven (commands.RefutedTo k optimize) limit old new given failed (errors.Bounded e)
-tells_of_bounded k limit optimize old new given failed (bounded.Solution e) own told stream = absurd own
-tells_of_bounded k limit optimize old new given failed (bounded.Refutation e) own told stream =
+tells_of_bounded k limit optimize old new given failed (bounded.Solution e) own told stream size = absurd own
+tells_of_bounded k limit optimize old new given failed (bounded.Refutation e) own told stream size =
     (told refl, λ is. stream (ap (λ x. bounded.Refutation x) is))
-tells_of_bounded k limit optimize old new given failed e own told stream = tt
+tells_of_bounded k limit optimize old new given failed (bounded.Question e) own told stream size = size
+tells_of_bounded k limit optimize old new given failed e own told stream size = tt
 
 -- and of a solver's answer
 pub tells_of_answer : (k limit : ℕ) (optimize : Bool) (old new given : Option (List ℕ)) (failed : Bool) (e : BoundedAnswerError) → IsOfWitness e
     → bounding.TellsOfSolution limit k optimize old new given failed e
+    → bounding.TellsOfSize limit k old new e
     → TellsOfGiven (commands.WitnessTo k optimize) limit old new given failed (errors.Bounded e)
-tells_of_answer k limit optimize old new given failed (bounded.Refutation e) own told = absurd own
-tells_of_answer k limit optimize old new given failed (bounded.Solution e) own told = told
-tells_of_answer k limit optimize old new given failed e own told = tt
+tells_of_answer k limit optimize old new given failed (bounded.Refutation e) own told size = absurd own
+tells_of_answer k limit optimize old new given failed (bounded.Solution e) own told size = told
+tells_of_answer k limit optimize old new given failed (bounded.Question e) own told size = size
+tells_of_answer k limit optimize old new given failed e own told size = tt
 
 -- what an error tells of a proof about a step, or about a window
 module _ (k limit : ℕ) (optimize : Bool) (old new given : Option (List ℕ)) (failed : Bool) where

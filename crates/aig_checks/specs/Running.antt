@@ -31,6 +31,7 @@ use Rattle.aig_witness.specs.declared.file.Shown.{Shown}
 use Rattle.aig_witness.specs.Files as showing
 use Rattle.aig_witness.specs.Files.{ShowsNext}
 use Rattle.aig_witness.specs.Machine.{ShowsBad}
+use Rattle.aig_bounded_answers.specs.declared.error.BoundedAnswerError.{BoundedAnswerError}
 use Rattle.aig_bounded_answers.specs.declared.error.BoundedAnswerError.TheVariants as bounded
 use Rattle.aig_bounded_answers.specs.Asking as bounding
 use Rattle.aig_bounded_answers.specs.Asking.{IsAskedWithin, IsOfCheck, IsOfQuestion, IsOfWitness, bounded_verdict}
@@ -242,6 +243,17 @@ TellsOfSettled (commands.Bounded k optimize) limit old new =
     IsReadAs (IsAskedWithin limit) (λ f u. IsSettledTo k optimize f) old new (tt {0})
 TellsOfSettled c limit old new = ⊥
 
+-- the question of the file is too large only where the bound of what is made passes the limit
+abbrev pub TellsOfQuestion : FileCommand → ℕ → Option (List ℕ) → Option (List ℕ)
+    → BoundedAnswerError → Type 0
+TellsOfQuestion (commands.Bounded k optimize) limit old new e =
+    bounding.TellsOfSize limit k old new e
+TellsOfQuestion (commands.RefutedTo k optimize) limit old new e =
+    bounding.TellsOfSize limit k old new e
+TellsOfQuestion (commands.WitnessTo k optimize) limit old new e =
+    bounding.TellsOfSize limit k old new e
+TellsOfQuestion c limit old new e = ⊥
+
 -- what a refusal tells of the file's question or of what is given beside the file: a read of it is
 -- said to have failed only where one did, and a proof, a solver's answer or a witness is refused as
 -- is promised of these
@@ -257,6 +269,8 @@ TellsOfGiven c limit old new given failed (errors.Bounded (bounded.Refutation e)
     TellsOfRefutation c limit old new given failed e
 TellsOfGiven c limit old new given failed (errors.Bounded (bounded.Solution e)) =
     TellsOfAnswer c limit old new given failed e
+TellsOfGiven c limit old new given failed (errors.Bounded (bounded.Question e)) =
+    TellsOfQuestion c limit old new (bounded.Question e)
 TellsOfGiven c limit old new given failed (errors.Settled k) = TellsOfSettled c limit old new
 TellsOfGiven c limit old new given failed e = Unit {0}
 

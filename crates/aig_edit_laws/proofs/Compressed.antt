@@ -6,7 +6,7 @@ use Rattle.aig_circuit.specs.declared.edge.AigEdge.{AigEdge}
 use Rattle.aig_circuit.specs.Circuit.{Circuit, IsCircuit, IsInRange}
 use Rattle.aig_circuit.specs.Tree.{edge_value}
 use Rattle.aig_change.specs.Changes.{CompressesBads}
-use Rattle.aig_reduction.specs.Reduction.{HaveSameWitnesses}
+use Rattle.aig_edit_laws.specs.Reduction.{HaveSameWitnesses}
 use Rattle.aig_runs.specs.CircuitQueries.{IsCircuitWitness}
 
 pub or_false : (b : Bool) → (b || false) ≡ b

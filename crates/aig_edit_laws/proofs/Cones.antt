@@ -7,7 +7,7 @@ use Rattle.aig_circuit.specs.declared.edge.AigEdge.{AigEdge}
 use Rattle.aig_circuit.specs.Circuit.{Circuit, IsCircuit, IsInRange}
 use Rattle.aig_circuit.specs.Tree.{edge_value}
 use Rattle.aig_cone.specs.Refine.{AreKept, CutsRuns, refined}
-use Rattle.aig_reduction.specs.Reduction.{HaveSameWitnesses}
+use Rattle.aig_edit_laws.specs.Reduction.{HaveSameWitnesses}
 use Rattle.aig_edit_laws.specs.Plain.{IsPlain}
 use Rattle.aig_edit_laws.specs.Shown.{HasCircuitOutput, HasCircuitOutputAt, IsConeOf, output_alone, outputs_as_bads}
 use Rattle.aig_edit_laws.proofs.Compressed.{or_false}

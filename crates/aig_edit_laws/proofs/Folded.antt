@@ -9,7 +9,7 @@ use Rattle.aig_circuit.specs.Circuit.{Circuit, IsCircuit, IsInRange, IsLeaf}
 use Rattle.aig_circuit.specs.Tree.{edge_value}
 use Rattle.aig_change.specs.Changes.{FoldsConstraints}
 use Rattle.aig_change.specs.Runs.{ConstraintsHoldUpTo, IsRunFromInitial}
-use Rattle.aig_reduction.specs.Reduction.{HaveSameWitnesses}
+use Rattle.aig_edit_laws.specs.Reduction.{HaveSameWitnesses}
 use Rattle.aig_runs.specs.CircuitQueries.{HasCircuitWitness}
 use Rattle.aig_edit_laws.proofs.Compressed.{or_false}
 

@@ -7,4 +7,12 @@ pub mod PlainForms
 pub mod Paired
 pub mod Reduced
 pub mod Cones
+mod Carrying
+pub mod Witnesses
+pub mod Asked
+pub mod Dropped
+mod Sizes
+mod Reducing
+mod Alone
 mod Examples
+mod ReductionExamples

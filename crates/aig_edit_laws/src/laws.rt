@@ -7,16 +7,16 @@ ghost use Rattle.aig_change.specs.Merge.{merged};
 ghost use Rattle.aig_format.specs.Circuit.{IsReadAgain, circuit_of};
 ghost use Rattle.aig_format.specs.File.{File};
 ghost use Rattle.aig_format.specs.Fits.{Fits};
-ghost use Rattle.aig_reduction.specs.Reduction.{HaveSameWitnesses};
+ghost use Rattle.aig_edit_laws.specs.Reduction.{HaveSameWitnesses};
 ghost use Rattle.aig_runs.specs.CircuitQueries.{HasCircuitWitness};
 ghost use Rattle.aig_unroll.specs.Unroll.{UnrollsTo};
 ghost use Rattle.aig_edit_laws.specs.Shown.{HasBadBy, HasCircuitBadBy, HasCircuitOutput, HasCircuitOutputAt, HasCircuitRun, HasOutput, HasOutputAt, HasRun, HasWitness, IsConeOf, outputs_as_bads};
 
+use crate::reduction::runs_keep_witnesses;
 use aig_change::merging_pairs_runs;
 use aig_circuit::leaves_fix_values;
 use aig_cone::{refining_is_circuit, refining_keeps_runs};
 use aig_format_laws::{files_are_circuits, joins_runs};
-use aig_reduction::runs_keep_witnesses;
 use aig_runs::circuit_witnesses_are_file_witnesses;
 
 /// Law: a circuit whose bad edges became one has a witness at each step exactly where it had one before; and so has a circuit

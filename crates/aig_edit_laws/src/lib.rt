@@ -3,6 +3,7 @@
 
 mod laws;
 mod plain;
+mod reduction;
 
 pub use laws::{
     changed_circuits_keep_witnesses, cones_show_their_output, merged_witnesses_are_pairs,
@@ -10,3 +11,7 @@ pub use laws::{
     written_circuits_have_outputs, written_circuits_have_witnesses,
 };
 pub use plain::{changed_circuits_are_plain, reductions_are_writable};
+pub use reduction::{
+    asked_circuits_are_circuits, hashed_cuts_are_reductions, reductions_are_alone,
+    runs_keep_witnesses,
+};

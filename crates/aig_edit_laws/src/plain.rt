@@ -6,13 +6,13 @@ ghost use Rattle.aig_change.specs.Changes.{CompressesBads, FoldsConstraints};
 ghost use Rattle.aig_change.specs.Merge.{merged};
 ghost use Rattle.aig_cone.specs.Refine.{AreKept, refined};
 ghost use Rattle.aig_format.specs.Writable.{IsWritable};
-ghost use Rattle.aig_reduction.specs.Reduction.{IsReduced};
+ghost use Rattle.aig_edit_laws.specs.Reduction.{IsReduced};
 ghost use Rattle.aig_unroll.specs.Unroll.{UnrollsTo};
 ghost use Rattle.aig_edit_laws.specs.Plain.{IsPlain};
 ghost use Rattle.aig_edit_laws.specs.Shown.{IsConeOf, outputs_as_bads};
 
+use crate::reduction::asked_circuits_are_circuits;
 use aig_cone::refining_is_circuit;
-use aig_reduction::asked_circuits_are_circuits;
 
 /// Law: where only its size can keep a circuit from a written form, this is so of what is made of it.
 pub fn changed_circuits_are_plain()

@@ -218,7 +218,7 @@ module _ (k limit : ℕ) where
       by_error : (e : EditError) → AsksOf k limit (circuit_of f) (Err e) → PrintsQuestion held
           failed k limit w w f (Err e)
       by_error errors.NoBads told = none_back f f.properties.bads told
-      by_error errors.QuestionTooLarge told = none_forth f told
+      by_error errors.QuestionTooLarge told = (none_forth f told.0, told.1)
       by_error errors.Memory told = none_forth f told
       by_error errors.Write told = absurd told
       by_error e told = absurd told

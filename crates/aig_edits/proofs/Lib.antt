@@ -7,3 +7,4 @@ pub mod EditedFiles
 pub mod ReadFiles
 pub mod Asking
 pub mod Depths
+mod Sets

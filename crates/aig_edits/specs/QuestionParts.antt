@@ -1,8 +1,8 @@
 -- Serves private clauses alone.
 -- What the parts of a call that prints a question do.
-use Rattle.std.specs.Prelude.{◌≡◌, ◌≢◌, ℕ, ◌≤◌, List, [], length, Result, Ok, Err}
+use Rattle.std.specs.Prelude.{◌≡◌, ◌≢◌, ℕ, ◌<◌, ◌≤◌, List, [], length, Result, Ok, Err}
 use Rattle.std.specs.FinMap.{empty}
-use Rattle.aig_bounded.specs.Question.{IsQuestion}
+use Rattle.aig_bounded.specs.Question.{IsQuestion, question_size}
 use Rattle.aig_bounded.specs.declared.place.Place.{Place}
 use Rattle.aig_circuit.specs.Circuit.{Circuit}
 use Rattle.aig_circuit.specs.View.{lists_circuit}
@@ -28,6 +28,7 @@ pub record IsPlainQuestion (k limit : ℕ) (c m : Circuit) : Type 0 where
 abbrev pub AsksOf : ℕ → ℕ → Circuit → Result CircuitLists EditError → Type 0
 AsksOf k limit c (Ok lists) = IsPlainQuestion k limit c (lists_circuit lists)
 AsksOf k limit c (Err errors.NoBads) = c.properties.bads ≡ []
-AsksOf k limit c (Err errors.QuestionTooLarge) = c.properties.bads ≢ []
+AsksOf k limit c (Err errors.QuestionTooLarge) =
+    (c.properties.bads ≢ []) × (limit < question_size c k)
 AsksOf k limit c (Err errors.Memory) = c.properties.bads ≢ []
 AsksOf k limit c (Err e) = ⊥

@@ -1,9 +1,9 @@
 -- Part of what is promised.
 -- The question of a bounded check of one file, printed. (Bounded model checking; AIGER 1.9,
 -- "Properties" and "Reset logic".)
-use Rattle.std.specs.Prelude.{◌≡◌, ◌≢◌, ℕ, ◌≤◌, ◌↔◌, Bool, false, List, [], length, Option, Result, Ok, Err}
+use Rattle.std.specs.Prelude.{◌≡◌, ◌≢◌, ℕ, ◌<◌, ◌≤◌, ◌↔◌, Bool, false, List, [], length, Option, Result, Ok, Err}
 use Rattle.std.specs.Io.KnownBytes.{Appends}
-use Rattle.aig_bounded.specs.Question.{IsQuestion}
+use Rattle.aig_bounded.specs.Question.{IsQuestion, question_size}
 use Rattle.aig_bounded.specs.declared.place.Place.{Place}
 use Rattle.aig_circuit.specs.Circuit.{Circuit}
 use Rattle.aig_circuit.specs.declared.edge.AigEdge.{AigEdge}
@@ -26,12 +26,14 @@ pub record IsQuestionOf (k limit : ℕ) (f : File) (m : Circuit) : Type 0 where
   pub again : IsReadAgain m (file_of Text m)
   pub shows : HasOutput (file_of Text m) 0 ↔ ((t : ℕ) × (t ≤ k) × HasWitness f t)
 
--- why there is no question; what is too large depends on what is folded
-abbrev pub IsQuestionRefusal : File → EditError → Type 0
-IsQuestionRefusal f errors.NoBads = f.properties.bads ≡ []
-IsQuestionRefusal f errors.QuestionTooLarge = f.properties.bads ≢ []
-IsQuestionRefusal f errors.Memory = f.properties.bads ≢ []
-IsQuestionRefusal f e = ⊥
+-- Why there is no question. What is too large depends on what is folded: it is said only where the
+-- bound of what is made passes the limit.
+abbrev pub IsQuestionRefusal : ℕ → ℕ → File → EditError → Type 0
+IsQuestionRefusal k limit f errors.NoBads = f.properties.bads ≡ []
+IsQuestionRefusal k limit f errors.QuestionTooLarge =
+    (f.properties.bads ≢ []) × (limit < question_size (circuit_of f) k)
+IsQuestionRefusal k limit f errors.Memory = f.properties.bads ≢ []
+IsQuestionRefusal k limit f e = ⊥
 
 -- its text was written, and the writer has not failed; or a beginning of it, and it has; or it is
 -- said why there is none
@@ -43,4 +45,4 @@ PrintsQuestion held failed k limit w made f (Ok done) =
 PrintsQuestion held failed k limit w made f (Err errors.Write) =
     (m : Circuit) × IsQuestionOf k limit f m
     × Stops (held w) (held made) (failed made) (text_of m)
-PrintsQuestion held failed k limit w made f (Err e) = IsQuestionRefusal f e
+PrintsQuestion held failed k limit w made f (Err e) = IsQuestionRefusal k limit f e

@@ -9,7 +9,7 @@ use Rattle.aig_format.specs.declared.FileKind.TheVariants.{Text}
 use Rattle.aig_format.specs.File.{File}
 use Rattle.aig_format.specs.Writable.{FitsFormat}
 use Rattle.aig_output.specs.Sinks.{Stops}
-use Rattle.aig_reduction.specs.Reduction.{IsReduced}
+use Rattle.aig_edit_laws.specs.Reduction.{IsReduced}
 use Rattle.aig_edits.specs.declared.edit_error.EditError.{EditError}
 use Rattle.aig_edits.specs.declared.edit_error.EditError.TheVariants as errors
 use Rattle.aig_edits.specs.Edits.{AreAsSafe}

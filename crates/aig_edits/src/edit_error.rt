@@ -24,7 +24,7 @@ pub enum EditError {
     #[error("no such output")]
     NoOutput,
     /// The file has no bad literal, so that its question asks for nothing.
-    #[error("no bad state property")]
+    #[error("no bad state property (aigedit bads makes outputs such)")]
     NoBads,
     /// The question has more nodes than the limit while it is made.
     #[error("question passes the limit")]

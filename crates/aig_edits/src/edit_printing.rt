@@ -9,7 +9,7 @@ ghost use Rattle.aig_format.specs.File.{File};
 ghost use Rattle.aig_format.specs.Fits.{Fits};
 ghost use Rattle.aig_format.specs.Writable.{IsWritable};
 ghost use Rattle.aig_edits.specs.declared.edit.Edit.{Edit};
-ghost use Rattle.aig_reduction.specs.Reduction.{HaveSameWitnesses};
+ghost use Rattle.aig_edit_laws.specs.Reduction.{HaveSameWitnesses};
 ghost use Rattle.aig_edits.specs.Edits.{AreAsSafe, EditShows, IsEditOwn, IsEditUnwritten, IsEdited, PrintsEdit, ReadsFile, edit_verdict};
 ghost use Rattle.aig_edits.specs.EditParts.{PrintsCircuit, WritesText};
 
@@ -21,11 +21,10 @@ use aig_base::{Sink, Source};
 use aig_cone::{refining_is_circuit, refining_keeps_runs};
 use aig_edit_laws::{
     changed_circuits_keep_witnesses, cones_show_their_output, outputs_become_bads,
-    shown_runs_are_machine_runs, unrolled_witnesses_are_runs, written_circuits_have_outputs,
-    written_circuits_have_witnesses,
+    runs_keep_witnesses, shown_runs_are_machine_runs, unrolled_witnesses_are_runs,
+    written_circuits_have_outputs, written_circuits_have_witnesses,
 };
 use aig_format_laws::files_are_circuits;
-use aig_reduction::runs_keep_witnesses;
 use aig_renumber::reencoding_keeps_runs;
 use aig_runs::safe_circuits_are_safe_machines;
 use std::alloc::Global;

@@ -13,6 +13,7 @@ mod pairing;
 mod pairs;
 mod printing;
 mod question;
+mod reducing;
 mod reduction;
 
 pub use edit::Edit;

@@ -87,7 +87,8 @@ fn question_of(
 ///
 /// - `Read`: the file is refused.
 /// - `NoBads`: the file has no bad literal.
-/// - `QuestionTooLarge`: the question has more than `limit` nodes while it is made.
+/// - `QuestionTooLarge`: the question has more than `limit` nodes while it is made. Never where the bound `question_size` of
+///   `aig_bounded` is within the limit.
 /// - `Memory`: memory was refused after the reading.
 /// - `Write`: the writer failed in this call.
 pub fn print_question<R: Source, W: Sink>(

@@ -6,17 +6,17 @@ ghost use Rattle.aig_format.specs.Circuit.{circuit_of};
 ghost use Rattle.aig_format.specs.File.{File};
 ghost use Rattle.aig_format.specs.Fits.{Fits};
 ghost use Rattle.aig_format.specs.Writable.{AreTexts, IsWritable};
-ghost use Rattle.aig_reduction.specs.Reduction.{IsReduced};
+ghost use Rattle.aig_edit_laws.specs.Reduction.{IsReduced};
 ghost use Rattle.aig_edits.specs.Edits.{IsEditOwn, IsEditUnwritten, ReadsFile, edit_verdict};
 ghost use Rattle.aig_edits.specs.Reductions.{IsReductionOf, PrintsReduction};
 
 use crate::edit_error::EditError;
 use crate::edit_printing::same_witnesses_are_as_safe;
+use crate::reducing::reduced;
 use aig_base::{Sink, Source};
 use aig_circuit::CircuitView;
 use aig_edit_laws::reductions_are_writable;
 use aig_format_laws::{files_are_circuits, written_is_read};
-use aig_reduction::reduced;
 use aig_writer::write_text;
 use std::alloc::Global;
 
@@ -32,8 +32,8 @@ fn reductions_show()
 }
 
 /// Reads a file in the AIGER format, and writes the text form of what its query needs to `w`: no outputs, justice or
-/// fairness, and of the latches those alone that the bad literals and the constraints reach (`reduced` of the crate
-/// `aig_reduction`). It doesn't flush `w`. Requires `1 <= limit <= 2^31`.
+/// fairness, and of the latches those alone that the bad literals, the constraints and the starts reach. Gates whose trees
+/// are equal are one. It doesn't flush `w`. Requires `1 <= limit <= 2^31`.
 ///
 /// # Errors
 ///

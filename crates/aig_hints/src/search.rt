@@ -340,6 +340,39 @@ impl Search {
         Ok(())
     }
 
+    /// The number of the clause from which the literal follows that stands here on the trail: of the
+    /// first `fixed` ones the one that has it alone. It is 0 where there is none.
+    fn number_of_reason(&self, i: usize, fixed: usize) -> u32 {
+        if i < fixed {
+            return match self.trail.get(i) {
+                Some(lit) => unit_of(&self.units, lit),
+                None => 0,
+            };
+        }
+        match self.trail.reason(i) {
+            0 => 0,
+            reason => self.clauses.number(reason),
+        }
+    }
+
+    /// Propagates from the inverses of a clause's literals, and collects all clauses along which
+    /// that makes literals true, in their order, and one in conflict with them, if there is one.
+    /// What was in `hints` is lost. A 0 among them stands for no clause.
+    pub fn find_all(&mut self, clause: &[Lit], hints: &mut Vec<u32>) -> Result<(), MemoryError> {
+        hints.clear();
+        let fixed = self.trail.len();
+        self.assume_false(clause)?;
+        let conflict = self.propagate()?;
+        for i in 0..self.trail.len() {
+            hints.push(self.number_of_reason(i, fixed))?;
+        }
+        if let Some(place) = conflict {
+            hints.push(self.clauses.number(place))?;
+        }
+        self.undo(fixed);
+        Ok(())
+    }
+
     /// Collects the clause that gave a literal its value, behind those that have the inverses of its
     /// other literals alone.
     fn explain_unit(&self, lit: Lit, reason: u32, hints: &mut Vec<u32>) -> Result<(), MemoryError> {

@@ -1,6 +1,6 @@
 -- Clauses that are in conflict at once: how they are found, and that the empty clause follows.
 use Rattle.std.proofs.Common.{◌≡◌, ◌≢◌, ℕ, zero, suc, ◌+◌, ◌-◌, ◌<◌, ◌≤◌, ◌^◌, Bool, true, false, inl, inr, List, [], ◌∷◌, length, slice_get, Some, Err, refl, sym, ap, subst, ◌∙◌, arith}
-use Rattle.std.specs.Prelude.{◌==◌, max, min, slice_set}
+use Rattle.std.specs.Prelude.{◌==◌, slice_set}
 use Rattle.std.specs.List.{Contains, fold}
 use Rattle.std.proofs.lemmas.Bool.{eqb-true, eq-eqb, false≢true, ne_eqb, cond-true, cond-false}
 use Rattle.std.proofs.lemmas.Bool.Decides.{nat_tests}
@@ -21,7 +21,7 @@ use Rattle.aig_refutation.proofs.Numbering.{is_next}
 
 -- ---- inverses
 
-inverse_twice : (lit : Lit) → inverse_lit (inverse_lit lit) ≡ lit
+pub inverse_twice : (lit : Lit) → inverse_lit (inverse_lit lit) ≡ lit
 inverse_twice lit = same_number (inverse_lit (inverse_lit lit)) lit (grind (arith, nat_tests))
 
 inverse_other : (lit : Lit) → number_of_lit (inverse_lit lit) ≢ number_of_lit lit
@@ -270,7 +270,7 @@ module _ (variables number : ℕ) (clauses : List (List Lit)) where
 
 -- so a formula's clauses take it
 pub empty_taken : (old : Table) (before : HoldsFormula old) (number : ℕ)
-    → number ≡ min (max (length old.places) 1) (2 ^ 32 - 1) → (variables : ℕ) (hints : List ℕ)
+    → number ≡ old.added + 1 → (variables : ℕ) (hints : List ℕ)
     → FindsConflict old.clauses hints → (hints ≡ [] → ⊥) → (e : RefutationError)
     → Tells e (added variables (all_live old.clauses) number [] hints ≡ Err e) → Tells e ⊥
 empty_taken old before number is variables hints finds some e moves =

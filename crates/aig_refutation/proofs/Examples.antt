@@ -1,11 +1,15 @@
 -- What the definitions say of small proofs: some follow, and wrong ones are refused.
-use Rattle.std.proofs.Common.{◌≡◌, ℕ, true, false, inl, inr, List, [], ◌∷◌, Option, Ok, Err, slice_get, refl, arith}
+use Rattle.std.proofs.Common.{◌≡◌, ℕ, true, false, inl, inr, List, [], ◌∷◌, ◌++◌, Option, Ok, Err, slice_get, refl, subst, arith}
 use Rattle.aig_base.specs.declared.logic.literal.Lit.{Lit}
 use Rattle.aig_base.specs.Clauses.{lit_to}
 use Rattle.aig_refutation.specs.declared.error.RefutationError.TheVariants as errors
-use Rattle.aig_refutation.specs.Checking.{IsInConflict, Shows}
+use Rattle.aig_refutation.specs.declared.error.RefutationError.{RefutationError}
+use Rattle.aig_refutation.specs.Checking.{IsInConflict, IsPlainOutcome, Shows}
+use Rattle.aig_refutation.specs.Proofs.{Script, after_clause, after_first, after_number, after_word, clause_from, line_in, plain_of, plain_steps_in}
 use Rattle.aig_refutation.specs.Propagation.{is_rup}
-use Rattle.aig_refutation.specs.Steps.{Adds, Deletes, is_refutation}
+use Rattle.aig_refutation.specs.Steps.{Adds, Deletes, Learns, PlainStep, Refute, is_refutation, without_one}
+use Rattle.aig_refutation.specs.Text.{digits_after, lines_after, number_in, word_at, word_in, words_after, words_of}
+use Rattle.aig_refutation.proofs.Plainly.{refutation_taken}
 
 -- a variable, and its inverse
 abbrev plain : ℕ → Lit
@@ -75,6 +79,44 @@ unfinished = refl
 no_steps : is_refutation four [] ≡ false
 no_steps = refl
 
+-- ---- steps without numbers
+
+-- `1 0` and `0`, in two lines
+abbrev text_of_four : List ℕ
+text_of_four = 49 ∷ 32 ∷ 48 ∷ 10 ∷ 48 ∷ 10 ∷ []
+
+two_steps : plain_steps_in 2 text_of_four ≡ record {
+  steps = Learns (plain 0 ∷ []) ∷ Learns [] ∷ [];
+  fault = errors.Unfinished;
+}
+unfolding plain_of words_of words_after word_at lines_after line_in word_in number_in digits_after after_first after_number after_word clause_from after_clause
+two_steps = refl
+
+refute_four : Refute four (Learns (plain 0 ∷ []) ∷ Learns [] ∷ [])
+refute_four = (
+  (inr (0 ∷ 1 ∷ [], refl), inr (inr (0 ∷ 3 ∷ 4 ∷ [], refl), inl refl)),
+  refl,
+)
+
+-- so the text isn't refused, for whatever reason
+not_refused : (e : RefutationError) → IsPlainOutcome four (plain_steps_in 2 text_of_four) (Err e) → ⊥
+not_refused e wrong =
+    refutation_taken four (Learns (plain 0 ∷ []) ∷ Learns [] ∷ []) errors.Unfinished e
+    (subst (λ (script : Script PlainStep). IsPlainOutcome four script (Err e)) two_steps wrong)
+    refute_four
+
+-- of two clauses of the same literals one is dropped
+dropped_once : without_one (plain 1 ∷ plain 0 ∷ plain 0 ∷ []) (four ++ four)
+    ≡ (plain 0 ∷ inverted 1 ∷ [])
+    ∷ (inverted 0 ∷ plain 1 ∷ [])
+    ∷ (inverted 0 ∷ inverted 1 ∷ [])
+    ∷ four
+dropped_once = refl
+
+-- and none where there is none of these literals
+dropped_none : without_one (plain 0 ∷ []) four ≡ four
+dropped_none = refl
+
 -- ---- which results are shown
 
 -- a literal alone, and its inverse alone after another clause
@@ -90,6 +132,7 @@ module _ (text : Option (List ℕ)) where
     no_variable = λ out. cc;
     in_conflict = λ _ _. refl;
     by_steps = λ _ none. absurd (none apart_in_conflict);
+    by_propagation = λ _ none. absurd (none apart_in_conflict);
   }
 
   -- clauses in conflict at once aren't refused

@@ -3,7 +3,7 @@ use Rattle.std.proofs.Common.{◌≡◌, ℕ, zero, suc, ◌<◌, ◌≤◌, Boo
 use Rattle.std.specs.List.{Contains}
 use Rattle.std.proofs.lemmas.List.Elements.{Contains-get_or}
 use Rattle.std.proofs.lemmas.Option.{get_or_from_slice_get, slice_get_within}
-use Rattle.std.specs.Prelude.{IfSome}
+use Rattle.std.specs.Prelude.{IfSome, option_map}
 use Rattle.std.specs.Io.KnownBytes.{prepend_known}
 use Rattle.std.proofs.KnownBytes.{prepend_known-nil}
 use Rattle.std.proofs.lemmas.Bool.{false≢true}
@@ -13,12 +13,14 @@ use Rattle.aig_base.specs.Clauses.{number_of_lit}
 use Rattle.aig_base.specs.Formula.{clauses_in}
 use Rattle.aig_refutation.specs.declared.error.RefutationError.{RefutationError}
 use Rattle.aig_refutation.specs.declared.error.RefutationError.TheVariants as errors
-use Rattle.aig_refutation.specs.Checking.{IsInConflict, IsOutcome, Shows, all_live, are_all_in, are_in}
-use Rattle.aig_refutation.specs.Concluding.{IsFormula, RefusesFormula, ShowsText, text_outcome}
+use Rattle.aig_refutation.specs.Checking.{IsInConflict, IsOutcome, IsPlainOutcome, Shows, all_live, are_all_in, are_in}
+use Rattle.aig_refutation.specs.Concluding.{IsFormula, RefusesFormula, ShowsPlain, ShowsText, text_outcome}
+use Rattle.aig_refutation.specs.Proofs.{plain_steps_in, script_if}
 use Rattle.aig_refutation.specs.Tables.{Checked, HoldsFormula}
+use Rattle.aig_refutation.specs.Text.{lines_of}
 use Rattle.aig_refutation.specs.Words.{Says, Tells}
 use Rattle.aig_lexer.specs.Takes.{Feed}
-use Rattle.aig_refutation.proofs.Known.{tells_on}
+use Rattle.aig_refutation.proofs.Known.{tells_both, tells_on}
 
 -- ---- clauses at their places
 
@@ -176,6 +178,7 @@ module _ (variables : ℕ) (clauses : List (List Lit)) (text : Option (List ℕ)
     no_variable = λ _. ap (λ f. Err f) wrong.0;
     in_conflict = λ inside. absurd (false≢true (sym wrong.1 ∙ inside));
     by_steps = λ inside. absurd (false≢true (sym wrong.1 ∙ inside));
+    by_propagation = λ inside. absurd (false≢true (sym wrong.1 ∙ inside));
   }) h)
 
   -- there is no memory
@@ -189,6 +192,7 @@ module _ (variables : ℕ) (clauses : List (List Lit)) (text : Option (List ℕ)
     no_variable = λ out. absurd (false≢true (sym out ∙ inside));
     in_conflict = λ _ _. refl;
     by_steps = λ _ none. absurd (none is);
+    by_propagation = λ _ none. absurd (none is);
   }
 
   -- the text is known, or nothing is said of it
@@ -207,19 +211,33 @@ module _ (variables : ℕ) (clauses : List (List Lit)) (text : Option (List ℕ)
   -- the steps of the text were checked
   module _ (inside : are_all_in variables clauses ≡ true) (none : IsInConflict clauses → ⊥)
       (f : Feed) (is : f.coming ≡ prepend_known [] text) where
+    abbrev Plainly : Result (Unit {0}) RefutationError → Type 0
+    Plainly r = Says f (λ bytes. script_if variables (lines_of bytes) ≡ None
+        → IsPlainOutcome clauses (plain_steps_in variables bytes) r)
+
+    unmapped : {A B : Type 0} (g : A → B) (o : Option A) → option_map g o ≡ None → o ≡ None
+    unmapped g None e = refl
+    unmapped g (Some x) e = absurd cc
+
     is_shown : (r : Result (Unit {0}) RefutationError)
         → Says f (λ bytes. IfSome (text_outcome variables (all_live clauses) bytes) (λ x. x ≡ r))
-        → IsShown r
-    is_shown r says = record {
+        → Plainly r → IsShown r
+    is_shown r says plain = record {
       no_variable = λ out. absurd (false≢true (sym out ∙ inside));
       in_conflict = λ _ conflict. absurd (none conflict);
       by_steps = λ _ _. known _ (λ bytes there.
           turned (text_outcome variables (all_live clauses) bytes) r
           (says bytes (is ∙ prepend_known-nil text ∙ there)));
+      by_propagation = λ _ _. known _ (λ bytes there unnumbered.
+          plain bytes (is ∙ prepend_known-nil text ∙ there)
+          (unmapped _ (script_if variables (lines_of bytes)) unnumbered));
     }
 
     pub shows_text : (r : Result (Unit {0}) RefutationError)
         → ShowsText f (text_outcome variables (all_live clauses)) r
-        → Shows variables clauses text r
-    shows_text (Ok done) h = is_shown (Ok tt) h
-    shows_text (Err e) h = shows_err e (tells_on e _ (IsShown (Err e)) (is_shown (Err e)) h)
+        → ShowsPlain f variables clauses r → Shows variables clauses text r
+    shows_text (Ok done) h plain = is_shown (Ok tt) h (λ bytes known none. tt)
+    shows_text (Err e) h plain =
+        shows_err e (tells_on e _ (IsShown (Err e)) (λ both. is_shown (Err e) both.0 both.1)
+        (tells_both e (Says f (λ bytes. IfSome (text_outcome variables (all_live clauses) bytes)
+        (λ x. x ≡ Err e))) (Plainly (Err e)) h plain))

@@ -20,7 +20,7 @@ conflicts_same r s f g e h = rw (← e) (by r)
     by (Implied lit) = h lit
     by Open = refl
 
-same_reading : (holds : Lit → Bool) (a b : Option (List Lit)) → SaysSame a b → reading_if holds a ≡
+pub same_reading : (holds : Lit → Bool) (a b : Option (List Lit)) → SaysSame a b → reading_if holds a ≡
     reading_if holds b
 same_reading holds None None same = refl
 same_reading holds None (Some b) same = absurd same

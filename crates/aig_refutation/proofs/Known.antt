@@ -92,3 +92,18 @@ tells e P p = by e
     by errors.Asymmetry = p
     by errors.Binary = p
     by errors.Unfinished = p
+
+-- two facts
+pub tells_both : (e : RefutationError) (P Q : Type 0) → Tells e P → Tells e Q → Tells e (P × Q)
+tells_both errors.Memory P Q p q = tt
+tells_both errors.Stream P Q p q = tt
+tells_both errors.Variable P Q p q = (p, q)
+tells_both errors.Line P Q p q = (p, q)
+tells_both errors.Literal P Q p q = (p, q)
+tells_both errors.Unnamed P Q p q = (p, q)
+tells_both errors.Twice P Q p q = (p, q)
+tells_both errors.Large P Q p q = (p, q)
+tells_both errors.Step P Q p q = (p, q)
+tells_both errors.Asymmetry P Q p q = (p, q)
+tells_both errors.Binary P Q p q = (p, q)
+tells_both errors.Unfinished P Q p q = (p, q)

@@ -22,3 +22,9 @@ mod Showing
 mod Outcomes
 mod Formulas
 mod Conflicts
+mod Closing
+mod Sameness
+mod Amounts
+mod Unfollowed
+mod Keeping
+mod Plainly

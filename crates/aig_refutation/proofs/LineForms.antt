@@ -1,5 +1,5 @@
 -- The forms of lines, part by part.
-use Rattle.std.proofs.Common.{◌≡◌, ℕ, Bool, true, false, cond, List, [], ◌∷◌, Option, Some, None, Result, Ok, Err, refl, sym, ap, ◌∙◌}
+use Rattle.std.proofs.Common.{◌≡◌, ℕ, Bool, true, false, cond, List, [], ◌∷◌, ◌++◌, Some, Result, Ok, Err, refl, sym, ap, ◌∙◌}
 use Rattle.aig_base.specs.declared.logic.literal.Lit.{Lit}
 use Rattle.aig_refutation.specs.declared.error.RefutationError.{RefutationError}
 use Rattle.aig_refutation.specs.declared.error.RefutationError.TheVariants as errors
@@ -7,28 +7,28 @@ use Rattle.aig_refutation.specs.declared.words.End.{End}
 use Rattle.aig_refutation.specs.declared.words.End.TheVariants as ends
 use Rattle.aig_refutation.specs.declared.words.Number as code_number
 use Rattle.aig_refutation.specs.declared.words.Word.TheVariants as words
-use Rattle.aig_refutation.specs.Proofs.{after_clause, after_first, after_number, after_word, clause_from, clause_in, clause_number, ended, is_zero, line_in, literal_of, missing, number_of, numbers_from, numbers_in, unnumbered}
+use Rattle.aig_refutation.specs.Proofs.{Line, Numbered, Plain, after_clause, after_first, after_number, after_word, clause_from, clause_in, clause_number, drops, ended, is_zero, line_in, literal_of, missing, number_of, numbers_from, numbers_in}
 use Rattle.aig_refutation.specs.Reading.{reads_added, reads_after, reads_clause, reads_deleted, reads_dropped, reads_numbers, whole_line}
 use Rattle.aig_refutation.specs.Skipping.{end_line}
-use Rattle.aig_refutation.specs.Steps.{Step, Adds, Deletes}
+use Rattle.aig_refutation.specs.Steps.{Step, Adds, Deletes, Drops, Learns}
 use Rattle.aig_refutation.specs.Text as text
 use Rattle.aig_refutation.specs.Text.{◌>>=◌, begins, word_in}
 use Rattle.aig_refutation.specs.Words.{end_of, fault_of, first_in, held_word, is_last, next_in, next_number, said_number}
 use Rattle.aig_refutation.proofs.LineParts.{bound_ok, clause_err, clause_is, clause_next, clause_next_wrong, ended_err, ended_ok, fault_missing, held_letter, held_number, next_end_is, next_letter_is, next_number_is, next_wrong, numbers_next, numbers_next_wrong, pair_parts}
 
 abbrev Said : Type 0
-Said = Result (Option Step × List (List ℕ)) RefutationError
+Said = Result (Line × List (List ℕ)) RefutationError
 
 -- ---- a line that begins with `d`
 
-abbrev drop_end : List Lit × List (List ℕ) → Result (Option Step) RefutationError
-drop_end rest = ended rest.1 >>= unnumbered
+abbrev drop_end : List Lit × List (List ℕ) → Result Line RefutationError
+drop_end rest = ended rest.1 >>= drops rest.0
 
 abbrev pub dropped_from : ℕ → Bool × ℕ → Bool → List (List ℕ) → Said
 dropped_from variables n last ws = clause_from variables last n ws >>= drop_end >>= whole_line
 
-abbrev pub drop_tail : Bool → List (List ℕ) → Said
-drop_tail last ws = ended ws >>= unnumbered >>= whole_line
+abbrev pub drop_tail : List Lit → Bool → List (List ℕ) → Said
+drop_tail clause last ws = ended ws >>= drops clause >>= whole_line
 
 module _ (variables : ℕ) (last : Bool) (ws : List (List ℕ)) where
   dropped : reads_dropped variables last ws ≡ (clause_in variables last ws >>= drop_end >>=
@@ -46,27 +46,31 @@ module _ (variables : ℕ) (last : Bool) (ws : List (List ℕ)) where
   dropped_wrong e is = dropped ∙ ap (λ x. x >>= drop_end >>= whole_line) (clause_next_wrong
       variables last ws e is)
 
-  pub dropped_clause : (n : Bool × ℕ) (lits clause : List Lit) (more : List (List ℕ)) →
-      reads_clause variables n lits last ws ≡ Ok (clause, more) → dropped_from variables n last ws
-      ≡ drop_tail last more
-  dropped_clause n lits clause more is = let c = clause_is variables last n lits clause ws more is
-      in ap (λ x. x >>= drop_end >>= whole_line) c.1
+  pub dropped_clause : (n : Bool × ℕ) (clause : List Lit) (more : List (List ℕ)) →
+      reads_clause variables n [] last ws ≡ Ok (clause, more) → dropped_from variables n last ws
+      ≡ drop_tail clause last more
+  dropped_clause n clause more is =
+      let c = clause_is variables last n [] clause ws more is in
+      ap (λ x. x >>= drop_end >>= whole_line) c.1
+      ∙ ap (λ (own : List Lit). drop_tail own last more) c.2
 
   pub dropped_clause_wrong : (n : Bool × ℕ) (lits : List Lit) (e : RefutationError) → reads_clause
       variables n lits last ws ≡ Err e → dropped_from variables n last ws ≡ Err e
   dropped_clause_wrong n lits e is = ap (λ x. x >>= drop_end >>= whole_line) (clause_err variables
       last n lits ws e is)
 
-pub drop_tail_ok : (last : Bool) (ws more : List (List ℕ)) (done : Unit {0}) → end_line last ws ≡
-    Ok (done, more) → drop_tail last ws ≡ Ok (None, more)
-drop_tail_ok last ws more done is =
+pub drop_tail_ok : (clause : List Lit) (last : Bool) (ws more : List (List ℕ)) (done : Unit {0})
+    → end_line last ws ≡ Ok (done, more)
+    → drop_tail clause last ws ≡ Ok (Plain (Drops clause), more)
+drop_tail_ok clause last ws more done is =
     let w = ended_ok last ws more done is in
-    ap (λ x. x >>= unnumbered >>= whole_line) w.0 ∙ ap (λ (list : List (List ℕ)). Ok (None, list))
-    (sym w.1)
+    ap (λ x. x >>= drops clause >>= whole_line) w.0
+    ∙ ap (λ (list : List (List ℕ)). Ok (Plain (Drops clause), list)) (sym w.1)
 
-pub drop_tail_err : (last : Bool) (ws : List (List ℕ)) (e : RefutationError) → end_line last ws ≡
-    Err e → drop_tail last ws ≡ Err e
-drop_tail_err last ws e is = ap (λ x. x >>= unnumbered >>= whole_line) (ended_err last ws e is)
+pub drop_tail_err : (clause : List Lit) (last : Bool) (ws : List (List ℕ)) (e : RefutationError)
+    → end_line last ws ≡ Err e → drop_tail clause last ws ≡ Err e
+drop_tail_err clause last ws e is =
+    ap (λ x. x >>= drops clause >>= whole_line) (ended_err last ws e is)
 
 -- ---- after the first number
 
@@ -77,7 +81,7 @@ module _ (numbered : Bool) (variables : ℕ) (n : Bool × ℕ) (last : Bool) whe
   unfolding after_number
   after_some word more = refl
 
-  after_none : reads_after numbered variables n last [] ≡ (cond (is_zero n) (Ok None) (Err (missing
+  after_none : reads_after numbered variables n last [] ≡ (cond (is_zero n) (Ok (Plain (Learns []))) (Err (missing
       last)) >>= whole_line)
   unfolding after_number
   after_none = refl
@@ -105,12 +109,12 @@ module _ (numbered : Bool) (variables : ℕ) (n : Bool × ℕ) (last : Bool) whe
         >>= whole_line) (letter_any more)
 
     pub after_zero : (end : End) → is_zero n ≡ true → next_in last ws ≡ Ok (words.End end, more) →
-        reads_after numbered variables n last ws ≡ Ok (None, more)
+        reads_after numbered variables n last ws ≡ Ok (Plain (Learns []), more)
     after_zero end zero is =
         let w = next_end_is last ws more end is in
         ap (reads_after numbered variables n last) w.0 ∙ after_none ∙ ap (λ (b : Bool). cond b (Ok
-        None) (Err (missing last)) >>= whole_line) zero ∙ ap (λ (list : List (List ℕ)). Ok
-        (None, list)) (sym w.2)
+        (Plain (Learns []))) (Err (missing last)) >>= whole_line) zero ∙ ap (λ (list : List (List ℕ)). Ok
+        (Plain (Learns []), list)) (sym w.2)
 
     pub after_missing : (end : End) → is_zero n ≡ false → next_in last ws ≡ Ok (
       words.End end,
@@ -119,7 +123,7 @@ module _ (numbered : Bool) (variables : ℕ) (n : Bool × ℕ) (last : Bool) whe
     after_missing end zero is =
         let w = next_end_is last ws more end is in
         ap (reads_after numbered variables n last) w.0 ∙ after_none ∙ ap (λ (b : Bool). cond b (Ok
-        None) (Err (missing last)) >>= whole_line) zero ∙ ap (λ e. Err e) (sym (fault_missing
+        (Plain (Learns []))) (Err (missing last)) >>= whole_line) zero ∙ ap (λ e. Err e) (sym (fault_missing
         last) ∙ ap fault_of (sym w.1))
 
   pub after_wrong : (ws : List (List ℕ)) (e : RefutationError) → next_in last ws ≡ Err e →
@@ -132,8 +136,8 @@ module _ (numbered : Bool) (variables : ℕ) (n : Bool × ℕ) (last : Bool) whe
 -- ---- numbers that end a line
 
 module _ (negative : RefutationError) (step : List ℕ → Step) where
-  abbrev stepping : List ℕ → Result (Option Step) RefutationError
-  stepping numbers = Ok (Some (step numbers))
+  abbrev stepping : List ℕ → Result Line RefutationError
+  stepping numbers = Ok (Numbered (step numbers))
 
   abbrev pub numbers_step : Bool × ℕ → Bool → List (List ℕ) → Said
   numbers_step m last ws = numbers_from negative last m ws >>= stepping >>= whole_line
@@ -143,13 +147,13 @@ module _ (negative : RefutationError) (step : List ℕ → Step) where
 
   module _ (m : Bool × ℕ) (last : Bool) (ws : List (List ℕ)) where
     pub numbers_step_ok : (numbers : List ℕ) (more : List (List ℕ)) → reads_numbers negative m []
-        last ws ≡ Ok (numbers, more) → numbers_step m last ws ≡ Ok (Some (step numbers), more)
+        last ws ≡ Ok (numbers, more) → numbers_step m last ws ≡ Ok (Numbered (step numbers), more)
     numbers_step_ok numbers more is =
         let b = bound_ok (numbers_from negative last m ws) numbered_now (numbers, more) is in
         let p = pair_parts {A = List ℕ} {B = List (List ℕ)} (b.0, []) (numbers, more) (numbered_now
         b.0) refl b.2 in
-        ap (λ x. x >>= stepping >>= whole_line) b.1 ∙ ap (λ (ns : List ℕ). whole_line (Some (step
-        ns))) p.0 ∙ ap (λ (list : List (List ℕ)). Ok (Some (step numbers), list)) p.1
+        ap (λ x. x >>= stepping >>= whole_line) b.1 ∙ ap (λ (ns : List ℕ). whole_line (Numbered (step
+        ns))) p.0 ∙ ap (λ (list : List (List ℕ)). Ok (Numbered (step numbers), list)) p.1
 
     pub numbers_step_err : (e : RefutationError) → reads_numbers negative m [] last ws ≡ Err e →
         numbers_step m last ws ≡ Err e
@@ -163,8 +167,8 @@ module _ (negative : RefutationError) (step : List ℕ → Step) where
 -- ---- a deletion
 
 module _ (n : Bool × ℕ) (last : Bool) (ws : List (List ℕ)) where
-  deleting : ℕ → Result (Option Step) RefutationError
-  deleting number = numbers_in errors.Line last ws >>= λ numbers. Ok (Some (Deletes numbers))
+  deleting : ℕ → Result Line RefutationError
+  deleting number = numbers_in errors.Line last ws >>= λ numbers. Ok (Numbered (Deletes numbers))
 
   deletion : reads_deleted n last ws ≡ (clause_number n >>= deleting >>= whole_line)
   unfolding after_word deleting
@@ -179,14 +183,14 @@ module _ (n : Bool × ℕ) (last : Bool) (ws : List (List ℕ)) where
       Deletes m last more
   unfolding deleting
   deleted_number k m more is there = deletion ∙ ap (λ x. x >>= deleting >>= whole_line) is ∙ ap (λ
-      x. x >>= (λ numbers. Ok (Some (Deletes numbers))) >>= whole_line) (numbers_next errors.Line
+      x. x >>= (λ numbers. Ok (Numbered (Deletes numbers))) >>= whole_line) (numbers_next errors.Line
       last ws more m there)
 
   pub deleted_number_wrong : (k : ℕ) (e : RefutationError) → clause_number n ≡ Ok k → next_number
       last ws ≡ Err e → reads_deleted n last ws ≡ Err e
   unfolding deleting
   deleted_number_wrong k e is there = deletion ∙ ap (λ x. x >>= deleting >>= whole_line) is ∙ ap (λ
-      x. x >>= (λ numbers. Ok (Some (Deletes numbers))) >>= whole_line) (numbers_next_wrong
+      x. x >>= (λ numbers. Ok (Numbered (Deletes numbers))) >>= whole_line) (numbers_next_wrong
       errors.Line last ws e there)
 
 -- ---- an addition
@@ -196,7 +200,7 @@ added_after numbered variables n clause last ws = after_clause numbered variable
     >>= whole_line
 
 module _ (numbered : Bool) (variables : ℕ) (n : Bool × ℕ) (last : Bool) where
-  abbrev clause_then : List Lit × List (List ℕ) → Result (Option Step) RefutationError
+  abbrev clause_then : List Lit × List (List ℕ) → Result Line RefutationError
   clause_then rest = after_clause numbered variables last n rest.0 rest.1
 
   addition : (second : Bool × ℕ) (ws : List (List ℕ)) → reads_added numbered variables n second
@@ -220,13 +224,13 @@ module _ (numbered : Bool) (variables : ℕ) (n : Bool × ℕ) (last : Bool) whe
 
   module _ (clause : List Lit) where
     added_none : added_after numbered variables n clause last [] ≡ (after_clause numbered variables
-        last n [] [] >>= whole_line)
+        last n clause [] >>= whole_line)
     unfolding after_clause
     added_none = refl
 
-    hinted : (words : List (List ℕ)) → Bool × ℕ → Result (Option Step) RefutationError
+    hinted : (words : List (List ℕ)) → Bool × ℕ → Result Line RefutationError
     hinted words hint = clause_number n >>= λ number. numbers_from errors.Asymmetry last hint words
-        >>= λ hints. Ok (Some (Adds number clause hints))
+        >>= λ hints. Ok (Numbered (Adds number clause hints))
 
     added_some : (word : List ℕ) (more : List (List ℕ)) → added_after numbered variables n clause
         last (word ∷ more) ≡ (word_in word >>= number_of >>= hinted more >>= whole_line)
@@ -239,18 +243,18 @@ module _ (numbered : Bool) (variables : ℕ) (n : Bool × ℕ) (last : Bool) whe
 
     module _ (ws more : List (List ℕ)) where
       added_end : (end : End) → next_in last ws ≡ Ok (words.End end, more) → added_after numbered
-          variables n clause last ws ≡ (after_clause numbered variables (is_last (Some end)) n []
+          variables n clause last ws ≡ (after_clause numbered variables (is_last (Some end)) n clause
           [] >>= whole_line)
       added_end end is =
           let w = next_end_is last ws more end is in
           ap (added_after numbered variables n clause last) w.0 ∙ added_none
-          ∙ ap (λ (b : Bool). after_clause numbered variables b n [] [] >>= whole_line) (sym (ap (λ
+          ∙ ap (λ (b : Bool). after_clause numbered variables b n clause [] >>= whole_line) (sym (ap (λ
           e. is_last (Some e)) w.1 ∙ last_end last))
 
-      pub added_end_ok : (end : End) (step : Option Step) → next_in last ws ≡ Ok (
+      pub added_end_ok : (end : End) (step : Line) → next_in last ws ≡ Ok (
         words.End end,
         more,
-      ) → after_clause numbered variables (is_last (Some end)) n [] [] ≡ Ok step →
+      ) → after_clause numbered variables (is_last (Some end)) n clause [] ≡ Ok step →
           added_after numbered variables n clause last ws ≡ Ok (step, more)
       added_end_ok end step is there =
           let w = next_end_is last ws more end is in
@@ -260,7 +264,7 @@ module _ (numbered : Bool) (variables : ℕ) (n : Bool × ℕ) (last : Bool) whe
       pub added_end_err : (end : End) (e : RefutationError) → next_in last ws ≡ Ok (
         words.End end,
         more,
-      ) → after_clause numbered variables (is_last (Some end)) n [] [] ≡ Err e →
+      ) → after_clause numbered variables (is_last (Some end)) n clause [] ≡ Err e →
           added_after numbered variables n clause last ws ≡ Err e
       added_end_err end e is there = added_end end is ∙ ap (λ x. x >>= whole_line) there
 
@@ -284,7 +288,7 @@ module _ (numbered : Bool) (variables : ℕ) (n : Bool × ℕ) (last : Bool) whe
               variables n clause last ws ≡ Err e
           unfolding hinted
           added_refused e there = added_hint ∙ ap (λ x. x >>= (λ number. numbers_from
-              errors.Asymmetry last (said_number hint) more >>= λ hints. Ok (Some (Adds number clause
+              errors.Asymmetry last (said_number hint) more >>= λ hints. Ok (Numbered (Adds number clause
               hints))) >>= whole_line) there
 
           pub added_hints : (k : ℕ) → clause_number n ≡ Ok k → added_after numbered variables n
@@ -292,7 +296,7 @@ module _ (numbered : Bool) (variables : ℕ) (n : Bool × ℕ) (last : Bool) whe
               more
           unfolding hinted
           added_hints k there = added_hint ∙ ap (λ x. x >>= (λ number. numbers_from errors.Asymmetry
-              last (said_number hint) more >>= λ hints. Ok (Some (Adds number clause hints))) >>=
+              last (said_number hint) more >>= λ hints. Ok (Numbered (Adds number clause hints))) >>=
               whole_line) there
 
     pub added_wrong : (ws : List (List ℕ)) (e : RefutationError) → next_in last ws ≡ Err e →
@@ -310,7 +314,7 @@ line_by_first : (numbered : Bool) (variables : ℕ) (last : Bool) (word : List �
 unfolding line_in first_in
 line_by_first numbered variables last word ws = by (begins 97 word)
   where
-    then : text.Word → Result (Option Step) RefutationError
+    then : text.Word → Result Line RefutationError
     then first = after_first numbered variables last first ws
 
     by : (b : Bool) → cond b (Err errors.Binary) (word_in word >>= then) ≡ (cond b (Err
@@ -342,13 +346,13 @@ module _ (numbered : Bool) (variables : ℕ) (last : Bool) (word : List ℕ) (ws
     line_numbered = line_by_first numbered variables last word ws ∙ ap (λ x. x >>= λ first.
         after_first numbered variables last first ws) (first_held word n is)
 
-    pub line_after_ok : (step : Option Step) (more : List (List ℕ)) → reads_after numbered
+    pub line_after_ok : (step : Line) (more : List (List ℕ)) → reads_after numbered
         variables (said_number n) last ws ≡ Ok (step, more) → line_in numbered variables last word
         ws ≡ Ok step
     line_after_ok step more there =
         let b = bound_ok (after_number numbered variables last (said_number n) ws) whole_line
         (step, more) there in
-        let p = pair_parts {A = Option Step} {B = List (List ℕ)} (b.0, []) (step, more) (whole_line
+        let p = pair_parts {A = Line} {B = List (List ℕ)} (b.0, []) (step, more) (whole_line
         b.0) refl b.2 in
         line_numbered ∙ b.1 ∙ ap (λ s. Ok s) p.0
 
@@ -357,7 +361,7 @@ module _ (numbered : Bool) (variables : ℕ) (last : Bool) (word : List ℕ) (ws
     line_after_err e there = line_numbered ∙ by (after_number numbered variables last (said_number
         n) ws) there
       where
-        by : (x : Result (Option Step) RefutationError) → (x >>= whole_line) ≡ Err e → x ≡ Err e
+        by : (x : Result Line RefutationError) → (x >>= whole_line) ≡ Err e → x ≡ Err e
         by (Ok y) h = absurd cc
         by (Err f) h = let same : f ≡ e = cc in ap (λ k. Err k) same
 
@@ -372,12 +376,12 @@ module _ (numbered : Bool) (variables : ℕ) (last : Bool) (word : List ℕ) (ws
     line_dropped = line_by_first numbered variables last word ws ∙ ap (λ x. x >>= λ first.
         after_first numbered variables last first ws) (first_letter word is) ∙ letter_any_first
 
-    pub line_dropped_ok : (step : Option Step) (more : List (List ℕ)) → reads_dropped variables
+    pub line_dropped_ok : (step : Line) (more : List (List ℕ)) → reads_dropped variables
         last ws ≡ Ok (step, more) → line_in numbered variables last word ws ≡ Ok step
     line_dropped_ok step more there =
         let b = bound_ok (after_first false variables last text.Deletes ws) whole_line (step, more)
         there in
-        let p = pair_parts {A = Option Step} {B = List (List ℕ)} (b.0, []) (step, more) (whole_line
+        let p = pair_parts {A = Line} {B = List (List ℕ)} (b.0, []) (step, more) (whole_line
         b.0) refl b.2 in
         line_dropped ∙ b.1 ∙ ap (λ s. Ok s) p.0
 
@@ -386,7 +390,7 @@ module _ (numbered : Bool) (variables : ℕ) (last : Bool) (word : List ℕ) (ws
     line_dropped_err e there = line_dropped ∙ by (after_first false variables last text.Deletes ws)
         there
       where
-        by : (x : Result (Option Step) RefutationError) → (x >>= whole_line) ≡ Err e → x ≡ Err e
+        by : (x : Result Line RefutationError) → (x >>= whole_line) ≡ Err e → x ≡ Err e
         by (Ok y) h = absurd cc
         by (Err f) h = let same : f ≡ e = cc in ap (λ k. Err k) same
 
@@ -396,19 +400,20 @@ missing_last : (end : End) → missing (is_last (Some end)) ≡ fault_of end
 missing_last ends.Line = refl
 missing_last ends.Stream = refl
 
-module _ (numbered : Bool) (variables : ℕ) (end : End) (n : Bool × ℕ) where
-  pub end_numbered : numbered ≡ true → after_clause numbered variables (is_last (Some end)) n [] []
-      ≡ Err (fault_of end)
+module _ (numbered : Bool) (variables : ℕ) (end : End) (n : Bool × ℕ) (clause : List Lit) where
+  pub end_numbered : numbered ≡ true → after_clause numbered variables (is_last (Some end)) n clause
+      [] ≡ Err (fault_of end)
   unfolding after_clause
   end_numbered is = rw is (ap (λ e. Err e) (missing_last end))
 
   pub end_refused : (e : RefutationError) → numbered ≡ false → literal_of variables n ≡ Err e →
-      after_clause numbered variables (is_last (Some end)) n [] [] ≡ Err e
+      after_clause numbered variables (is_last (Some end)) n clause [] ≡ Err e
   unfolding after_clause
   end_refused e is there = rw (is, there) refl
 
-  pub end_added : (lit : Lit) (step : Step) → numbered ≡ false → literal_of variables n ≡ Ok lit →
-      after_clause numbered variables (is_last (Some end)) n [] [] ≡ Ok (cond numbered (Some step)
-      None)
+  pub end_added : (lit : Lit) (deletes : Bool) (step : Step) (now : List Lit) → numbered ≡ false
+      → deletes ≡ false → now ≡ clause ++ lit ∷ [] → literal_of variables n ≡ Ok lit
+      → after_clause numbered variables (is_last (Some end)) n clause []
+      ≡ Ok (cond numbered (Numbered step) (Plain (cond deletes (Drops now) (Learns now))))
   unfolding after_clause
-  end_added lit step is there = rw (is, there) refl
+  end_added lit deletes step now is adds more there = rw (is, adds, more, there) refl

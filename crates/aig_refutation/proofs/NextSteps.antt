@@ -6,9 +6,8 @@ use Rattle.aig_refutation.specs.declared.words.End.{End}
 use Rattle.aig_refutation.specs.declared.words.End.TheVariants as ends
 use Rattle.aig_refutation.specs.declared.words.Word as code
 use Rattle.aig_refutation.specs.declared.words.Word.TheVariants as words
-use Rattle.aig_refutation.specs.Proofs.{after_clause, is_none, line_in}
+use Rattle.aig_refutation.specs.Proofs.{Line, after_clause, is_none, line_in}
 use Rattle.aig_refutation.specs.Reading.{GivesStep, next_said, said_line}
-use Rattle.aig_refutation.specs.Steps.{Step}
 use Rattle.aig_refutation.specs.Text.{◌>>=◌}
 use Rattle.aig_refutation.specs.Words.{Gives, GivesFirst, IsClosed, IsReadOn, Place, Says, Tells, Tries, first_in, held_word, is_last, left_at, left_of, lines_at, lines_past, next_in}
 use Rattle.aig_refutation.proofs.Known.{leaves_on, says_on, tells_on}
@@ -18,13 +17,13 @@ use Rattle.aig_refutation.proofs.Parts.{GoesOn, Reader, Reads, gives_ok, on_on, 
 -- ---- a clause that ends a line
 
 module _ (numbered : Bool) (variables : ℕ) (n : Bool × ℕ) (clause : List Lit) (end : End) (q :
-    Reader (Option Step)) (before mid after : Place) (goes : GoesOn q (added_after numbered
+    Reader Line) (before mid after : Place) (goes : GoesOn q (added_after numbered
     variables n clause) before mid)
-    (next : Reads next_in mid after (words.End end)) (view : Unit {0} → Option Step) where
+    (next : Reads next_in mid after (words.End end)) (view : Unit {0} → Line) where
   pub clause_ends : (r : Result (Unit {0}) RefutationError) → Tries view (after_clause numbered
-      variables (is_last (Some end)) n [] []) r → Gives view q before after r
+      variables (is_last (Some end)) n clause []) r → Gives view q before after r
   clause_ends (Ok done) there =
-      let s : Reader (Option Step) = λ last ws. Ok (view done, ws) in
+      let s : Reader Line = λ last ws. Ok (view done, ws) in
       gives_ok q s before after after view done
       (on_on q (added_after numbered variables n clause) before mid after s goes
       (on_read (added_after numbered variables n clause) s mid after after next_in (words.End end)
@@ -32,8 +31,8 @@ module _ (numbered : Bool) (variables : ℕ) (n : Bool × ℕ) (clause : List Li
       done) is there)))
       (λ last ws. refl)
   clause_ends (Err e) there =
-      let s : Reader (Option Step) = λ last ws. Err e in
-      tells_on e (after_clause numbered variables (is_last (Some end)) n [] [] ≡ Err e) (Says
+      let s : Reader Line = λ last ws. Err e in
+      tells_on e (after_clause numbered variables (is_last (Some end)) n clause [] ≡ Err e) (Says
       before.feed (λ bytes. q (is_none (left_of before bytes).lines) (left_of before
       bytes).words ≡ Err e))
       (λ h. says_wrong q s before after e
@@ -52,7 +51,7 @@ next_lines (Some ends.Line) rest h = refl
 next_lines (Some ends.Stream) rest h = refl
 next_lines None rest h = absurd h
 
-module _ (numbered : Bool) (variables : ℕ) (step : Option Step) (before : Place) where
+module _ (numbered : Bool) (variables : ℕ) (step : Line) (before : Place) where
   -- the first word of a line is refused
   pub first_fails : (mid after : Place) (e : RefutationError) → GivesFirst before mid (Err e) →
       GivesStep numbered variables step before after (Err e)
@@ -66,12 +65,12 @@ module _ (numbered : Bool) (variables : ℕ) (step : Option Step) (before : Plac
       (λ h bytes known.
       let f = h bytes known in (
         f.2,
-        ap (said_line numbered variables) f.4 ∙ ap (λ (r : Result (Option Step) RefutationError).
+        ap (said_line numbered variables) f.4 ∙ ap (λ (r : Result Line RefutationError).
             Some (r, f.2)) (line_wrong numbered variables (is_none f.2) f.0 f.1 e f.3),
       ))
       given
 
-  module _ (mid after : Place) (w : code.Word) (p : Reader (Option Step)) (first : GivesFirst
+  module _ (mid after : Place) (w : code.Word) (p : Reader Line) (first : GivesFirst
       before mid (Ok (Some w))) where
     -- the line of a word is read
     pub step_read : ((last : Bool) (word : List ℕ) (ws more : List (List ℕ)) → (first_in word >>= λ
@@ -95,7 +94,7 @@ module _ (numbered : Bool) (variables : ℕ) (step : Option Step) (before : Plac
         let there = line (is_none lines) h.0 (left_of mid middle).words (left_of after rest).words
         h.1 k.1 in
         let next : lines_at after.end rest ≡ lines = next_lines after.end rest closed ∙ k.0 in
-        ap (said_line numbered variables) h.2 ∙ ap (λ (r : Result (Option Step) RefutationError).
+        ap (said_line numbered variables) h.2 ∙ ap (λ (r : Result Line RefutationError).
         Some (r, lines)) there ∙ ap (λ (ls : List (List (List ℕ))). Some (Ok step, ls)) (sym
         next))
 
@@ -119,7 +118,6 @@ module _ (numbered : Bool) (variables : ℕ) (step : Option Step) (before : Plac
         let lines = (left_of mid middle).lines in
         let there = line (is_none lines) h.0 (left_of mid middle).words h.1 k in (
           lines,
-          ap (said_line numbered variables) h.2 ∙ ap (λ (r : Result (Option Step)
-              RefutationError). Some (r, lines)) there,
+          ap (said_line numbered variables) h.2 ∙ ap (λ (r : Result Line RefutationError). Some (r, lines)) there,
         )))
         then

@@ -1,6 +1,6 @@
 -- A table of numbers, beside the clauses that are there.
 use Rattle.std.proofs.Common.{◌≡◌, ◌≢◌, inl, inr, ℕ, zero, suc, ◌+◌, ◌-◌, ◌*◌, ◌<◌, ◌≤◌, ◌^◌, Bool, true, false, cond, not, ◌||◌, List, [], ◌∷◌, ◌++◌, length, length-append, slice_get, Option, Some, None, refl, sym, ap, subst, ◌∙◌, arith}
-use Rattle.std.specs.Prelude.{◌==◌, ◌/◌, OnOk, max, min, nat_le, nat_lt, slice_index_or, is_some, Result, Ok, Err}
+use Rattle.std.specs.Prelude.{◌==◌, ◌/◌, OnOk, min, nat_le, nat_lt, slice_index_or, is_some, Result, Ok, Err}
 use Rattle.std.specs.Map.{lookup}
 use Rattle.std.proofs.lemmas.Bool.{false≢true, eqb-true, ne_eqb, cond-true, cond-false}
 use Rattle.std.proofs.lemmas.Bool.Decides.{nat_tests}
@@ -38,7 +38,7 @@ above (suc n) e = omega arith
 not_below : (m n : ℕ) → nat_lt m n ≡ false → n ≤ m
 not_below m n e = grind (arith, nat_tests, e)
 
-some_item : (clauses : List (List Lit)) (k : ℕ) → is_some (slice_get clauses k) ≡ nat_lt k (length
+pub some_item : (clauses : List (List Lit)) (k : ℕ) → is_some (slice_get clauses k) ≡ nat_lt k (length
     clauses)
 some_item clauses k = by (nat_lt k (length clauses)) refl
   where
@@ -208,7 +208,7 @@ either_same : (b : Bool) (o : Option (List Lit)) → o ≡ cond b o o
 either_same true o = refl
 either_same false o = refl
 
-lookup_without : (n number : ℕ) (clauses : List (ℕ × List Lit)) → lookup (λ m. n == m) (without
+pub lookup_without : (n number : ℕ) (clauses : List (ℕ × List Lit)) → lookup (λ m. n == m) (without
     (number ∷ []) clauses) ≡ cond (n == number) None (lookup (λ m. n == m) clauses)
 lookup_without n number [] = either_same (n == number) None
 lookup_without n number (entry ∷ clauses) = by (number == entry.0) (n == entry.0) (n == number)
@@ -575,11 +575,7 @@ all_live_more : (clauses : List (List Lit)) (clause : List Lit) → all_live (cl
 unfolding all_live
 all_live_more clauses clause = fold-append with_next _ clauses (clause ∷ [])
 
-module _ (old : Table) (before : HoldsFormula old) (number : ℕ) (is : number ≡ min (max (length
-    old.places) 1) (2 ^ 32 - 1)) where
-  pub number_next : number ≡ old.added + 1
-  number_next = omega (arith, is, before.row.all, before.row.next, before.holds.table.numbering.few)
-
+module _ (old : Table) (before : HoldsFormula old) (number : ℕ) (is : number ≡ old.added + 1) where
   used_count : length (all_live old.clauses).used ≡ old.added
   used_count = omega (arith, before.holds.added, before.row.all, before.holds.table.numbering.few)
 
@@ -588,15 +584,14 @@ module _ (old : Table) (before : HoldsFormula old) (number : ℕ) (is : number �
   is_next clause =
       let few = before.holds.table.numbering.few in
       let all = before.row.all in
-      let n = number_next in
       let small : nat_lt (min (old.added + 16384) (2 ^ 64 - 1)) (number / 4) ≡ false = grind
-      (arith, nat_tests, few, all, n) in
+      (arith, nat_tests, few, all, is) in
       number_new old (all_live old.clauses) number clause before.holds (past_entry old.places
-      number (omega (arith, n, before.row.next))) (omega (arith, few, all, n)) small
+      number (omega (arith, is, before.row.next))) (omega (arith, few, all, is)) small
 
   same_next : (clause : List Lit) → with_clause (all_live old.clauses) number clause ≡ all_live
       (old.clauses ++ clause ∷ [])
-  same_next clause = ap (λ (n : ℕ). with_clause (all_live old.clauses) n clause) (number_next ∙ ap
+  same_next clause = ap (λ (n : ℕ). with_clause (all_live old.clauses) n clause) (is ∙ ap
       (λ (n : ℕ). n + 1) (sym used_count)) ∙ sym (all_live_more old.clauses clause)
 
   pub assumed : {X : Type 0} (new : Table) (clause : List Lit) (r : Result X RefutationError) →

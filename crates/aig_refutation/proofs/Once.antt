@@ -2,7 +2,7 @@
 use Rattle.std.proofs.Common.{◌≡◌, ℕ, ◌+◌, ◌<◌, Bool, true, false, ◌||◌, List, [], ◌∷◌, ◌++◌, length, replicate, get_or, refl, sym, ap, subst, ◌∙◌, arith, below_more}
 use Rattle.std.specs.Prelude.{All, slice_index_or, slice_set}
 use Rattle.std.specs.Cmp.{IsEquivalence}
-use Rattle.std.specs.List.{Contains, IsDistinct, list_any}
+use Rattle.std.specs.List.{Contains, IsDistinct}
 use Rattle.std.proofs.Math.Path.{fun_ext}
 use Rattle.std.proofs.lemmas.Cmp.{nat_eq_equiv}
 use Rattle.std.proofs.lemmas.Grind.{common_steps}
@@ -12,13 +12,9 @@ use Rattle.std.proofs.lemmas.Map.Keys.{IsDistinct-push}
 use Rattle.std.proofs.lemmas.Map.Views.{Contains-from_any}
 use Rattle.aig_base.specs.declared.logic.literal.Lit.{Lit}
 use Rattle.aig_base.specs.Clauses.{number_of_lit}
-use Rattle.aig_refutation.specs.Propagation.{also, is_lit, marked}
+use Rattle.aig_refutation.specs.Propagation.{also, has, is_lit, marked}
 use Rattle.aig_refutation.proofs.Literals.{marked_also}
 use Rattle.aig_refutation.proofs.Rup.{same_lit}
-
--- whether a literal is among those that are kept
-abbrev pub has : List Lit → Lit → Bool
-has kept lit = list_any (is_lit lit) kept
 
 -- of the first i literals of a clause each is kept once, and marked
 pub record KeepsOnce (marks : List Bool) (clause : List Lit) (i : ℕ) (kept : List Lit) : Type 0 where
@@ -27,14 +23,14 @@ pub record KeepsOnce (marks : List Bool) (clause : List Lit) (i : ℕ) (kept : L
   pub all : (k : ℕ) → k < i → (d : Lit) → Contains kept (slice_index_or clause k d)
   pub once : IsDistinct is_lit kept
 
-is_lit-equiv : IsEquivalence is_lit
+pub is_lit-equiv : IsEquivalence is_lit
 is_lit-equiv = record {
   refl = λ x. nat_eq_equiv.refl x.code;
   symm = λ x y. nat_eq_equiv.symm x.code y.code;
   congr = λ x y z. nat_eq_equiv.congr x.code y.code z.code;
 }
 
-marked-none : (n : ℕ) (lit : Lit) → marked (replicate n false) lit ≡ false
+pub marked-none : (n : ℕ) (lit : Lit) → marked (replicate n false) lit ≡ false
 marked-none n lit = grind (arith, common_steps)
 
 pub none_kept : (n : ℕ) (clause : List Lit) → KeepsOnce (replicate n false) clause 0 []
@@ -52,7 +48,7 @@ turned true false = refl
 turned false true = refl
 turned false false = refl
 
-has_more : (kept : List Lit) (lit other : Lit) → also lit (has kept) other ≡ has (kept ++ lit ∷ []) other
+pub has_more : (kept : List Lit) (lit other : Lit) → also lit (has kept) other ≡ has (kept ++ lit ∷ []) other
 has_more kept lit other =
     sym (list_any-append (is_lit other) kept (lit ∷ []) ∙ ap (λ (b : Bool). has kept other || (b || false)) (is_lit-equiv.symm other lit) ∙ turned (has kept other) (is_lit lit other))
 

@@ -7,9 +7,9 @@ use Rattle.aig_refutation.specs.declared.error.RefutationError.{RefutationError}
 use Rattle.aig_refutation.specs.declared.error.RefutationError.TheVariants as errors
 use Rattle.aig_refutation.specs.Checking.{Live, added, deleted, is_last_step, outcome, taken}
 use Rattle.aig_refutation.specs.Concluding.{Concludes, ShowsText, TakesStep, left_outcome, shown_of, text_outcome}
-use Rattle.aig_refutation.specs.Proofs.{Script, if_numbered, is_comment, is_none, line_in, script_if, script_of, then_lines}
-use Rattle.aig_refutation.specs.Reading.{GivesStep, next_said, said_by, said_line}
-use Rattle.aig_refutation.specs.Steps.{Step, Adds, Deletes, is_empty}
+use Rattle.aig_refutation.specs.Proofs.{Line, Numbered, Plain, Script, if_numbered, is_comment, is_none, line_in, script_if, script_of, then_lines}
+use Rattle.aig_refutation.specs.Reading.{GivesStep, next_said, plain_by, said_by, said_line}
+use Rattle.aig_refutation.specs.Steps.{Step, Adds, Deletes, PlainStep, is_empty}
 use Rattle.aig_refutation.specs.declared.step.Step as held
 use Rattle.aig_base.specs.declared.logic.literal.Lit.{Lit}
 use Rattle.aig_refutation.specs.Tables.{Holds, Table}
@@ -19,14 +19,14 @@ use Rattle.aig_refutation.proofs.Known.{leaves_on, says_now, says_on, tells, tel
 
 -- ---- lines by the first of them that isn't passed over
 
-abbrev Said : Type 0
-Said = Result (Option Step) RefutationError × List (List (List ℕ))
+abbrev pub Said : Type 0
+Said = Result Line RefutationError × List (List (List ℕ))
 
-abbrev script_said : ℕ → Option Said → Script
+abbrev script_said : ℕ → Option Said → Script Step
 script_said variables None = record { steps = []; fault = errors.Unfinished }
 script_said variables (Some x) = then_lines x.0 (script_of variables x.1)
 
-abbrev script_if_said : ℕ → Option Said → Option Script
+abbrev pub script_if_said : ℕ → Option Said → Option (Script Step)
 script_if_said variables None = None
 script_if_said variables (Some x) = if_numbered x.0 (script_of variables x.1)
 
@@ -44,7 +44,7 @@ script_past variables ((word ∷ words) ∷ lines) = by (is_comment word) (scrip
     by true later = later
     by false later = refl
 
-script_if_past : (variables : ℕ) (lines : List (List (List ℕ))) → script_if variables lines ≡
+pub script_if_past : (variables : ℕ) (lines : List (List (List ℕ))) → script_if variables lines ≡
     script_if_said variables (said_line false variables (lines_past lines))
 unfolding script_if lines_past
 script_if_past variables [] = refl
@@ -90,46 +90,46 @@ module _ (variables : ℕ) (live : Live) where
 
 module _ (variables : ℕ) (t : Table) (live : Live) where
   -- a step was taken that isn't the last
-  step_on : (step : Option Step) → TakesStep variables live t (Ok false) step → (next : Live) ×
+  step_on : (step : Line) → TakesStep variables live t (Ok false) step → (next : Live) ×
       Holds t next × ((place : Place) (bytes : List ℕ) → left_outcome variables live step place
       bytes ≡ shown_of variables next (script_of variables (lines_at place.end bytes)))
-  step_on None h = absurd h
-  step_on (Some step) h = (
+  step_on (Plain step) h = absurd h
+  step_on (Numbered step) h = (
     h.0,
     h.2,
     λ place bytes. outcome_more variables live step (script_of variables (lines_at place.end
         bytes)).steps (script_of variables (lines_at place.end bytes)).fault h.0 h.1 (sym h.3),
   )
 
-  step_last : (step : Option Step) → TakesStep variables live t (Ok true) step → (place : Place)
+  step_last : (step : Line) → TakesStep variables live t (Ok true) step → (place : Place)
       (bytes : List ℕ) → left_outcome variables live step place bytes ≡ Ok tt
-  step_last None h place bytes = absurd h
-  step_last (Some step) h place bytes = outcome_last variables live step (script_of variables
+  step_last (Plain step) h place bytes = absurd h
+  step_last (Numbered step) h place bytes = outcome_last variables live step (script_of variables
       (lines_at place.end bytes)).steps (script_of variables (lines_at place.end bytes)).fault h.0
       h.1 (sym h.3)
 
-  step_wrong : (step : Option Step) (e : RefutationError) → TakesStep variables live t (Err e) step
+  step_wrong : (step : Line) (e : RefutationError) → TakesStep variables live t (Err e) step
       → Tells e ((place : Place) (bytes : List ℕ) → left_outcome variables live step place bytes ≡
       Err e)
-  step_wrong None e h = tells_on e (e ≡ errors.Line) ((place : Place) (bytes : List ℕ) →
-      left_outcome variables live None place bytes ≡ Err e) (λ is place bytes. outcome_none
+  step_wrong (Plain step) e h = tells_on e (e ≡ errors.Line) ((place : Place) (bytes : List ℕ) →
+      left_outcome variables live (Plain step) place bytes ≡ Err e) (λ is place bytes. outcome_none
       variables live errors.Line ∙ ap (λ (f : RefutationError). Err f) (sym is)) h
-  step_wrong (Some step) e h = tells_on e (taken variables live step ≡ Err e) ((place : Place)
-      (bytes : List ℕ) → left_outcome variables live (Some step) place bytes ≡ Err e) (λ is place
+  step_wrong (Numbered step) e h = tells_on e (taken variables live step ≡ Err e) ((place : Place)
+      (bytes : List ℕ) → left_outcome variables live (Numbered step) place bytes ≡ Err e) (λ is place
       bytes. outcome_wrong variables live step (script_of variables (lines_at place.end
       bytes)).steps (script_of variables (lines_at place.end bytes)).fault e is) h
 
 -- what is left shows the same
-abbrev pub GoesOn : ℕ → Live → Option Step → Place → Live → Option Step → Place → Type 0
+abbrev pub GoesOn : ℕ → Live → Line → Place → Live → Line → Place → Type 0
 GoesOn variables live step before now other mid = Leaves before.feed mid.feed (λ bytes rest.
     left_outcome variables live step before bytes ≡ left_outcome variables now other mid rest)
 
-pub goes_start : (variables : ℕ) (live : Live) (step : Option Step) (before : Place) → GoesOn
+pub goes_start : (variables : ℕ) (live : Live) (step : Line) (before : Place) → GoesOn
     variables live step before live step before
 goes_start variables live step before bytes known = (bytes, known, refl)
 
-module _ (variables : ℕ) (live : Live) (first : Option Step) (before : Place) (now : Live) (step :
-    Option Step) (mid : Place) (so_far : GoesOn variables live first before now step mid) (t :
+module _ (variables : ℕ) (live : Live) (first : Line) (before : Place) (now : Live) (step :
+    Line) (mid : Place) (so_far : GoesOn variables live first before now step mid) (t :
     Table) where
   abbrev Same : List ℕ → List ℕ → Type 0
   Same bytes rest = left_outcome variables live first before bytes ≡ left_outcome variables now step
@@ -165,7 +165,7 @@ module _ (variables : ℕ) (live : Live) (first : Option Step) (before : Place) 
     next_by bytes said is = next_same bytes ∙ ap (λ (o : Option Said). shown_of variables next_live
         (script_said variables o)) is
 
-    pub loop_more : (other : Option Step) (after : Place) → GivesStep true variables other mid
+    pub loop_more : (other : Line) (after : Place) → GivesStep true variables other mid
         after (Ok true) → (next : Live) × Holds t next × GoesOn variables live first before next
         other after
     unfolding next_live step_on
@@ -181,7 +181,7 @@ module _ (variables : ℕ) (live : Live) (first : Option Step) (before : Place) 
           )) is),
     )
 
-    pub loop_none : (other : Option Step) (after : Place) → GivesStep true variables other mid after
+    pub loop_none : (other : Line) (after : Place) → GivesStep true variables other mid after
         (Ok false) → Concludes before.feed (left_outcome variables live first before) (Err
         errors.Unfinished)
     loop_none other after given = says_on before.feed mid.feed Same so_far (λ bytes. next_said true
@@ -189,7 +189,7 @@ module _ (variables : ℕ) (live : Live) (first : Option Step) (before : Place) 
         errors.Unfinished) given (λ bytes middle same is. same ∙ next_by middle None is ∙
         outcome_none variables next_live errors.Unfinished)
 
-    pub loop_unread : (other : Option Step) (after : Place) (e : RefutationError) → GivesStep true
+    pub loop_unread : (other : Line) (after : Place) (e : RefutationError) → GivesStep true
         variables other mid after (Err e) → Concludes before.feed (left_outcome variables live
         first before) (Err e)
     loop_unread other after e given =
@@ -204,7 +204,7 @@ module _ (variables : ℕ) (live : Live) (first : Option Step) (before : Place) 
 -- ---- a whole text
 
 module _ (variables : ℕ) (live : Live) (before : Place) (open_line : before.end ≡ None) (step :
-    Option Step) (after : Place) where
+    Line) (after : Place) where
   text_by : (bytes : List ℕ) (said : Option Said) → next_said false variables before bytes ≡ said →
       text_outcome variables live bytes ≡ option_map (shown_of variables live) (script_if_said
       variables said)
@@ -238,9 +238,9 @@ module _ (variables : ℕ) (live : Live) (before : Place) (open_line : before.en
   text_none given = untold (λ bytes known. text_by bytes None (given bytes known))
 
   -- the first one has no number
-  pub text_other : step ≡ None → GivesStep false variables step before after (Ok true) → (r : Result
+  pub text_other : (plain : PlainStep) → step ≡ Plain plain → GivesStep false variables step before after (Ok true) → (r : Result
       (Unit {0}) RefutationError) → ShowsText before.feed (text_outcome variables live) r
-  text_other is given = untold (λ bytes known.
+  text_other plain is given = untold (λ bytes known.
       let h = given bytes known in
       text_by bytes (Some (Ok step, lines_at after.end h.0)) h.2 ∙ rw is refl)
 
@@ -258,7 +258,7 @@ module _ (variables : ℕ) (live : Live) (before : Place) (open_line : before.en
       e)) refl) given
 
   -- the first one has a number, and what is left was taken
-  module _ (s : Step) (is : step ≡ Some s) (given : GivesStep false variables step before after (Ok
+  module _ (s : Step) (is : step ≡ Numbered s) (given : GivesStep false variables step before after (Ok
       true)) where
     told : (R : Result (Unit {0}) RefutationError) → Says after.feed (λ bytes. left_outcome
         variables live step after bytes ≡ R) → Says before.feed (λ bytes. IfSome (text_outcome
@@ -288,9 +288,9 @@ module _ (variables : ℕ) (live : Live) (before : Place) (open_line : before.en
   pub text_unnumbered : s.is_numbered ≡ false → (there : Bool) → GivesStep false variables (said_by
       s) before after (Ok there) → (r : Result (Unit {0}) RefutationError) → ShowsText before.feed
       (text_outcome variables live) r
-  text_unnumbered is true given r = text_other variables live before open_line (said_by s) after (ap
-      (λ (b : Bool). cond b (Some (cond s.deletes (Deletes s.numbers.items) (Adds s.number
-      s.clause.items s.numbers.items))) None) is) given r
+  text_unnumbered is true given r = text_other variables live before open_line (said_by s) after
+      (plain_by s) (ap (λ (b : Bool). cond b (Numbered (cond s.deletes (Deletes s.numbers.items)
+      (Adds s.number s.clause.items s.numbers.items))) (Plain (plain_by s))) is) given r
   text_unnumbered is false given r = text_none variables live before open_line (said_by s) after
       given r
 
@@ -302,7 +302,7 @@ module _ (variables : ℕ) (live : Live) (before : Place) (open_line : before.en
       let step : Step = cond s.deletes (Deletes s.numbers.items) (Adds s.number s.clause.items
       s.numbers.items) in
       text_shown variables live before open_line (said_by s) after step (ap (λ (b : Bool). cond b
-      (Some step) None) is) given r says
+      (Numbered step) (Plain (plain_by s))) is) given r says
 
 -- ---- steps as they are held
 
@@ -316,18 +316,19 @@ module _ (variables : ℕ) (live : Live) where
   unfolding taken
   taken_adds number clause hints = refl
 
-  held_by : (b : Bool) (step said : Step) → cond b (Some step) None ≡ Some said → step ≡ said
-  held_by true step said is = same_Some step said is
-  held_by false step said is = absurd cc
+  held_by : (b : Bool) (plain : PlainStep) (step said : Step)
+      → cond b (Numbered step) (Plain plain) ≡ Numbered said → step ≡ said
+  held_by true plain step said is = cc
+  held_by false plain step said is = absurd cc
 
-  module _ (s : held.Step) (said : Step) (is : said_by s ≡ Some said) where
+  module _ (s : held.Step) (said : Step) (is : said_by s ≡ Numbered said) where
     pub said_deletes : s.deletes ≡ true → Deletes s.numbers.items ≡ said
     said_deletes d = ap (λ (b : Bool). cond b (Deletes s.numbers.items) (Adds s.number
-        s.clause.items s.numbers.items)) (sym d) ∙ held_by s.is_numbered _ said is
+        s.clause.items s.numbers.items)) (sym d) ∙ held_by s.is_numbered (plain_by s) _ said is
 
     pub said_adds : s.deletes ≡ false → Adds s.number s.clause.items s.numbers.items ≡ said
     said_adds d = ap (λ (b : Bool). cond b (Deletes s.numbers.items) (Adds s.number s.clause.items
-        s.numbers.items)) (sym d) ∙ held_by s.is_numbered _ said is
+        s.numbers.items)) (sym d) ∙ held_by s.is_numbered (plain_by s) _ said is
 
     pub deletes_taken : s.deletes ≡ true → taken variables live said ≡ deleted live s.numbers.items
     deletes_taken d = ap (taken variables live) (sym (said_deletes d)) ∙ taken_deletes

@@ -15,13 +15,13 @@ same_lit a b e = let lit_of : ℕ → Lit = λ n. record { code = n } in ap lit_
 
 module _ (v : ℕ → Bool) where
   -- what a reading says of the assignment
-  abbrev Says : Reading → Type 0
+  abbrev pub Says : Reading → Type 0
   Says Conflict = ⊥
   Says (Implied lit) = literal_value v lit ≡ true
   Says Open = Unit {0}
 
   -- every literal that is taken to be true is
-  abbrev AreTrue : (Lit → Bool) → Type 0
+  abbrev pub AreTrue : (Lit → Bool) → Type 0
   AreTrue holds = (lit : Lit) → holds lit ≡ true → literal_value v lit ≡ true
 
   -- one literal more that is true
@@ -50,7 +50,7 @@ module _ (v : ℕ → Bool) where
     falsified lit h is = false≢true (sym (not_from_true (literal_value v lit) is) ∙ sym (literal_value-inverse_lit v lit) ∙ are (inverse_lit lit) h)
 
     -- a clause with a true literal says what is so
-    says_clause : (r : Reading) (clause : List Lit) → Says r ⊎ (is_true_clause v clause ≡ true) → Says (fold (with_literal holds) r clause)
+    pub says_clause : (r : Reading) (clause : List Lit) → Says r ⊎ (is_true_clause v clause ≡ true) → Says (fold (with_literal holds) r clause)
     says_clause r [] (inl s) = s
     says_clause r [] (inr t) = absurd (false≢true t)
     says_clause r (lit ∷ lits) h = by (holds (inverse_lit lit)) (λ e. says_clause r lits (skipped e h)) (says_clause (with_open r lit) lits (taken h))
@@ -68,8 +68,18 @@ module _ (v : ℕ → Bool) where
         by false skip take = take
 
   -- one literal more that is taken to be true
-  also_true : (holds : Lit → Bool) → AreTrue holds → (lit : Lit) → literal_value v lit ≡ true → AreTrue (also lit holds)
+  pub also_true : (holds : Lit → Bool) → AreTrue holds → (lit : Lit) → literal_value v lit ≡ true → AreTrue (also lit holds)
   also_true holds are lit is other h = elim (or_cases (is_lit lit other) (holds other) h) [ inl same ↦ ap (literal_value v) (sym (same_lit lit other same)) ∙ is | inr held ↦ are other held ]
+
+  -- the inverses of the literals of a clause that is false are true
+  pub inverses_true : (clause : List Lit) → is_true_clause v clause ≡ false → AreTrue (when_false clause)
+  inverses_true [] f lit h = absurd (false≢true h)
+  inverses_true (first ∷ rest) f lit h =
+      let parts = or_parts (literal_value v first) (is_true_clause v rest) f in
+      elim (or_cases (is_lit (inverse_lit first) lit) (when_false rest lit) h) [
+        | inl same ↦ ap (literal_value v) (sym (same_lit (inverse_lit first) lit same)) ∙ literal_value-inverse_lit v first ∙ not_from_false (literal_value v first) parts.0
+        | inr later ↦ inverses_true rest parts.1 lit later
+      ]
 
   module _ (clause_of : ℕ → Option (List Lit)) (holding : (n : ℕ) (clause : List Lit) → clause_of n ≡ Some clause → is_true_clause v clause ≡ true) where
     says_hint : (holds : Lit → Bool) → AreTrue holds → (o : Option (List Lit)) → ((clause : List Lit) → o ≡ Some clause → is_true_clause v clause ≡ true) → Says (reading_if holds o)
@@ -85,16 +95,6 @@ module _ (v : ℕ → Bool) where
         by Conflict s next e = s
         by (Implied lit) s next e = next lit s e
         by Open s next e = false≢true e
-
-    -- the inverses of the literals of a clause that is false are true
-    inverses_true : (clause : List Lit) → is_true_clause v clause ≡ false → AreTrue (when_false clause)
-    inverses_true [] f lit h = absurd (false≢true h)
-    inverses_true (first ∷ rest) f lit h =
-        let parts = or_parts (literal_value v first) (is_true_clause v rest) f in
-        elim (or_cases (is_lit (inverse_lit first) lit) (when_false rest lit) h) [
-          | inl same ↦ ap (literal_value v) (sym (same_lit (inverse_lit first) lit same)) ∙ literal_value-inverse_lit v first ∙ not_from_false (literal_value v first) parts.0
-          | inr later ↦ inverses_true rest parts.1 lit later
-        ]
 
     pub rup_is_true : (clause : List Lit) (hints : List ℕ) → is_rup clause_of clause hints ≡ true → is_true_clause v clause ≡ true
     rup_is_true clause hints rup = true_from_ne_false (is_true_clause v clause) (λ f. no_conflict hints (when_false clause) (inverses_true clause f) rup)

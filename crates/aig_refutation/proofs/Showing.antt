@@ -96,7 +96,7 @@ pub shown : (variables : ℕ) (clauses : List (List Lit)) (bytes : List ℕ) →
 unfolding all_live
 shown variables clauses bytes is s = by (steps_in variables bytes) is
   where
-    by : (o : Option Script) → option_map (λ script. outcome variables (all_live clauses)
+    by : (o : Option (Script Step)) → option_map (λ script. outcome variables (all_live clauses)
         script.steps script.fault) o ≡ Some (Ok tt) → ⊥
     by None e = absurd cc
     by (Some script) e =

@@ -1,6 +1,6 @@
 -- Part of what is promised.
--- Which steps are taken, one after another. (LRAT.)
-use Rattle.std.specs.Prelude.{◌≡◌, ◌⊎◌, ℕ, ◌+◌, ◌*◌, ◌==◌, Bool, true, false, not, ◌||◌, nat_le, nat_lt, if◌then◌else◌, List, [], ◌∷◌, length, is_some, Option, option_map, IfSome, Result, Ok, Err}
+-- Which steps are taken, one after another. (LRAT and DRAT.)
+use Rattle.std.specs.Prelude.{◌≡◌, ◌⊎◌, ℕ, ◌+◌, ◌*◌, ◌==◌, Bool, true, false, not, ◌||◌, nat_le, nat_lt, if◌then◌else◌, List, [], ◌∷◌, length, is_some, Option, None, option_map, IfSome, Result, Ok, Err}
 use Rattle.std.specs.List.{Contains, fold, list_any, list_all}
 use Rattle.std.specs.Map.{lookup}
 use Rattle.aig_base.specs.declared.logic.literal.Lit.{Lit}
@@ -8,8 +8,8 @@ use Rattle.aig_base.specs.Clauses.{inverse_lit, variable_of}
 use Rattle.aig_refutation.specs.declared.error.RefutationError.{RefutationError}
 use Rattle.aig_refutation.specs.declared.error.RefutationError.TheVariants as errors
 use Rattle.aig_refutation.specs.Propagation.{is_rup, is_tautology}
-use Rattle.aig_refutation.specs.Proofs.{steps_in}
-use Rattle.aig_refutation.specs.Steps.{Step, Adds, Deletes, is_empty, without}
+use Rattle.aig_refutation.specs.Proofs.{Script, plain_steps_in, steps_in}
+use Rattle.aig_refutation.specs.Steps.{Step, Adds, Deletes, PlainStep, Stand, adds_empty, is_empty, without}
 use Rattle.aig_refutation.specs.Text.{◌>>=◌}
 
 -- the clauses that are there, the last one first, and all numbers that were used
@@ -113,6 +113,19 @@ shown_by variables clauses bytes =
     option_map (λ script. outcome variables (all_live clauses) script.steps script.fault)
     (steps_in variables bytes)
 
+-- why steps without hints show nothing of clauses: one of them doesn't follow, or none adds the
+-- empty clause, and this is wrong after them
+abbrev pub IsRefusal : List (List Lit) → Script PlainStep → RefutationError → Type 0
+IsRefusal clauses script e =
+    ((e ≡ errors.Step) × (Stand clauses script.steps → ⊥))
+    ⊎ ((e ≡ script.fault) × (list_any adds_empty script.steps ≡ false))
+
+-- such steps are refused for a reason alone
+abbrev pub IsPlainOutcome : List (List Lit) → Script PlainStep → Result (Unit {0}) RefutationError
+    → Type 0
+IsPlainOutcome clauses script (Ok done) = Unit {0}
+IsPlainOutcome clauses script (Err e) = IsRefusal clauses script e
+
 -- whether the variable of each literal of clauses is below a count
 abbrev pub are_all_in : ℕ → List (List Lit) → Bool
 are_all_in variables clauses = list_all (are_in variables) clauses
@@ -128,6 +141,10 @@ pub record IsOutcome (variables : ℕ) (clauses : List (List Lit)) (text : Optio
   -- where its steps refute them, and refused for the reason that they have.
   pub by_steps : are_all_in variables clauses ≡ true → (IsInConflict clauses → ⊥)
       → IfSome text (λ bytes. IfSome (shown_by variables clauses bytes) (λ shown. result ≡ shown))
+  -- One whose first step has no number, or without steps, is refused for a reason alone.
+  pub by_propagation : are_all_in variables clauses ≡ true → (IsInConflict clauses → ⊥)
+      → IfSome text (λ bytes. shown_by variables clauses bytes ≡ None
+      → IsPlainOutcome clauses (plain_steps_in variables bytes) result)
 
 -- the result is that outcome, memory and the stream aside
 abbrev pub Shows : ℕ → List (List Lit) → Option (List ℕ)

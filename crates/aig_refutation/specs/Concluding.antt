@@ -6,9 +6,10 @@ use Rattle.aig_base.specs.Clauses.{inverse_lit}
 use Rattle.aig_lexer.specs.Takes.{Feed}
 use Rattle.aig_refutation.specs.declared.error.RefutationError.{RefutationError}
 use Rattle.aig_refutation.specs.declared.error.RefutationError.TheVariants as errors
-use Rattle.aig_refutation.specs.Checking.{IsInConflict, Live, are_all_in, is_last_step, outcome, taken}
-use Rattle.aig_refutation.specs.Proofs.{Script, script_if, script_of, then_lines}
-use Rattle.aig_refutation.specs.Steps.{Step}
+use Rattle.aig_refutation.specs.Ahead.{TakesPlain}
+use Rattle.aig_refutation.specs.Checking.{IsInConflict, IsRefusal, Live, are_all_in, is_last_step, outcome, taken}
+use Rattle.aig_refutation.specs.Proofs.{Line, Numbered, Plain, Script, plain_of, script_if, script_of, then_lines, then_plain}
+use Rattle.aig_refutation.specs.Steps.{PlainStep, Step}
 use Rattle.aig_refutation.specs.Tables.{Checked, Holds, HoldsFormula, Table, clause_by}
 use Rattle.aig_refutation.specs.Text.{lines_of}
 use Rattle.aig_refutation.specs.Words.{Place, Says, Tells, lines_at}
@@ -32,18 +33,18 @@ MovesStep new (Ok done) said last =
 MovesStep new (Err e) said last = Tells e (said ≡ Err e)
 
 -- a step of a line is taken, which must have a number
-abbrev pub TakesStep : ℕ → Live → Table → Result Bool RefutationError → Option Step → Type 0
-TakesStep variables live new result (Some step) =
+abbrev pub TakesStep : ℕ → Live → Table → Result Bool RefutationError → Line → Type 0
+TakesStep variables live new result (Numbered step) =
     MovesStep new result (taken variables live step) (is_last_step step)
-TakesStep variables live new (Ok done) None = ⊥
-TakesStep variables live new (Err e) None = Tells e (e ≡ errors.Line)
+TakesStep variables live new (Ok done) (Plain step) = ⊥
+TakesStep variables live new (Err e) (Plain step) = Tells e (e ≡ errors.Line)
 
 -- what steps show of the clauses that are there
-abbrev pub shown_of : ℕ → Live → Script → Result (Unit {0}) RefutationError
+abbrev pub shown_of : ℕ → Live → Script Step → Result (Unit {0}) RefutationError
 shown_of variables live script = outcome variables live script.steps script.fault
 
 -- what a step and the lines after it show
-abbrev pub left_outcome : ℕ → Live → Option Step → Place → List ℕ
+abbrev pub left_outcome : ℕ → Live → Line → Place → List ℕ
     → Result (Unit {0}) RefutationError
 left_outcome variables live step place bytes =
     shown_of variables live (then_lines (Ok step) (script_of variables (lines_at place.end bytes)))
@@ -81,3 +82,30 @@ abbrev pub ConcludesConflict : List (List Lit) → Result Bool RefutationError �
 ConcludesConflict clauses (Ok true) = IsInConflict clauses
 ConcludesConflict clauses (Ok false) = IsInConflict clauses → ⊥
 ConcludesConflict clauses (Err e) = Tells e ⊥
+
+-- ---- steps without numbers
+
+-- a step of a line is taken, which must have no number
+abbrev pub TakesLine : ℕ → List (List Lit) → Line → Table → Result Bool RefutationError → Type 0
+TakesLine variables clauses (Plain step) new result = TakesPlain variables clauses step new result
+TakesLine variables clauses (Numbered step) new (Ok done) = ⊥
+TakesLine variables clauses (Numbered step) new (Err e) = Tells e (e ≡ errors.Line)
+
+-- the steps of a line and those after it
+abbrev pub plain_left : ℕ → Line → Place → List ℕ → Script PlainStep
+plain_left variables line place bytes =
+    then_plain (Ok line) (plain_of variables (lines_at place.end bytes))
+
+-- steps are refused for a reason alone, memory and the stream aside
+abbrev pub ConcludesPlain : Feed → List (List Lit) → (List ℕ → Script PlainStep)
+    → Result (Unit {0}) RefutationError → Type 0
+ConcludesPlain before clauses script (Ok done) = Unit {0}
+ConcludesPlain before clauses script (Err e) =
+    Tells e (Says before (λ bytes. IsRefusal clauses (script bytes) e))
+
+-- the same of a whole text, unless its first step has a number
+abbrev pub ShowsPlain : Feed → ℕ → List (List Lit) → Result (Unit {0}) RefutationError → Type 0
+ShowsPlain before variables clauses (Ok done) = Unit {0}
+ShowsPlain before variables clauses (Err e) =
+    Tells e (Says before (λ bytes. script_if variables (lines_of bytes) ≡ None
+    → IsRefusal clauses (plain_of variables (lines_of bytes)) e))

@@ -1,12 +1,13 @@
 -- Part of what is promised.
 -- The steps that a proof's text says, and why it says no further one. (LRAT: Cruz-Filipe, Heule,
--- Hunt, Kaufmann and Schneider-Kamp, 2017. The lines are those that cadical writes.)
-use Rattle.std.specs.Prelude.{ℕ, ◌-◌, ◌==◌, Bool, true, false, not, ◌&&◌, ◌||◌, nat_lt, if◌then◌else◌, List, [], ◌∷◌, Option, Some, None, Result, Ok, Err}
+-- Hunt, Kaufmann and Schneider-Kamp, 2017. DRAT: Wetzler, Heule and Hunt, 2014. The lines are those
+-- that cadical writes.)
+use Rattle.std.specs.Prelude.{ℕ, ◌-◌, ◌==◌, Bool, true, false, not, ◌&&◌, ◌||◌, nat_lt, if◌then◌else◌, List, [], ◌∷◌, ◌++◌, Option, Some, None, Result, Ok, Err}
 use Rattle.aig_base.specs.declared.logic.literal.Lit.{Lit}
 use Rattle.aig_base.specs.Clauses.{lit_to}
 use Rattle.aig_refutation.specs.declared.error.RefutationError.{RefutationError}
 use Rattle.aig_refutation.specs.declared.error.RefutationError.TheVariants as errors
-use Rattle.aig_refutation.specs.Steps.{Step, Adds, Deletes}
+use Rattle.aig_refutation.specs.Steps.{Step, Adds, Deletes, PlainStep, Drops, Learns}
 use Rattle.aig_refutation.specs.Text.{Word, ◌>>=◌, begins, lines_of, word_in}
 use Rattle.aig_refutation.specs.Text as text
 
@@ -83,48 +84,57 @@ numbers_from negative is_last n words =
 
 -- ---- lines
 
--- a step of a DRAT file, of which no more is said here
-abbrev pub unnumbered : {A : Type 0} → A → Result (Option Step) RefutationError
-unnumbered x = Ok None
+-- what a line says: a step that has numbers, or one that has none
+pub data Line : Type 0 where
+  Numbered : (step : Step) → Line
+  Plain : (step : PlainStep) → Line
+
+-- a clause is added that is the whole line, with its first literal, or one is dropped; the order of
+-- literals says nothing
+abbrev pub learns : List Lit → Lit → Result Line RefutationError
+learns clause lit = Ok (Plain (Learns (clause ++ lit ∷ [])))
+
+abbrev pub drops : List Lit → Unit {0} → Result Line RefutationError
+drops clause end = Ok (Plain (Drops clause))
 
 -- what a line says after a number and a clause: hints, or the clause is the whole line and begins
 -- with that number, unless the lines before had numbers
 unfoldable pub after_clause : Bool → ℕ → Bool → Bool × ℕ → List Lit → List (List ℕ)
-    → Result (Option Step) RefutationError
+    → Result Line RefutationError
 after_clause numbered variables is_last n clause [] =
-    if numbered then Err (missing is_last) else (literal_of variables n >>= unnumbered)
+    if numbered then Err (missing is_last) else (literal_of variables n >>= learns clause)
 after_clause numbered variables is_last n clause (word ∷ words) =
     word_in word >>= number_of >>= λ hint. clause_number n >>= λ number.
-    numbers_from errors.Asymmetry is_last hint words >>= λ hints. Ok (Some (Adds number clause
+    numbers_from errors.Asymmetry is_last hint words >>= λ hints. Ok (Numbered (Adds number clause
     hints))
 
 -- what a line says after a number and this word
 unfoldable pub after_word : Bool → ℕ → Bool → Bool × ℕ → Word → List (List ℕ)
-    → Result (Option Step) RefutationError
+    → Result Line RefutationError
 after_word numbered variables is_last n text.Deletes words = clause_number n >>= λ number.
-    numbers_in errors.Line is_last words >>= λ numbers. Ok (Some (Deletes numbers))
+    numbers_in errors.Line is_last words >>= λ numbers. Ok (Numbered (Deletes numbers))
 after_word numbered variables is_last n (text.Number positive value) words =
     clause_from variables is_last (positive, value) words >>= λ rest.
     after_clause numbered variables is_last n rest.0 rest.1
 
 -- what a line says after a number
 unfoldable pub after_number : Bool → ℕ → Bool → Bool × ℕ → List (List ℕ)
-    → Result (Option Step) RefutationError
-after_number numbered variables is_last n [] = if is_zero n then Ok None else Err (missing is_last)
+    → Result Line RefutationError
+after_number numbered variables is_last n [] =
+    if is_zero n then Ok (Plain (Learns [])) else Err (missing is_last)
 after_number numbered variables is_last n (word ∷ words) =
     word_in word >>= λ next. after_word numbered variables is_last n next words
 
 -- what a line says after its first word
 unfoldable pub after_first : Bool → ℕ → Bool → Word → List (List ℕ)
-    → Result (Option Step) RefutationError
+    → Result Line RefutationError
 after_first numbered variables is_last text.Deletes words =
-    clause_in variables is_last words >>= λ rest. ended rest.1 >>= unnumbered
+    clause_in variables is_last words >>= λ rest. ended rest.1 >>= drops rest.0
 after_first numbered variables is_last (text.Number positive value) words =
     after_number numbered variables is_last (positive, value) words
 
--- the step of a line, none where it is one of a DRAT file; whether lines before had numbers,
--- and whether it is the last
-unfoldable pub line_in : Bool → ℕ → Bool → List ℕ → List (List ℕ) → Result (Option Step)
+-- what a line says, by whether lines before had numbers, and whether it is the last
+unfoldable pub line_in : Bool → ℕ → Bool → List ℕ → List (List ℕ) → Result Line
     RefutationError
 line_in numbered variables is_last word words =
     if begins 97 word then Err errors.Binary
@@ -133,8 +143,8 @@ line_in numbered variables is_last word words =
 -- ---- texts
 
 -- what a text says: steps, and what is wrong where there is no further one
-pub record Script : Type 0 where
-  pub steps : List Step
+pub record Script (S : Type 0) : Type 0 where
+  pub steps : List S
   pub fault : RefutationError
 
 -- whether a line says nothing that begins with this word
@@ -147,13 +157,13 @@ is_none [] = true
 is_none (line ∷ lines) = false
 
 -- what a line of an LRAT file says, and then others
-abbrev pub then_lines : Result (Option Step) RefutationError → Script → Script
-then_lines (Ok (Some step)) rest = record { steps = step ∷ rest.steps; fault = rest.fault }
-then_lines (Ok None) rest = record { steps = []; fault = errors.Line }
+abbrev pub then_lines : Result Line RefutationError → Script Step → Script Step
+then_lines (Ok (Numbered step)) rest = record { steps = step ∷ rest.steps; fault = rest.fault }
+then_lines (Ok (Plain step)) rest = record { steps = []; fault = errors.Line }
 then_lines (Err e) rest = record { steps = []; fault = e }
 
 -- what lines say after a step that has a number
-unfoldable pub script_of : ℕ → List (List (List ℕ)) → Script
+unfoldable pub script_of : ℕ → List (List (List ℕ)) → Script Step
 script_of variables [] = record { steps = []; fault = errors.Unfinished }
 script_of variables ([] ∷ lines) = script_of variables lines
 script_of variables ((word ∷ words) ∷ lines) =
@@ -161,12 +171,12 @@ script_of variables ((word ∷ words) ∷ lines) =
     else then_lines (line_in true variables (is_none lines) word words) (script_of variables lines)
 
 -- the same, unless the first line is a step of a DRAT file
-abbrev pub if_numbered : Result (Option Step) RefutationError → Script → Option Script
-if_numbered (Ok None) rest = None
+abbrev pub if_numbered : Result Line RefutationError → Script Step → Option (Script Step)
+if_numbered (Ok (Plain step)) rest = None
 if_numbered said rest = Some (then_lines said rest)
 
 -- what lines say whose first step has a number, or is none
-unfoldable pub script_if : ℕ → List (List (List ℕ)) → Option Script
+unfoldable pub script_if : ℕ → List (List (List ℕ)) → Option (Script Step)
 script_if variables [] = None
 script_if variables ([] ∷ lines) = script_if variables lines
 script_if variables ((word ∷ words) ∷ lines) =
@@ -176,5 +186,24 @@ script_if variables ((word ∷ words) ∷ lines) =
 
 -- the steps that the bytes of a proof say, if the first line that is one has the form of an LRAT
 -- file
-abbrev pub steps_in : ℕ → List ℕ → Option Script
+abbrev pub steps_in : ℕ → List ℕ → Option (Script Step)
 steps_in variables bytes = script_if variables (lines_of bytes)
+
+-- what a line of a DRAT file says, and then others
+abbrev pub then_plain : Result Line RefutationError → Script PlainStep → Script PlainStep
+then_plain (Ok (Plain step)) rest = record { steps = step ∷ rest.steps; fault = rest.fault }
+then_plain (Ok (Numbered step)) rest = record { steps = []; fault = errors.Line }
+then_plain (Err e) rest = record { steps = []; fault = e }
+
+-- what lines say where steps have no numbers
+unfoldable pub plain_of : ℕ → List (List (List ℕ)) → Script PlainStep
+plain_of variables [] = record { steps = []; fault = errors.Unfinished }
+plain_of variables ([] ∷ lines) = plain_of variables lines
+plain_of variables ((word ∷ words) ∷ lines) =
+    if is_comment word then plain_of variables lines
+    else then_plain (line_in false variables (is_none lines) word words) (plain_of variables lines)
+
+-- the steps that the bytes of a proof say, if the first line that is one has the form of a DRAT
+-- file
+abbrev pub plain_steps_in : ℕ → List ℕ → Script PlainStep
+plain_steps_in variables bytes = plain_of variables (lines_of bytes)

@@ -4,8 +4,8 @@ use Rattle.std.specs.Prelude.{◌≡◌, ℕ, Bool, true, false, if◌then◌els
 use Rattle.aig_base.specs.declared.logic.literal.Lit.{Lit}
 use Rattle.aig_refutation.specs.declared.error.RefutationError.{RefutationError}
 use Rattle.aig_refutation.specs.declared.step.Step as held
-use Rattle.aig_refutation.specs.Proofs.{after_first, after_number, after_word, clause_from, is_none, line_in, numbers_from}
-use Rattle.aig_refutation.specs.Steps.{Step, Adds, Deletes}
+use Rattle.aig_refutation.specs.Proofs.{Line, Numbered, Plain, after_first, after_number, after_word, clause_from, is_none, line_in, numbers_from}
+use Rattle.aig_refutation.specs.Steps.{Adds, Deletes, PlainStep, Drops, Learns}
 use Rattle.aig_refutation.specs.Text as text
 use Rattle.aig_refutation.specs.Text.{◌>>=◌}
 use Rattle.aig_refutation.specs.Words.{Leaves, Place, Says, Tells, lines_at, lines_past}
@@ -34,46 +34,50 @@ reads_numbers negative first numbers is_last words =
     numbers_from negative is_last first words >>= appended_numbers numbers
 
 -- the line has ended
-abbrev pub whole_line : Option Step → Result (Option Step × List (List ℕ)) RefutationError
+abbrev pub whole_line : Line → Result (Line × List (List ℕ)) RefutationError
 whole_line step = Ok (step, [])
 
 -- a line after its `d`
 abbrev pub reads_dropped : ℕ → Bool → List (List ℕ)
-    → Result (Option Step × List (List ℕ)) RefutationError
+    → Result (Line × List (List ℕ)) RefutationError
 reads_dropped variables is_last words =
     after_first false variables is_last text.Deletes words >>= whole_line
 
 -- a line after its first number
 abbrev pub reads_after : Bool → ℕ → Bool × ℕ → Bool → List (List ℕ)
-    → Result (Option Step × List (List ℕ)) RefutationError
+    → Result (Line × List (List ℕ)) RefutationError
 reads_after numbered variables first is_last words =
     after_number numbered variables is_last first words >>= whole_line
 
 -- a line after its number and `d`
 abbrev pub reads_deleted : Bool × ℕ → Bool → List (List ℕ)
-    → Result (Option Step × List (List ℕ)) RefutationError
+    → Result (Line × List (List ℕ)) RefutationError
 reads_deleted number is_last words =
     after_word false 0 is_last number text.Deletes words >>= whole_line
 
 -- a line after its first two numbers
 abbrev pub reads_added : Bool → ℕ → Bool × ℕ → Bool × ℕ → Bool → List (List ℕ)
-    → Result (Option Step × List (List ℕ)) RefutationError
+    → Result (Line × List (List ℕ)) RefutationError
 reads_added numbered variables first second is_last words =
     after_word numbered variables is_last first (text.Number second.0 second.1) words >>= whole_line
 
 -- ---- steps
 
--- the step that is held, if it has a number
-abbrev pub said_by : held.Step → Option Step
+-- the step that is held, as one without numbers
+abbrev pub plain_by : held.Step → PlainStep
+plain_by s = if s.deletes then Drops s.clause.items else Learns s.clause.items
+
+-- what is held
+abbrev pub said_by : held.Step → Line
 said_by s =
     if s.is_numbered
-    then Some (if s.deletes then Deletes s.numbers.items
+    then Numbered (if s.deletes then Deletes s.numbers.items
     else Adds s.number s.clause.items s.numbers.items)
-    else None
+    else Plain (plain_by s)
 
 -- what the first line says, and the lines after it
 abbrev pub said_line : Bool → ℕ → List (List (List ℕ))
-    → Option (Result (Option Step) RefutationError × List (List (List ℕ)))
+    → Option (Result Line RefutationError × List (List (List ℕ)))
 said_line numbered variables [] = None
 said_line numbered variables ([] ∷ lines) = None
 said_line numbered variables ((word ∷ words) ∷ lines) =
@@ -81,12 +85,12 @@ said_line numbered variables ((word ∷ words) ∷ lines) =
 
 -- what the next line says that isn't passed over, where lines before had numbers or not
 abbrev pub next_said : Bool → ℕ → Place → List ℕ
-    → Option (Result (Option Step) RefutationError × List (List (List ℕ)))
+    → Option (Result Line RefutationError × List (List (List ℕ)))
 next_said numbered variables place bytes =
     said_line numbered variables (lines_past (lines_at place.end bytes))
 
 -- the next step is read, or there is none
-abbrev pub GivesStep : Bool → ℕ → Option Step → Place → Place → Result Bool RefutationError → Type 0
+abbrev pub GivesStep : Bool → ℕ → Line → Place → Place → Result Bool RefutationError → Type 0
 GivesStep numbered variables step before after (Ok true) = Leaves before.feed after.feed (λ bytes
     rest.
     next_said numbered variables before bytes ≡ Some (Ok step, lines_at after.end rest))

@@ -108,11 +108,11 @@ IsMoved clauses before live numbers now = IsMovedUpTo (length clauses) clauses b
     now
 
 -- the places of the clauses that hints name are found, or one names none
-abbrev pub FindsHints : Table → List ℕ → List ℕ → Result (Unit {0}) RefutationError → Type 0
-FindsHints t hints places (Ok done) = (places ≡ map (λ h. entry_at t.places h - 1) hints)
+abbrev pub FindsHints : {E : Type 0} → Table → List ℕ → List ℕ → Result Bool E → Type 0
+FindsHints t hints places (Ok true) = (places ≡ map (λ h. entry_at t.places h - 1) hints)
     × (list_all (λ h. is_some (place_in t h)) hints ≡ true)
-FindsHints t hints places (Err e) = Tells e ((list_all (λ h. is_some (place_in t h)) hints ≡ false)
-    × (e ≡ errors.Unnamed))
+FindsHints t hints places (Ok false) = list_all (λ h. is_some (place_in t h)) hints ≡ false
+FindsHints t hints places (Err e) = Unit {0}
 
 -- the table has the clauses of a formula, numbered from 1 on
 pub record HoldsFormula (t : Table) : Type 0 where

@@ -1,13 +1,17 @@
 //! Checking a proof, step by step.
 
-ghost use Rattle.std.specs.Prelude.{◌≡◌, ◌≤◌, ◌^◌, ◌++◌, [], None, Ok, Some, IfOk, IsErrOf, IsTrue, OnOk, false, length, true};
+ghost use Rattle.std.specs.Prelude.{◌≡◌, ◌≤◌, ◌^◌, ◌++◌, [], List, None, Ok, Some, IfOk, IsErrOf, IsSome, IsTrue, OnOk, false, length, true};
+ghost use Rattle.aig_base.specs.declared.logic.literal.Lit.{Lit};
 ghost use Rattle.aig_base.specs.Formula.{clauses_in, IsSatisfiable};
 ghost use Rattle.aig_lexer.specs.Takes.{feed};
-ghost use Rattle.aig_refutation.specs.Checking.{Live, Shows, is_last_step, taken};
-ghost use Rattle.aig_refutation.specs.Concluding.{Concludes, ConcludesConflict, IsFormula, MovesStep, RefusesFormula, ShowsText, TakesStep, left_outcome, text_outcome};
-ghost use Rattle.aig_refutation.specs.Formula.{ImpliesAll};
-ghost use Rattle.aig_refutation.specs.Reading.{said_by};
+ghost use Rattle.aig_refutation.specs.Ahead.{AddsAhead, IsAhead, LearnsAhead, StaysAhead, TakesPlain};
+ghost use Rattle.aig_refutation.specs.Checking.{Live, Shows, are_in, is_last_step, taken};
+ghost use Rattle.aig_refutation.specs.Concluding.{Concludes, ConcludesConflict, ConcludesPlain, IsFormula, MovesStep, RefusesFormula, ShowsPlain, ShowsText, TakesLine, TakesStep, left_outcome, plain_left, text_outcome};
+ghost use Rattle.aig_refutation.specs.Formula.{Implies, ImpliesAll};
+ghost use Rattle.aig_refutation.specs.Proofs.{Numbered};
+ghost use Rattle.aig_refutation.specs.Reading.{plain_by, said_by};
 ghost use Rattle.aig_refutation.specs.Steps as steps;
+ghost use Rattle.aig_refutation.specs.Steps.{Follows};
 ghost use Rattle.aig_refutation.specs.Tables.{Holds};
 ghost use Rattle.aig_refutation.specs.Words.{place};
 
@@ -16,7 +20,7 @@ use crate::error::RefutationError;
 use crate::step::Step;
 use crate::units::find_conflict;
 use crate::words::Words;
-use aig_base::{DagCnf, LitVvec, Source, Var};
+use aig_base::{DagCnf, Lit, LitVvec, Source, Var};
 use aig_hints::Search;
 use std::alloc::Global;
 
@@ -73,7 +77,7 @@ fn refutes_at_once(alloc: Global, checker: &mut Checker) -> Result<bool, Refutat
     if hints.is_empty() {
         return Ok(false);
     }
-    let number = checker.next_number();
+    let number = checker.next_number()?;
     checker.add(number, &[], &hints)?;
     Ok(true)
 }
@@ -81,7 +85,7 @@ fn refutes_at_once(alloc: Global, checker: &mut Checker) -> Result<bool, Refutat
 /// Takes a step that has numbers, and says whether it adds the empty clause.
 fn take_numbered(checker: &mut Checker, step: &Step) -> Result<bool, RefutationError>
     ensures variables { checker.new.variables ≡ checker.old.variables }
-    ensures moves { (live : Live) (said : steps.Step) → said_by step.now ≡ Some said
+    ensures moves { (live : Live) (said : steps.Step) → said_by step.now ≡ Numbered said
         → Holds checker.old.table live → MovesStep checker.new.table result
         (taken checker.old.variables live said) (is_last_step said) }
     ensures implied { OnOk result (ImpliesAll checker.old.table.clauses checker.new.table.clauses) }
@@ -105,14 +109,18 @@ fn add_units(
     hints: &mut Vec<u32>,
 ) -> Result<(), RefutationError>
     ensures implied { OnOk result (ImpliesAll checker.old.table.clauses checker.new.table.clauses) }
+    ensures variables { checker.new.variables ≡ checker.old.variables }
+    ensures ahead { (clauses : List (List Lit)) → IsAhead clauses checker.old.table
+        → StaysAhead clauses checker.new.table result }
     ensures no_stream { IsErrOf result RefutationError.Stream → ⊥ }
 {
     for _ in 0..checker.variables() {
         let Some(lit) = search.next_unit(hints)? else {
             break;
         };
-        let number = checker.next_number();
-        checker.add(number, &[lit], hints)?;
+        let Some(number) = checker.add_next(&[lit], hints)? else {
+            break;
+        };
         search.name_unit(number);
     }
     Ok(())
@@ -126,6 +134,9 @@ fn start_search(
     search: &mut Search,
 ) -> Result<(), RefutationError>
     ensures implied { OnOk result (ImpliesAll checker.old.table.clauses checker.new.table.clauses) }
+    ensures variables { checker.new.variables ≡ checker.old.variables }
+    ensures ahead { (clauses : List (List Lit)) → IsAhead clauses checker.old.table
+        → StaysAhead clauses checker.new.table result }
     ensures no_stream { IsErrOf result RefutationError.Stream → ⊥ }
 {
     let clauses = checker.clauses();
@@ -149,15 +160,44 @@ fn add_empty(
     ensures implied { OnOk result (ImpliesAll checker.old.table.clauses checker.new.table.clauses) }
     ensures refuted { IfOk result (λ done. IsTrue done
         → ¬ IsSatisfiable checker.old.table.clauses) }
+    ensures variables { checker.new.variables ≡ checker.old.variables }
+    ensures ahead { (clauses : List (List Lit)) → IsAhead clauses checker.old.table
+        → StaysAhead clauses checker.new.table result }
     ensures no_stream { IsErrOf result RefutationError.Stream → ⊥ }
 {
     if !search.is_in_conflict() {
         return Ok(false);
     }
     search.find(&[], hints)?;
-    let number = checker.next_number();
-    checker.add(number, &[], hints)?;
-    Ok(true)
+    Ok(checker.add_next(&[], hints)?.is_some())
+}
+
+/// Adds a clause under the next number, and returns that, if it follows by unit propagation. `hints`
+/// is used, whatever it has.
+fn add_found(
+    checker: &mut Checker,
+    search: &mut Search,
+    clause: &[Lit],
+    hints: &mut Vec<u32>,
+) -> Result<Option<u32>, RefutationError>
+    ensures implied { OnOk result (ImpliesAll checker.old.table.clauses checker.new.table.clauses) }
+    ensures follows { IfOk result (λ number. IsSome number
+        → Implies checker.old.table.clauses clause.now) }
+    ensures variables { checker.new.variables ≡ checker.old.variables }
+    ensures ahead { (clauses : List (List Lit)) → IsAhead clauses checker.old.table
+        → AddsAhead clauses clause.now checker.new.table result }
+    ensures refused { (clauses : List (List Lit)) → IsAhead clauses checker.old.table
+        → are_in checker.old.variables clause.now ≡ true → result ≡ Ok None
+        → Follows clauses clause.now → ⊥ }
+    ensures no_stream { IsErrOf result RefutationError.Stream → ⊥ }
+{
+    search.find(clause, hints)?;
+    let number = checker.add_next(clause, hints)?;
+    if number.is_some() {
+        return Ok(number);
+    }
+    search.find_all(clause, hints)?;
+    checker.add_by_all(clause, hints)
 }
 
 /// Adds the clause of a step under the next number, along hints that are searched for, and says
@@ -170,11 +210,19 @@ fn add_searched(
     ensures implied { OnOk result (ImpliesAll checker.old.table.clauses checker.new.table.clauses) }
     ensures refuted { IfOk result (λ done. IsTrue done
         → ¬ IsSatisfiable checker.old.table.clauses) }
+    ensures variables { checker.new.variables ≡ checker.old.variables }
+    ensures same { step.new.is_numbered ≡ step.old.is_numbered }
+    ensures ahead { (clauses : List (List Lit)) → IsAhead clauses checker.old.table
+        → LearnsAhead checker.old.variables clauses step.old.clause.items checker.new.table result }
     ensures no_stream { IsErrOf result RefutationError.Stream → ⊥ }
 {
-    search.find(&step.clause, &mut step.numbers)?;
-    let number = checker.next_number();
-    checker.add(number, &step.clause, &step.numbers)?;
+    let found = add_found(checker, search, &step.clause, &mut step.numbers)?;
+    let Some(number) = found else {
+        return Err(RefutationError::Step);
+    };
+    if step.clause.is_empty() {
+        return Ok(true);
+    }
     search.add(number, &step.clause)?;
     add_units(checker, search, &mut step.numbers)?;
     add_empty(checker, search, &mut step.numbers)
@@ -190,13 +238,17 @@ fn take_searched(
     ensures implied { OnOk result (ImpliesAll checker.old.table.clauses checker.new.table.clauses) }
     ensures refuted { IfOk result (λ done. IsTrue done
         → ¬ IsSatisfiable checker.old.table.clauses) }
+    ensures variables { checker.new.variables ≡ checker.old.variables }
+    ensures same { step.new.is_numbered ≡ step.old.is_numbered }
+    ensures ahead { (clauses : List (List Lit)) → IsAhead clauses checker.old.table
+        → TakesPlain checker.old.variables clauses (plain_by step.old) checker.new.table result }
     ensures no_stream { IsErrOf result RefutationError.Stream → ⊥ }
 {
     if !step.deletes {
         return add_searched(checker, search, step);
     }
     if let Some(number) = search.remove(&step.clause)? {
-        checker.delete(&[number])?;
+        checker.delete_same(number, &step.clause)?;
     }
     Ok(false)
 }
@@ -212,6 +264,12 @@ fn take_step(
         × (step.new.is_numbered ≡ true) × (checker.new.variables ≡ checker.old.variables)) }
     ensures takes { (live : Live) → search.old ≡ None → Holds checker.old.table live
         → TakesStep checker.old.variables live checker.new.table result (said_by step.old) }
+    ensures same { step.new.is_numbered ≡ step.old.is_numbered }
+    ensures variables { checker.new.variables ≡ checker.old.variables }
+    ensures searches { IsSome search.old → IsSome search.new }
+    ensures plain { (clauses : List (List Lit)) → IsSome search.old
+        → IsAhead clauses checker.old.table → TakesLine checker.old.variables clauses
+        (said_by step.old) checker.new.table result }
     ensures implied { OnOk result (ImpliesAll checker.old.table.clauses checker.new.table.clauses) }
     ensures refuted { IfOk result (λ done. IsTrue done
         → ¬ IsSatisfiable checker.old.table.clauses) }
@@ -234,6 +292,10 @@ fn search_for(
     ensures numbered { step.now.is_numbered ≡ true
         → (checker.new ≡ checker.old) × (result ≡ Ok None) }
     ensures implied { OnOk result (ImpliesAll checker.old.table.clauses checker.new.table.clauses) }
+    ensures variables { checker.new.variables ≡ checker.old.variables }
+    ensures ahead { (clauses : List (List Lit)) → IsAhead clauses checker.old.table
+        → StaysAhead clauses checker.new.table result }
+    ensures searches { step.now.is_numbered ≡ false → IfOk result (λ search. IsSome search) }
     ensures no_stream { IsErrOf result RefutationError.Stream → ⊥ }
 {
     if step.is_numbered {
@@ -256,6 +318,12 @@ fn refutes_at_first(
     ensures implied { OnOk result (ImpliesAll checker.old.table.clauses checker.new.table.clauses) }
     ensures refuted { IfOk result (λ done. IsTrue done
         → ¬ IsSatisfiable checker.old.table.clauses) }
+    ensures variables { checker.new.variables ≡ checker.old.variables }
+    ensures ahead { (clauses : List (List Lit)) → IsAhead clauses checker.old.table
+        → StaysAhead clauses checker.new.table result }
+    ensures same { (step.new.is_numbered ≡ step.old.is_numbered)
+        × (step.new.deletes ≡ step.old.deletes) × (step.new.clause ≡ step.old.clause)
+        × (IsSome search.old → IsSome search.new) }
     ensures no_stream { IsErrOf result RefutationError.Stream → ⊥ }
 {
     match search {
@@ -281,6 +349,12 @@ fn take_steps<R: Source>(
         → Concludes (feed R.left R.failed R.pulls words.old.held r.old)
         (left_outcome variables live (said_by step.old)
         (place R.left R.failed R.pulls words.old r.old)) result }
+    ensures plain { (clauses : List (List Lit)) → IsSome search.old
+        → IsAhead clauses checker.old.table → checker.old.variables ≡ variables
+        → are_in variables step.old.clause.items ≡ true
+        → ConcludesPlain (feed R.left R.failed R.pulls words.old.held r.old) clauses
+        (plain_left variables (said_by step.old) (place R.left R.failed R.pulls words.old r.old))
+        result }
 {
     'steps: while !take_step(checker, search, step)? {
         if !step.read(words, r, variables)? {
@@ -305,6 +379,9 @@ fn check_steps<R: Source>(
     ensures shown { (live : Live) → step.old.is_numbered ≡ false
         → Holds checker.old.table live → checker.old.variables ≡ variables
         → ShowsText (feed R.left R.failed R.pulls [] r.old) (text_outcome variables live) result }
+    ensures plain { (clauses : List (List Lit)) → step.old.is_numbered ≡ false
+        → IsAhead clauses checker.old.table → checker.old.variables ≡ variables
+        → ShowsPlain (feed R.left R.failed R.pulls [] r.old) variables clauses result }
 {
     let words = &mut Words::new();
     let there = step.read(words, r, variables)?;
@@ -375,8 +452,10 @@ pub fn check_refutation<R: Source>(
     // Stream only where a read failed in this call.
     ensures stream { IsErrOf result RefutationError.Stream → R.failed r.new ≡ true }
     // Memory and the stream aside: Variable where a literal has no variable, else Ok where the
-    // clauses are in conflict at once, and else of an LRAT proof whose bytes are known Ok exactly
-    // where its steps refute the clauses, and otherwise the error that its text has.
+    // clauses are in conflict at once. Of another LRAT proof whose bytes are known Ok exactly where
+    // its steps refute the clauses, and else the error that its text has. Such a DRAT proof is
+    // refused only as Step, where not all its steps follow, or as what is wrong with its text after
+    // steps none of which adds the empty clause.
     ensures shown { Shows (length cnf.now) (clauses_in cnf.now ++ further.now) (R.left r.old)
         result }
 {

@@ -1,14 +1,18 @@
 //! Clauses that follow from those of a formula.
 
-ghost use Rattle.std.specs.Prelude.{◌≡◌, ◌-◌, ◌<◌, ◌≤◌, ◌*◌, ◌^◌, ◌++◌, ◌∷◌, ◌||◌, [], Bool, List, Some, All, IfOk, IsErrOf, IsTrue, OnOk, length, max, min, slice_get};
+ghost use Rattle.std.specs.Prelude.{◌≡◌, ◌+◌, ◌<◌, ◌≤◌, ◌*◌, ◌^◌, ◌++◌, ◌∷◌, ◌||◌, [], Bool, List, None, Ok, All, IfOk, IsErrOf, IsSome, IsTrue, OnOk, length, slice_get, true};
 ghost use Rattle.std.specs.List.{Contains, IsDistinct, list_all};
 ghost use Rattle.aig_base.specs.declared.logic.literal.Lit.{Lit};
 ghost use Rattle.aig_base.specs.Clauses.{variable_of};
-ghost use Rattle.aig_refutation.specs.Checking.{Live, added, are_in, deleted};
+ghost use Rattle.aig_refutation.specs.Ahead.{AddsAhead, IsAhead, StaysAhead};
+ghost use Rattle.aig_refutation.specs.Checking.{Live, added, are_in, deleted, numbered_clause};
 ghost use Rattle.aig_refutation.specs.Formula.{Implies, ImpliesAll};
 ghost use Rattle.aig_refutation.specs.Propagation.{FitsMarks, is_lit, is_rup, is_tautology, reading_of};
+ghost use Rattle.aig_refutation.specs.Steps.{Follows, without_one};
 ghost use Rattle.aig_refutation.specs.Tables.{FindsHints, Holds, HoldsFormula, Moves, RefusesClause};
 
+use crate::closure::is_entailed;
+use crate::compare::are_same;
 use crate::error::RefutationError;
 use crate::marks::Marks;
 use crate::numbered::Numbered;
@@ -91,23 +95,22 @@ fn keep_once(marks: &mut Marks, clause: &[Lit], kept: &mut Vec<Lit>) -> Result<(
     Ok(())
 }
 
-/// Finds the places of the clauses that hints name.
+/// Finds the places of the clauses that hints name, and says whether they all name one.
 fn find_hints(
     numbered: &Numbered,
     hints: &[u32],
     places: &mut Vec<usize>,
-) -> Result<(), RefutationError>
-    ensures no_stream { IsErrOf result RefutationError.Stream → ⊥ }
-    ensures found { FindsHints numbered.now hints.now places.new.items result }
+) -> Result<bool, MemoryError>
+    ensures { FindsHints numbered.now hints.now places.new.items result }
 {
     places.clear();
     for hint in hints {
         match numbered.place(*hint) {
             Some(place) => places.push(place)?,
-            None => return Err(RefutationError::Unnamed),
+            None => return Ok(false),
         }
     }
-    Ok(())
+    Ok(true)
 }
 
 /// Lets numbers name no clause.
@@ -155,9 +158,10 @@ impl Checker {
         self.numbered.clauses()
     }
 
-    /// The number after the greatest that was used, from 1 on.
-    pub(crate) fn next_number(&self) -> u32
-        ensures { result ≡ min (max (length self.now.table.places) 1) (2 ^ 32 - 1) }
+    /// The number after as many as there were clauses. Where there is none, that counts as too much
+    /// memory.
+    pub(crate) fn next_number(&self) -> Result<u32, MemoryError>
+        ensures { IfOk result (λ n. n ≡ self.now.table.added + 1) }
     {
         self.numbered.next_number()
     }
@@ -175,8 +179,23 @@ impl Checker {
         if !is_below(clause, self.variables) {
             return Err(RefutationError::Variable);
         }
-        let number = self.next_number();
+        let number = self.next_number()?;
         self.numbered.add(number, clause)
+    }
+
+    /// Adds a clause that follows, under a number. Each of its literals is kept once.
+    fn put(&mut self, number: u32, clause: &[Lit]) -> Result<(), RefutationError>
+        requires inside { All (λ lit. variable_of lit < self.old.variables) clause.now }
+        requires follows { Implies self.old.table.clauses clause.now }
+        ensures implied { OnOk result (ImpliesAll self.old.table.clauses self.new.table.clauses) }
+        ensures variables { self.new.variables ≡ self.old.variables }
+        ensures moves { (live : Live) → Holds self.old.table live → Moves self.new.table result
+            (numbered_clause live number clause.now) }
+        ensures no_stream { IsErrOf result RefutationError.Stream → ⊥ }
+    {
+        self.kept.clear();
+        keep_once(&mut self.marks, clause, &mut self.kept)?;
+        self.numbered.add(number, &self.kept)
     }
 
     /// Adds a clause, under a number, if it follows by reverse unit propagation along the clauses
@@ -197,7 +216,9 @@ impl Checker {
         if !is_below(clause, self.variables) {
             return Err(RefutationError::Literal);
         }
-        find_hints(&self.numbered, hints, &mut self.hints)?;
+        if !find_hints(&self.numbered, hints, &mut self.hints)? {
+            return Err(RefutationError::Unnamed);
+        }
         if !is_implied(
             self.numbered.clauses(),
             &mut self.marks,
@@ -206,9 +227,100 @@ impl Checker {
         ) {
             return Err(RefutationError::Step);
         }
-        self.kept.clear();
-        keep_once(&mut self.marks, clause, &mut self.kept)?;
-        self.numbered.add(number, &self.kept)
+        self.put(number, clause)
+    }
+
+    /// Adds a clause that follows, under the next number, and returns that.
+    fn put_next(&mut self, clause: &[Lit]) -> Result<u32, RefutationError>
+        requires inside { All (λ lit. variable_of lit < self.old.variables) clause.now }
+        requires follows { Implies self.old.table.clauses clause.now }
+        ensures implied { OnOk result (ImpliesAll self.old.table.clauses self.new.table.clauses) }
+        ensures variables { self.new.variables ≡ self.old.variables }
+        ensures ahead { (clauses : List (List Lit)) → IsAhead clauses self.old.table
+            → StaysAhead (clause.now ∷ clauses) self.new.table result }
+        ensures no_stream { IsErrOf result RefutationError.Stream → ⊥ }
+    {
+        let number = self.next_number()?;
+        self.put(number, clause)?;
+        Ok(number)
+    }
+
+    /// Adds a clause under the next number, and returns that, if hints are there along which it
+    /// follows, or it has a literal and its inverse.
+    pub(crate) fn add_next(
+        &mut self,
+        clause: &[Lit],
+        hints: &[u32],
+    ) -> Result<Option<u32>, RefutationError>
+        ensures implied { OnOk result (ImpliesAll self.old.table.clauses self.new.table.clauses) }
+        ensures follows { IfOk result (λ number. IsSome number
+            → Implies self.old.table.clauses clause.now) }
+        ensures variables { self.new.variables ≡ self.old.variables }
+        ensures ahead { (clauses : List (List Lit)) → IsAhead clauses self.old.table
+            → AddsAhead clauses clause.now self.new.table result }
+        ensures no_stream { IsErrOf result RefutationError.Stream → ⊥ }
+    {
+        if !is_below(clause, self.variables)
+            || !find_hints(&self.numbered, hints, &mut self.hints)?
+            || !is_implied(
+                self.numbered.clauses(),
+                &mut self.marks,
+                clause,
+                &self.hints,
+            )
+        {
+            return Ok(None);
+        }
+        Ok(Some(self.put_next(clause)?))
+    }
+
+    /// The same by unit propagation along all clauses, those of `first` first. It is for a clause
+    /// that `add_next` didn't add, and that mostly isn't added then either.
+    pub(crate) fn add_by_all(
+        &mut self,
+        clause: &[Lit],
+        first: &[u32],
+    ) -> Result<Option<u32>, RefutationError>
+        ensures implied { OnOk result (ImpliesAll self.old.table.clauses self.new.table.clauses) }
+        ensures follows { IfOk result (λ number. IsSome number
+            → Implies self.old.table.clauses clause.now) }
+        ensures variables { self.new.variables ≡ self.old.variables }
+        ensures ahead { (clauses : List (List Lit)) → IsAhead clauses self.old.table
+            → AddsAhead clauses clause.now self.new.table result }
+        ensures refused { (clauses : List (List Lit)) → IsAhead clauses self.old.table
+            → are_in self.old.variables clause.now ≡ true → result ≡ Ok None
+            → Follows clauses clause.now → ⊥ }
+        ensures no_stream { IsErrOf result RefutationError.Stream → ⊥ }
+    {
+        if !is_below(clause, self.variables) {
+            return Ok(None);
+        }
+        let end = self.next_number()?;
+        if !is_entailed(&self.numbered, &mut self.marks, clause, first, end) {
+            return Ok(None);
+        }
+        Ok(Some(self.put_next(clause)?))
+    }
+
+    /// Deletes the clause of a number, if there is one and it has the same literals as this one.
+    pub(crate) fn delete_same(&mut self, number: u32, clause: &[Lit]) -> Result<(), RefutationError>
+        ensures implied { OnOk result (ImpliesAll self.old.table.clauses self.new.table.clauses) }
+        ensures variables { self.new.variables ≡ self.old.variables }
+        ensures ahead { (clauses : List (List Lit)) → IsAhead clauses self.old.table
+            → StaysAhead (without_one clause.now clauses) self.new.table result }
+        ensures no_stream { IsErrOf result RefutationError.Stream → ⊥ }
+    {
+        let Some(place) = self.numbered.place(number) else {
+            return Ok(());
+        };
+        if !is_below(clause, self.variables) {
+            return Ok(());
+        }
+        let named = self.numbered.clauses().clause(place);
+        if !are_same(&mut self.marks, clause, named) {
+            return Ok(());
+        }
+        self.delete(&[number])
     }
 
     /// Deletes the clauses of these numbers.

@@ -3,6 +3,8 @@
 
 mod check;
 mod checker;
+mod closure;
+mod compare;
 mod error;
 mod laws;
 mod marks;
@@ -15,6 +17,7 @@ mod words;
 pub use check::check_refutation;
 pub use error::RefutationError;
 pub use laws::{
+    plain_refutations_are_taken, plainly_refuted_clauses_are_unsatisfiable,
     refuted_clauses_are_unsatisfiable, rup_clauses_are_implied, shown_clauses_are_unsatisfiable,
 };
 pub use marks::Marks;

@@ -1,6 +1,6 @@
 //! Clauses and their numbers.
 
-ghost use Rattle.std.specs.Prelude.{◌≡◌, ◌+◌, ◌-◌, ◌*◌, ◌/◌, ◌^◌, ◌<◌, ◌==◌, ◌++◌, ◌∷◌, [], List, ℕ, Some, All, IsErrOf, OnErr, OnOk, if◌then◌else◌, length, max, min, nat_lt, slice_index_or};
+ghost use Rattle.std.specs.Prelude.{◌≡◌, ◌+◌, ◌-◌, ◌*◌, ◌/◌, ◌^◌, ◌<◌, ◌==◌, ◌++◌, ◌∷◌, [], List, ℕ, Some, All, IfOk, IsErrOf, OnErr, OnOk, if◌then◌else◌, length, max, min, nat_lt, slice_index_or};
 ghost use Rattle.std.specs.List.{Contains};
 ghost use Rattle.aig_base.specs.declared.logic.literal.Lit.{Lit};
 ghost use Rattle.aig_refutation.specs.Checking.{Live, deleted, numbered_clause};
@@ -131,11 +131,15 @@ impl Numbered {
         }
     }
 
-    /// The number after the greatest that was used, from 1 on.
-    pub(crate) fn next_number(&self) -> u32
-        ensures { result ≡ min (max (length self.now.places) 1) (2 ^ 32 - 1) }
+    /// The number after as many as clauses were added. Where there is none, that counts as too much
+    /// memory.
+    pub(crate) fn next_number(&self) -> Result<u32, MemoryError>
+        ensures { IfOk result (λ n. n ≡ self.now.added + 1) }
     {
-        u32::try_from(self.places.len().max(1)).unwrap_or(DELETED)
+        if self.added >= u32::MAX as usize {
+            return Err(MemoryError::Memory);
+        }
+        Ok((self.added + 1) as u32)
     }
 
     /// Whether a number passes four times the clauses so far by more than `FREE_NUMBERS`. So the

@@ -18,7 +18,7 @@ pub enum Reading {
 }
 
 /// What a clause says where the marked literals are true.
-fn read_clause(marks: &Marks, clause: &[Lit]) -> Reading
+pub(crate) fn read_clause(marks: &Marks, clause: &[Lit]) -> Reading
     requires { FitsMarks marks.now clause.now }
     ensures { result ≡ reading_of (marked marks.now) clause.now }
 {
@@ -42,7 +42,7 @@ fn read_clause(marks: &Marks, clause: &[Lit]) -> Reading
 }
 
 /// Makes the inverses of literals true, and no others.
-fn assume_false(marks: &mut Marks, clause: &[Lit])
+pub(crate) fn assume_false(marks: &mut Marks, clause: &[Lit])
     requires { FitsMarks marks.old clause.now }
     ensures length { length marks.new ≡ length marks.old }
     ensures assumed { marked marks.new ≡ when_false clause.now }

@@ -1,6 +1,8 @@
 //! Steps of a proof, as lines of text.
 
 ghost use Rattle.std.specs.Prelude.{◌≡◌, ◌<◌, ◌≤◌, ◌^◌, [], Some, IfOk, IsErrOf, IsTrue, OnOk, false, true};
+ghost use Rattle.aig_base.specs.Clauses.{variable_of};
+ghost use Rattle.aig_refutation.specs.Checking.{are_in};
 ghost use Rattle.aig_refutation.specs.Proofs.{after_clause, clause_number, literal_of};
 ghost use Rattle.aig_refutation.specs.Reading.{GivesStep, reads_added, reads_after, reads_clause, reads_deleted, reads_dropped, reads_numbers, said_by};
 ghost use Rattle.aig_refutation.specs.Words.{Answers, Gives, IsClosed, Tries, is_last, place, rest, said_number};
@@ -43,6 +45,7 @@ fn literal(number: Number, variables: usize) -> Result<Lit, RefutationError>
     requires { variables ≤ 2 ^ 31 }
     ensures no_stream { IsErrOf result RefutationError.Stream → ⊥ }
     ensures literal { Answers (λ lit. lit) (literal_of variables (said_number number)) result }
+    ensures inside { IfOk result (λ lit. variable_of lit < variables) }
 {
     let Some(variable) = number.value.checked_sub(1) else {
         return Err(RefutationError::Line);
@@ -68,6 +71,8 @@ fn read_clause<R: Source>(
         (reads_clause variables (said_number first) clause.old.items)
         (place R.left R.failed R.pulls words.old r.old)
         (place R.left R.failed R.pulls words.new r.new) result }
+    ensures inside { are_in variables clause.old.items ≡ true
+        → OnOk result (are_in variables clause.new.items ≡ true) }
 {
     let mut number = first;
     while number.value != 0 {
@@ -135,6 +140,7 @@ impl Step {
         ensures step { GivesStep self.old.is_numbered variables (said_by self.new)
             (place R.left R.failed R.pulls words.old r.old)
             (place R.left R.failed R.pulls words.new r.new) result }
+        ensures inside { IfOk result (λ there. are_in variables self.new.clause.items ≡ true) }
     {
         self.clause.clear();
         self.numbers.clear();
@@ -157,9 +163,12 @@ impl Step {
         requires { variables ≤ 2 ^ 31 }
         ensures stream { IsErrOf result RefutationError.Stream → R.failed r.new ≡ true }
         ensures fewer { OnOk result (rest R.pulls words.new r.new ≤ rest R.pulls words.old r.old) }
-        ensures step { Gives (λ done. said_by self.new) (reads_dropped variables)
+        ensures step { self.old.clause.items ≡ [] → Gives (λ done. said_by self.new)
+            (reads_dropped variables)
             (place R.left R.failed R.pulls words.old r.old)
             (place R.left R.failed R.pulls words.new r.new) result }
+        ensures inside { are_in variables self.old.clause.items ≡ true
+            → OnOk result (are_in variables self.new.clause.items ≡ true) }
         ensures closed { OnOk result (IsClosed words.new.end) }
     {
         self.is_numbered = false;
@@ -185,6 +194,8 @@ impl Step {
             (reads_after self.old.is_numbered variables (said_number first))
             (place R.left R.failed R.pulls words.old r.old)
             (place R.left R.failed R.pulls words.new r.new) result }
+        ensures inside { are_in variables self.old.clause.items ≡ true
+            → OnOk result (are_in variables self.new.clause.items ≡ true) }
         ensures closed { OnOk result (IsClosed words.new.end) }
     {
         self.deletes = false;
@@ -212,6 +223,7 @@ impl Step {
             → Gives (λ done. said_by self.new) (reads_deleted (said_number number))
             (place R.left R.failed R.pulls words.old r.old)
             (place R.left R.failed R.pulls words.new r.new) result }
+        ensures clause { self.new.clause ≡ self.old.clause }
         ensures closed { OnOk result (IsClosed words.new.end) }
     {
         self.is_numbered = true;
@@ -240,6 +252,8 @@ impl Step {
             (reads_added self.old.is_numbered variables (said_number first) (said_number second))
             (place R.left R.failed R.pulls words.old r.old)
             (place R.left R.failed R.pulls words.new r.new) result }
+        ensures inside { are_in variables self.old.clause.items ≡ true
+            → OnOk result (are_in variables self.new.clause.items ≡ true) }
         ensures closed { OnOk result (IsClosed words.new.end) }
     {
         read_clause(words, r, second, variables, &mut self.clause)?;
@@ -265,8 +279,11 @@ impl Step {
     ) -> Result<(), RefutationError>
         requires { variables ≤ 2 ^ 31 }
         ensures no_stream { IsErrOf result RefutationError.Stream → ⊥ }
-        ensures step { Tries (λ done. said_by self.new) (after_clause self.old.is_numbered variables
-            (is_last (Some end)) (said_number first) [] []) result }
+        ensures step { self.old.deletes ≡ false → Tries (λ done. said_by self.new)
+            (after_clause self.old.is_numbered variables (is_last (Some end)) (said_number first)
+            self.old.clause.items []) result }
+        ensures inside { are_in variables self.old.clause.items ≡ true
+            → OnOk result (are_in variables self.new.clause.items ≡ true) }
     {
         if self.is_numbered {
             return Err(end.fault());

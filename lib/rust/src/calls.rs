@@ -4,6 +4,16 @@ unsafe extern "C" {
     pub fn aig_text(file: *const u8, file_len: usize, out: *mut u8, out_len: usize, needed: *mut usize) -> u32;
     pub fn aig_binary(file: *const u8, file_len: usize, out: *mut u8, out_len: usize, needed: *mut usize) -> u32;
     pub fn aig_strash(file: *const u8, file_len: usize, out: *mut u8, out_len: usize, needed: *mut usize) -> u32;
+    pub fn aig_refine(file: *const u8, file_len: usize, out: *mut u8, out_len: usize, needed: *mut usize) -> u32;
+    pub fn aig_reencode(file: *const u8, file_len: usize, out: *mut u8, out_len: usize, needed: *mut usize) -> u32;
+    pub fn aig_unroll(file: *const u8, file_len: usize, k: u64, out: *mut u8, out_len: usize, needed: *mut usize) -> u32;
+    pub fn aig_move_constraints(file: *const u8, file_len: usize, out: *mut u8, out_len: usize, needed: *mut usize) -> u32;
+    pub fn aig_compress_bads(file: *const u8, file_len: usize, out: *mut u8, out_len: usize, needed: *mut usize) -> u32;
+    pub fn aig_outputs_as_bads(file: *const u8, file_len: usize, out: *mut u8, out_len: usize, needed: *mut usize) -> u32;
+    pub fn aig_cone(file: *const u8, file_len: usize, n: usize, out: *mut u8, out_len: usize, needed: *mut usize) -> u32;
+    pub fn aig_reduce(file: *const u8, file_len: usize, out: *mut u8, out_len: usize, needed: *mut usize) -> u32;
+    pub fn aig_question(file: *const u8, file_len: usize, k: u64, out: *mut u8, out_len: usize, needed: *mut usize) -> u32;
+    pub fn aig_info(file: *const u8, file_len: usize, out: *mut u8, out_len: usize, needed: *mut usize) -> u32;
     pub fn aig_cnf(
         file: *const u8,
         file_len: usize,
@@ -42,6 +52,15 @@ unsafe extern "C" {
         out_len: usize,
         needed: *mut usize,
     ) -> u32;
+    pub fn aig_bounded(
+        file: *const u8,
+        file_len: usize,
+        k: u64,
+        optimize: bool,
+        out: *mut u8,
+        out_len: usize,
+        needed: *mut usize,
+    ) -> u32;
     pub fn aig_window(
         file: *const u8,
         file_len: usize,
@@ -53,6 +72,7 @@ unsafe extern "C" {
         needed: *mut usize,
     ) -> u32;
     pub fn aig_check_refuted(file: *const u8, file_len: usize, k: u64, optimize: bool, proof: *const u8, proof_len: usize) -> u32;
+    pub fn aig_check_refuted_to(file: *const u8, file_len: usize, k: u64, optimize: bool, proof: *const u8, proof_len: usize) -> u32;
     pub fn aig_check_inductive(
         file: *const u8,
         file_len: usize,
@@ -94,6 +114,17 @@ unsafe extern "C" {
         out_len: usize,
         needed: *mut usize,
     ) -> u32;
+    pub fn aig_witness_to(
+        file: *const u8,
+        file_len: usize,
+        k: u64,
+        optimize: bool,
+        solution: *const u8,
+        solution_len: usize,
+        out: *mut u8,
+        out_len: usize,
+        needed: *mut usize,
+    ) -> u32;
     pub fn aig_check_run(
         file: *const u8,
         file_len: usize,
@@ -116,6 +147,25 @@ unsafe extern "C" {
         file_len: usize,
         certificate: *const u8,
         certificate_len: usize,
+        out: *mut u8,
+        out_len: usize,
+        needed: *mut usize,
+    ) -> u32;
+    pub fn aig_merge(
+        file: *const u8,
+        file_len: usize,
+        other: *const u8,
+        other_len: usize,
+        out: *mut u8,
+        out_len: usize,
+        needed: *mut usize,
+    ) -> u32;
+    pub fn aig_obligations(
+        file: *const u8,
+        file_len: usize,
+        certificate: *const u8,
+        certificate_len: usize,
+        optimize: bool,
         out: *mut u8,
         out_len: usize,
         needed: *mut usize,

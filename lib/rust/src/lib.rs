@@ -12,6 +12,11 @@ mod calls;
 #[derive(Clone, Copy, PartialEq, Eq)]
 pub struct Status(pub u32);
 
+impl Status {
+    /// No bad state is reached up to the step, so that there are no clauses to solve.
+    pub const SETTLED: Status = Status(32);
+}
+
 /// What a call gives, or why it doesn't.
 pub type Result<T> = std::result::Result<T, Status>;
 
@@ -99,6 +104,56 @@ pub fn strash(file: &[u8]) -> Result<Vec<u8>> {
     given(ROOM, |out, len, needed| unsafe { calls::aig_strash(file.as_ptr(), file.len(), out, len, needed) })
 }
 
+/// The text form of a file's circuit, cut to its cone of influence.
+pub fn refine(file: &[u8]) -> Result<Vec<u8>> {
+    given(ROOM, |out, len, needed| unsafe { calls::aig_refine(file.as_ptr(), file.len(), out, len, needed) })
+}
+
+/// The text form of a file's circuit in the numbering of the binary form.
+pub fn reencode(file: &[u8]) -> Result<Vec<u8>> {
+    given(ROOM, |out, len, needed| unsafe { calls::aig_reencode(file.as_ptr(), file.len(), out, len, needed) })
+}
+
+/// The text form of a file's circuit with `k` further steps.
+pub fn unroll(file: &[u8], k: u64) -> Result<Vec<u8>> {
+    given(ROOM, |out, len, needed| unsafe { calls::aig_unroll(file.as_ptr(), file.len(), k, out, len, needed) })
+}
+
+/// The text form of a file's circuit with its constraints joined to the first bad state property and the first output.
+pub fn move_constraints(file: &[u8]) -> Result<Vec<u8>> {
+    given(ROOM, |out, len, needed| unsafe { calls::aig_move_constraints(file.as_ptr(), file.len(), out, len, needed) })
+}
+
+/// The text form of a file's circuit with its bad state properties as one.
+pub fn compress_bads(file: &[u8]) -> Result<Vec<u8>> {
+    given(ROOM, |out, len, needed| unsafe { calls::aig_compress_bads(file.as_ptr(), file.len(), out, len, needed) })
+}
+
+/// The text form of a file's circuit with its outputs as its bad state properties. A file that has some is refused.
+pub fn outputs_as_bads(file: &[u8]) -> Result<Vec<u8>> {
+    given(ROOM, |out, len, needed| unsafe { calls::aig_outputs_as_bads(file.as_ptr(), file.len(), out, len, needed) })
+}
+
+/// The text form of what output `n` of a file, its constraints and its latches read.
+pub fn cone(file: &[u8], n: usize) -> Result<Vec<u8>> {
+    given(ROOM, |out, len, needed| unsafe { calls::aig_cone(file.as_ptr(), file.len(), n, out, len, needed) })
+}
+
+/// The text form of what of a file's circuit its bad state properties and constraints read, with equal gates merged.
+pub fn reduce(file: &[u8]) -> Result<Vec<u8>> {
+    given(ROOM, |out, len, needed| unsafe { calls::aig_reduce(file.as_ptr(), file.len(), out, len, needed) })
+}
+
+/// The text form of a circuit whose output can be true exactly where a bad state is reached at a step from 0 to `k`.
+pub fn question(file: &[u8], k: u64) -> Result<Vec<u8>> {
+    given(ROOM, |out, len, needed| unsafe { calls::aig_question(file.as_ptr(), file.len(), k, out, len, needed) })
+}
+
+/// The counts of a file's circuit, a line each.
+pub fn info(file: &[u8]) -> Result<Vec<u8>> {
+    given(ROOM, |out, len, needed| unsafe { calls::aig_info(file.as_ptr(), file.len(), out, len, needed) })
+}
+
 /// The clauses, in DIMACS form, of a file's circuit that is unrolled by `k` steps.
 pub fn cnf(file: &[u8], k: u64, optimize: bool) -> Result<Vec<u8>> {
     given(ROOM, |out, len, needed| unsafe { calls::aig_cnf(file.as_ptr(), file.len(), k, optimize, out, len, needed) })
@@ -138,6 +193,12 @@ pub fn clauses(file: &[u8], k: u64, optimize: bool) -> Result<Vec<u8>> {
     given(ROOM, |out, len, needed| unsafe { calls::aig_clauses(file.as_ptr(), file.len(), k, optimize, out, len, needed) })
 }
 
+/// The clauses, in DIMACS form, of a file's `question`, after comments that say what its inputs are. `Status::SETTLED` only where no bad
+/// state is reached up to step `k`.
+pub fn bounded(file: &[u8], k: u64, optimize: bool) -> Result<Vec<u8>> {
+    given(ROOM, |out, len, needed| unsafe { calls::aig_bounded(file.as_ptr(), file.len(), k, optimize, out, len, needed) })
+}
+
 /// The clauses, in DIMACS form, that ask for `k + 2` steps with a bad state first at their end; where `distinct`, with no state twice.
 pub fn window(file: &[u8], k: u64, distinct: bool, optimize: bool) -> Result<Vec<u8>> {
     given(ROOM, |out, len, needed| unsafe {
@@ -149,6 +210,13 @@ pub fn window(file: &[u8], k: u64, distinct: bool, optimize: bool) -> Result<Vec
 pub fn witness(file: &[u8], k: u64, optimize: bool, solution: &[u8]) -> Result<Vec<u8>> {
     given(ROOM, |out, len, needed| unsafe {
         calls::aig_witness(file.as_ptr(), file.len(), k, optimize, solution.as_ptr(), solution.len(), out, len, needed)
+    })
+}
+
+/// The witness, checked, of the first step with a bad state, that a solver's answer to `bounded` says.
+pub fn witness_to(file: &[u8], k: u64, optimize: bool, solution: &[u8]) -> Result<Vec<u8>> {
+    given(ROOM, |out, len, needed| unsafe {
+        calls::aig_witness_to(file.as_ptr(), file.len(), k, optimize, solution.as_ptr(), solution.len(), out, len, needed)
     })
 }
 
@@ -166,9 +234,29 @@ pub fn join(file: &[u8], certificate: &[u8]) -> Result<Vec<u8>> {
     })
 }
 
+/// The text form of two files side by side.
+pub fn merge(file: &[u8], other: &[u8]) -> Result<Vec<u8>> {
+    given(ROOM, |out, len, needed| unsafe {
+        calls::aig_merge(file.as_ptr(), file.len(), other.as_ptr(), other.len(), out, len, needed)
+    })
+}
+
+/// The clauses, in DIMACS form, that both proofs of `check_certified` are of, after the lines `c base` and `c step`.
+pub fn obligations(file: &[u8], certificate: &[u8], optimize: bool) -> Result<Vec<u8>> {
+    given(ROOM, |out, len, needed| unsafe {
+        let (other, other_len) = (certificate.as_ptr(), certificate.len());
+        calls::aig_obligations(file.as_ptr(), file.len(), other, other_len, optimize, out, len, needed)
+    })
+}
+
 /// Whether a proof for `query` shows that no run of a file's machine reaches a bad state at step `k`.
 pub fn check_refuted(file: &[u8], k: u64, optimize: bool, proof: &[u8]) -> Result<()> {
     held(unsafe { calls::aig_check_refuted(file.as_ptr(), file.len(), k, optimize, proof.as_ptr(), proof.len()) })
+}
+
+/// Whether a proof for `bounded` shows that no bad state is reached at a step from 0 to `k`.
+pub fn check_refuted_to(file: &[u8], k: u64, optimize: bool, proof: &[u8]) -> Result<()> {
+    held(unsafe { calls::aig_check_refuted_to(file.as_ptr(), file.len(), k, optimize, proof.as_ptr(), proof.len()) })
 }
 
 /// Whether a proof for `window` shows that no bad state is ever reached, if none is at the steps 0 to `k`.

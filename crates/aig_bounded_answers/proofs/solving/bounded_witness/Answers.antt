@@ -1,38 +1,40 @@
+use Rattle.std.proofs.Common.{Err, ap}
 use Rattle.std.proofs.lemmas.Result.{err_from_is_err_and}
 use Rattle.aig_reader.specs.Verdicts.{Accepted}
+use Rattle.aig_bounded_answers.specs.declared.questions.Asked.TheVariants.{Reached}
 use Rattle.aig_bounded_answers.specs.Asking.{verdict_of}
-use Rattle.aig_bounded_answers.proofs.Asked.{read_circuit, read_closed, read_starts, refusal_of, shown_of}
+use Rattle.aig_bounded_answers.proofs.Asked.{read_circuit, read_closed, read_starts, refusal_of, shown_of, size_of}
 use Rattle.aig_bounded_answers.proofs.Verdicts.{judged, refused_own}
 use Rattle.aig_bounded_answers.proofs.solving.bounded_witness.Goals as goal
 
 pub ask_file-requires-clause-circuit : goal.ask_file-requires-clause-circuit
 ask_file-requires-clause-circuit g c =
-    read_circuit c.args.limit c.args.k c.args.optimize c.in_ok-lists.lists _ _
+    read_circuit Reached c.args.limit c.args.k c.args.optimize c.in_ok-lists.lists _ _
     c.in_ok-lists.ensures.circuit
 
 pub ask_file-requires-clause-closed : goal.ask_file-requires-clause-closed
 ask_file-requires-clause-closed g c =
-    read_closed c.args.limit c.args.k c.args.optimize c.in_ok-lists.lists _ _
+    read_closed Reached c.args.limit c.args.k c.args.optimize c.in_ok-lists.lists _ _
     c.in_ok-lists.ensures.circuit
 
 pub ask_file-requires-clause-starts : goal.ask_file-requires-clause-starts
 ask_file-requires-clause-starts g c =
-    read_starts c.args.limit c.args.k c.args.optimize c.in_ok-lists.lists _ _
+    read_starts Reached c.args.limit c.args.k c.args.optimize c.in_ok-lists.lists _ _
     c.in_ok-lists.ensures.circuit
 
 pub solve-requires-clause-circuit : goal.solve-requires-clause-circuit
 solve-requires-clause-circuit g c =
-    read_circuit c.args.limit c.args.k c.args.optimize c.in_ok-lists.lists _ _
+    read_circuit Reached c.args.limit c.args.k c.args.optimize c.in_ok-lists.lists _ _
     c.in_ok-lists.ensures.circuit
 
 pub solve-requires-clause-closed : goal.solve-requires-clause-closed
 solve-requires-clause-closed g c =
-    read_closed c.args.limit c.args.k c.args.optimize c.in_ok-lists.lists _ _
+    read_closed Reached c.args.limit c.args.k c.args.optimize c.in_ok-lists.lists _ _
     c.in_ok-lists.ensures.circuit
 
 pub solve-requires-clause-starts : goal.solve-requires-clause-starts
 solve-requires-clause-starts g c =
-    read_starts c.args.limit c.args.k c.args.optimize c.in_ok-lists.lists _ _
+    read_starts Reached c.args.limit c.args.k c.args.optimize c.in_ok-lists.lists _ _
     c.in_ok-lists.ensures.circuit
 
 pub solve-requires-clause-asks : goal.solve-requires-clause-asks
@@ -45,6 +47,14 @@ returns-in_err-made-clause-verdict g c =
     rw (p.1, p.2) (judged c.args.limit _ _ _ c.in_ok-lists.lists (verdict_of
     c.in_err-made.field-0.0) c.in_ok-lists.ensures.circuit c.in_ok-lists.ensures.verdict
     c.in_err-made.ensures.said)
+
+pub returns-in_err-made-clause-large : goal.returns-in_err-made-clause-large
+returns-in_err-made-clause-large g c =
+    let p = err_from_is_err_and c.from_residual-in_err-made.result
+    c.from_residual-in_err-made.ensures.1 in
+    rw (p.1, p.2) (size_of Reached c.args.limit c.args.k c.args.optimize c.in_ok-lists.lists _ _
+    c.in_ok-lists.ensures.circuit c.in_err-made.field-0.0 c.in_err-made.ensures.said (λ is.
+    c.in_err-made.ensures.large (ap Err is)))
 
 pub returns-in_err-witness-clause-verdict : goal.returns-in_err-witness-clause-verdict
 returns-in_err-witness-clause-verdict g c =

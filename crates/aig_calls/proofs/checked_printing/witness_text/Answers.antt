@@ -1,10 +1,11 @@
 use Rattle.std.proofs.Common.{ℕ, Some, List, Vec, Global, ap, sym, ◌∙◌, rules}
 use Rattle.aig_answers.specs.Answers.{IsAsked}
-use Rattle.aig_checks.specs.Running.{Answers, file_verdict, verdict_of}
+use Rattle.aig_checks.specs.Running.{Answers, file_verdict}
 use Rattle.aig_checks.specs.declared.command.FileCommand.TheVariants as commands
 use Rattle.aig_commands.specs.declared.tool.TheConstants.{LIMIT}
 use Rattle.aig_calls.specs.Parts.{IsOwnOf}
-use Rattle.aig_calls.proofs.Making.{not_made, text_made}
+use Rattle.aig_calls.proofs.Making.{text_made}
+use Rattle.aig_calls.proofs.Taken.{check_not_made}
 use Rattle.aig_calls.proofs.checked_printing.witness_text.Goals as goal
 
 pub returns-in-Ok : goal.returns-in-Ok
@@ -12,16 +13,22 @@ returns-in-Ok c =
     let command = (commands.Witness c.args.k c.args.optimize) in
     let told = c.in-Ok.ensures in
     let items = λ (v : Vec ℕ Global). Some v.items in
-    let none = ap items c.new-sink.ensures.writer ∙ ap (λ (xs : List ℕ). Some xs) c.new.ensures.items in
+    let none = ap items c.new-sink.ensures.writer ∙ ap (λ (xs : List ℕ). Some xs)
+    c.new.ensures.items in
     let all = ap items (sym c.into_inner.ensures) in
-    text_made (file_verdict command LIMIT) LIMIT c.args.file.now _ _ (IsAsked LIMIT c.args.k) (λ bs f asked. asked.0.0)
-    (Answers command (Some c.args.solution.now)) (IsOwnOf command) _ _ _ c.into_inner.result (search rules) (search rules)
-    (rw c.new-source.ensures.reader at told.verdict) (rw (c.new-source.ensures.reader, c.new-answer.ensures.reader) at told.ok) none all
+    text_made (file_verdict command LIMIT) LIMIT c.args.file.now _ _ (IsAsked LIMIT c.args.k)
+    (λ bs f asked. asked.0.0)
+    (Answers command (Some c.args.solution.now)) (IsOwnOf command) _ _ _ c.into_inner.result
+    (search rules) (search rules)
+    (rw c.new-source.ensures.reader at told.verdict)
+    (rw (c.new-source.ensures.reader, c.new-answer.ensures.reader) at told.ok) none all
 
 pub returns-in-Err : goal.returns-in-Err
 returns-in-Err c =
     let command = (commands.Witness c.args.k c.args.optimize) in
     let told = c.in-Err.ensures in
-    not_made (file_verdict command LIMIT) LIMIT c.args.file.now _ _ (λ f (made : Vec ℕ Global). Answers command (Some c.args.solution.now) f made.items)
-    (IsOwnOf command) (verdict_of c.in-Err.error) c.of_check.result (rw c.new-source.ensures.reader at told.verdict)
-    c.of_check.ensures.said c.of_check.ensures.least (c.of_check.ensures.own command told.own)
+    check_not_made LIMIT c.args.file.now _ _ command (Some c.args.solution.now) c.in-Err.error
+    c.of_check.result
+    (rw c.new-source.ensures.reader at told.verdict) c.of_check.ensures.said
+    c.of_check.ensures.least
+    (c.of_check.ensures.own command told.own)

@@ -20,7 +20,7 @@ returns-in_err-made g c =
     let p = err_from_is_err_and c.from_residual.result c.from_residual.ensures.1 in
     let told = c.in_err-made.ensures in
     let e = c.in_err-made.field-0.0 in
-    rw (p.1, p.2) (question_refused e told.verdict told.own told.own refl refl)
+    rw (p.1, p.2) (question_refused e told.verdict told.own told.own told.large refl refl)
 
 pub returns-then-is_settled : goal.returns-then-is_settled
 returns-then-is_settled g c =

@@ -16,7 +16,7 @@ returns-in_err-check_bounded g c =
     rw (p.1, p.2) (refused (errors.Bounded e) told.verdict told.own (λ is. cc) refl (λ alone. told.unread (refuses_bounded e alone))
     (tells_of_bounded c.args.k LIMIT c.args.optimize _ _ _ _ e told.own
     (λ taken. proof_told (told.shown taken))
-    (λ is. told.stream (err_of e (bounded.Refutation refutation.Stream) is))))
+    (λ is. told.stream (err_of e (bounded.Refutation refutation.Stream) is)) told.large))
 
 pub returns-in_err-write_line : goal.returns-in_err-write_line
 returns-in_err-write_line g c =

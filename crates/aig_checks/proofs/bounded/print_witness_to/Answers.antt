@@ -12,7 +12,7 @@ returns-in_err-witness g c =
     let told = c.in_err-witness.ensures in
     let e = c.in_err-witness.field-0.0 in
     rw (p.1, p.2) (refused (errors.Bounded e) told.verdict told.own (λ is. cc) refl (λ alone. told.unread (refuses_bounded e alone))
-    (tells_of_answer c.args.k LIMIT c.args.optimize _ _ _ _ e told.own told.refusal))
+    (tells_of_answer c.args.k LIMIT c.args.optimize _ _ _ _ e told.own told.refusal told.large))
 
 pub returns-in_err-write_witness : goal.returns-in_err-write_witness
 returns-in_err-write_witness g c =

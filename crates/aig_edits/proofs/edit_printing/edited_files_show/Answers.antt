@@ -5,7 +5,7 @@ use Rattle.aig_cone.specs.Refine.{refined}
 use Rattle.aig_edit_laws.specs.Shown.{HasCircuitOutput}
 use Rattle.aig_format.specs.Circuit.{circuit_of, edge_of, file_of}
 use Rattle.aig_format.specs.declared.FileKind.TheVariants.{Text}
-use Rattle.aig_reduction.specs.Reduction.{HaveSameWitnesses}
+use Rattle.aig_edit_laws.specs.Reduction.{HaveSameWitnesses}
 use Rattle.aig_runs.specs.CircuitQueries.{HasCircuitWitness}
 use Rattle.aig_edits.specs.declared.edit.Edit.TheVariants.{Bads, Compress, Cone, Move, Reencode, Refine, Unroll}
 use Rattle.aig_edits.specs.Edits.{AreAsSafe, EditShows, IsEdited}

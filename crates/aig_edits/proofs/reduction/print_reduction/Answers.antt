@@ -9,7 +9,7 @@ use Rattle.aig_format.specs.File.{File}
 use Rattle.aig_format.specs.Fits.{Accepts}
 use Rattle.aig_format.specs.Writable.{IsWritable}
 use Rattle.aig_reader.specs.Reading.{AreListsOf, IsReadAs}
-use Rattle.aig_reduction.specs.Reduction.{IsReduced}
+use Rattle.aig_edit_laws.specs.Reduction.{IsReduced}
 use Rattle.aig_edits.specs.declared.edit_error.EditError.TheVariants as errors
 use Rattle.aig_edits.specs.Reductions.{PrintsReduction}
 use Rattle.aig_edits.proofs.ReadFiles.{taken_file}

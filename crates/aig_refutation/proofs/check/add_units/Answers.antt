@@ -1,5 +1,23 @@
+use Rattle.std.proofs.Common.{[], ◌∷◌, ◌∙◌}
+use Rattle.std.proofs.lemmas.Result.{err_from_is_err_and}
 use Rattle.aig_refutation.proofs.Following.{implied_on}
+use Rattle.aig_refutation.proofs.Keeping.{adds_stays}
 use Rattle.aig_refutation.proofs.check.add_units.Goals as goal
 
+pub returns-in_err-number-clause-ahead : goal.returns-in_err-number-clause-ahead
+returns-in_err-number-clause-ahead c clauses ahead =
+    let p = err_from_is_err_and c.from_residual-in_err-number.result
+    c.from_residual-in_err-number.ensures.1 in
+    rw (p.1, p.2) (c.in_err-number.ensures.ahead clauses (c.loop.invariant.ahead clauses ahead))
+
 pub loop-preserved : goal.loop-preserved
-loop-preserved c = implied_on _ _ _ c.loop.invariant c.in_ok-add.ensures.implied
+loop-preserved c =
+    let before = c.loop.invariant in
+    let then = c.in_ok-number.ensures in
+    record {
+      implied = implied_on _ _ _ before.implied then.implied;
+      variables = then.variables ∙ before.variables;
+      ahead = λ clauses ahead.
+          adds_stays clauses (c.in-Some.lit ∷ []) c.add_next.new.self.table c.in_ok-number.field-0
+          (then.ahead clauses (before.ahead clauses ahead));
+    }

@@ -4,11 +4,13 @@ use Rattle.aig_base.specs.declared.logic.literal.Lit.{Lit}
 use Rattle.aig_base.specs.Formula.{clauses_in}
 use Rattle.aig_lexer.specs.Takes.{feed}
 use Rattle.aig_refutation.specs.declared.error.RefutationError.TheVariants as errors
+use Rattle.aig_refutation.specs.Ahead.{IsAhead}
 use Rattle.aig_refutation.specs.Checking.{IsInConflict, all_live, are_all_in}
-use Rattle.aig_refutation.specs.Concluding.{ConcludesConflict, ShowsText, text_outcome}
+use Rattle.aig_refutation.specs.Concluding.{ConcludesConflict, ShowsPlain, ShowsText, text_outcome}
 use Rattle.aig_refutation.specs.Tables.{Checked, Holds}
 use Rattle.aig_refutation.specs.Words.{Tells}
 use Rattle.aig_refutation.proofs.Formulas.{formula_inside, shows_conflict, shows_memory, shows_refused, shows_text}
+use Rattle.aig_refutation.proofs.Keeping.{formula_ahead}
 use Rattle.aig_refutation.proofs.check.check_clauses.Goals as goal
 
 pub returns-in_err-number_clauses-clause-shown : goal.returns-in_err-number_clauses-clause-shown
@@ -65,6 +67,13 @@ returns-clause-shown g c formula same fresh =
     let shown : ShowsText before (text_outcome (length c.args.cnf.now) live) c.check_steps.result =
     subst (λ (n : ℕ). ShowsText before (text_outcome n live) c.check_steps.result) count
     (c.check_steps.ensures.shown live fresh holds variables) in
+    let first : IsAhead clauses checker.table = subst (λ (list : List (List Lit)). IsAhead list
+    checker.table) list (formula_ahead checker.table formula_holds.holds) in
+    let ahead : IsAhead clauses c.refutes_at_once.new.checker.table = subst (λ (checker : Checked).
+    IsAhead clauses checker.table) (sym kept) first in
+    let plain : ShowsPlain before (length c.args.cnf.now) clauses c.check_steps.result =
+    subst (λ (n : ℕ). ShowsPlain before n clauses c.check_steps.result) count
+    (c.check_steps.ensures.plain clauses fresh ahead variables) in
     let none : IsInConflict checker.table.clauses → ⊥ = subst (λ (b : Bool). ConcludesConflict
     checker.table.clauses (Ok b)) c.if-branch.false
     (c.in_ok-refutes_at_once.ensures.conflict formula_holds) in
@@ -72,4 +81,4 @@ returns-clause-shown g c formula same fresh =
     (c.in_ok-number_clauses.ensures.variables ∙ same) list in
     shows_text (length c.args.cnf.now) clauses (g.R.Source.left c.args.r.now) inside
     (subst (λ (list : List (List Lit)). IsInConflict list → ⊥) list none) before refl
-    c.check_steps.result shown
+    c.check_steps.result shown plain

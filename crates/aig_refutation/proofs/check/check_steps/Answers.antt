@@ -2,12 +2,15 @@ use Rattle.std.proofs.Common.{◌≡◌, Bool, true, false, None, Ok, Err, [], r
 use Rattle.std.proofs.lemmas.Result.{err_from_is_err_and}
 use Rattle.std.proofs.lemmas.Bool.{false≢true}
 use Rattle.aig_refutation.specs.declared.error.RefutationError.TheVariants as errors
-use Rattle.aig_refutation.specs.Concluding.{Concludes, ShowsText, left_outcome, text_outcome}
+use Rattle.aig_refutation.specs.Checking.{are_in}
+use Rattle.aig_refutation.specs.Concluding.{Concludes, ConcludesPlain, ShowsPlain, ShowsText, left_outcome, plain_left, text_outcome}
+use Rattle.aig_refutation.specs.Proofs.{Line}
 use Rattle.aig_refutation.specs.Reading.{GivesStep, said_by}
 use Rattle.aig_refutation.specs.Tables.{Checked, Holds}
 use Rattle.aig_refutation.specs.Words.{Text, place}
 use Rattle.aig_refutation.specs.declared.step.Step as held
 use Rattle.aig_refutation.proofs.Outcomes.{by_truth, text_none, text_numbered, text_unnumbered, text_wrong}
+use Rattle.aig_refutation.proofs.Plainly.{first_none, first_numbered, first_plain, first_wrong, numbered_said, plain_same, shows_stays}
 use Rattle.aig_refutation.proofs.check.check_steps.Goals as goal
 
 pub returns-in_err-there-clause-shown : goal.returns-in_err-there-clause-shown
@@ -137,3 +140,98 @@ returns-clause-shown g c live fresh holds same =
     held.Step). Concludes after.feed (left_outcome variables live (said_by s) after) r) first.2
     concludes))
     (λ n. text_unnumbered variables live before refl step after n c.in_ok-there.there given r)
+
+pub returns-in_err-there-clause-plain : goal.returns-in_err-there-clause-plain
+returns-in_err-there-clause-plain g c clauses fresh ahead same =
+    let at = place g.R.Source.left g.R.Source.failed g.R.Source.pulls in
+    let none : Text = record { held = []; end = None } in
+    let before = at none c.args.r.now in
+    let after = at c.read.new.words c.read.new.r in
+    let variables = c.args.variables in
+    let step = c.read.new.self in
+    let e = c.in_err-there.field-0.0 in
+    let p = err_from_is_err_and c.from_residual.result c.from_residual.ensures.1 in
+    let given : GivesStep false variables (said_by step) before after (Err e) = subst (λ (b : Bool).
+    GivesStep b variables (said_by step) before after (Err e)) fresh (subst (λ (w : Text). GivesStep
+    c.args.step.now.is_numbered variables (said_by step) (at w c.args.r.now) after (Err e))
+    c.new.ensures c.in_err-there.ensures.step) in
+    rw (p.1, p.2) (first_wrong variables clauses before refl (said_by step) after e given)
+
+pub returns-in_err-search-clause-plain : goal.returns-in_err-search-clause-plain
+returns-in_err-search-clause-plain g c clauses fresh ahead same =
+    let at = place g.R.Source.left g.R.Source.failed g.R.Source.pulls in
+    let none : Text = record { held = []; end = None } in
+    let before = at none c.args.r.now in
+    let variables = c.args.variables in
+    let e = c.in_err-search.field-0.0 in
+    let p = err_from_is_err_and c.from_residual-in_err-search.result
+    c.from_residual-in_err-search.ensures.1 in
+    rw (p.1, p.2)
+    (shows_stays before.feed variables clauses e (c.in_err-search.ensures.ahead clauses ahead))
+
+pub returns-in_err-refutes_at_first-clause-plain :
+    goal.returns-in_err-refutes_at_first-clause-plain
+returns-in_err-refutes_at_first-clause-plain g c clauses fresh ahead same =
+    let at = place g.R.Source.left g.R.Source.failed g.R.Source.pulls in
+    let none : Text = record { held = []; end = None } in
+    let before = at none c.args.r.now in
+    let variables = c.args.variables in
+    let e = c.in_err-refutes_at_first.field-0.0 in
+    let p = err_from_is_err_and c.from_residual-in_err-refutes_at_first.result
+    c.from_residual-in_err-refutes_at_first.ensures.1 in
+    rw (p.1, p.2)
+    (shows_stays before.feed variables clauses e (c.in_err-refutes_at_first.ensures.ahead clauses
+    (c.in_ok-search.ensures.ahead clauses ahead)))
+
+pub returns-then-not-there-clause-plain : goal.returns-then-not-there-clause-plain
+returns-then-not-there-clause-plain g c clauses fresh ahead same =
+    let at = place g.R.Source.left g.R.Source.failed g.R.Source.pulls in
+    let none : Text = record { held = []; end = None } in
+    let before = at none c.args.r.now in
+    let after = at c.read.new.words c.read.new.r in
+    let variables = c.args.variables in
+    let step = c.read.new.self in
+    let given_there : GivesStep false variables (said_by step) before after (Ok
+    c.in_ok-there.there) = subst (λ (b : Bool). GivesStep b variables (said_by step) before after
+    (Ok c.in_ok-there.there)) fresh (subst (λ (w : Text). GivesStep c.args.step.now.is_numbered
+    variables (said_by step) (at w c.args.r.now) after (Ok c.in_ok-there.there)) c.new.ensures
+    c.in_ok-there.ensures.step) in
+    let given : GivesStep false variables (said_by step) before after (Ok false) = subst
+    (λ (b : Bool). GivesStep false variables (said_by step) before after (Ok b))
+    c.if-not-there.true given_there in
+    first_none variables clauses before refl (said_by step) after given
+
+pub returns-clause-plain : goal.returns-clause-plain
+returns-clause-plain g c clauses fresh ahead same =
+    let at = place g.R.Source.left g.R.Source.failed g.R.Source.pulls in
+    let none : Text = record { held = []; end = None } in
+    let before = at none c.args.r.now in
+    let after = at c.read.new.words c.read.new.r in
+    let variables = c.args.variables in
+    let step = c.read.new.self in
+    let given_there : GivesStep false variables (said_by step) before after (Ok
+    c.in_ok-there.there) = subst (λ (b : Bool). GivesStep b variables (said_by step) before after
+    (Ok c.in_ok-there.there)) fresh (subst (λ (w : Text). GivesStep c.args.step.now.is_numbered
+    variables (said_by step) (at w c.args.r.now) after (Ok c.in_ok-there.there)) c.new.ensures
+    c.in_ok-there.ensures.step) in
+    let given : GivesStep false variables (said_by step) before after (Ok true) = subst
+    (λ (b : Bool). GivesStep false variables (said_by step) before after (Ok b))
+    c.if-not-there.false given_there in
+    let r = c.take_steps.result in
+    let first = c.in_ok-refutes_at_first.ensures in
+    by_truth (ShowsPlain before.feed variables clauses r) step.is_numbered
+    (λ n. first_numbered variables clauses before refl (said_by step) after given _
+    (numbered_said step n) r)
+    (λ n.
+    let now = c.refutes_at_first.new.step in
+    let said : said_by now ≡ said_by step = plain_same now step first.same.0 first.same.1
+    (ap (λ v. v.items) first.same.2) n in
+    let inside : are_in variables now.clause.items ≡ true =
+    ap (λ v. are_in variables v.items) first.same.2 ∙ c.in_ok-there.ensures.inside in
+    let concludes = c.take_steps.ensures.plain clauses
+    (first.same.3 (c.in_ok-search.ensures.searches n))
+    (first.ahead clauses (c.in_ok-search.ensures.ahead clauses ahead))
+    (first.variables ∙ c.in_ok-search.ensures.variables ∙ same) inside in
+    first_plain variables clauses before refl (said_by step) after given r
+    (subst (λ (line : Line). ConcludesPlain after.feed clauses (plain_left variables line after) r)
+    said concludes))

@@ -21,8 +21,8 @@ returns-in_err-add-clause-conflict c formula =
     c.variables.result c.variables.ensures hints.items c.in_ok-hints.ensures in
     let moves = c.in_err-add.ensures.moves (all_live checker.table.clauses) formula.holds.holds in
     rw (p.1, p.2)
-    (empty_taken checker.table formula.holds c.next_number-number.result
-    c.next_number-number.ensures checker.variables hints.items finds
+    (empty_taken checker.table formula.holds c.in_ok-number.number
+    c.in_ok-number.ensures checker.variables hints.items finds
     (not_empty hints c.if-is_empty.ensures) e (rw c.deref.ensures.value at moves))
 
 pub returns-clause-conflict : goal.returns-clause-conflict

@@ -1,10 +1,11 @@
 use Rattle.std.proofs.Common.{Bool, true, false, Ok, Err, ℕ, subst, ◌∙◌}
 use Rattle.std.proofs.lemmas.Result.{err_from_is_err_and}
-use Rattle.aig_refutation.specs.Concluding.{TakesStep}
+use Rattle.aig_refutation.specs.Concluding.{TakesLine, TakesStep}
 use Rattle.aig_refutation.specs.Reading.{GivesStep, said_by}
 use Rattle.aig_refutation.specs.Words.{place}
 use Rattle.aig_refutation.proofs.Following.{implied_on}
 use Rattle.aig_refutation.proofs.Outcomes.{loop_last, loop_more, loop_none, loop_unread, loop_wrong}
+use Rattle.aig_refutation.proofs.Plainly.{is_plain, plain_more, plain_none, plain_unread, plain_wrong}
 use Rattle.aig_refutation.proofs.check.take_steps.Goals as goal
 
 pub returns-in_err-take_step-clause-shown : goal.returns-in_err-take_step-clause-shown
@@ -101,6 +102,35 @@ steps-preserved g c = record {
         holds = more.1;
         goes = more.2;
       };
+  plain = λ clauses searching ahead same inside.
+      let at = place g.R.Source.left g.R.Source.failed g.R.Source.pulls in
+      let before = at c.args.words.now c.args.r.now in
+      let mid = at c.steps.words c.steps.r in
+      let variables = c.args.variables in
+      let first = said_by c.args.step.now in
+      let t = c.take_step.new.checker.table in
+      let s = c.steps.invariant.plain clauses searching ahead same inside in
+      let on : TakesLine variables s.now (said_by c.steps.step) t (Ok false) = subst (λ (b : Bool).
+      TakesLine variables s.now (said_by c.steps.step) t (Ok b)) c.if-not-branch.true
+      (subst (λ (n : ℕ). TakesLine n s.now (said_by c.steps.step) t (Ok c.in_ok-take_step.field-0))
+      s.variables (c.in_ok-take_step.ensures.plain s.now s.search s.ahead)) in
+      let after = at c.read.new.words c.read.new.r in
+      let other = said_by c.read.new.self in
+      let plain = c.in_ok-take_step.ensures.same ∙ is_plain variables s.now c.steps.step t false on in
+      let given : GivesStep false variables other mid after (Ok true) = subst (λ (b : Bool).
+      GivesStep false variables other mid after (Ok b)) c.if-not-branch-2.false
+      (subst (λ (b : Bool). GivesStep b variables other mid after (Ok c.in_ok-read.field-0)) plain
+      c.in_ok-read.ensures.step) in
+      let more = plain_more variables clauses first before s.now c.steps.step mid s.goes t on other
+      after given in
+      record {
+        search = c.in_ok-take_step.ensures.searches s.search;
+        variables = c.in_ok-take_step.ensures.variables ∙ s.variables;
+        inside = c.in_ok-read.ensures.inside;
+        now = more.0;
+        ahead = more.1;
+        goes = more.2;
+      };
 }
 
 pub returns-clause-shown : goal.returns-clause-shown
@@ -118,3 +148,67 @@ returns-clause-shown g c live none holds same =
     c.in_ok-take_step.field-0) step) s.variables (c.in_ok-take_step.ensures.takes s.now s.search
     s.holds)) in
     loop_last variables live first before s.now step mid s.goes t on
+
+pub returns-in_err-take_step-clause-plain : goal.returns-in_err-take_step-clause-plain
+returns-in_err-take_step-clause-plain g c clauses searching ahead same inside =
+    let at = place g.R.Source.left g.R.Source.failed g.R.Source.pulls in
+    let before = at c.args.words.now c.args.r.now in
+    let mid = at c.steps.words c.steps.r in
+    let variables = c.args.variables in
+    let first = said_by c.args.step.now in
+    let t = c.take_step.new.checker.table in
+    let s = c.steps.invariant.plain clauses searching ahead same inside in
+    let e = c.in_err-take_step.field-0.0 in
+    let p = err_from_is_err_and c.from_residual.result c.from_residual.ensures.1 in
+    let wrong : TakesLine variables s.now (said_by c.steps.step) t (Err e) = subst (λ (n : ℕ).
+    TakesLine n s.now (said_by c.steps.step) t (Err e)) s.variables
+    (c.in_err-take_step.ensures.plain s.now s.search s.ahead) in
+    rw (p.1, p.2)
+    (plain_wrong variables clauses first before s.now c.steps.step mid s.goes t e s.inside wrong)
+
+pub returns-in_err-read-clause-plain : goal.returns-in_err-read-clause-plain
+returns-in_err-read-clause-plain g c clauses searching ahead same inside =
+    let at = place g.R.Source.left g.R.Source.failed g.R.Source.pulls in
+    let before = at c.args.words.now c.args.r.now in
+    let mid = at c.steps.words c.steps.r in
+    let variables = c.args.variables in
+    let first = said_by c.args.step.now in
+    let t = c.take_step.new.checker.table in
+    let s = c.steps.invariant.plain clauses searching ahead same inside in
+    let on : TakesLine variables s.now (said_by c.steps.step) t (Ok false) = subst (λ (b : Bool).
+    TakesLine variables s.now (said_by c.steps.step) t (Ok b)) c.if-not-branch.true
+    (subst (λ (n : ℕ). TakesLine n s.now (said_by c.steps.step) t (Ok c.in_ok-take_step.field-0))
+    s.variables (c.in_ok-take_step.ensures.plain s.now s.search s.ahead)) in
+    let after = at c.read.new.words c.read.new.r in
+    let other = said_by c.read.new.self in
+    let plain = c.in_ok-take_step.ensures.same ∙ is_plain variables s.now c.steps.step t false on in
+    let e = c.in_err-read.field-0.0 in
+    let p = err_from_is_err_and c.from_residual-in_err-read.result
+    c.from_residual-in_err-read.ensures.1 in
+    let given : GivesStep false variables other mid after (Err e) = subst (λ (b : Bool). GivesStep b
+    variables other mid after (Err e)) plain c.in_err-read.ensures.step in
+    rw (p.1, p.2)
+    (plain_unread variables clauses first before s.now c.steps.step mid s.goes t on other after e
+    given)
+
+pub returns-then-not-branch-2-clause-plain : goal.returns-then-not-branch-2-clause-plain
+returns-then-not-branch-2-clause-plain g c clauses searching ahead same inside =
+    let at = place g.R.Source.left g.R.Source.failed g.R.Source.pulls in
+    let before = at c.args.words.now c.args.r.now in
+    let mid = at c.steps.words c.steps.r in
+    let variables = c.args.variables in
+    let first = said_by c.args.step.now in
+    let t = c.take_step.new.checker.table in
+    let s = c.steps.invariant.plain clauses searching ahead same inside in
+    let on : TakesLine variables s.now (said_by c.steps.step) t (Ok false) = subst (λ (b : Bool).
+    TakesLine variables s.now (said_by c.steps.step) t (Ok b)) c.if-not-branch.true
+    (subst (λ (n : ℕ). TakesLine n s.now (said_by c.steps.step) t (Ok c.in_ok-take_step.field-0))
+    s.variables (c.in_ok-take_step.ensures.plain s.now s.search s.ahead)) in
+    let after = at c.read.new.words c.read.new.r in
+    let other = said_by c.read.new.self in
+    let plain = c.in_ok-take_step.ensures.same ∙ is_plain variables s.now c.steps.step t false on in
+    let given : GivesStep false variables other mid after (Ok false) = subst (λ (b : Bool).
+    GivesStep false variables other mid after (Ok b)) c.if-not-branch-2.true (subst (λ (b : Bool).
+    GivesStep b variables other mid after (Ok c.in_ok-read.field-0)) plain
+    c.in_ok-read.ensures.step) in
+    plain_none variables clauses first before s.now c.steps.step mid s.goes t on other after given

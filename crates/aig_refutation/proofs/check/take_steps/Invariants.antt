@@ -1,10 +1,14 @@
-use Rattle.std.proofs.Common.{◌≡◌, None}
-use Rattle.aig_refutation.specs.Checking.{Live}
+use Rattle.std.proofs.Common.{◌≡◌, List, None, true}
+use Rattle.std.specs.Prelude.{IsSome}
+use Rattle.aig_base.specs.declared.logic.literal.Lit.{Lit}
+use Rattle.aig_refutation.specs.Ahead.{IsAhead}
+use Rattle.aig_refutation.specs.Checking.{Live, are_in}
 use Rattle.aig_refutation.specs.Formula.{ImpliesAll}
 use Rattle.aig_refutation.specs.Reading.{said_by}
 use Rattle.aig_refutation.specs.Tables.{Holds}
 use Rattle.aig_refutation.specs.Words.{place, rest}
 use Rattle.aig_refutation.proofs.Outcomes.{GoesOn}
+use Rattle.aig_refutation.proofs.Plainly.{GoesPlain}
 use Rattle.aig_refutation.proofs.check.take_steps.Given as goal
 
 abbrev pub invariant-steps : goal.invariant-steps
@@ -20,6 +24,19 @@ invariant-steps g l = record {
         goes : GoesOn l.variables live (said_by l.fn.step) (place g.R.Source.left g.R.Source.failed
             g.R.Source.pulls l.fn.words l.fn.r) now (said_by l.step) (place g.R.Source.left
             g.R.Source.failed g.R.Source.pulls l.words l.r);
+      };
+  plain : (clauses : List (List Lit)) → IsSome l.fn.search → IsAhead clauses l.fn.checker.table
+      → l.fn.checker.variables ≡ l.variables
+      → are_in l.variables l.fn.step.clause.items ≡ true
+      → record {
+        search : IsSome l.search;
+        variables : l.checker.variables ≡ l.variables;
+        inside : are_in l.variables l.step.clause.items ≡ true;
+        now : List (List Lit);
+        ahead : IsAhead now l.checker.table;
+        goes : GoesPlain l.variables clauses (said_by l.fn.step) (place g.R.Source.left
+            g.R.Source.failed g.R.Source.pulls l.fn.words l.fn.r) now (said_by l.step) (place
+            g.R.Source.left g.R.Source.failed g.R.Source.pulls l.words l.r);
       };
 }
 

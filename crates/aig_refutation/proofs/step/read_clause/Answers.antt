@@ -7,6 +7,7 @@ use Rattle.aig_refutation.specs.Reading.{reads_clause}
 use Rattle.aig_refutation.specs.Words.{next_number, place, said_number}
 use Rattle.aig_refutation.proofs.LineParts.{clause_broken, clause_done, clause_more, clause_refused}
 use Rattle.aig_refutation.proofs.Parts.{gives_after, gives_ok, gives_wrong, on_on, on_read, on_start, part_wrong}
+use Rattle.aig_refutation.proofs.Plainly.{inside_more}
 use Rattle.aig_refutation.proofs.step.read_clause.Goals as goal
 
 pub loop-number-init : goal.loop-number-init
@@ -15,6 +16,7 @@ loop-number-init g c = record {
   goes = on_start (reads_clause c.args.variables (said_number c.args.first)
       c.args.clause.now.items) (place g.R.Source.left g.R.Source.failed g.R.Source.pulls
       c.args.words.now c.args.r.now);
+  inside = λ before. before;
 }
 
 pub returns-in_err-literal-clause-clause : goal.returns-in_err-literal-clause-clause
@@ -82,6 +84,10 @@ loop-number-preserved g c =
           c.in_ok-literal.field-0 c.in_ok-literal.ensures.literal m rest is
           ∙ ap (λ (items : List Lit). reads_clause c.args.variables m items last rest) (sym
           c.in_ok-push.ensures.items)));
+      inside = λ before.
+          inside_more c.args.variables lits c.in_ok-literal.field-0 c.push.new.self.items
+          (c.loop-number.invariant.inside before) c.in_ok-literal.ensures.inside
+          c.in_ok-push.ensures.items;
     }
 
 pub returns-clause-clause : goal.returns-clause-clause

@@ -1,4 +1,5 @@
-use Rattle.std.proofs.Common.{◌≤◌}
+use Rattle.std.proofs.Common.{◌≡◌, ◌≤◌, true}
+use Rattle.aig_refutation.specs.Checking.{are_in}
 use Rattle.aig_refutation.specs.Reading.{reads_clause}
 use Rattle.aig_refutation.specs.Words.{place, rest, said_number}
 use Rattle.aig_refutation.proofs.Parts.{GoesOn}
@@ -11,6 +12,8 @@ invariant-loop-number g l = record {
       (reads_clause l.fn.variables (said_number l.number) l.clause.items) (place g.R.Source.left
       g.R.Source.failed g.R.Source.pulls l.fn.words l.fn.r) (place g.R.Source.left
       g.R.Source.failed g.R.Source.pulls l.words l.r);
+  inside : are_in l.fn.variables l.fn.clause.items ≡ true
+      → are_in l.fn.variables l.clause.items ≡ true;
 }
 
 abbrev pub decreases-loop-number : goal.decreases-loop-number

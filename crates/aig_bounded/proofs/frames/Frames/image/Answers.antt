@@ -1,33 +1,34 @@
-use Rattle.std.proofs.Common.{◌&&◌, ℕ, Bool, ◌≡◌}
+use Rattle.std.proofs.Common.{◌&&◌, ℕ, Bool, ◌≡◌, subst, sym}
 use Rattle.aig_circuit.specs.declared.node.AigNodeType.TheVariants.{And, False, Leaf}
 use Rattle.aig_circuit.specs.declared.edge.AigEdge.{AigEdge}
 use Rattle.aig_circuit.specs.Circuit.{IsInRange}
 use Rattle.aig_circuit.specs.Tree.{edge_value}
-use Rattle.aig_bounded.specs.Frames.{AddsAnds, Shows}
+use Rattle.aig_bounded.specs.Frames.{AddsAnds, AddsUpTo, Shows}
 use Rattle.aig_bounded.specs.Steps.{MakesImage}
+use Rattle.aig_bounded.proofs.Counted.{one_more}
 use Rattle.aig_bounded.proofs.Stepped.{if_ok, if_ok_all, if_some_at, kind_read, makes_false, makes_gate, makes_open, makes_state}
 use Rattle.aig_bounded.proofs.frames.Frames.image.Goals as goal
 
-pub returns-in-False : goal.returns-in-False
-returns-in-False c =
+pub returns-in-False-clause-makes : goal.returns-in-False-clause-makes
+returns-in-False-clause-makes c =
     let is = kind_read c.args.circuit.now.nodes c.nodes.result.now c.args.id _ False c.typ.result.now c.requires.there c.nodes.ensures.value c.typ.ensures c.in-False.is in
     makes_false c.args.circuit.now c.args.step c.args.id c.args.self.now c.constant.result c.requires.frames is c.constant.ensures
 
-pub returns-in-Some : goal.returns-in-Some
-returns-in-Some c =
+pub returns-in-Some-clause-makes : goal.returns-in-Some-clause-makes
+returns-in-Some-clause-makes c =
     let is = kind_read c.args.circuit.now.nodes c.nodes.result.now c.args.id _ Leaf c.typ.result.now c.requires.there c.nodes.ensures.value c.typ.ensures c.in-Leaf.is in
     makes_state c.args.circuit.now c.args.step c.args.id c.args.self.now c.in-Some.state c.requires.frames is
     (if_some_at _ c.in-Some.state (λ (e : AigEdge). Shows c.args.circuit.now c.args.step c.args.self.now e (λ run. run c.args.step c.args.id)) c.in-Some.is c.requires.known)
 
-pub returns-in-None : goal.returns-in-None
-returns-in-None c =
+pub returns-in-None-clause-makes : goal.returns-in-None-clause-makes
+returns-in-None-clause-makes c =
     let is = kind_read c.args.circuit.now.nodes c.nodes.result.now c.args.id _ Leaf c.typ.result.now c.requires.there c.nodes.ensures.value c.typ.ensures c.in-Leaf.is in
     if_ok c.open.result _ _
     (λ e opens. makes_open c.args.circuit.now c.args.step c.args.id c.args.self.now c.open.new.self e c.requires.frames is (c.requires.free is c.in-None.is) opens)
-    c.open.ensures
+    c.open.ensures.opens
 
-pub returns-in-And : goal.returns-in-And
-returns-in-And c =
+pub returns-in-And-clause-makes : goal.returns-in-And-clause-makes
+returns-in-And-clause-makes c =
     let a = c.in-And.fanin0 in
     let b = c.in-And.fanin1 in
     let old = c.args.self.now in
@@ -40,3 +41,16 @@ returns-in-And c =
     (MakesImage c.args.circuit.now c.args.step c.args.id old new) (AddsAnds old new)
     (λ e there value adds. makes_gate c.args.circuit.now c.args.step c.args.id old new c.args.images.now a b first second e c.nodes.ensures.circuit c.requires.frames is c.requires.operands c.image_of-first.ensures c.image_of-second.ensures adds there value)
     c.and.ensures.edge c.and.ensures.value c.and.ensures.adds
+
+pub returns-in-None-clause-size : goal.returns-in-None-clause-size
+returns-in-None-clause-size c =
+    let is = kind_read c.args.circuit.now.nodes c.nodes.result.now c.args.id _ Leaf c.typ.result.now c.requires.there c.nodes.ensures.value c.typ.ensures c.in-Leaf.is in
+    let one = one_more c.args.circuit.now.nodes c.args.id Leaf c.nodes.ensures.circuit.nodes is (λ e. cc) in
+    subst (λ n. AddsUpTo n c.args.self.now c.open.new.self c.open.result) (sym one) c.open.ensures.size
+
+pub returns-in-And-clause-size : goal.returns-in-And-clause-size
+returns-in-And-clause-size c =
+    let kind = And c.in-And.fanin0 c.in-And.fanin1 in
+    let is = kind_read c.args.circuit.now.nodes c.nodes.result.now c.args.id _ kind c.typ.result.now c.requires.there c.nodes.ensures.value c.typ.ensures c.in-And.is in
+    let one = one_more c.args.circuit.now.nodes c.args.id kind c.nodes.ensures.circuit.nodes is (λ e. cc) in
+    subst (λ n. AddsUpTo n c.args.self.now c.and.new.self c.and.result) (sym one) c.and.ensures.size

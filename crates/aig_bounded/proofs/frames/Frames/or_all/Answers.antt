@@ -1,36 +1,54 @@
-use Rattle.std.proofs.Common.{false, ap, subst, arith}
+use Rattle.std.proofs.Common.{false, ap, length, subst, arith}
 use Rattle.std.proofs.lemmas.List.{take_all}
+use Rattle.std.proofs.lemmas.Result.{err_from_is_err_and}
 use Rattle.aig_circuit.specs.declared.edge.AigEdge.{AigEdge}
 use Rattle.aig_circuit.specs.Edge.{edge_to}
+use Rattle.aig_bounded.proofs.Counted.{AddsUpTo-done, AddsUpTo-stops}
 use Rattle.aig_bounded.proofs.Joined.{OrSoFar, OrSoFar-more, OrSoFar-none}
 use Rattle.aig_bounded.proofs.frames.Frames.or_all.Goals as goal
 
 pub loop-edge-init : goal.loop-edge-init
-loop-edge-init c = OrSoFar-none c.args.self.now c.args.images.now c.constant-any.result c.requires.sound c.constant-any.ensures
+loop-edge-init c = record {
+  so_far = OrSoFar-none c.args.self.now c.args.images.now c.constant-any.result c.requires.sound c.constant-any.ensures;
+  few = omega arith;
+}
 
 pub loop-edge-preserved : goal.loop-edge-preserved
 loop-edge-preserved c =
     let d = edge_to 0 false in
     let i = c.loop-edge.edge-index in
-    OrSoFar-more c.args.self.now c.loop-edge.self c.or.new.self c.args.images.now c.args.edges.now i d c.loop-edge.any c.in_ok-any.any c.image_of.result c.loop-edge-test.true c.image_of.ensures (c.requires.images i d c.loop-edge-test.true) c.in_ok-any.ensures.adds c.in_ok-any.ensures.edge c.loop-edge.invariant c.in_ok-any.ensures.value
+    record {
+      so_far = OrSoFar-more c.args.self.now c.loop-edge.self c.or.new.self c.args.images.now c.args.edges.now i d c.loop-edge.any c.in_ok-any.any c.image_of.result c.loop-edge-test.true c.image_of.ensures (c.requires.images i d c.loop-edge-test.true) c.in_ok-any.ensures.adds c.in_ok-any.ensures.edge c.loop-edge.invariant.so_far c.in_ok-any.ensures.value;
+      few = omega (arith, c.in_ok-any.ensures.size.few, c.loop-edge.invariant.few);
+    }
 
 pub or-requires-clause-sound : goal.or-requires-clause-sound
-or-requires-clause-sound c = c.loop-edge.invariant.adds.nodes.grows.sound
+or-requires-clause-sound c = c.loop-edge.invariant.so_far.adds.nodes.grows.sound
 
 pub or-requires-clause-first : goal.or-requires-clause-first
-or-requires-clause-first c = c.loop-edge.invariant.there
+or-requires-clause-first c = c.loop-edge.invariant.so_far.there
 
 pub or-requires-clause-second : goal.or-requires-clause-second
 or-requires-clause-second c =
-    omega (arith, c.requires.images c.loop-edge.edge-index (edge_to 0 false) c.loop-edge-test.true, c.loop-edge.invariant.adds.nodes.grows.longer, ap (λ (e : AigEdge). e.node_id) c.image_of.ensures)
+    omega (arith, c.requires.images c.loop-edge.edge-index (edge_to 0 false) c.loop-edge-test.true, c.loop-edge.invariant.so_far.adds.nodes.grows.longer, ap (λ (e : AigEdge). e.node_id) c.image_of.ensures)
 
 pub returns-clause-edge : goal.returns-clause-edge
-returns-clause-edge c = c.loop-edge.invariant.there
+returns-clause-edge c = c.loop-edge.invariant.so_far.there
 
 pub returns-clause-value : goal.returns-clause-value
 returns-clause-value c =
     let whole = take_all c.loop-edge.edge-index c.args.edges.now c.loop-edge-test.false in
-    (subst (λ es. OrSoFar c.args.self.now c.loop-edge.self c.args.images.now es c.loop-edge.any) whole c.loop-edge.invariant).value
+    (subst (λ es. OrSoFar c.args.self.now c.loop-edge.self c.args.images.now es c.loop-edge.any) whole c.loop-edge.invariant.so_far).value
 
 pub returns-clause-adds : goal.returns-clause-adds
-returns-clause-adds c = c.loop-edge.invariant.adds
+returns-clause-adds c = c.loop-edge.invariant.so_far.adds
+
+pub returns-in_err-any-clause-size : goal.returns-in_err-any-clause-size
+returns-in_err-any-clause-size c =
+    let p = err_from_is_err_and c.from_residual.result c.from_residual.ensures.1 in
+    let within = c.loop-edge-test.true in
+    rw (p.1, p.2) (AddsUpTo-stops (length c.args.edges.now) 1 c.args.self.now c.loop-edge.self c.or.new.self c.in_err-any.field-0.0 c.loop-edge.invariant.so_far.adds.limit (omega (arith, c.loop-edge.invariant.few)) c.in_err-any.ensures.size)
+
+pub returns-clause-size : goal.returns-clause-size
+returns-clause-size c =
+    AddsUpTo-done (length c.args.edges.now) c.args.self.now c.loop-edge.self c.loop-edge.any (omega (arith, c.loop-edge.invariant.few))

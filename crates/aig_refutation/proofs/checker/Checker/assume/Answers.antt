@@ -1,8 +1,7 @@
-use Rattle.std.proofs.Common.{◌≡◌, ◌-◌, ◌^◌, length, refl, sym, ap, subst, ◌∙◌}
-use Rattle.std.specs.Prelude.{max, min}
+use Rattle.std.proofs.Common.{◌≡◌, ◌+◌, refl, sym, ap, subst, ◌∙◌}
 use Rattle.aig_refutation.specs.Checking.{all_live}
 use Rattle.aig_refutation.specs.Tables.{HoldsFormula, Table}
-use Rattle.aig_refutation.proofs.Numbering.{assumed, not_refused, number_next}
+use Rattle.aig_refutation.proofs.Numbering.{assumed, not_refused}
 use Rattle.aig_refutation.proofs.Following.{below_either}
 use Rattle.aig_refutation.proofs.checker.Checker.assume.Goals as goal
 
@@ -21,12 +20,12 @@ returns-clause-holds c h =
     let clause = c.args.clause.now in
     let before : HoldsFormula old = subst (λ (t : Table). HoldsFormula t) (sym (ap (λ t. t.table)
     c.self.view_is)) h in
-    let number = c.next_number-number.result in
-    let is : number ≡ min (max (length old.places) 1) (2 ^ 32 - 1) = c.next_number-number.ensures ∙
-    ap (λ v. min (max (length v.table.places) 1) (2 ^ 32 - 1)) (sym c.self.view_is) in
+    let number = c.in_ok-number.number in
+    let is : number ≡ old.added + 1 = c.in_ok-number.ensures ∙ ap (λ v. v.table.added + 1) (sym
+    c.self.view_is) in
     assumed old before number is c.add.new.self clause c.add.result (c.add.ensures.moves (all_live
     old.clauses) clause before.holds (λ holds. refl)) c.add.ensures.ok
-    (c.add.ensures.in_row before.row before.holds.table (number_next old before number is))
+    (c.add.ensures.in_row before.row before.holds.table is)
 
 pub returns-clause-refused : goal.returns-clause-refused
 returns-clause-refused c h =
@@ -34,9 +33,9 @@ returns-clause-refused c h =
     let clause = c.args.clause.now in
     let before : HoldsFormula old = subst (λ (t : Table). HoldsFormula t) (sym (ap (λ t. t.table)
     c.self.view_is)) h in
-    let number = c.next_number-number.result in
-    let is : number ≡ min (max (length old.places) 1) (2 ^ 32 - 1) = c.next_number-number.ensures ∙
-    ap (λ v. min (max (length v.table.places) 1) (2 ^ 32 - 1)) (sym c.self.view_is) in
+    let number = c.in_ok-number.number in
+    let is : number ≡ old.added + 1 = c.in_ok-number.ensures ∙ ap (λ v. v.table.added + 1) (sym
+    c.self.view_is) in
     let inside = sym c.is_below.ensures.exact ∙ c.if-not-is_below.false in
     rw (← c.self.view_is)
     (not_refused old before number is c.add.new.self c.self.inside.variables clause c.add.result

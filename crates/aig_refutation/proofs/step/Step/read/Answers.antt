@@ -1,15 +1,16 @@
-use Rattle.std.proofs.Common.{Option, Some, None, ap, ◌∙◌}
+use Rattle.std.proofs.Common.{[], Some, ap, ◌∙◌}
 use Rattle.std.proofs.lemmas.Result.{err_from_is_err_and}
 use Rattle.aig_refutation.specs.declared.words.Word.TheVariants as words
+use Rattle.aig_refutation.specs.Proofs.{Line, Plain}
 use Rattle.aig_refutation.specs.Reading.{reads_after, reads_dropped, said_by}
-use Rattle.aig_refutation.specs.Steps.{Step}
+use Rattle.aig_refutation.specs.Steps.{Learns}
 use Rattle.aig_refutation.specs.Words.{place, said_number}
 use Rattle.aig_refutation.proofs.LineForms.{line_after_err, line_after_ok, line_dropped_err, line_dropped_ok}
 use Rattle.aig_refutation.proofs.NextSteps.{first_fails, step_fails, step_read}
 use Rattle.aig_refutation.proofs.step.Step.read.Goals as goal
 
-abbrev no_step : Option Step
-no_step = None
+abbrev no_step : Line
+no_step = Plain (Learns [])
 
 pub returns-in_err-first-clause-step : goal.returns-in_err-first-clause-step
 returns-in_err-first-clause-step g c =
@@ -89,7 +90,7 @@ returns-in_err-read_deletion-in-Some-Deletes-clause-step g c =
     rw (p.1, p.2)
     (step_fails numbered variables (said_by c.read_deletion.new.self) before mid after
     words.Deletes (reads_dropped variables) first after e (λ last word ws is. line_dropped_err
-    numbered variables last word ws is e) (c.in_err-read_deletion-in-Some-Deletes.ensures.step))
+    numbered variables last word ws is e) (c.in_err-read_deletion-in-Some-Deletes.ensures.step c.clear.ensures.items))
 
 pub returns-in_ok-read_deletion-in-Some-Deletes-clause-step :
     goal.returns-in_ok-read_deletion-in-Some-Deletes-clause-step
@@ -105,5 +106,5 @@ returns-in_ok-read_deletion-in-Some-Deletes-clause-step g c =
     let step = said_by c.read_deletion.new.self in
     step_read numbered variables step before mid after words.Deletes (reads_dropped variables)
     first (λ last word ws more is. line_dropped_ok numbered variables last word ws is step
-    more) (c.in_ok-read_deletion-in-Some-Deletes.ensures.step)
+    more) (c.in_ok-read_deletion-in-Some-Deletes.ensures.step c.clear.ensures.items)
     c.in_ok-read_deletion-in-Some-Deletes.ensures.closed

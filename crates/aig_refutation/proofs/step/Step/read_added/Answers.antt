@@ -1,17 +1,18 @@
-use Rattle.std.proofs.Common.{[], Option, Some, None, Err, refl}
+use Rattle.std.proofs.Common.{[], Err, refl}
 use Rattle.std.proofs.lemmas.Result.{err_from_is_err_and}
 use Rattle.aig_refutation.specs.declared.error.RefutationError.TheVariants as errors
 use Rattle.aig_refutation.specs.declared.words.Word.TheVariants as words
+use Rattle.aig_refutation.specs.Proofs.{Line, Plain, Numbered}
 use Rattle.aig_refutation.specs.Reading.{reads_added, reads_clause, reads_numbers, said_by}
-use Rattle.aig_refutation.specs.Steps.{Step, Adds}
+use Rattle.aig_refutation.specs.Steps.{Adds, Learns}
 use Rattle.aig_refutation.specs.Words.{next_in, place, said_number}
 use Rattle.aig_refutation.proofs.LineForms.{added_after, added_clause, added_clause_wrong, added_hints, added_letter, added_refused, added_wrong, numbers_step, numbers_step_err, numbers_step_ok}
 use Rattle.aig_refutation.proofs.NextSteps.{clause_ends}
 use Rattle.aig_refutation.proofs.Parts.{Reader, gives_after, gives_same, gives_wrong, on_on, on_read, part_wrong}
 use Rattle.aig_refutation.proofs.step.Step.read_added.Goals as goal
 
-abbrev no_step : Option Step
-no_step = None
+abbrev no_step : Line
+no_step = Plain (Learns [])
 
 pub returns-in_err-read_clause-clause-step : goal.returns-in_err-read_clause-clause-step
 returns-in_err-read_clause-clause-step g c adds no_clause no_numbers =
@@ -78,7 +79,7 @@ returns-in_err-self-in-Number-clause-step g c adds no_clause no_numbers =
     let view = λ (done : Unit {0}). no_step in
     let hint = c.in-Number.hint in
     let e = c.in_err-self-in-Number.field-0.0 in
-    let s : Reader (Option Step) = λ last ws. Err e in
+    let s : Reader Line = λ last ws. Err e in
     let p = err_from_is_err_and c.from_residual-in_err-self-in-Number.result
     c.from_residual-in_err-self-in-Number.ensures.1 in
     rw (p.1, p.2)
@@ -114,7 +115,7 @@ returns-in_ok-self-in-Number-clause-step g c adds no_clause no_numbers =
     let s2 = numbers_step errors.Asymmetry (Adds k clause) m in
     let rn = reads_numbers errors.Asymmetry m [] in
     let first = λ (done : Unit {0}). items in
-    let view = λ (done : Unit {0}). Some (Adds k clause items) in
+    let view = λ (done : Unit {0}). Numbered (Adds k clause items) in
     let goes2 = on_on q s1 before p1 p2 s2 goes
     (on_read s1 s2 p1 p2 p2 next_in (words.Number hint) (rw c.in-Number.is at
     c.in_ok-hint.ensures.word) (λ last ws more is. added_hints numbered variables n last clause
@@ -144,7 +145,7 @@ returns-in-Deletes-clause-step g c adds no_clause no_numbers =
     let goes = on_read q s1 before p1 p1 rc clause given (λ last ws more. added_clause numbered
     variables n last second ws more clause) in
     let view = λ (done : Unit {0}). no_step in
-    let s : Reader (Option Step) = λ last ws. Err errors.Line in
+    let s : Reader Line = λ last ws. Err errors.Line in
     gives_after q s1 before p1 p2 view (Err errors.Line) goes
     (gives_wrong s1 s p1 p2 p2 view errors.Line
     (on_read s1 s p1 p2 p2 next_in words.Deletes (rw c.in-Deletes.is at c.in_ok-hint.ensures.word)
@@ -170,4 +171,4 @@ returns-in-End-clause-step g c adds no_clause no_numbers =
     variables n last second ws more clause) in
     let view = λ (done : Unit {0}). said_by c.end_clause.new.self in
     clause_ends numbered variables n clause c.in-End.end q before p1 p2 goes (rw c.in-End.is at
-    c.in_ok-hint.ensures.word) view c.end_clause.result c.end_clause.ensures.step
+    c.in_ok-hint.ensures.word) view c.end_clause.result (c.end_clause.ensures.step adds)

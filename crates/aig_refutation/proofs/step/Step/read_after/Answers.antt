@@ -1,17 +1,17 @@
-use Rattle.std.proofs.Common.{true, Option, None, Ok, Err, refl, ap}
+use Rattle.std.proofs.Common.{[], true, Ok, Err, refl, ap}
 use Rattle.std.proofs.lemmas.Result.{err_from_is_err_and}
 use Rattle.std.proofs.lemmas.Bool.{ne_eqb}
 use Rattle.aig_refutation.specs.declared.words.Word.TheVariants as words
-use Rattle.aig_refutation.specs.Proofs.{is_zero}
+use Rattle.aig_refutation.specs.Proofs.{Line, Plain, is_zero}
 use Rattle.aig_refutation.specs.Reading.{reads_added, reads_after, reads_deleted, said_by}
-use Rattle.aig_refutation.specs.Steps.{Step}
+use Rattle.aig_refutation.specs.Steps.{Learns}
 use Rattle.aig_refutation.specs.Words.{fault_of, next_in, place, said_number}
 use Rattle.aig_refutation.proofs.LineForms.{after_letter, after_missing, after_number_word, after_wrong, after_zero}
 use Rattle.aig_refutation.proofs.Parts.{Reader, gives_after, gives_ok, gives_wrong, on_read, part_wrong}
 use Rattle.aig_refutation.proofs.step.Step.read_after.Goals as goal
 
-abbrev no_step : Option Step
-no_step = None
+abbrev no_step : Line
+no_step = Plain (Learns [])
 
 pub returns-in_err-second-clause-step : goal.returns-in_err-second-clause-step
 returns-in_err-second-clause-step g c no_clause no_numbers =
@@ -70,14 +70,14 @@ returns-in-End-clause-step g c no_clause no_numbers =
     let numbered = c.args.self.now.is_numbered in
     let n = said_number c.args.first in
     let q = reads_after numbered c.args.variables n in
-    let view = λ (done : Unit {0}). no_step in
+    let view = λ (done : Unit {0}). Plain (Learns []) in
     let end = c.in-End.field-0 in
-    let s : Reader (Option Step) = λ last ws. Ok (no_step, ws) in
-    gives_ok q s before p1 p1 view tt
+    let s : Reader Line = λ last ws. Ok (no_step, ws) in
+    rw no_clause (gives_ok q s before p1 p1 view tt
     (on_read q s before p1 p1 next_in (words.End end) (rw c.in-End.is at
     c.in_ok-second.ensures.word) (λ last ws more. after_zero numbered c.args.variables n last
     ws more end (ap (λ v. is_zero (true, v)) c.if-first-eq0.true)))
-    (λ last ws. refl)
+    (λ last ws. refl))
 
 pub returns-in-End-2-clause-step : goal.returns-in-End-2-clause-step
 returns-in-End-2-clause-step g c no_clause no_numbers =
@@ -89,7 +89,7 @@ returns-in-End-2-clause-step g c no_clause no_numbers =
     let q = reads_after numbered c.args.variables n in
     let view = λ (done : Unit {0}). no_step in
     let end = c.in-End.field-0 in
-    let s : Reader (Option Step) = λ last ws. Err (fault_of end) in
+    let s : Reader Line = λ last ws. Err (fault_of end) in
     rw c.fault.ensures
     (gives_wrong q s before p1 p1 view (fault_of end)
     (on_read q s before p1 p1 next_in (words.End end) (rw c.in-End.is at

@@ -1,15 +1,16 @@
-use Rattle.std.proofs.Common.{[], Option, Some, None}
+use Rattle.std.proofs.Common.{[]}
 use Rattle.std.proofs.lemmas.Result.{err_from_is_err_and}
 use Rattle.aig_refutation.specs.declared.error.RefutationError.TheVariants as errors
+use Rattle.aig_refutation.specs.Proofs.{Line, Plain, Numbered}
 use Rattle.aig_refutation.specs.Reading.{reads_deleted, reads_numbers}
-use Rattle.aig_refutation.specs.Steps.{Step, Deletes}
+use Rattle.aig_refutation.specs.Steps.{Deletes, Learns}
 use Rattle.aig_refutation.specs.Words.{next_number, place, said_number}
 use Rattle.aig_refutation.proofs.LineForms.{deleted_number, deleted_number_wrong, deleted_refused, numbers_step, numbers_step_err, numbers_step_ok}
 use Rattle.aig_refutation.proofs.Parts.{gives_after, gives_same, gives_wrong, on_read, on_start, part_wrong}
 use Rattle.aig_refutation.proofs.step.Step.read_deleted.Goals as goal
 
-abbrev no_step : Option Step
-no_step = None
+abbrev no_step : Line
+no_step = Plain (Learns [])
 
 pub returns-in_err-self-clause-step : goal.returns-in_err-self-clause-step
 returns-in_err-self-clause-step g c no_numbers =
@@ -52,7 +53,7 @@ returns-clause-step g c no_numbers =
     let s = numbers_step errors.Line Deletes m in
     let rn = reads_numbers errors.Line m [] in
     let first = λ (done : Unit {0}). items in
-    let view = λ (done : Unit {0}). Some (Deletes items) in
+    let view = λ (done : Unit {0}). Numbered (Deletes items) in
     gives_after q s before p1 p2 view c.read_numbers.result
     (on_read q s before p1 p1 next_number m c.in_ok-first.ensures.number (λ last ws more.
     deleted_number n last ws k m more c.in_ok-self.ensures.number))

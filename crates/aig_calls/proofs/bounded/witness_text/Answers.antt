@@ -1,0 +1,34 @@
+use Rattle.std.proofs.Common.{ℕ, Some, List, Vec, Global, ap, sym, ◌∙◌, rules}
+use Rattle.aig_bounded_answers.specs.Asking.{IsAskedWithin, bounded_verdict}
+use Rattle.aig_checks.specs.Running.{Answers}
+use Rattle.aig_checks.specs.declared.command.FileCommand.TheVariants as commands
+use Rattle.aig_commands.specs.declared.tool.TheConstants.{LIMIT}
+use Rattle.aig_calls.specs.Parts.{IsOwnOf}
+use Rattle.aig_calls.proofs.Making.{text_made}
+use Rattle.aig_calls.proofs.Taken.{check_not_made}
+use Rattle.aig_calls.proofs.bounded.witness_text.Goals as goal
+
+pub returns-in-Ok : goal.returns-in-Ok
+returns-in-Ok c =
+    let command = (commands.WitnessTo c.args.k c.args.optimize) in
+    let told = c.in-Ok.ensures in
+    let items = λ (v : Vec ℕ Global). Some v.items in
+    let none = ap items c.new-sink.ensures.writer ∙ ap (λ (xs : List ℕ). Some xs)
+    c.new.ensures.items in
+    let all = ap items (sym c.into_inner.ensures) in
+    text_made bounded_verdict LIMIT c.args.file.now _ _ (IsAskedWithin LIMIT)
+    (λ bs f asked. asked.0)
+    (Answers command (Some c.args.solution.now)) (IsOwnOf command) _ _ _ c.into_inner.result
+    (search rules) (search rules)
+    (rw c.new-source.ensures.reader at told.verdict)
+    (rw (c.new-source.ensures.reader, c.new-answer.ensures.reader) at told.ok) none all
+
+pub returns-in-Err : goal.returns-in-Err
+returns-in-Err c =
+    let command = (commands.WitnessTo c.args.k c.args.optimize) in
+    let told = c.in-Err.ensures in
+    check_not_made LIMIT c.args.file.now _ _ command (Some c.args.solution.now) c.in-Err.error
+    c.of_check.result
+    (rw c.new-source.ensures.reader at told.verdict) c.of_check.ensures.said
+    c.of_check.ensures.least
+    (c.of_check.ensures.own command told.own)

@@ -1,0 +1,50 @@
+use Rattle.std.proofs.Common.{ℕ, List, Some, Vec, Global, ap, refl, sym, subst, ◌∙◌}
+use Rattle.aig_checks.specs.Pairs.{IsObligationsText}
+use Rattle.aig_edits.specs.declared.pairing.Pairing.TheVariants.{Certificate}
+use Rattle.aig_calls.specs.Statuses.{done}
+use Rattle.aig_calls.proofs.Making.{only_text}
+use Rattle.aig_calls.proofs.Pairing.{both_whole, misfit_tells, pair_tells}
+use Rattle.aig_calls.proofs.pairs.obligations_text.Goals as goal
+
+pub returns-in-Ok : goal.returns-in-Ok
+returns-in-Ok c =
+    let told = c.in-Ok.ensures.reads in
+    let bytes = c.args.file.now in
+    let others = c.args.certificate.now in
+    let items = λ (v : Vec ℕ Global). Some v.items in
+    let none = ap items c.new-sink.ensures.writer ∙ ap (λ (xs : List ℕ). Some xs)
+    c.new.ensures.items in
+    let all = ap items (sym c.into_inner.ensures) in
+    let f = both_whole told bytes others (rw c.new-first.ensures.reader)
+    (rw c.new-second.ensures.reader) refl refl in
+    let printed = f.2.2 in
+    let is = only_text _ _ printed.0 c.into_inner.result.items printed.2 none all in
+    record {
+      said = pair_tells told bytes others (rw c.new-first.ensures.reader)
+          (rw c.new-second.ensures.reader) done (refl, tt) (λ h. (refl, tt));
+      answer = (
+        f.0,
+        f.1,
+        (f.2.0, f.2.1, subst (IsObligationsText c.args.optimize f.0 f.2.0) (sym is) printed.1),
+      );
+      misfit = tt;
+    }
+
+pub returns-in-Err : goal.returns-in-Err
+returns-in-Err c =
+    let told = c.in-Err.ensures.reads in
+    let says = c.of_obligations.ensures.said in
+    let bytes = c.args.file.now in
+    let others = c.args.certificate.now in
+    record {
+      said = pair_tells told bytes others (rw c.new-first.ensures.reader)
+          (rw c.new-second.ensures.reader) c.of_obligations.result says.first_said says.second_said;
+      answer = tt;
+      misfit = (
+        misfit_tells Certificate told says bytes others (rw c.new-first.ensures.reader)
+            (rw c.new-second.ensures.reader) refl refl refl refl (λ f g not. not)
+            (λ f g large. large),
+        says.least,
+        c.of_obligations.ensures.own c.args.optimize told.own,
+      );
+    }

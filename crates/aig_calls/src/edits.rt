@@ -1,0 +1,121 @@
+//! Calls that give what is made of one file.
+
+ghost use Rattle.std.specs.Prelude.{◌≡◌, ◌<◌, ◌^◌};
+ghost use Rattle.aig_bounded_answers.specs.Asking.{bounded_verdict};
+ghost use Rattle.aig_edits.specs.Info.{IsInfo};
+ghost use Rattle.aig_edits.specs.declared.edit.Edit.TheVariants as edits;
+ghost use Rattle.aig_reader.specs.Verdicts.{Accepted};
+ghost use Rattle.aig_calls.specs.Calls.{Gives, GivesEdit, IsQuestionText, IsReductionText};
+ghost use Rattle.aig_calls.specs.Parts.{Makes, MakesEdit};
+ghost use Rattle.aig_calls.specs.Statuses.{AtStep, IsOfEdit, IsOfQuestion, IsOfText};
+
+use crate::buffer::put;
+use crate::status::of_edit;
+use crate::steps::step_of;
+use aig_base::{FromRead, ToWrite};
+use aig_commands::LIMIT;
+use aig_edits::Edit;
+use std::alloc::Global;
+
+/// The text of what an edit makes of a file.
+fn edit_text(alloc: Global, edit: &Edit, file: &[u8]) -> Result<Vec<u8>, u32>
+    ensures { MakesEdit edit.now LIMIT file.now result }
+{
+    let mut source = FromRead::new(file);
+    let mut sink = ToWrite::new(Vec::new(alloc));
+    match aig_edits::print_edit(alloc, edit, &mut source, LIMIT, &mut sink) {
+        Ok(()) => Ok(sink.into_inner()),
+        Err(error) => Err(of_edit(error)),
+    }
+}
+
+/// The text of what of a file its query needs.
+fn reduction_text(alloc: Global, file: &[u8]) -> Result<Vec<u8>, u32>
+    ensures { Makes (λ _. Accepted) LIMIT (λ f made. IsReductionText f made.items) IsOfText file.now
+        result }
+{
+    let mut source = FromRead::new(file);
+    let mut sink = ToWrite::new(Vec::new(alloc));
+    match aig_edits::print_reduction(alloc, &mut source, LIMIT, &mut sink) {
+        Ok(()) => Ok(sink.into_inner()),
+        Err(error) => Err(of_edit(error)),
+    }
+}
+
+/// The text of the question whether a bad state of a file's machine is reached up to step `k`.
+fn question_text(alloc: Global, file: &[u8], k: usize) -> Result<Vec<u8>, u32>
+    ensures { Makes bounded_verdict LIMIT (λ f made. IsQuestionText k LIMIT f made.items)
+        IsOfQuestion file.now result }
+{
+    let mut source = FromRead::new(file);
+    let mut sink = ToWrite::new(Vec::new(alloc));
+    match aig_edits::print_question(alloc, k, &mut source, LIMIT, &mut sink) {
+        Ok(()) => Ok(sink.into_inner()),
+        Err(error) => Err(of_edit(error)),
+    }
+}
+
+/// The text of a file's counts.
+fn info_text(alloc: Global, file: &[u8]) -> Result<Vec<u8>, u32>
+    ensures { Makes (λ _. Accepted) LIMIT (λ f made. IsInfo f made.items) IsOfText file.now
+        result }
+{
+    let mut source = FromRead::new(file);
+    let mut sink = ToWrite::new(Vec::new(alloc));
+    match aig_edits::print_info(alloc, &mut source, LIMIT, &mut sink) {
+        Ok(()) => Ok(sink.into_inner()),
+        Err(error) => Err(of_edit(error)),
+    }
+}
+
+/// Gives the text form of the circuit that an edit makes of a file's circuit.
+pub fn print_edit(
+    alloc: Global,
+    edit: &Edit,
+    file: &[u8],
+    out: &mut [u8],
+    needed: &mut usize,
+) -> u32
+    ensures { GivesEdit edit.now LIMIT IsOfEdit file.now result out.old out.new needed.old
+        needed.new }
+{
+    put(edit_text(alloc, edit, file), out, needed)
+}
+
+/// Gives the text form of a file's circuit with `k` further steps.
+pub fn print_unrolled(alloc: Global, file: &[u8], k: u64, out: &mut [u8], needed: &mut usize) -> u32
+    ensures { GivesEdit (edits.Unroll k) LIMIT (AtStep k IsOfEdit) file.now result out.old out.new
+        needed.old needed.new }
+{
+    match step_of(k) {
+        Ok(k) => print_edit(alloc, &Edit::Unroll(k), file, out, needed),
+        Err(status) => status,
+    }
+}
+
+/// Gives the text form of what of a file's circuit its query needs.
+pub fn print_reduction(alloc: Global, file: &[u8], out: &mut [u8], needed: &mut usize) -> u32
+    ensures { Gives (λ _. Accepted) LIMIT IsReductionText IsOfText file.now result out.old out.new
+        needed.old needed.new }
+{
+    put(reduction_text(alloc, file), out, needed)
+}
+
+/// Gives the text form of the question whether a bad state of a file's machine is reached up to step `k`.
+pub fn print_question(alloc: Global, file: &[u8], k: u64, out: &mut [u8], needed: &mut usize) -> u32
+    ensures { Gives bounded_verdict LIMIT (IsQuestionText k LIMIT) (AtStep k IsOfQuestion) file.now
+        result out.old out.new needed.old needed.new }
+{
+    match step_of(k) {
+        Ok(k) => put(question_text(alloc, file, k), out, needed),
+        Err(status) => status,
+    }
+}
+
+/// Gives the counts of a file's circuit, a line each.
+pub fn print_info(alloc: Global, file: &[u8], out: &mut [u8], needed: &mut usize) -> u32
+    ensures { Gives (λ _. Accepted) LIMIT IsInfo IsOfText file.now result out.old out.new needed.old
+        needed.new }
+{
+    put(info_text(alloc, file), out, needed)
+}

@@ -1,0 +1,7 @@
+use Rattle.std.proofs.Common.{◌≡◌, true, take}
+use Rattle.std.specs.List.{list_all}
+use Rattle.aig_refutation.specs.Propagation.{marked}
+use Rattle.aig_refutation.proofs.compare.are_marked.Given as goal
+
+abbrev pub invariant-loop-lit : goal.invariant-loop-lit
+invariant-loop-lit l = list_all (marked l.marks) (take l.lit-index l.clause) ≡ true
