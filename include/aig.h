@@ -20,8 +20,8 @@
  * pointed to is as it was. To ask for the size first costs a whole call: keep a buffer, and let it grow where it is too small.
  *
  * `k` is the number of a step, from 0 on. `optimize` says whether exclusive ors and choices have clauses of their own; a proof and a
- * solver's answer are of the clauses of the same `k` and `optimize`. A proof is text, in the LRAT or the DRAT format (cadical
- * --lrat --no-binary, or --no-binary). A solver's answer is its lines `s SATISFIABLE` and `v ..`.
+ * solver's answer are of the clauses of the same `k` and `optimize`. A proof is in LRAT, as text (cadical --lrat
+ * --no-binary), or in DRAT, as text or binary. A solver's answer is its lines `s SATISFIABLE` and `v ..`.
  */
 #ifndef AIG_H
 #define AIG_H
@@ -88,7 +88,7 @@ enum aig_status {
   AIG_PROOF_LARGE = 45,      /* A number is far above how many clauses there are. */
   AIG_PROOF_STEP = 46,       /* A clause doesn't follow. */
   AIG_PROOF_ASYMMETRY = 47,  /* A step is one by resolution asymmetry (RAT). */
-  AIG_PROOF_BINARY = 48,     /* The proof is no text. */
+  AIG_PROOF_BINARY = 48,     /* Neither text nor binary DRAT. */
   AIG_PROOF_UNFINISHED = 49, /* The proof ends before the empty clause. */
 
   /* A witness is refused. */

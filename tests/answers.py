@@ -12,6 +12,7 @@ last write is told to have failed. And rows that are made here have long clauses
 import pathlib
 import resource
 import shlex
+import subprocess
 import sys
 import tempfile
 
@@ -101,9 +102,14 @@ class Answers:
 
     def check(self, line, wanted, place, given="", **how):
         """Checks how a command ends in a place, and what it prints, with a file of these bytes."""
+        status, out, said = self.given_by(line, place, **how)
+        self.tally.wants(f"{line}: {given}", wanted, (status, out, harness.unnamed(said)))
+
+    def given_by(self, line, place, **how):
+        """The status of a command, what it prints and what it says."""
         program, *words = shlex.split(line)
         words = [spelled(word) if word != "GIVEN" else self.folder / word for word in words]
-        self.tally.wants(f"{line}: {given}", wanted, harness.run([self.programs[program], *words], cwd=place, **how))
+        return harness.run([self.programs[program], *words], cwd=place, **how)
 
     def check_cut(self, line, printed, place):
         """Checks what is there of a printed text where there is room for less."""
@@ -115,18 +121,29 @@ class Answers:
             if held != printed[:room]:
                 self.tally.wants(f"{line}, room for {room}", printed[:room], held)
 
-    def check_table(self, path, form):
-        """Checks the rows of a table."""
+    def rows(self, path):
+        """The words of each row of a table, the bytes of its file, which is there then, and what is printed."""
         for row in path.read_text().splitlines():
             if row and row[0] != "#":
                 words, given, printed = (repeated(cell) for cell in row.split("\t")[:3])
                 (self.folder / "GIVEN").write_bytes(spelled(given))
-                line = form.format(words)
-                program = line.split()[0]
-                wanted = wanted_of(program, spelled(printed))
-                self.check(line, wanted, path.parent, given[:500])
-                if program in CUT:
-                    self.check_cut(line, wanted[1], path.parent)
+                yield words, given, printed
+
+    def check_table(self, path, form):
+        """Checks the rows of a table."""
+        for words, given, printed in self.rows(path):
+            line = form.format(words)
+            program = line.split()[0]
+            wanted = wanted_of(program, spelled(printed))
+            self.check(line, wanted, path.parent, given[:500])
+            if program in CUT:
+                self.check_cut(line, wanted[1], path.parent)
+
+    def check_places(self, path):
+        """Checks which file a refusal names, and the place there."""
+        for words, given, printed in self.rows(path):
+            wanted = spelled(printed.replace("GIVEN", str(self.folder / "GIVEN")))
+            self.tally.wants(f"{words}: {given}", (1, b"", wanted), self.given_by(words, path.parent, stdin=subprocess.DEVNULL))
 
     def check_made(self):
         """Checks the rows that are made here."""
@@ -161,6 +178,7 @@ def main():
         answers = Answers(programs, pathlib.Path(folder), tally)
         for table, form in TABLES.items():
             answers.check_table(TESTS / table, form)
+        answers.check_places(TESTS / "answers/places.tsv")
         answers.check_made()
     return tally.end()
 

@@ -33,6 +33,8 @@ PROVE = str(TOP / "bin" / "aigprove")
 SECONDS = 100
 REPEATED = re.compile(r"\{([^{}]*)\}\*(\d+)")
 SPELLED = re.compile(r"\\n|\\x([0-9a-f]{2})")
+# The file that a program names behind its own name, and the place there.
+NAMED = re.compile(rb"^(aigcheck|aigedit): (?!query: |window: )[^ :]+: (?:(?:line|byte) \d+: )?")
 
 
 def parser(doc, *programs):
@@ -74,6 +76,11 @@ def run(words, **how):
     except subprocess.TimeoutExpired:
         return None, b"", b"it did not end"
     return done.returncode, done.stdout or b"", done.stderr or b""
+
+
+def unnamed(said):
+    """What a program says, without the file that it names and the place there."""
+    return NAMED.sub(rb"\1: ", said)
 
 
 def output(words, statuses=(0,)):

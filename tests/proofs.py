@@ -2,13 +2,14 @@
 """Compares which proofs are taken with a checker of its own: proofs.py [PROOFS [SEED]]
 
 Makes PROOFS (1000) proofs of cadical, by settings of all kinds, for steps of random machines at which no bad state is reached: as text, in
-its binary form, and with hints, which a search by unit propagation here finds (LRAT). `aigcheck refuted` takes each text, and refuses the
-binary form by name. Each text is mangled, too, and aigcheck takes what comes of it exactly where the checker here does: a plain one of
-reverse unit propagation, which knows nothing of the library.
+its binary form, and with hints, which a search by unit propagation here finds (LRAT). `aigcheck refuted` takes each. Each is mangled,
+too, and aigcheck takes what comes of it exactly where the checker here does: a plain one of reverse unit propagation, which knows nothing
+of the library.
 
 It ends with the first that differs, and else prints one line. It is no part of tests/run."""
 import collections
 import concurrent.futures
+import itertools
 import random
 from pathlib import Path
 
@@ -122,15 +123,44 @@ def step_of(formula, line):
     return deletes, clause
 
 
-def check_unnumbered(formula, lines):
-    """Takes the lines of a DRAT file up to a conflict, or refuses them."""
+def steps_of(formula, lines):
+    """The steps of a DRAT file. The first line says which form the others have, and so it is read in any case."""
+    first = [step_of(formula, line) for line in lines[:1]]
+    return itertools.chain(first, (step_of(formula, line) for line in lines[1:]))
+
+
+def binary_number(data):
+    """The next number of a binary file: groups of seven bits, the lowest first, below 2^32."""
+    value = 0
+    for place in range(5):
+        byte = next(data, None)
+        needs(byte is not None)
+        value += (byte & 127) << 7 * place
+        if byte < 128:
+            needs(value < 1 << 32)
+            return value
+    raise Refusal
+
+
+def binary_steps_of(formula, data):
+    """The steps of a binary DRAT file: `a` or `d`, twice each literal's number and one more for an inverted one, and 0."""
+    data = iter(data)
+    for letter in data:
+        needs(letter in b"ad")
+        clause = []
+        while code := binary_number(data):
+            needs(code > 1)
+            clause.append(-(code // 2) if code % 2 else code // 2)
+            needs(formula.has(clause[-1:]))
+        yield letter == ord("d"), clause
+
+
+def check_unnumbered(formula, steps):
+    """Takes steps of a DRAT file up to a conflict, or refuses them."""
     clauses, number = Clauses(formula.clauses), len(formula.clauses)
-    # The first line says which form the others have, and so it is read in any case.
-    if lines:
-        step_of(formula, lines[0])
-    lines = iter(lines)
     while clauses.propagate([]) is None:
-        deletes, clause = step_of(formula, next(lines, []))
+        deletes, clause = next(steps, (None, None))
+        needs(clause is not None)
         if not deletes:
             needs(clauses.follow(clause) is not None)
             number += 1
@@ -179,16 +209,38 @@ def check_numbered(formula, lines):
     raise Refusal
 
 
-def is_taken(formula, lines):
-    """Whether a proof is taken: as one of numbers and hints where the first line has more behind its clause."""
+def check_text(formula, lines):
+    """Takes a text or refuses it: it is one of numbers and hints where the first line has more behind its clause."""
     first = lines[0] if lines else []
-    has_numbers = first[:1] != ["d"] and (first[1:2] == ["d"] or (first[:1] != ["0"] and "0" in first[:-1]))
+    if first[:1] != ["d"] and (first[1:2] == ["d"] or (first[:1] != ["0"] and "0" in first[:-1])):
+        check_numbered(formula, lines)
+    else:
+        check_unnumbered(formula, steps_of(formula, lines))
+
+
+def check(formula, data):
+    """Takes the bytes of a proof, or refuses them: they are binary where they begin with `a`, or with `d` and soon have a 0."""
+    if data[:1] == b"a" or (data[:1] == b"d" and 0 in data[:1024]):
+        check_unnumbered(formula, binary_steps_of(formula, data))
+    else:
+        check_text(formula, [line.split() for line in data.decode("latin-1").split("\n") if line.strip()])
+
+
+def is_taken(formula, data):
+    """Whether a proof is taken."""
     try:
         if not formula.is_in_conflict():
-            (check_numbered if has_numbers else check_unnumbered)(formula, lines)
+            check(formula, data)
         return True
     except Refusal:
         return False
+
+
+def mangled_bytes(rng, data):
+    """A binary proof with a byte changed, left out or put in, or cut."""
+    at = rng.randrange(len(data))
+    some = bytes([rng.choice([0, 1, 97, 100, 128, rng.randrange(256)])])
+    return rng.choice([data[:at] + some + data[at + 1 :], data[:at] + data[at + 1 :], data[:at] + some + data[at:], data[:at]])
 
 
 def numbered(formula, lines):
@@ -238,58 +290,53 @@ class Trial(Files):
             self.formula, self.clauses = Formula(clauses), self.put("clauses.cnf", clauses)
             # Of those that unit propagation refutes alone few are kept.
             self.setting = self.rng.choice(SETTINGS)
-            if self.proof("--no-binary") is None:
+            self.text = self.proof("--no-binary")
+            if self.text is None:
                 continue
             if Clauses(self.formula.clauses).propagate([]) is None or self.rng.random() < 0.05:
                 return
 
     def proof(self, form):
-        """The path of a proof that the clauses have no solution; None where they have one. The lines of a text are kept."""
+        """The bytes of a proof that the clauses have no solution; None where they have one."""
         path = str(self.folder / "proof")
         if harness.run(["cadical", "-q", form, *self.setting, self.clauses, path])[0] != 20:
             return None
-        if form == "--no-binary":
-            self.lines = [line.split() for line in Path(path).read_text().splitlines()]
-        return path
+        return Path(path).read_bytes()
 
     def is_taken(self, path):
         """Whether aigcheck takes a proof."""
         return self.takes(f"no bad state at step {self.step}", "refuted", self.file, str(self.step), path)
 
-    def compare(self, kind, lines):
+    def compare(self, kind, proof, mangle):
         """Compares a proof and what is mangled of it with the checker here."""
         self.counts[kind] += 1
-        if not self.is_taken(self.put("proof", text_of(lines))):
-            self.fail(f"a proof of {kind} is refused:\n{text_of(lines)}")
+        if not self.is_taken(self.put("proof", proof)):
+            self.fail(f"a proof of {kind} is refused:\n{proof}")
         for _ in range(MANGLED):
-            self.compare_mangled(kind, mangled(self.rng, lines, self.rng.randint(1, 3)))
+            self.compare_mangled(kind, mangle())
 
-    def compare_mangled(self, kind, lines):
+    def compare_mangled(self, kind, proof):
         """Compares a mangled proof."""
-        taken = is_taken(self.formula, lines)
+        taken = is_taken(self.formula, proof)
         self.counts[f"{kind} mangled, {'taken' if taken else 'refused'}"] += 1
-        if self.is_taken(self.put("mangled", text_of(lines))) != taken:
-            self.fail(f"a mangled proof of {kind} is {'refused' if taken else 'taken'}:\n{text_of(lines)}")
+        if self.is_taken(self.put("mangled", proof)) != taken:
+            self.fail(f"a mangled proof of {kind} is {'refused' if taken else 'taken'}:\n{proof}")
+
+    def compare_lines(self, kind, lines):
+        """Compares a text."""
+        self.compare(kind, text_of(lines).encode(), lambda: text_of(mangled(self.rng, lines, self.rng.randint(1, 3))).encode())
 
     def run(self):
         """Compares all proofs of this machine."""
-        lines = self.lines
-        self.compare("cadical", lines)
+        lines = [line.split() for line in self.text.decode().splitlines()]
+        self.compare_lines("cadical", lines)
         if self.formula.is_in_conflict():
             self.counts["in conflict at once"] += 1
             return self
-        self.compare("hints", numbered(self.formula, lines))
-        self.refuses_binary(self.proof("--binary"))
+        self.compare_lines("hints", numbered(self.formula, lines))
+        binary = self.proof("--binary")
+        self.compare("binary", binary, lambda: mangled_bytes(self.rng, binary))
         return self
-
-    def refuses_binary(self, path):
-        """Looks how the binary form is refused: by name, unless a deletion comes first that looks like one of a text."""
-        first = Path(path).read_bytes()[:2]
-        status, _, said = harness.run([CHECK, "refuted", self.file, str(self.step), path])
-        self.counts["binary"] += 1
-        self.counts["binary, refused by name"] += b"binary" in said
-        if status != 1 or (b"binary" not in said and first[:1] == b"a"):
-            self.fail(f"a binary proof that begins with {first}: {said}")
 
 
 def counts_of(words):

@@ -4,6 +4,7 @@ import ctypes
 import fcntl
 import io
 import os
+import re
 import resource
 import shutil
 import signal
@@ -42,6 +43,13 @@ def ending(status):
 def plain(said):
     """Bytes as a text that can't drive a terminal."""
     return "".join(chr(byte) if 32 <= byte < 127 or byte == 10 else f"\\x{byte:02x}" for byte in said)
+
+
+def unnamed(said, files):
+    """What a program says, without the path of one of these files and the place in it."""
+    for file in files:
+        said = re.sub(f": {re.escape(str(file))}: ((line|byte) [0-9]+: )?", ": ", said, count=1)
+    return said
 
 
 def say(what):
@@ -198,14 +206,15 @@ class Programs:
                 group.signal(signal.SIGKILL)
 
     def output(self, words, **streams):
-        """The status of one of our own programs, what it prints, and what it says on standard error. Sealed files stand among its
-        words."""
-        descriptors = [word.descriptor for word in words if isinstance(word, Sealed)]
+        """The status of one of our own programs, what it prints, and what it says on standard error, without the paths and places of
+        sealed files, which stand among its words."""
+        sealed = [word for word in words if isinstance(word, Sealed)]
+        descriptors = [word.descriptor for word in sealed]
         with tempfile.TemporaryFile() as out, tempfile.TemporaryFile() as said:
             group = self.start(list(map(str, words)), **{"stdout": out, "stderr": said, "pass_fds": descriptors, **streams})
             status = self.finish(group)
             out.seek(0), said.seek(0)
-            return status, out.read().decode("ascii", "surrogateescape"), plain(said.read()).strip()
+            return status, out.read().decode("ascii", "surrogateescape"), unnamed(plain(said.read()).strip(), sealed)
 
 
 def adopt():

@@ -32,7 +32,7 @@ def cadical():
 class Solver:
     """A SAT solver, which is believed nothing.
 
-    It is given the names of a file in DIMACS form and of a file for its proof, in the text of LRAT or DRAT. It has to end with
+    It is given the names of a file in DIMACS form and of a file for its proof, in LRAT, as text, or DRAT. It has to end with
     status 10 and print lines `s ..` and `v ..`, or with status 20. Both files stand in a new folder."""
 
     def __init__(self, words, programs, judge, above):

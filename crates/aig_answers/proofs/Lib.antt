@@ -3,4 +3,8 @@ mod Growing
 mod Asking
 pub mod Verdicts
 mod Answering
+mod Deciding
+mod Differing
+mod WindowRuns
+mod BadWindows
 mod Examples

@@ -1,6 +1,6 @@
 -- How many nodes are added.
-use Rattle.std.proofs.Common.{◌≡◌, ◌≢◌, ℕ, zero, suc, ◌+◌, ◌*◌, ◌<◌, ◌≤◌, List, length, Some, Ok, Err, Result, refl, sym, ap, ◌∙◌, add-one, arith}
-use Rattle.std.specs.Prelude.{IsErrOf, OnOk, min}
+use Rattle.std.proofs.Common.{◌≡◌, ◌≢◌, ℕ, zero, suc, ◌+◌, ◌*◌, ◌<◌, ◌≤◌, List, length, Some, Ok, Err, Result, sym, ap, ◌∙◌, add-one, arith}
+use Rattle.std.specs.Prelude.{IsErrOf, min}
 use Rattle.std.proofs.Math.Nat.{min-eq_right, mul-le-mul_right, suc-mul}
 use Rattle.std.proofs.lemmas.Option.{same_Some}
 use Rattle.aig_circuit.specs.declared.node.AigNode.{AigNode}

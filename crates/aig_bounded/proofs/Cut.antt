@@ -25,11 +25,11 @@ use Rattle.aig_bounded.specs.declared.frames.Frames.{Frames}
 use Rattle.aig_bounded.specs.declared.place.Place.{Place}
 use Rattle.aig_bounded.specs.declared.asked.Sought.{Sought}
 use Rattle.aig_bounded.specs.declared.asked.Start.{Start}
-use Rattle.aig_bounded.specs.Asked.{HasStarts, IsAskedOf, IsFree, IsStart, reached_to}
+use Rattle.aig_bounded.specs.Asked.{HasStarts, IsAskedOf, IsFree, IsStart, sought_to}
 use Rattle.aig_bounded.specs.Question.{IsPlaceOf, ReadsPlaces}
 use Rattle.aig_bounded.specs.Frames.{AreFrames, IsBefore, Shows}
 use Rattle.aig_bounded.specs.Cut.{IsCutOf, KeepsReached, marked_places, whole_question}
-use Rattle.aig_bounded.proofs.Reached.{reached_is}
+use Rattle.aig_bounded.proofs.Reached.{sought_is}
 use Rattle.aig_bounded.proofs.Read.{run_of, zip_all}
 
 -- ---- places that are kept
@@ -230,7 +230,7 @@ module _ (c : Circuit) (u n : ℕ) (f : Frames) (output : AigEdge) (are : AreFra
 
 module _ (c : Circuit) (sought : Sought) (k : ℕ) (f : Frames) (output : AigEdge)
     (circuit : IsCircuit c) (starts : HasStarts f.start c) (are : AreFrames c (k + 1) 0 f)
-    (shows : Shows c k f output (λ run. reached_to sought c run (k + 1))) (places : List Place)
+    (shows : Shows c k f output (λ run. sought_to sought c run k)) (places : List Place)
     (keeps : KeepsReached f output places) (kept : List ℕ)
     (are_kept : AreKept (whole_question f output) kept)
     (is_made : IsCircuit (refined kept (whole_question f output)))
@@ -327,7 +327,7 @@ module _ (c : Circuit) (sought : Sought) (k : ℕ) (f : Frames) (output : AigEdg
   value : (run : ℕ → ℕ → Bool) (y : ℕ → Bool) → IsRun c k run → IsStart f.start c (run 0)
       → ReadsPlaces made.inputs places y run
       → edge_value made.nodes y (renumbered_edge number output)
-      ≡ reached_to sought c run (k + 1)
+      ≡ sought_to sought c run k
   value run y is start reads =
       edge_value_by_leaves made.nodes is_made.nodes.ordered y (cut_to kept x) leaves (renumbered_edge number output)
       ∙ sym (cuts.properties x).outputs.0
@@ -367,7 +367,7 @@ module _ (c : Circuit) (sought : Sought) (k : ℕ) (f : Frames) (output : AigEdg
     distinct = distinct;
     value = λ run y is start reads.
         let same = value run y is start reads in
-        let either = reached_is c run sought k in
+        let either = sought_is c run sought k in
         (λ h. either.0 (sym same ∙ h), λ r. same ∙ either.1 r);
     runs = λ y. run_of c circuit f.start starts made.inputs places y k same_length distinct are_places;
   }
@@ -376,7 +376,7 @@ module _ (c : Circuit) (sought : Sought) (k : ℕ) (f : Frames) (output : AigEdg
 pub IsAskedOf-cut : (c : Circuit) (start : Start) (sought : Sought) (k : ℕ) (f : Frames)
     (output : AigEdge) (new : Circuit) (places : List Place) → IsCircuit c → HasStarts start c
     → f.start ≡ start → AreFrames c (k + 1) 0 f
-    → Shows c k f output (λ run. reached_to sought c run (k + 1)) → IsCutOf f output new places
+    → Shows c k f output (λ run. sought_to sought c run k) → IsCutOf f output new places
     → ((d : Circuit) (kept : List ℕ) → IsCircuit d → AreKept d kept → IsCircuit (refined kept d))
     → ((d : Circuit) (kept : List ℕ) → IsCircuit d → AreKept d kept
     → CutsRuns d (refined kept d) kept)

@@ -3,6 +3,9 @@ mod Extended
 mod Shown
 mod Stepped
 mod Joined
+mod Differing
+mod Seen
+mod Distinct
 mod Reached
 mod Read
 mod Marked

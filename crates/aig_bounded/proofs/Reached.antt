@@ -1,4 +1,4 @@
--- The two sums say what it is to reach what is sought.
+-- The two sums, and the states, say what it is to reach what is sought.
 use Rattle.std.proofs.Common.{◌≡◌, ◌⊎◌, ◌↔◌, ℕ, zero, suc, ◌+◌, ◌<◌, ◌≤◌, Bool, true, false, ◌&&◌, ◌||◌, IsTrue, List, [], ◌∷◌, add-one, refl, sym, ap, subst, ◌∙◌, inl, inr, arith}
 use Rattle.std.specs.Prelude.{All, not}
 use Rattle.std.specs.List.{list_all, list_any}
@@ -7,9 +7,12 @@ use Rattle.aig_circuit.specs.declared.edge.AigEdge.{AigEdge}
 use Rattle.aig_circuit.specs.Circuit.{Circuit}
 use Rattle.aig_circuit.specs.Tree.{edge_value}
 use Rattle.aig_bounded.specs.declared.asked.Sought.{Sought}
-use Rattle.aig_bounded.specs.declared.asked.Sought.TheVariants.{First, Somewhere}
-use Rattle.aig_bounded.specs.Asked.{IsAsSought, reached_to, within_to}
-use Rattle.aig_bounded.specs.Question.{Reaches, ReachesFirst}
+use Rattle.aig_bounded.specs.declared.asked.Sought.TheVariants.{First, Last, Somewhere}
+use Rattle.aig_bounded.specs.Asked.{IsAsSought, reached_to, sought_to, within_to}
+use Rattle.aig_runs.specs.declared.window.Window.{Window}
+use Rattle.aig_runs.specs.declared.window.Window.TheVariants.{Plain, Distinct}
+use Rattle.aig_bounded.proofs.Distinct.{apart_is}
+use Rattle.aig_bounded.specs.Question.{Reaches, ReachesAt, ReachesFirst}
 
 -- ---- truth values
 
@@ -121,34 +124,71 @@ module _ (c : Circuit) (run : ℕ → ℕ → Bool) where
           (all_within (suc r.step) (λ s l. true_all (edge_value c.nodes (run s)) c.properties.constraints (r.constraints s (omega arith))))
           r.bad
 
+  -- ---- at the last step
+
+  within_last : (t : ℕ) → within_to Last c run t ≡ within_to Somewhere c run t
+  within_last zero = refl
+  within_last (suc t) = ap (λ b. b && constrained t) (within_last t)
+
+  -- the second sum is true exactly where a bad state is reached at the last step
+  reached_last : (last : ℕ) → IsTrue (reached_to Last c run (last + 1)) ↔ ReachesAt c last run
+  reached_last last = (forth, back)
+    where
+      same : reached_to Last c run (last + 1)
+          ≡ (within_to Somewhere c run (suc last) && bad last)
+      same = ap (reached_to Last c run) (add-one last)
+          ∙ ap (λ b. (b && constrained last) && bad last) (within_last last)
+
+      forth : IsTrue (reached_to Last c run (last + 1)) → ReachesAt c last run
+      forth h =
+          let both : (within_to Somewhere c run (suc last) && bad last) ≡ true = sym same ∙ h in
+          let within = and_first (within_to Somewhere c run (suc last)) (bad last) both in
+          record {
+            constraints = λ s l. all_true (edge_value c.nodes (run s)) c.properties.constraints
+                (within_all (suc last) within s (omega arith));
+            bad = and_second (within_to Somewhere c run (suc last)) (bad last) both;
+          }
+
+      back : ReachesAt c last run → IsTrue (reached_to Last c run (last + 1))
+      back r =
+          same ∙ both_true (within_to Somewhere c run (suc last)) (bad last)
+          (all_within (suc last) (λ s l. true_all (edge_value c.nodes (run s))
+          c.properties.constraints (r.constraints s (omega arith))))
+          r.bad
+
   -- ---- at the last step first
 
-  first_all : (t : ℕ) → within_to First c run t ≡ true → (s : ℕ) → s < t
+  first_all : (form : Window) (t : ℕ) → within_to (First form) c run t ≡ true → (s : ℕ) → s < t
       → (constrained s ≡ true) × (bad s ≡ false)
-  first_all zero h s l = absurd (omega arith)
-  first_all (suc t) h s l = by (λ low. first_all t (and_first before (constrained t) both) s low) (cases_lt s t)
+  first_all form zero h s l = absurd (omega arith)
+  first_all form (suc t) h s l =
+      by (λ low. first_all form t (and_first before (constrained t) both) s low) (cases_lt s t)
     where
       before : Bool
-      before = within_to First c run t
+      before = within_to (First form) c run t
 
-      both : (within_to First c run t && constrained t) ≡ true
-      both = and_first (within_to First c run t && constrained t) (not (bad t)) h
+      both : (within_to (First form) c run t && constrained t) ≡ true
+      both = and_first (within_to (First form) c run t && constrained t) (not (bad t)) h
 
       by : (s < t → (constrained s ≡ true) × (bad s ≡ false)) → (s < t) ⊎ (t ≤ s)
           → (constrained s ≡ true) × (bad s ≡ false)
       by early (inl low) = early low
       by early (inr high) =
           let same : t ≡ s = omega arith in
-          subst (λ u. (constrained u ≡ true) × (bad u ≡ false)) same
-          (and_second (within_to First c run t) (constrained t) both, not_true (bad t) (and_second (within_to First c run t && constrained t) (not (bad t)) h))
+          subst (λ u. (constrained u ≡ true) × (bad u ≡ false)) same (
+            and_second (within_to (First form) c run t) (constrained t) both,
+            not_true (bad t)
+                (and_second (within_to (First form) c run t && constrained t) (not (bad t)) h),
+          )
 
-  all_first : (t : ℕ) → ((s : ℕ) → s < t → (constrained s ≡ true) × (bad s ≡ false))
-      → within_to First c run t ≡ true
-  all_first zero all = refl
-  all_first (suc t) all =
+  all_first : (form : Window) (t : ℕ) → ((s : ℕ) → s < t → (constrained s ≡ true) × (bad s ≡ false))
+      → within_to (First form) c run t ≡ true
+  all_first form zero all = refl
+  all_first form (suc t) all =
       let now = all t (omega arith) in
-      let both = both_true (within_to First c run t) (constrained t) (all_first t (λ s l. all s (omega arith))) now.0 in
-      both_true (within_to First c run t && constrained t) (not (bad t)) both (ap not now.1)
+      let both = both_true (within_to (First form) c run t) (constrained t)
+      (all_first form t (λ s l. all s (omega arith))) now.0 in
+      both_true (within_to (First form) c run t && constrained t) (not (bad t)) both (ap not now.1)
 
   -- up to the last step, and at it
   constrained_to : (last : ℕ) → ((s : ℕ) → s < last → constrained s ≡ true)
@@ -160,37 +200,44 @@ module _ (c : Circuit) (run : ℕ → ℕ → Bool) where
       by (inr high) = let is : last ≡ s = omega arith in subst (λ v. constrained v ≡ true) is now
 
   -- every constraint holds up to the last step, and no bad state is reached before it
-  abbrev here : ℕ → Bool
-  here last = within_to First c run last && constrained last
+  abbrev here : Window → ℕ → Bool
+  here form last = within_to (First form) c run last && constrained last
 
   -- the second sum is true exactly where a bad state is reached at the last step first
-  reached_first : (last : ℕ)
-      → IsTrue (reached_to First c run (last + 1)) ↔ ReachesFirst c last run
-  reached_first last = (forth, back)
+  reached_first : (form : Window) (last : ℕ)
+      → IsTrue (reached_to (First form) c run (last + 1)) ↔ ReachesFirst c last run
+  reached_first form last = (forth, back)
     where
-      same : reached_to First c run (last + 1) ≡ reached_to First c run (suc last)
-      same = ap (reached_to First c run) (add-one last)
+      same : reached_to (First form) c run (last + 1) ≡ reached_to (First form) c run (suc last)
+      same = ap (reached_to (First form) c run) (add-one last)
 
-      forth : IsTrue (reached_to First c run (last + 1)) → ReachesFirst c last run
+      forth : IsTrue (reached_to (First form) c run (last + 1)) → ReachesFirst c last run
       forth h =
-          let both : (here last && bad last) ≡ true = sym same ∙ h in
-          let within = and_first (here last) (bad last) both in
-          let before = first_all last (and_first (within_to First c run last) (constrained last) within) in
-          let now = and_second (within_to First c run last) (constrained last) within in
+          let both : (here form last && bad last) ≡ true = sym same ∙ h in
+          let within = and_first (here form last) (bad last) both in
+          let before = first_all form last (and_first (within_to (First form) c run last)
+          (constrained last) within) in
+          let now = and_second (within_to (First form) c run last) (constrained last) within in
           record {
             constraints = λ s l. all_true (edge_value c.nodes (run s)) c.properties.constraints (constrained_to last (λ u low. (before u low).0) now s l);
             good = λ s l. (before s l).1;
-            bad = and_second (here last) (bad last) both;
+            bad = and_second (here form last) (bad last) both;
           }
 
-      back : ReachesFirst c last run → IsTrue (reached_to First c run (last + 1))
+      back : ReachesFirst c last run → IsTrue (reached_to (First form) c run (last + 1))
       back r =
           let all = λ (s : ℕ) (l : s ≤ last). true_all (edge_value c.nodes (run s)) c.properties.constraints (r.constraints s l) in
-          let before = all_first last (λ s l. (all s (omega arith), r.good s l)) in
-          same ∙ both_true (here last) (bad last) (both_true (within_to First c run last) (constrained last) before (all last (omega arith))) r.bad
+          let before = all_first form last (λ s l. (all s (omega arith), r.good s l)) in
+          same ∙ both_true (here form last) (bad last)
+          (both_true (within_to (First form) c run last) (constrained last) before
+          (all last (omega arith))) r.bad
 
-  -- so it says whether the run is as sought
-  pub reached_is : (sought : Sought) (last : ℕ)
-      → IsTrue (reached_to sought c run (last + 1)) ↔ IsAsSought sought c last run
-  reached_is Somewhere last = reached_reaches last
-  reached_is First last = reached_first last
+  -- so the whole says whether the run is as sought
+  pub sought_is : (sought : Sought) (last : ℕ)
+      → IsTrue (sought_to sought c run last) ↔ IsAsSought sought c last run
+  sought_is Somewhere last = reached_reaches last
+  sought_is Last last = reached_last last
+  sought_is (First Plain) last = reached_first Plain last
+  sought_is (First Distinct) last =
+      apart_is c run (ReachesFirst c last run) (reached_to (First Distinct) c run (last + 1)) last
+      (reached_first Distinct last)

@@ -18,7 +18,7 @@ use Rattle.aig_bounded.specs.Steps.{ShowsNode, image_at, image_in}
 use Rattle.aig_bounded.proofs.Extended.{Extends-ands, opened_reads}
 
 -- a start of the new nodes' runs is one of the old ones'
-started : (c : Circuit) (old new : Frames) (run : ℕ → ℕ → Bool) → new.start ≡ old.start
+pub started : (c : Circuit) (old new : Frames) (run : ℕ → ℕ → Bool) → new.start ≡ old.start
     → IsStart new.start c (run 0) → IsStart old.start c (run 0)
 started c old new run same start = subst (λ s. IsStart s c (run 0)) same start
 

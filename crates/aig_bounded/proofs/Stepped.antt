@@ -1,5 +1,5 @@
 -- The tables of one step, and what the steps say.
-use Rattle.std.proofs.Common.{◌≡◌, ◌≢◌, ◌⊎◌, ℕ, zero, suc, ◌+◌, ◌-◌, ◌<◌, ◌≤◌, Bool, true, false, ◌&&◌, ◌||◌, Option, Some, None, Result, Ok, Err, List, length, get_or, set, add-one, get_or-set_other, get_or-set_same, refl, sym, ap, subst, ◌∙◌, inl, inr, arith}
+use Rattle.std.proofs.Common.{◌≡◌, ◌≢◌, ◌⊎◌, ℕ, zero, suc, ◌+◌, ◌-◌, ◌<◌, ◌≤◌, Bool, true, false, ◌&&◌, Option, Some, None, Result, Ok, Err, List, length, get_or, set, add-one, get_or-set_other, get_or-set_same, refl, sym, ap, subst, ◌∙◌, inl, inr, arith}
 use Rattle.std.specs.List.{list_all, list_any}
 use Rattle.std.specs.Prelude.{All, AllPairs, Contains, IfOk, IfSome, OnOk, replicate, slice_index}
 use Rattle.std.proofs.lemmas.Bool.{cases_lt}
@@ -358,6 +358,12 @@ pub if_ok_all : {X E : Type 0} (r : Result X E) (P Q R : X → Type 0) (A : Type
     → ((x : X) → P x → Q x → A → R x) → IfOk r P → IfOk r Q → OnOk r A → IfOk r R
 if_ok_all (Ok x) P Q R A w p q a = w x p q a
 if_ok_all (Err e) P Q R A w p q a = tt
+
+-- what follows at all
+pub on_ok : {X E : Type 0} (r : Result X E) (P : X → Type 0) (A : Type 0) → ((x : X) → P x → A)
+    → IfOk r P → OnOk r A
+on_ok (Ok x) P A w p = w x p
+on_ok (Err e) P A w p = tt
 
 -- what holds of the value that is there
 pub if_some_at : {X : Type 0} (o : Option X) (x : X) (P : X → Type 0) → o ≡ Some x → IfSome o P → P x

@@ -10,8 +10,9 @@ use Rattle.aig_circuit.specs.Circuit.{Circuit, IsCircuit}
 use Rattle.aig_circuit.specs.Runs.{IsInitial, IsRun}
 use Rattle.aig_circuit.specs.Tree.{edge_value}
 use Rattle.aig_runs.specs.CircuitQueries.{HasCircuitWitness, IsCircuitWitness}
+use Rattle.aig_runs.specs.declared.window.Window.{Window}
 use Rattle.aig_bounded.specs.declared.place.Place.{Place}
-use Rattle.aig_bounded.specs.Question.{Asks, HasNoInit, IsQuestion, IsWindowQuestion, Reaches, ReachesFirst}
+use Rattle.aig_bounded.specs.Question.{Asks, HasNoInit, IsQuestion, IsStepQuestion, IsWindowQuestion, Reaches, ReachesAt, ReachesFirstBy}
 use Rattle.aig_bounded.proofs.Cut.{place_value, reads_whole}
 use Rattle.aig_bounded.proofs.Read.{latch_at, latch_at-found, zip_length}
 
@@ -138,21 +139,51 @@ module _ (c : Circuit) (k : ℕ) (asks : Circuit) (output : AigEdge) (places : L
       ↔ ((t : ℕ) × (t ≤ k) × HasCircuitWitness c t)
   question_asks = (forth, λ (t, h, w). back t h w.0 w.1)
 
+-- ---- questions of one step
+
+pub step_asks : (c : Circuit) (last : ℕ) (asks : Circuit) (output : AigEdge) (places : List Place)
+    → IsStepQuestion c last asks output places
+    → ((y : ℕ → Bool) × IsTrue (edge_value asks.nodes y output)) ↔ HasCircuitWitness c last
+step_asks c last asks output places is = (forth_step, back_step)
+  where
+    forth_step : ((y : ℕ → Bool) × IsTrue (edge_value asks.nodes y output))
+        → HasCircuitWitness c last
+    forth_step (y, holds) =
+        let found = sought_of HasNoInit (IsInitial c) (ReachesAt c last) c last asks output places
+        is y holds in
+        let reaches = found.3 in (
+          found.0,
+          record {
+            is_run = found.1;
+            start = found.2;
+            constraints = reaches.constraints;
+            bad = reaches.bad;
+          },
+        )
+
+    back_step : HasCircuitWitness c last → (y : ℕ → Bool) × IsTrue (edge_value asks.nodes y output)
+    back_step (run, w) =
+        let reaches : ReachesAt c last run = record { constraints = w.constraints; bad = w.bad } in
+        holds_on HasNoInit (IsInitial c) (ReachesAt c last) c last asks output places is run
+        w.is_run w.start reaches
+
 -- ---- questions and windows
 
-pub window_asks : (c : Circuit) (last : ℕ) (asks : Circuit) (output : AigEdge)
-    (places : List Place) → IsWindowQuestion c last asks output places
+pub window_asks : (form : Window) (c : Circuit) (last : ℕ) (asks : Circuit) (output : AigEdge)
+    (places : List Place) → IsWindowQuestion form c last asks output places
     → ((y : ℕ → Bool) × IsTrue (edge_value asks.nodes y output))
-    ↔ ((run : ℕ → ℕ → Bool) × IsRun c last run × ReachesFirst c last run)
-window_asks c last asks output places is = (forth_window, back_window)
+    ↔ ((run : ℕ → ℕ → Bool) × IsRun c last run × ReachesFirstBy form c last run)
+window_asks form c last asks output places is = (forth_window, back_window)
   where
     forth_window : ((y : ℕ → Bool) × IsTrue (edge_value asks.nodes y output))
-        → (run : ℕ → ℕ → Bool) × IsRun c last run × ReachesFirst c last run
+        → (run : ℕ → ℕ → Bool) × IsRun c last run × ReachesFirstBy form c last run
     forth_window (y, holds) =
-        let found = sought_of (λ latch. Unit {0}) (λ values. Unit {0}) (ReachesFirst c last) c last asks output places is y holds in
+        let found = sought_of (λ latch. Unit {0}) (λ values. Unit {0}) (ReachesFirstBy form c last)
+        c last asks output places is y holds in
         (found.0, found.1, found.3)
 
-    back_window : ((run : ℕ → ℕ → Bool) × IsRun c last run × ReachesFirst c last run)
+    back_window : ((run : ℕ → ℕ → Bool) × IsRun c last run × ReachesFirstBy form c last run)
         → (y : ℕ → Bool) × IsTrue (edge_value asks.nodes y output)
     back_window (run, moves, reaches) =
-        holds_on (λ latch. Unit {0}) (λ values. Unit {0}) (ReachesFirst c last) c last asks output places is run moves tt reaches
+        holds_on (λ latch. Unit {0}) (λ values. Unit {0}) (ReachesFirstBy form c last) c last asks
+        output places is run moves tt reaches

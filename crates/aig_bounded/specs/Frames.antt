@@ -1,6 +1,6 @@
 -- Serves private clauses alone.
 -- The nodes of a question while it is made.
-use Rattle.std.specs.Prelude.{◌≡◌, ◌≢◌, ℕ, ◌+◌, ◌<◌, ◌≤◌, ◌++◌, ◌∷◌, [], ◌⊎◌, false, Bool, length, All, AllPairs, Contains, Result, IsErrOf, OnOk}
+use Rattle.std.specs.Prelude.{◌≡◌, ◌≢◌, ℕ, ◌+◌, ◌*◌, ◌<◌, ◌≤◌, ◌++◌, ◌∷◌, [], ◌⊎◌, false, Bool, List, length, All, AllPairs, Contains, Result, IsErrOf, OnOk}
 use Rattle.aig_circuit.specs.declared.edge.AigEdge.{AigEdge}
 use Rattle.aig_circuit.specs.declared.node.AigNodeType.TheVariants.{Leaf}
 use Rattle.aig_circuit.specs.Edge.{edge_to}
@@ -12,6 +12,7 @@ use Rattle.aig_bounded.specs.declared.error.BoundedError.{BoundedError}
 use Rattle.aig_bounded.specs.declared.error.BoundedError.TheVariants.{TooLarge}
 use Rattle.aig_bounded.specs.declared.frames.Frames.{Frames}
 use Rattle.aig_bounded.specs.declared.place.Place.{Place}
+use Rattle.aig_bounded.specs.Apart.{latch_value, seen_edge}
 use Rattle.aig_bounded.specs.Asked.{IsFree, IsStart}
 use Rattle.aig_bounded.specs.Question.{IsPlaceOf, ReadsPlaces}
 
@@ -40,6 +41,12 @@ pub record AddsAnds (old new : Frames) : Type 0 where
   pub few : length old.nodes.items ≤ old.limit → length new.nodes.items ≤ old.limit
   pub inputs : new.inputs.items ≡ old.inputs.items
   pub places : new.places.items ≡ old.places.items
+
+-- gates alone are added, of which an edge has this value
+pub record Gives (wanted : (ℕ → Bool) → Bool) (old new : Frames) (e : AigEdge) : Type 0 where
+  pub there : IsInRange new.nodes.items e
+  pub value : (y : ℕ → Bool) → edge_value new.nodes.items y e ≡ wanted y
+  pub adds : AddsAnds old new
 
 -- one leaf is added, the input of this place, within the limit
 pub record Opens (old new : Frames) (place : Place) (e : AigEdge) : Type 0 where
@@ -74,3 +81,12 @@ pub record AddsUpTo (count : ℕ) (old new : Frames) {T : Type 0} (result : Resu
     : Type 0 where
   pub few : OnOk result (length new.nodes.items ≤ length old.nodes.items + count)
   pub large : IsErrOf result TooLarge → old.limit < length old.nodes.items + count
+
+-- Of so many steps, edges of the latches' values are there: they have these values on each run of
+-- the
+-- steps 0 to t from a start.
+pub record Sees (c : Circuit) (t steps : ℕ) (f : Frames) (seen : List AigEdge) : Type 0 where
+  pub count : length seen ≡ steps * length c.latchs
+  pub there : All (IsInRange f.nodes.items) seen
+  pub shown : (s i : ℕ) → s < steps → i < length c.latchs
+      → Shows c t f (seen_edge seen (length c.latchs) s i) (λ run. latch_value c run s i)

@@ -1,4 +1,5 @@
 pub mod Question
+pub mod Apart
 pub mod Asked
 pub mod Depths
 pub mod Frames

@@ -3,7 +3,8 @@
 ghost use Rattle.std.specs.Prelude.{◌≡◌, ◌≤◌, ◌&&◌, ◌||◌, ℕ, Bool, IfOk, OnOk, length};
 ghost use Rattle.aig_circuit.specs.Circuit.{AreNodes, Circuit, IsInRange};
 ghost use Rattle.aig_circuit.specs.Tree.{edge_value};
-ghost use Rattle.aig_bounded.specs.Frames.{AddsAnds, AddsUpTo, AreFrames, Opens};
+ghost use Rattle.aig_bounded.specs.Apart.{differ};
+ghost use Rattle.aig_bounded.specs.Frames.{AddsAnds, AddsUpTo, AreFrames, Gives, Opens};
 
 use crate::asked::Start;
 use crate::error::BoundedError;
@@ -140,5 +141,20 @@ impl Frames {
         ensures size { AddsUpTo 1 self.old self.new result }
     {
         Ok(!self.and(!fanin0, !fanin1)?)
+    }
+
+    /// The exclusive or of two edges.
+    pub(crate) fn xor(&mut self, fanin0: AigEdge, fanin1: AigEdge) -> Result<AigEdge, BoundedError>
+        requires sound { AreNodes self.old.nodes.items }
+        requires first { IsInRange self.old.nodes.items fanin0 }
+        requires second { IsInRange self.old.nodes.items fanin1 }
+        ensures gives { IfOk result (Gives (λ y.
+            differ (edge_value self.old.nodes.items y fanin0)
+            (edge_value self.old.nodes.items y fanin1)) self.old self.new) }
+        ensures size { AddsUpTo 3 self.old self.new result }
+    {
+        let first = self.and(fanin0, !fanin1)?;
+        let second = self.and(!fanin0, fanin1)?;
+        self.or(first, second)
     }
 }

@@ -1,18 +1,19 @@
 //! The steps of a circuit as nodes of a question.
 
-ghost use Rattle.std.specs.Prelude.{◌≡◌, ◌+◌, ◌-◌, ◌*◌, ◌<◌, ◌≤◌, ◌&&◌, ℕ, Bool, true, false, None, Some, IfOk, IfSome, IsErrOf, OnOk, List, All, length, min, slice_index_or};
+ghost use Rattle.std.specs.Prelude.{◌≡◌, ◌+◌, ◌-◌, ◌*◌, ◌<◌, ◌≤◌, ◌&&◌, ℕ, Bool, true, false, None, Some, IfOk, IfSome, IsErrOf, OnOk, List, [], All, length, min, slice_index_or};
 ghost use Rattle.std.specs.List.{list_all, list_any};
 ghost use Rattle.aig_circuit.specs.Circuit.{AreNodes, IsCircuit, IsInRange, IsLeaf};
 ghost use Rattle.aig_circuit.specs.Edge.{edge_to};
 ghost use Rattle.aig_circuit.specs.Reach.{IsFanin};
 ghost use Rattle.aig_circuit.specs.Tree.{edge_value};
 ghost use Rattle.aig_bounded.specs.declared.frames.Frames.{Frames};
-ghost use Rattle.aig_bounded.specs.Asked.{HasStarts, IsFree, first_state, next_reached, next_within, reached_to};
-ghost use Rattle.aig_bounded.specs.Question.{IsPlaceOf, question_size, step_size};
-ghost use Rattle.aig_bounded.specs.Depths.{AreDepths};
-ghost use Rattle.aig_bounded.specs.Frames.{AddsAnds, AddsUpTo, AreFrames, Extends, Shows};
+ghost use Rattle.aig_bounded.specs.Asked.{HasStarts, IsFree, apart_size, asked_size, first_state, next_reached, next_within, reached_to, sought_to, tells_apart};
+ghost use Rattle.aig_bounded.specs.Question.{IsPlaceOf, step_size};
+ghost use Rattle.aig_bounded.specs.Depths.{AreDepths, HaveNoLatchDepth};
+ghost use Rattle.aig_bounded.specs.Frames.{AddsAnds, AddsUpTo, AreFrames, Extends, Sees, Shows};
 ghost use Rattle.aig_bounded.specs.Steps.{HasImages, HasStates, MakesImage, SetsStates, ShowsNode, Sum, image_in};
 
+use crate::apart::note_states;
 use crate::asked::{Sought, Start};
 use crate::depths::depths;
 use crate::error::BoundedError;
@@ -197,7 +198,11 @@ impl Frames {
                 let reached = self.or(reached, now)?;
                 Ok(Sums { within, reached })
             }
-            Sought::First => {
+            Sought::Last => Ok(Sums {
+                within,
+                reached: now,
+            }),
+            Sought::First(_form) => {
                 let within = self.and(within, !bad)?;
                 Ok(Sums {
                     within,
@@ -245,17 +250,24 @@ impl Frames {
         last: usize,
         images: &mut [AigEdge],
         states: &[Option<AigEdge>],
+        seen: &mut Vec<AigEdge>,
         sums: Sums,
     ) -> Result<AigEdge, BoundedError>
         requires circuit { IsCircuit circuit.now }
         requires table { length images.old ≡ length circuit.now.nodes }
         requires depths { AreDepths circuit.now last depths.now }
+        requires leaves { tells_apart sought ≡ true
+            → HaveNoLatchDepth circuit.now.latchs depths.now }
+        requires seen { tells_apart sought ≡ true
+            → Sees circuit.now last last self.old seen.old.items }
         requires frames { AreFrames circuit.now last 0 self.old }
         requires states { HasStates circuit.now last depths.now 0 self.old states.now }
         requires sums { Sum circuit.now sought last last self.old sums }
         ensures shows { IfOk result (λ e.
             Shows circuit.now last self.new e
             (λ run. reached_to sought circuit.now run (last + 1))) }
+        ensures seen { OnOk result (tells_apart sought ≡ true
+            → Sees circuit.now last (last + 1) self.new seen.new.items) }
         ensures frames { OnOk result (AreFrames circuit.now (last + 1) 0 self.new) }
         ensures limit { OnOk result (self.new.limit ≡ self.old.limit) }
         ensures start { OnOk result (self.new.start ≡ self.old.start) }
@@ -263,12 +275,54 @@ impl Frames {
     {
         self.add_nodes(circuit, depths, 0, last, images, states)?;
         let all = self.add_sums(circuit, sought, images, last, sums)?;
+        note_states(circuit, sought, images, seen)?;
         Ok(all.reached)
     }
 
-    /// Adds the steps 0 to `last`, and returns the edge that is true where what is sought is reached.
+    /// Adds the steps 0 to `last`, and returns the edge that is true where what is sought is reached. Notes the states of the
+    /// steps, where they are told apart.
     fn add_steps(
         &mut self,
+        circuit: &CircuitView<'_>,
+        sought: Sought,
+        depths: &[usize],
+        last: usize,
+        images: &mut [AigEdge],
+        states: &mut [Option<AigEdge>],
+        seen: &mut Vec<AigEdge>,
+    ) -> Result<AigEdge, BoundedError>
+        requires circuit { IsCircuit circuit.now }
+        requires frames { AreFrames circuit.now 0 0 self.old }
+        requires table { length images.old ≡ length circuit.now.nodes }
+        requires depths { AreDepths circuit.now last depths.now }
+        requires leaves { tells_apart sought ≡ true
+            → HaveNoLatchDepth circuit.now.latchs depths.now }
+        requires seen { seen.old.items ≡ [] }
+        requires states { HasStates circuit.now 0 depths.now last self.old states.old }
+        ensures shows { IfOk result (λ e.
+            Shows circuit.now last self.new e
+            (λ run. reached_to sought circuit.now run (last + 1))) }
+        ensures seen { OnOk result (tells_apart sought ≡ true
+            → Sees circuit.now last (last + 1) self.new seen.new.items) }
+        ensures frames { OnOk result (AreFrames circuit.now (last + 1) 0 self.new) }
+        ensures limit { OnOk result (self.new.limit ≡ self.old.limit) }
+        ensures start { OnOk result (self.new.start ≡ self.old.start) }
+        ensures size { AddsUpTo ((last + 1) * step_size circuit.now) self.old self.new result }
+    {
+        let mut sums = Sums::start();
+        for step in 0..last {
+            self.add_nodes(circuit, depths, last - step, step, images, states)?;
+            sums = self.add_sums(circuit, sought, images, step, sums)?;
+            note_states(circuit, sought, images, seen)?;
+            advance(circuit, images, states);
+        }
+        self.add_last(circuit, sought, depths, last, images, states, seen, sums)
+    }
+
+    /// Adds the steps 0 to `last`, and returns the edge that is true where the run is as sought.
+    fn add_asked(
+        &mut self,
+        alloc: Global,
         circuit: &CircuitView<'_>,
         sought: Sought,
         depths: &[usize],
@@ -280,22 +334,20 @@ impl Frames {
         requires frames { AreFrames circuit.now 0 0 self.old }
         requires table { length images.old ≡ length circuit.now.nodes }
         requires depths { AreDepths circuit.now last depths.now }
+        requires leaves { tells_apart sought ≡ true
+            → HaveNoLatchDepth circuit.now.latchs depths.now }
         requires states { HasStates circuit.now 0 depths.now last self.old states.old }
         ensures shows { IfOk result (λ e.
-            Shows circuit.now last self.new e
-            (λ run. reached_to sought circuit.now run (last + 1))) }
+            Shows circuit.now last self.new e (λ run. sought_to sought circuit.now run last)) }
         ensures frames { OnOk result (AreFrames circuit.now (last + 1) 0 self.new) }
         ensures limit { OnOk result (self.new.limit ≡ self.old.limit) }
         ensures start { OnOk result (self.new.start ≡ self.old.start) }
-        ensures size { AddsUpTo ((last + 1) * step_size circuit.now) self.old self.new result }
+        ensures size { AddsUpTo ((last + 1) * step_size circuit.now
+            + apart_size (tells_apart sought) circuit.now last) self.old self.new result }
     {
-        let mut sums = Sums::start();
-        for step in 0..last {
-            self.add_nodes(circuit, depths, last - step, step, images, states)?;
-            sums = self.add_sums(circuit, sought, images, step, sums)?;
-            advance(circuit, images, states);
-        }
-        self.add_last(circuit, sought, depths, last, images, states, sums)
+        let mut seen = Vec::new(alloc);
+        let reached = self.add_steps(circuit, sought, depths, last, images, states, &mut seen)?;
+        self.tell_apart(circuit, sought, reached, &seen, last)
     }
 }
 
@@ -340,7 +392,7 @@ fn start_states(
     Ok(states)
 }
 
-/// The nodes of the steps 0 to `last`, and the edge that is true where what is sought is reached.
+/// The nodes of the steps 0 to `last`, and the edge that is true where the run is as sought.
 pub(crate) fn expanded(
     alloc: Global,
     circuit: &CircuitView<'_>,
@@ -352,18 +404,27 @@ pub(crate) fn expanded(
     requires starts { HasStarts start circuit.now }
     requires some { 1 ≤ limit }
     ensures shows { IfOk result (λ made. Shows circuit.now last made.0 made.1
-        (λ run. reached_to sought circuit.now run (last + 1))) }
+        (λ run. sought_to sought circuit.now run last)) }
     ensures frames { IfOk result (λ made. AreFrames circuit.now (last + 1) 0 made.0) }
     ensures limit { IfOk result (λ made. made.0.limit ≡ limit) }
     ensures start { IfOk result (λ made. made.0.start ≡ start) }
-    ensures large { IsErrOf result BoundedError.TooLarge → limit < question_size circuit.now last }
+    ensures large { IsErrOf result BoundedError.TooLarge
+        → limit < asked_size sought circuit.now last }
     ensures circuit { IsCircuit circuit.now }
 {
     let count = circuit.nodes().len();
-    let depths = depths(alloc, circuit, last)?;
+    let depths = depths(alloc, circuit, sought, last)?;
     let mut images = vec![in alloc; AigEdge::constant(false); count]?;
     let mut states = start_states(alloc, circuit, start)?;
     let mut frames = Frames::new(alloc, limit, start)?;
-    let reached = frames.add_steps(circuit, sought, &depths, last, &mut images, &mut states)?;
-    Ok((frames, reached))
+    let output = frames.add_asked(
+        alloc,
+        circuit,
+        sought,
+        &depths,
+        last,
+        &mut images,
+        &mut states,
+    )?;
+    Ok((frames, output))
 }

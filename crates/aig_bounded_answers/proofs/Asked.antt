@@ -25,16 +25,15 @@ use Rattle.aig_witness.specs.declared.witness.Witness as witnesses
 use Rattle.aig_witness.specs.Machine.{ShowsBad}
 use Rattle.aig_witness.specs.Shown.{IsKnownWitness}
 use Rattle.aig_witness.specs.Witness.{Witness, said_by}
-use Rattle.aig_bounded.specs.declared.error.BoundedError.TheVariants.{Memory, TooLarge}
+use Rattle.aig_bounded.specs.declared.error.BoundedError.TheVariants.{TooLarge}
 use Rattle.aig_bounded.specs.declared.place.Place.{Place}
-use Rattle.aig_bounded.specs.Question.{question_size}
 use Rattle.aig_bounded_answers.specs.declared.questions.Asked.{Asked}
-use Rattle.aig_bounded_answers.specs.declared.questions.Asked.TheVariants.{Reached, Window}
+use Rattle.aig_bounded_answers.specs.declared.questions.Asked.TheVariants.{Reached, Step, Window}
 use Rattle.aig_bounded_answers.specs.declared.error.BoundedAnswerError.{BoundedAnswerError}
 use Rattle.aig_bounded_answers.specs.declared.error.BoundedAnswerError.TheVariants as errors
 use Rattle.aig_bounded_answers.specs.declared.clauses.BoundedClauses.{BoundedClauses}
 use Rattle.aig_bounded_answers.specs.Asking.{AsksBy, IsAskedWithin, RefusesAnswer, RefusesSolution, TellsOfSize, verdict_of}
-use Rattle.aig_bounded_answers.specs.Encoded.{IsEncoded, IsEncodedQuestion, IsQuestionBy, IsSaidOfBads}
+use Rattle.aig_bounded_answers.specs.Encoded.{IsEncoded, IsEncodedQuestion, IsQuestionBy, IsSaidOfBads, size_by}
 use Rattle.aig_bounded_answers.specs.Naming.{IsNamed}
 use Rattle.aig_bounded_answers.specs.Solving.{WitnessWithin}
 use Rattle.aig_bounded_answers.proofs.Verdicts.{count_of}
@@ -57,7 +56,12 @@ plain_of Reached last c asks output places is = record {
   properties = is.properties;
   leaves = λ i d h. (is.are_places i d h).leaf;
 }
-plain_of Window last c asks output places is = record {
+plain_of Step last c asks output places is = record {
+  circuit = is.circuit;
+  properties = is.properties;
+  leaves = λ i d h. (is.are_places i d h).leaf;
+}
+plain_of (Window form) last c asks output places is = record {
   circuit = is.circuit;
   properties = is.properties;
   leaves = λ i d h. (is.are_places i d h).leaf;
@@ -113,13 +117,13 @@ module _ (asked : Asked) (limit k : ℕ) (optimize : Bool) (lists : CircuitLists
 
   -- a question that is too large is one of the file
   pub size_of : (e : BoundedAnswerError) → IsSaidOfBads lists.properties.bads.items (verdict_of e)
-      → (e ≡ errors.Question TooLarge → limit < question_size (lists_circuit lists) k)
-      → TellsOfSize limit k old new e
+      → (e ≡ errors.Question TooLarge → limit < size_by asked k (lists_circuit lists))
+      → TellsOfSize limit (size_by asked k) old new e
   size_of (errors.Question TooLarge) some large = record {
     file = read.file;
     bytes = read.bytes;
     holds = (read.holds, bads_of some);
-    means = subst (λ c. limit < question_size c k) read.means (large refl);
+    means = subst (λ c. limit < size_by asked k c) read.means (large refl);
     taken = read.taken;
   }
   size_of e some large = tt

@@ -8,7 +8,7 @@ use Rattle.aig_base.specs.declared.logic.literal.Lit.{Lit}
 use Rattle.aig_base.specs.Clauses.{Satisfies, are_true, is_true_clause, literal_value}
 use Rattle.aig_base.specs.Formula.{IsSatisfiable, clauses_in}
 use Rattle.aig_circuit.specs.declared.edge.AigEdge.{AigEdge}
-use Rattle.aig_circuit.specs.Circuit.{Circuit, IsCircuit}
+use Rattle.aig_circuit.specs.Circuit.{Circuit}
 use Rattle.aig_circuit.specs.Properties.{Properties, no_properties}
 use Rattle.aig_circuit.specs.Edge.{edge_to, lit_of}
 use Rattle.aig_circuit.specs.Tree.{edge_value, node_value}
@@ -20,16 +20,17 @@ use Rattle.aig_format.specs.File.{File}
 use Rattle.aig_format.specs.Fits.{Fits}
 use Rattle.aig_format.proofs.Circuits.{IsCircuit-of_file}
 use Rattle.aig_runs.specs.Queries.{IsSafeTo}
+use Rattle.aig_runs.specs.Safety.{IsSafeAt}
 use Rattle.aig_runs.proofs.SafeSteps.{safe_is}
 use Rattle.aig_runs.proofs.Witnesses.{witness_back, witness_forth}
 use Rattle.aig_format_laws.specs.Nodes.{values_over}
-use Rattle.aig_bounded.proofs.Witnesses.{question_asks}
+use Rattle.aig_bounded.proofs.Witnesses.{question_asks, step_asks}
 use Rattle.aig_bounded_answers.specs.declared.clauses.BoundedClauses.{BoundedClauses}
-use Rattle.aig_bounded_answers.specs.declared.questions.Asked.TheVariants.{Reached}
-use Rattle.aig_bounded_answers.specs.Asking.{AsksBounded, AsksBy}
+use Rattle.aig_bounded_answers.specs.declared.questions.Asked.TheVariants.{Reached, Step}
+use Rattle.aig_bounded_answers.specs.Asking.{AsksBounded, AsksBy, AsksStepBounded}
 use Rattle.aig_bounded_answers.proofs.Asked.{IsPlain, plain_of}
 use Rattle.aig_bounded.specs.declared.place.Place.{Place}
-use Rattle.aig_bounded.specs.Question.{IsQuestion}
+use Rattle.aig_bounded.specs.Question.{IsQuestion, IsStepQuestion}
 use Rattle.aig_runs.specs.CircuitQueries.{HasCircuitWitness}
 
 and_first : (a b : Bool) → (a && b) ≡ true → a ≡ true
@@ -181,3 +182,44 @@ module _ (f : File) (limit k : ℕ) (optimize : Bool) (made : BoundedClauses) (f
   pub folded_is_safe : All (λ e. e ≡ edge_to 0 false) question.properties.outputs → IsSafeTo f k
   folded_is_safe all =
       safe_where (folded_never (λ c. IsQuestion c k) f optimize made is plain literals all)
+
+-- ---- a bad state at one step
+
+module _ (f : File) (limit k : ℕ) (optimize : Bool) (made : BoundedClauses) (fits : Fits f limit)
+    (is : AsksStepBounded f k optimize made)
+    (literals : (v : ℕ → Bool) (e : AigEdge) → literal_value v (lit_of e) ≡ edge_in v e) where
+  abbrev step_question : Circuit
+  step_question = lists_circuit made.question.circuit
+
+  step_asked : ((y : ℕ → Bool) × IsTrue (edge_value step_question.nodes y is.output))
+      ↔ HasCircuitWitness (circuit_of f) k
+  step_asked = step_asks (circuit_of f) k step_question is.output made.question.places.items is.asks
+
+  safe_at_where : ((y : ℕ → Bool) → IsTrue (edge_value step_question.nodes y is.output) → ⊥)
+      → IsSafeAt f k
+  safe_at_where none w =
+      let x = witness_forth f limit k w.0 fits w.1 in
+      let y = step_asked.1 (x.0, x.1) in
+      none y.0 y.1
+
+  where_safe_at : IsSafeAt f k → (y : ℕ → Bool)
+      → IsTrue (edge_value step_question.nodes y is.output) → ⊥
+  where_safe_at safe y holds =
+      let reached = step_asked.0 (y, holds) in
+      safe (values_over f reached.0, witness_back f limit k reached.0 fits reached.1)
+
+  step_plain : IsPlain (circuit_of f) step_question is.output made.question.places.items
+  step_plain = plain_of Step k (circuit_of f) step_question is.output made.question.places.items
+      is.asks
+
+  pub refuted_step_is_safe : (¬ IsSatisfiable (clauses_in made.clauses ++ made.further))
+      ↔ IsSafeAt f k
+  refuted_step_is_safe =
+      let never = refuted_never (λ c. IsStepQuestion c k) f optimize made is step_plain literals in
+      (λ none. safe_at_where (never.0 none), λ safe. never.1 (where_safe_at safe))
+
+  pub folded_step_is_safe : All (λ e. e ≡ edge_to 0 false) step_question.properties.outputs
+      → IsSafeAt f k
+  folded_step_is_safe all =
+      safe_at_where (folded_never (λ c. IsStepQuestion c k) f optimize made is step_plain literals
+      all)

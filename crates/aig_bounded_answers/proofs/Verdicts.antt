@@ -102,13 +102,13 @@ module _ (r : Result Unit BoundedAnswerError) (own : IfErr r (λ e. (x : Refutat
       by_result (Err e) own = rw own.1 tt
 
   -- and no question is too large then
-  pub proof_small : (limit k : ℕ) (old new : Option (List ℕ))
-      → IfErr r (TellsOfSize limit k old new)
-  proof_small limit k old new = by_result r own
+  pub proof_small : (limit : ℕ) (bound : Circuit → ℕ) (old new : Option (List ℕ))
+      → IfErr r (TellsOfSize limit bound old new)
+  proof_small limit bound old new = by_result r own
     where
       by_result : (r : Result Unit BoundedAnswerError)
           → IfErr r (λ e. (x : RefutationError) × (e ≡ errors.Refutation x))
-          → IfErr r (TellsOfSize limit k old new)
+          → IfErr r (TellsOfSize limit bound old new)
       by_result (Ok done) own = tt
       by_result (Err e) own = rw own.1 tt
 

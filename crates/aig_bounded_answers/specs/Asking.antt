@@ -23,9 +23,10 @@ use Rattle.aig_refutation.specs.Checking.{Shows}
 use Rattle.aig_solutions.specs.declared.error.SolutionError.{SolutionError}
 use Rattle.aig_solutions.specs.declared.error.SolutionError.TheVariants as solutions
 use Rattle.aig_solutions.specs.Reading.{GivesSolution, solution_in}
+use Rattle.aig_runs.specs.declared.window.Window.{Window}
 use Rattle.aig_bounded.specs.declared.error.BoundedError.TheVariants.{TooLarge}
 use Rattle.aig_bounded.specs.declared.place.Place.{Place}
-use Rattle.aig_bounded.specs.Question.{IsQuestion, IsWindowQuestion, question_size}
+use Rattle.aig_bounded.specs.Question.{IsQuestion, IsStepQuestion, IsWindowQuestion}
 use Rattle.aig_bounded_answers.specs.declared.clauses.BoundedClauses.{BoundedClauses}
 use Rattle.aig_bounded_answers.specs.declared.error.BoundedAnswerError.{BoundedAnswerError}
 use Rattle.aig_bounded_answers.specs.declared.error.BoundedAnswerError.TheVariants as errors
@@ -55,9 +56,16 @@ pub record AsksBy (IsAsked : Circuit → Circuit → AigEdge → List Place → 
 abbrev pub AsksBounded : File → ℕ → Bool → BoundedClauses → Type 0
 AsksBounded f k optimize made = AsksBy (λ c. IsQuestion c k) f optimize made
 
--- the question is whether one is reached, from any state, at step k + 1 first
-abbrev pub AsksWindowBounded : File → ℕ → Bool → BoundedClauses → Type 0
-AsksWindowBounded f k optimize made = AsksBy (λ c. IsWindowQuestion c (k + 1)) f optimize made
+-- the question is whether one is reached at step k, whatever is bad before
+abbrev pub AsksStepBounded : File → ℕ → Bool → BoundedClauses → Type 0
+AsksStepBounded f k optimize made = AsksBy (λ c. IsStepQuestion c k) f optimize made
+
+-- the question is whether one is reached, from any state, at step k + 1 first, on a run at which
+-- the
+-- form looks
+abbrev pub AsksWindowBounded : Window → File → ℕ → Bool → BoundedClauses → Type 0
+AsksWindowBounded form f k optimize made =
+    AsksBy (λ c. IsWindowQuestion form c (k + 1)) f optimize made
 
 -- the question's output is the constant false
 abbrev pub IsSettled : BoundedClauses → Type 0
@@ -107,12 +115,13 @@ IsOfWitness (errors.Refutation e) = ⊥
 IsOfWitness (errors.Solution (solutions.Check e)) = ⊥
 IsOfWitness (errors.Solution e) = Unit {0}
 
--- a question is too large only where the bytes are a file for which the bound of what is made for
--- the steps 0 to k passes the limit
-abbrev pub TellsOfSize : ℕ → ℕ → Option (List ℕ) → Option (List ℕ) → BoundedAnswerError → Type 0
-TellsOfSize limit k old new (errors.Question TooLarge) =
-    IsReadAs (IsAskedWithin limit) (λ f u. limit < question_size (circuit_of f) k) old new (tt {0})
-TellsOfSize limit k old new e = Unit {0}
+-- a question is too large only where the bytes are a file for whose circuit this bound of what is
+-- made passes the limit
+abbrev pub TellsOfSize : ℕ → (Circuit → ℕ) → Option (List ℕ) → Option (List ℕ)
+    → BoundedAnswerError → Type 0
+TellsOfSize limit bound old new (errors.Question TooLarge) =
+    IsReadAs (IsAskedWithin limit) (λ f u. limit < bound (circuit_of f)) old new (tt {0})
+TellsOfSize limit bound old new e = Unit {0}
 
 -- ---- a proof's bytes
 
@@ -143,11 +152,17 @@ abbrev pub AnswersProof : {P : Type 0} → (P → Option (List ℕ)) → ℕ →
 AnswersProof left k optimize p rest f result =
     AnswersProofBy (λ c. IsQuestion c k) left optimize p rest f result
 
--- whether one is reached, from any state, at step k + 1 first
-abbrev pub AnswersWindowProof : {P : Type 0} → (P → Option (List ℕ)) → ℕ → Bool → P → P → File
+-- whether one is reached at step k
+abbrev pub AnswersStepProof : {P : Type 0} → (P → Option (List ℕ)) → ℕ → Bool → P → P → File
     → Result Unit BoundedAnswerError → Type 0
-AnswersWindowProof left k optimize p rest f result =
-    AnswersProofBy (λ c. IsWindowQuestion c (k + 1)) left optimize p rest f result
+AnswersStepProof left k optimize p rest f result =
+    AnswersProofBy (λ c. IsStepQuestion c k) left optimize p rest f result
+
+-- whether one is reached, from any state, at step k + 1 first, on a run at which the form looks
+abbrev pub AnswersWindowProof : {P : Type 0} → (P → Option (List ℕ)) → Window → ℕ → Bool → P → P
+    → File → Result Unit BoundedAnswerError → Type 0
+AnswersWindowProof left form k optimize p rest f result =
+    AnswersProofBy (λ c. IsWindowQuestion form c (k + 1)) left optimize p rest f result
 
 -- ---- a solver's answer
 

@@ -11,9 +11,9 @@ use Rattle.aig_reader.specs.Verdicts.{Accepted, NoBads, Short, Verdict}
 use Rattle.aig_runs.specs.Queries.{unit_clauses}
 use Rattle.aig_bounded.specs.declared.question.Question.{Question}
 use Rattle.aig_bounded.specs.declared.place.Place.{Place}
-use Rattle.aig_bounded.specs.Question.{IsQuestion, IsWindowQuestion}
+use Rattle.aig_bounded.specs.Question.{IsQuestion, IsStepQuestion, IsWindowQuestion, question_size, window_question_size}
 use Rattle.aig_bounded_answers.specs.declared.questions.Asked.{Asked}
-use Rattle.aig_bounded_answers.specs.declared.questions.Asked.TheVariants.{Reached, Window}
+use Rattle.aig_bounded_answers.specs.declared.questions.Asked.TheVariants.{Reached, Step, Window}
 use Rattle.aig_bounded_answers.specs.declared.clauses.BoundedClauses.{BoundedClauses}
 use Rattle.aig_bounded_answers.specs.declared.naming.Named.{Named}
 use Rattle.aig_format.specs.File.{File}
@@ -44,7 +44,14 @@ pub record IsEncoded (q : Question) (named : List Named) (optimize : Bool) (made
 -- the circuit asks this of the runs of c of the steps 0 to last
 abbrev pub IsQuestionBy : Asked → ℕ → Circuit → Circuit → AigEdge → List Place → Type 0
 IsQuestionBy Reached last c = IsQuestion c last
-IsQuestionBy Window last c = IsWindowQuestion c last
+IsQuestionBy Step last c = IsStepQuestion c last
+IsQuestionBy (Window form) last c = IsWindowQuestion form c last
+
+-- how many nodes are made for it at most
+abbrev pub size_by : Asked → ℕ → Circuit → ℕ
+size_by Reached last c = question_size c last
+size_by Step last c = question_size c last
+size_by (Window form) last c = window_question_size form c last
 
 -- a question of the circuit, with its clauses
 pub record IsEncodedQuestion (asked : Asked) (c : Circuit) (last : ℕ) (optimize : Bool)

@@ -9,6 +9,7 @@ ghost use Rattle.aig_reader.specs.Verdicts.{Accepted, Judges, verdict_by};
 ghost use Rattle.aig_witness.specs.Machine.{ShowsBad};
 ghost use Rattle.aig_witness.specs.Shown.{IsKnownWitness};
 ghost use Rattle.aig_witness.specs.Witness.{said_by};
+ghost use Rattle.aig_bounded.specs.Question.{question_size};
 ghost use Rattle.aig_bounded_answers.specs.declared.questions.Asked.TheVariants.{Reached};
 ghost use Rattle.aig_bounded_answers.specs.Asking.{AreSolution, IsAskedWithin, IsOfWitness, RefusesAnswer, TellsOfSize, TellsOfSolution, bounded_verdict, verdict_of};
 ghost use Rattle.aig_bounded_answers.specs.Encoded.{IsEncodedQuestion};
@@ -109,7 +110,8 @@ pub fn bounded_witness<R: Source, P: Source>(
         (verdict_by verdict_of result) }
     ensures own { IfErr result IsOfWitness }
     // A question is too large only where its bound passes the limit.
-    ensures large { IfErr result (TellsOfSize limit k (R.left r.old) (R.left r.new)) }
+    ensures large { IfErr result (TellsOfSize limit (λ c. question_size c k)
+        (R.left r.old) (R.left r.new)) }
     // The answer is read only where the file is taken.
     ensures unread { verdict_by verdict_of result ≢ Accepted → solution.new ≡ solution.old }
     // An answer is refused for the reason that its bytes have, or since its values don't satisfy the clauses of a question of the

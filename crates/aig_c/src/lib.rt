@@ -20,7 +20,7 @@ ghost use Rattle.aig_join.specs.Files.{AreEqualMachinesAt, HasLinesOf, HaveSameF
 ghost use Rattle.aig_reader.specs.Verdicts.{Accepted};
 ghost use Rattle.aig_runs.specs.Queries.{IsSafeTo};
 ghost use Rattle.aig_witness.specs.Files.{ShowsNext};
-ghost use Rattle.aig_calls.specs.Calls.{Checks, ChecksPair, Gives, GivesBounded, GivesEdit, GivesPair, IsGiven, IsQuestionText, IsReductionText, Joins, form_of, shown_at};
+ghost use Rattle.aig_calls.specs.Calls.{Checks, ChecksPair, Gives, GivesBounded, GivesEdit, GivesPair, IsGiven, IsQuestionText, IsReductionText, Joins, ShowsBounded, ShowsStep, ShowsWindow, TellsOfSize, TellsProofOf, form_of, shown_at};
 ghost use Rattle.aig_calls.specs.Numbers.{IsListed};
 ghost use Rattle.aig_calls.specs.Statuses.{AtStep, IsOfBounded, IsOfBoundedProof, IsOfBoundedSolution, IsOfEdit, IsOfObligations, IsOfPairProof, IsOfProof, IsOfQuestion, IsOfSolution, IsOfText, IsOfWitness};
 
@@ -179,8 +179,9 @@ pub extern "C" fn aig_question(
     out: &mut [u8],
     needed: &mut usize,
 ) -> u32
-    ensures { Gives bounded_verdict LIMIT (IsQuestionText k LIMIT) (AtStep k IsOfQuestion) file.now
-        result out.old out.new needed.old needed.new }
+    ensures gives { Gives bounded_verdict LIMIT (IsQuestionText k LIMIT) (AtStep k IsOfQuestion)
+        file.now result out.old out.new needed.old needed.new }
+    ensures large { TellsOfSize k LIMIT file.now result }
 {
     aig_calls::print_question(alloc, file, k, out, needed)
 }
@@ -287,8 +288,9 @@ pub extern "C" fn aig_bounded(
     out: &mut [u8],
     needed: &mut usize,
 ) -> u32
-    ensures { GivesBounded k optimize LIMIT (AtStep k IsOfBounded) file.now result out.old out.new
-        needed.old needed.new }
+    ensures gives { GivesBounded k optimize LIMIT (AtStep k IsOfBounded) file.now result out.old
+        out.new needed.old needed.new }
+    ensures large { TellsOfSize k LIMIT file.now result }
 {
     aig_calls::print_bounded(alloc, file, k, optimize, out, needed)
 }
@@ -322,8 +324,9 @@ pub extern "C" fn aig_check_refuted(
     optimize: bool,
     proof: &[u8],
 ) -> u32
-    ensures { Checks (asked_verdict LIMIT k) LIMIT (λ f. IsSafeAt f k) (AtStep k IsOfProof) file.now
-        result }
+    ensures checks { Checks (asked_verdict LIMIT k) LIMIT (λ f. IsSafeAt f k) (AtStep k IsOfProof)
+        file.now result }
+    ensures shown { TellsProofOf (ShowsStep k optimize proof.now) LIMIT file.now result }
 {
     aig_calls::check_refuted(alloc, file, k, optimize, proof)
 }
@@ -338,8 +341,10 @@ pub extern "C" fn aig_check_refuted_to(
     optimize: bool,
     proof: &[u8],
 ) -> u32
-    ensures { Checks bounded_verdict LIMIT (λ f. IsSafeTo f k) (AtStep k IsOfBoundedProof) file.now
-        result }
+    ensures checks { Checks bounded_verdict LIMIT (λ f. IsSafeTo f k) (AtStep k IsOfBoundedProof)
+        file.now result }
+    ensures shown { TellsProofOf (ShowsBounded k optimize proof.now) LIMIT file.now result }
+    ensures large { TellsOfSize k LIMIT file.now result }
 {
     aig_calls::check_refuted_to(alloc, file, k, optimize, proof)
 }
@@ -355,8 +360,10 @@ pub extern "C" fn aig_check_inductive(
     optimize: bool,
     proof: &[u8],
 ) -> u32
-    ensures { Checks (window_verdict (form_of distinct) LIMIT k) LIMIT
+    ensures checks { Checks (window_verdict (form_of distinct) LIMIT k) LIMIT
         (λ f. IsSafeTo f k → (n : ℕ) → IsSafeTo f n) (AtStep k IsOfProof) file.now result }
+    ensures shown { TellsProofOf (ShowsWindow (form_of distinct) k optimize proof.now) LIMIT
+        file.now result }
 {
     aig_calls::check_inductive(alloc, file, k, distinct, optimize, proof)
 }
@@ -425,8 +432,9 @@ pub extern "C" fn aig_witness_to(
     out: &mut [u8],
     needed: &mut usize,
 ) -> u32
-    ensures { Gives bounded_verdict LIMIT (λ f text. IsWitnessToText f k text)
+    ensures gives { Gives bounded_verdict LIMIT (λ f text. IsWitnessToText f k text)
         (AtStep k IsOfBoundedSolution) file.now result out.old out.new needed.old needed.new }
+    ensures large { TellsOfSize k LIMIT file.now result }
 {
     aig_calls::print_witness_to(alloc, file, k, optimize, solution, out, needed)
 }

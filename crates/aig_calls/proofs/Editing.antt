@@ -5,6 +5,7 @@ use Rattle.std.specs.Io.KnownBytes.{Appends}
 use Rattle.std.proofs.Math.Nat.{lt_of_not-le}
 use Rattle.std.proofs.lemmas.Bool.{ne_eqb, or_right}
 use Rattle.aig_base.specs.declared.std_stream.ToWrite.{ToWrite}
+use Rattle.aig_bounded.specs.Question.{question_size}
 use Rattle.aig_bounded_answers.specs.Asking.{bounded_verdict}
 use Rattle.aig_edits.specs.Edits.{AreStepsWithin, IsEditOwn, PrintsEdit, ReadsFile}
 use Rattle.aig_edits.specs.Edits as editing
@@ -444,3 +445,15 @@ module _ {R : Type 0} {left : R → Option (List ℕ)} {failed : R → Bool} {li
       not_made bounded_verdict limit bytes (left rest) (failed rest)
       (λ f (made : Vec ℕ Global). IsQuestionText k bound f made.items) IsOfQuestion
       (verdict_of_edit e) status judges says.said says.least (own (question_own e told))
+
+  -- it is too large
+  pub question_large : {k bound : ℕ} (e : EditError) → e ≡ errors.QuestionTooLarge
+      → ReadsFile left failed limit (PrintsQuestion held write_failed k bound w wrote)
+      editing.edit_verdict IsEditOwn r (Err e) rest
+      → IsFileWith limit bytes (λ f. bound < question_size (circuit_of f) k)
+  question_large {k} {bound} e large told =
+      let f = file_with (subst (λ x. ReadsFile left failed limit
+      (PrintsQuestion held write_failed k bound w wrote) editing.edit_verdict IsEditOwn r (Err x)
+      rest)
+      large told) bytes is refl in
+      (f.0, f.1, f.2.1)

@@ -7,3 +7,4 @@ mod Placing
 mod Taken
 mod Editing
 mod Bounding
+mod Shown

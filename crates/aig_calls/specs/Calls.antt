@@ -1,12 +1,16 @@
 -- Part of what is promised.
 -- What a call does, by the bytes that it is given: what it leaves in its caller's memory, and what
 -- its status says.
-use Rattle.std.specs.Prelude.{◌≡◌, ℕ, ◌<◌, ◌≤◌, ◌++◌, if◌then◌else◌, Bool, List, length, drop, Some}
+use Rattle.std.specs.Prelude.{◌≡◌, ℕ, ◌<◌, ◌≤◌, ◌++◌, if◌then◌else◌, Bool, List, length, drop, Some, IfSome, Result, Ok, Err}
 use Rattle.aig_runs.specs.declared.window.Window.{Window}
 use Rattle.aig_runs.specs.declared.window.Window.TheVariants.{Distinct, Plain}
 use Rattle.aig_circuit.specs.Circuit.{Circuit}
+use Rattle.aig_answers.specs.Answers.{TellsOfStep, TellsOfWindow}
+use Rattle.aig_answers.specs.declared.error.AnswerError.TheVariants as answers
+use Rattle.aig_bounded.specs.Question.{question_size}
 use Rattle.aig_bounded_answers.specs.Asking.{bounded_verdict}
-use Rattle.aig_checks.specs.Bounded.{IsBoundedText, IsSettledTo}
+use Rattle.aig_bounded_answers.specs.declared.error.BoundedAnswerError.TheVariants as bounded
+use Rattle.aig_checks.specs.Bounded.{IsBoundedText, IsSettledTo, TellsProof}
 use Rattle.aig_edits.specs.Edits.{IsEditRefusal, IsWrittenEdit}
 use Rattle.aig_edits.specs.Questions.{IsQuestionOf}
 use Rattle.aig_edits.specs.Reductions.{IsReductionOf}
@@ -17,12 +21,13 @@ use Rattle.aig_encode.specs.Encoding.{encoded_verdict}
 use Rattle.aig_edits.specs.Joints.{DoFit, IsJointOf, IsRefusalOf}
 use Rattle.aig_edits.specs.declared.error.PairError.TheVariants.{TooLarge}
 use Rattle.aig_edits.specs.declared.pairing.Pairing.{Pairing}
-use Rattle.aig_format.specs.Circuit.{text_of}
+use Rattle.aig_format.specs.Circuit.{circuit_of, text_of}
 use Rattle.aig_format.specs.File.{File}
 use Rattle.aig_format.specs.Fits.{Accepts}
 use Rattle.aig_reader.specs.Verdicts.{Accepted, Verdict}
+use Rattle.aig_refutation.specs.declared.error.RefutationError.{RefutationError}
 use Rattle.aig_witness.specs.declared.file.Shown.{Shown}
-use Rattle.aig_calls.specs.Statuses.{IsOfPair, Tells, done, has_bads, misfit, no_output, said_by, said_of_other, settled, small, unwritable}
+use Rattle.aig_calls.specs.Statuses.{IsOfPair, Tells, done, has_bads, large_question, misfit, no_output, said_by, said_of_other, said_of_proof, settled, small, unwritable}
 
 -- ---- words
 
@@ -75,6 +80,34 @@ pub record Checks (of : File → Verdict) (limit : ℕ) (Holds : File → Type 0
   pub own : IsOwn status
   pub answer : status ≡ done → IsFileWith limit bytes Holds
 
+-- ---- proofs
+
+-- what the bytes of a proof show of the clauses of the file's query for step k
+abbrev pub ShowsStep : ℕ → Bool → List ℕ → File → Result (Unit {0}) RefutationError → Type 0
+ShowsStep k optimize proof f (Ok taken) = TellsOfStep k optimize (Some proof) f (Ok tt)
+ShowsStep k optimize proof f (Err e) =
+    TellsOfStep k optimize (Some proof) f (Err (answers.Refutation e))
+
+-- of those of its window
+abbrev pub ShowsWindow : Window → ℕ → Bool → List ℕ → File → Result (Unit {0}) RefutationError
+    → Type 0
+ShowsWindow form k optimize proof f (Ok taken) = TellsOfWindow form k optimize (Some proof) f
+    (Ok tt)
+ShowsWindow form k optimize proof f (Err e) =
+    TellsOfWindow form k optimize (Some proof) f (Err (answers.Refutation e))
+
+-- and of those of its question, where that isn't settled
+abbrev pub ShowsBounded : ℕ → Bool → List ℕ → File → Result (Unit {0}) RefutationError → Type 0
+ShowsBounded k optimize proof f (Ok taken) = TellsProof (Some proof) k optimize f (Ok tt)
+ShowsBounded k optimize proof f (Err e) =
+    TellsProof (Some proof) k optimize f (Err (bounded.Refutation e))
+
+-- what a status says of a proof is what its bytes show
+abbrev pub TellsProofOf : (File → Result (Unit {0}) RefutationError → Type 0) → ℕ → List ℕ → ℕ
+    → Type 0
+TellsProofOf Shows limit bytes status =
+    IfSome (said_of_proof status) (λ said. IsFileWith limit bytes (λ f. Shows f said))
+
 -- ---- what is made of one file
 
 -- the verdict on a file that is edited: its further steps may pass the limit, or it is taken
@@ -112,6 +145,12 @@ pub record GivesEdit (edit : Edit) (limit : ℕ) (IsOwn : ℕ → Type 0) (bytes
   pub refusal : TellsEdit edit limit bytes status
 
 -- ---- bounded checks
+
+-- a question is too large only where the bound of what is made for the steps 0 to k passes the
+-- limit
+abbrev pub TellsOfSize : ℕ → ℕ → List ℕ → ℕ → Type 0
+TellsOfSize k limit bytes status = status ≡ large_question
+    → IsFileWith limit bytes (λ f. limit < question_size (circuit_of f) k)
 
 -- what a call that gives the clauses of a question does: they are told to be settled only where no
 -- bad state is reached

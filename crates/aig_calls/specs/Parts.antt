@@ -12,13 +12,23 @@ use Rattle.aig_edits.specs.declared.edit_error.EditError.TheVariants as edit
 use Rattle.aig_edits.specs.declared.pairing.Pairing.{Pairing}
 use Rattle.aig_format.specs.File.{File}
 use Rattle.aig_reader.specs.Verdicts.{Accepted, IsSettled, Memory, NoBads, Short, TooLarge, Verdict, verdict_of}
-use Rattle.aig_calls.specs.Statuses.{IsOfBounded, IsOfBoundedSolution, IsOfEdit, IsOfSolution, IsOfText, Tells, done, has_bads, misfit, no_output, said_by, said_of_other, settled, small, unwritable}
+use Rattle.aig_refutation.specs.declared.error.RefutationError.{RefutationError}
+use Rattle.aig_calls.specs.Statuses.{IsOfBounded, IsOfBoundedSolution, IsOfEdit, IsOfSolution, IsOfText, Tells, done, has_bads, misfit, no_output, said_by, said_of_other, said_of_proof, settled, small, unwritable}
 use Rattle.aig_calls.specs.declared.numbers.Listed.{Listed}
-use Rattle.aig_calls.specs.Calls.{AreFilesWith, IsEditText, IsFileWith, IsGiven, TellsEdit, TellsMisfit, TellsOfPair, edited_verdict}
+use Rattle.aig_calls.specs.Calls.{AreFilesWith, IsEditText, IsFileWith, IsGiven, TellsEdit, TellsMisfit, TellsOfPair, TellsOfSize, edited_verdict}
 
 -- what a status says is this verdict, and nothing where memory or the stream hides it
 abbrev pub SaysOnly : Option Verdict → Verdict → Type 0
 SaysOnly said v = IfSome said (λ x. (x ≡ v) × IsSettled v)
+
+-- the result is such an error
+abbrev pub IsErrWith : {E : Type 0} → (E → Type 0) → Result (Unit {0}) E → Type 0
+IsErrWith Is (Ok _) = ⊥
+IsErrWith Is (Err e) = Is e
+
+-- what a status says of a proof is this refusal
+abbrev pub SaysProof : ℕ → (RefutationError → Type 0) → Type 0
+SaysProof status Is = IfSome (said_of_proof status) (IsErrWith Is)
 
 -- the verdict that is told: a file that would be taken is
 abbrev pub told_as : Verdict → Verdict
@@ -124,6 +134,7 @@ pub record MakesBounded (k : ℕ) (optimize : Bool) (limit : ℕ) (bytes : List 
   pub makes : MakesChecked limit (commands.Bounded k optimize) None bytes result
   pub safe : IfErr result
       (λ status. status ≡ settled → IsFileWith limit bytes (IsSettledTo k optimize))
+  pub large : IfErr result (TellsOfSize k limit bytes)
 
 -- what was made is given, or there is a status
 abbrev pub Puts : {X : Type 0} → Result (Vec X Global) ℕ → ℕ → List X → List X → ℕ → ℕ → Type 0

@@ -1,8 +1,10 @@
 -- Part of what is promised.
 -- What a status says: the number by which a call says how it ended.
-use Rattle.std.specs.Prelude.{◌≡◌, ◌≢◌, ◌⊎◌, ℕ, ◌<◌, ◌≤◌, ◌^◌, ◌-◌, ◌==◌, ◌&&◌, ◌||◌, nat_le, nat_lt, if◌then◌else◌, Bool, IsTrue, List, Option, None, Some, IfSome}
+use Rattle.std.specs.Prelude.{◌≡◌, ◌≢◌, ◌⊎◌, ℕ, ◌<◌, ◌≤◌, ◌^◌, ◌-◌, ◌==◌, ◌&&◌, ◌||◌, nat_le, nat_lt, if◌then◌else◌, Bool, IsTrue, List, [], ◌∷◌, Option, None, Some, IfSome, Result, Ok, Err, option_map, slice_get}
 use Rattle.aig_format.specs.File.{File}
 use Rattle.aig_reader.specs.Verdicts.{Accepted, Crowded, IsVerdictOn, NoBads, Refused, TooLarge, TooMany, Verdict}
+use Rattle.aig_refutation.specs.declared.error.RefutationError.{RefutationError}
+use Rattle.aig_refutation.specs.declared.error.RefutationError.TheVariants as faults
 
 -- ---- names
 
@@ -66,6 +68,20 @@ said_of_other status =
 -- where something is said, it is the verdict on these bytes
 abbrev pub Tells : (File → Verdict) → ℕ → List ℕ → Option Verdict → Type 0
 Tells of limit bytes said = IfSome said (IsVerdictOn of limit bytes)
+
+-- ---- what is said of a proof
+
+-- why a proof is refused, by the statuses from 40 on
+abbrev pub proof_faults : List RefutationError
+proof_faults =
+    faults.Variable ∷ faults.Line ∷ faults.Literal ∷ faults.Unnamed ∷ faults.Twice ∷ faults.Large
+    ∷ faults.Step ∷ faults.Asymmetry ∷ faults.Binary ∷ faults.Unfinished ∷ []
+
+-- that a proof is taken, or why it is refused, if a status says something of one
+abbrev pub said_of_proof : ℕ → Option (Result (Unit {0}) RefutationError)
+said_of_proof status =
+    if status == 0 then Some (Ok tt)
+    else if nat_lt status 40 then None else option_map Err (slice_get proof_faults (status - 40))
 
 -- ---- which statuses a call has
 

@@ -1,11 +1,11 @@
 //! Calls of bounded checks.
 
-ghost use Rattle.std.specs.Prelude.{◌≡◌, ◌<◌, ◌^◌, Some};
+ghost use Rattle.std.specs.Prelude.{◌≡◌, ◌<◌, ◌^◌, Some, IfErr};
 ghost use Rattle.aig_bounded_answers.specs.Asking.{bounded_verdict};
 ghost use Rattle.aig_checks.specs.Bounded.{IsWitnessToText};
 ghost use Rattle.aig_checks.specs.declared.command.FileCommand.TheVariants as commands;
 ghost use Rattle.aig_runs.specs.Queries.{IsSafeTo};
-ghost use Rattle.aig_calls.specs.Calls.{Checks, Gives, GivesBounded};
+ghost use Rattle.aig_calls.specs.Calls.{Checks, Gives, GivesBounded, ShowsBounded, TellsOfSize, TellsProofOf};
 ghost use Rattle.aig_calls.specs.Parts.{MakesBounded, MakesChecked};
 ghost use Rattle.aig_calls.specs.Statuses.{AtStep, IsOfBounded, IsOfBoundedProof, IsOfBoundedSolution};
 
@@ -37,8 +37,9 @@ fn witness_text(
     optimize: bool,
     solution: &[u8],
 ) -> Result<Vec<u8>, u32>
-    ensures { let given = Some solution.now in
+    ensures makes { let given = Some solution.now in
         MakesChecked LIMIT (commands.WitnessTo k optimize) given file.now result }
+    ensures large { IfErr result (TellsOfSize k LIMIT file.now) }
 {
     let mut source = FromRead::new(file);
     let mut answer = FromRead::new(solution);
@@ -60,8 +61,9 @@ pub fn print_bounded(
     out: &mut [u8],
     needed: &mut usize,
 ) -> u32
-    ensures { GivesBounded k optimize LIMIT (AtStep k IsOfBounded) file.now result out.old out.new
-        needed.old needed.new }
+    ensures gives { GivesBounded k optimize LIMIT (AtStep k IsOfBounded) file.now result out.old
+        out.new needed.old needed.new }
+    ensures large { TellsOfSize k LIMIT file.now result }
 {
     match step_of(k) {
         Ok(k) => put(bounded_text(alloc, file, k, optimize), out, needed),
@@ -80,8 +82,9 @@ pub fn print_witness_to(
     out: &mut [u8],
     needed: &mut usize,
 ) -> u32
-    ensures { Gives bounded_verdict LIMIT (λ f text. IsWitnessToText f k text)
+    ensures gives { Gives bounded_verdict LIMIT (λ f text. IsWitnessToText f k text)
         (AtStep k IsOfBoundedSolution) file.now result out.old out.new needed.old needed.new }
+    ensures large { TellsOfSize k LIMIT file.now result }
 {
     match step_of(k) {
         Ok(k) => put(
@@ -95,7 +98,10 @@ pub fn print_witness_to(
 
 /// Checks a proof about the clauses of a question up to step `k`, which is below 2^32.
 fn refute_to(alloc: Global, file: &[u8], k: usize, optimize: bool, proof: &[u8]) -> u32
-    ensures { Checks bounded_verdict LIMIT (λ f. IsSafeTo f k) IsOfBoundedProof file.now result }
+    ensures checks { Checks bounded_verdict LIMIT (λ f. IsSafeTo f k) IsOfBoundedProof file.now
+        result }
+    ensures shown { TellsProofOf (ShowsBounded k optimize proof.now) LIMIT file.now result }
+    ensures large { TellsOfSize k LIMIT file.now result }
 {
     let mut source = FromRead::new(file);
     let mut lines = FromRead::new(proof);
@@ -108,8 +114,10 @@ fn refute_to(alloc: Global, file: &[u8], k: usize, optimize: bool, proof: &[u8])
 /// Checks a proof, in LRAT or DRAT, that the clauses of `print_bounded` can't be satisfied: then no run of a file's machine reaches
 /// a bad state up to step `k`. A question that is settled needs no proof, and none is read.
 pub fn check_refuted_to(alloc: Global, file: &[u8], k: u64, optimize: bool, proof: &[u8]) -> u32
-    ensures { Checks bounded_verdict LIMIT (λ f. IsSafeTo f k) (AtStep k IsOfBoundedProof) file.now
-        result }
+    ensures checks { Checks bounded_verdict LIMIT (λ f. IsSafeTo f k) (AtStep k IsOfBoundedProof)
+        file.now result }
+    ensures shown { TellsProofOf (ShowsBounded k optimize proof.now) LIMIT file.now result }
+    ensures large { TellsOfSize k LIMIT file.now result }
 {
     match step_of(k) {
         Ok(k) => refute_to(alloc, file, k, optimize, proof),

@@ -6,7 +6,7 @@ ghost use Rattle.aig_runs.specs.Safety.{IsSafeAt};
 ghost use Rattle.aig_reader.specs.Verdicts.{Accepted};
 ghost use Rattle.aig_runs.specs.Queries.{IsSafeTo};
 ghost use Rattle.aig_witness.specs.Files.{ShowsNext};
-ghost use Rattle.aig_calls.specs.Calls.{Checks, form_of, shown_at};
+ghost use Rattle.aig_calls.specs.Calls.{Checks, ShowsStep, ShowsWindow, TellsProofOf, form_of, shown_at};
 ghost use Rattle.aig_calls.specs.Statuses.{AtStep, IsOfProof, IsOfWitness};
 
 use crate::status::{DONE, of_answer, of_show};
@@ -20,7 +20,9 @@ use std::alloc::Global;
 
 /// Checks a proof that no bad state is reached at step `k`, which is below 2^32.
 fn refute_step(alloc: Global, file: &[u8], k: usize, optimize: bool, proof: &[u8]) -> u32
-    ensures { Checks (asked_verdict LIMIT k) LIMIT (λ f. IsSafeAt f k) IsOfProof file.now result }
+    ensures checks { Checks (asked_verdict LIMIT k) LIMIT (λ f. IsSafeAt f k) IsOfProof file.now
+        result }
+    ensures shown { TellsProofOf (ShowsStep k optimize proof.now) LIMIT file.now result }
 {
     let mut source = FromRead::new(file);
     let mut lines = FromRead::new(proof);
@@ -33,8 +35,9 @@ fn refute_step(alloc: Global, file: &[u8], k: usize, optimize: bool, proof: &[u8
 /// Checks a proof, in LRAT or DRAT, that the clauses of a file's query for step `k` can't be satisfied: then no run of its machine
 /// reaches a bad state at that step.
 pub fn check_refuted(alloc: Global, file: &[u8], k: u64, optimize: bool, proof: &[u8]) -> u32
-    ensures { Checks (asked_verdict LIMIT k) LIMIT (λ f. IsSafeAt f k) (AtStep k IsOfProof) file.now
-        result }
+    ensures checks { Checks (asked_verdict LIMIT k) LIMIT (λ f. IsSafeAt f k) (AtStep k IsOfProof)
+        file.now result }
+    ensures shown { TellsProofOf (ShowsStep k optimize proof.now) LIMIT file.now result }
 {
     match step_of(k) {
         Ok(k) => refute_step(alloc, file, k, optimize, proof),
@@ -52,8 +55,9 @@ fn refute_window(
     proof: &[u8],
 ) -> u32
     requires { k < 2 ^ 32 }
-    ensures { Checks (window_verdict form LIMIT k) LIMIT
+    ensures checks { Checks (window_verdict form LIMIT k) LIMIT
         (λ f. IsSafeTo f k → (n : ℕ) → IsSafeTo f n) IsOfProof file.now result }
+    ensures shown { TellsProofOf (ShowsWindow form k optimize proof.now) LIMIT file.now result }
 {
     inductive_windows_are_safe();
     let mut source = FromRead::new(file);
@@ -74,8 +78,10 @@ pub fn check_inductive(
     optimize: bool,
     proof: &[u8],
 ) -> u32
-    ensures { Checks (window_verdict (form_of distinct) LIMIT k) LIMIT
+    ensures checks { Checks (window_verdict (form_of distinct) LIMIT k) LIMIT
         (λ f. IsSafeTo f k → (n : ℕ) → IsSafeTo f n) (AtStep k IsOfProof) file.now result }
+    ensures shown { TellsProofOf (ShowsWindow (form_of distinct) k optimize proof.now) LIMIT
+        file.now result }
 {
     match step_of(k) {
         Ok(k) => refute_window(alloc, file, k, window_form(distinct), optimize, proof),

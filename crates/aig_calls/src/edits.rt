@@ -1,11 +1,11 @@
 //! Calls that give what is made of one file.
 
-ghost use Rattle.std.specs.Prelude.{◌≡◌, ◌<◌, ◌^◌};
+ghost use Rattle.std.specs.Prelude.{◌≡◌, ◌<◌, ◌^◌, IfErr};
 ghost use Rattle.aig_bounded_answers.specs.Asking.{bounded_verdict};
 ghost use Rattle.aig_edits.specs.Info.{IsInfo};
 ghost use Rattle.aig_edits.specs.declared.edit.Edit.TheVariants as edits;
 ghost use Rattle.aig_reader.specs.Verdicts.{Accepted};
-ghost use Rattle.aig_calls.specs.Calls.{Gives, GivesEdit, IsQuestionText, IsReductionText};
+ghost use Rattle.aig_calls.specs.Calls.{Gives, GivesEdit, IsQuestionText, IsReductionText, TellsOfSize};
 ghost use Rattle.aig_calls.specs.Parts.{Makes, MakesEdit};
 ghost use Rattle.aig_calls.specs.Statuses.{AtStep, IsOfEdit, IsOfQuestion, IsOfText};
 
@@ -44,8 +44,9 @@ fn reduction_text(alloc: Global, file: &[u8]) -> Result<Vec<u8>, u32>
 
 /// The text of the question whether a bad state of a file's machine is reached up to step `k`.
 fn question_text(alloc: Global, file: &[u8], k: usize) -> Result<Vec<u8>, u32>
-    ensures { Makes bounded_verdict LIMIT (λ f made. IsQuestionText k LIMIT f made.items)
+    ensures makes { Makes bounded_verdict LIMIT (λ f made. IsQuestionText k LIMIT f made.items)
         IsOfQuestion file.now result }
+    ensures large { IfErr result (TellsOfSize k LIMIT file.now) }
 {
     let mut source = FromRead::new(file);
     let mut sink = ToWrite::new(Vec::new(alloc));
@@ -103,8 +104,9 @@ pub fn print_reduction(alloc: Global, file: &[u8], out: &mut [u8], needed: &mut 
 
 /// Gives the text form of the question whether a bad state of a file's machine is reached up to step `k`.
 pub fn print_question(alloc: Global, file: &[u8], k: u64, out: &mut [u8], needed: &mut usize) -> u32
-    ensures { Gives bounded_verdict LIMIT (IsQuestionText k LIMIT) (AtStep k IsOfQuestion) file.now
-        result out.old out.new needed.old needed.new }
+    ensures gives { Gives bounded_verdict LIMIT (IsQuestionText k LIMIT) (AtStep k IsOfQuestion)
+        file.now result out.old out.new needed.old needed.new }
+    ensures large { TellsOfSize k LIMIT file.now result }
 {
     match step_of(k) {
         Ok(k) => put(question_text(alloc, file, k), out, needed),

@@ -20,8 +20,8 @@ ghost use Rattle.aig_encode.specs.Encoding as encoding;
 ghost use Rattle.aig_reader.specs.Verdicts as reading;
 ghost use Rattle.aig_reader.specs.Verdicts.{Refused};
 ghost use Rattle.aig_witness.specs.Files as showing;
-ghost use Rattle.aig_calls.specs.Parts.{IsEditStatus, IsOfAsking, IsOfEditing, IsOfMaking, IsOwnOf, IsPairStatus, SaysOnly, flagged, told_as};
-ghost use Rattle.aig_calls.specs.Statuses.{IsOfBounded, IsOfBoundedProof, IsOfBoundedSolution, IsOfObligations, IsOfPair, IsOfPairProof, IsOfQuestion, is_edit_fault, is_proof_fault, is_refusal, is_solution_fault, is_witness_fault, said_by, settled};
+ghost use Rattle.aig_calls.specs.Parts.{IsEditStatus, IsOfAsking, IsOfEditing, IsOfMaking, IsOwnOf, IsPairStatus, SaysOnly, SaysProof, flagged, told_as};
+ghost use Rattle.aig_calls.specs.Statuses.{IsOfBounded, IsOfBoundedProof, IsOfBoundedSolution, IsOfObligations, IsOfPair, IsOfPairProof, IsOfQuestion, is_edit_fault, is_proof_fault, is_refusal, is_solution_fault, is_witness_fault, large_question, said_by, settled};
 
 use aig::ReadError;
 use aig_answers::AnswerError;
@@ -149,6 +149,7 @@ pub(crate) fn of_edit(error: EditError) -> u32
     ensures editing { IsOfEditing error → IsTrue (is_refusal result || is_edit_fault result) }
     ensures asking { IsOfAsking error → IsOfQuestion result }
     ensures making { IsOfMaking error → IsTrue (is_refusal result) }
+    ensures large { result ≡ large_question → error ≡ EditError.QuestionTooLarge }
 {
     match error {
         EditError::Read(error) => of_read(error),
@@ -178,6 +179,7 @@ pub(crate) fn of_tool(error: ToolError) -> u32
 /// The status of a proof that is refused.
 fn of_refutation(error: RefutationError) -> u32
     ensures said { SaysOnly (said_by result) (answering.verdict_of (AnswerError.Refutation error)) }
+    ensures proof { SaysProof result (λ e. e ≡ error) }
     ensures own { IsTrue (is_refusal result || is_proof_fault result) }
     ensures few { result < 60 }
     ensures least { 2 ≤ result }
@@ -201,6 +203,7 @@ fn of_refutation(error: RefutationError) -> u32
 /// The status of a question that has no answer.
 pub(crate) fn of_answer(error: AnswerError) -> u32
     ensures said { SaysOnly (said_by result) (answering.verdict_of error) }
+    ensures proof { SaysProof result (λ e. error ≡ AnswerError.Refutation e) }
     ensures own { IsTrue (is_refusal result || is_proof_fault result) }
     ensures file { IsOfWindow error → IsTrue (is_refusal result) }
     ensures few { result < 60 }
@@ -290,7 +293,11 @@ fn of_solution(error: SolutionError) -> u32
 pub(crate) fn of_bounded(error: BoundedAnswerError) -> u32
     ensures said { SaysOnly (said_by result) (told_as (bounding.verdict_of error)) }
     ensures question { bounding.IsOfQuestion error → IsOfBounded result }
-    ensures proof { bounding.IsOfCheck error → IsOfBoundedProof result }
+    ensures check { bounding.IsOfCheck error → IsOfBoundedProof result }
+    ensures proof { bounding.IsOfCheck error
+        → SaysProof result (λ e. error ≡ BoundedAnswerError.Refutation e) }
+    ensures large { result ≡ large_question
+        → error ≡ BoundedAnswerError.Question BoundedError.TooLarge }
     ensures answer { bounding.IsOfWitness error → IsOfBoundedSolution result }
     ensures least { 2 ≤ result }
     ensures unsettled { result ≢ settled }
@@ -310,6 +317,8 @@ pub(crate) fn of_check(error: CheckError) -> u32
     ensures said { SaysOnly (said_by result) (told_as (checking.verdict_of error)) }
     ensures own { (c : FileCommand) → IsErrorOf c error → IsOwnOf c result }
     ensures settled { result ≡ settled → (k : ℕ) × (error ≡ checks.Settled k) }
+    ensures large { result ≡ large_question
+        → error ≡ checks.Bounded (BoundedAnswerError.Question BoundedError.TooLarge) }
     ensures least { 2 ≤ result }
 {
     match error {

@@ -6,3 +6,4 @@ mod Pairing
 mod Placing
 mod Shown
 mod Examples
+pub mod Refusing

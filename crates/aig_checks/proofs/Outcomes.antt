@@ -20,6 +20,7 @@ use Rattle.aig_solutions.specs.declared.error.SolutionError.{SolutionError}
 use Rattle.aig_solutions.specs.Checked.{RefusesSolution}
 use Rattle.aig_witness.specs.declared.file.ShowError.{ShowError}
 use Rattle.aig_witness.specs.declared.file.ShowError.TheVariants as shows
+use Rattle.aig_bounded.specs.Question.{question_size}
 use Rattle.aig_bounded_answers.specs.declared.error.BoundedAnswerError.{BoundedAnswerError}
 use Rattle.aig_bounded_answers.specs.declared.error.BoundedAnswerError.TheVariants as bounded
 use Rattle.aig_bounded_answers.specs.Asking as bounding
@@ -185,7 +186,7 @@ refuses_bounded (bounded.Solution e) alone is = alone
 pub tells_of_bounded : (k limit : ℕ) (optimize : Bool) (old new given : Option (List ℕ)) (failed : Bool) (e : BoundedAnswerError) → IsOfCheck e
     → (bounding.verdict_of e ≡ Accepted → IsReadAs (IsAskedWithin limit) (TellsProof given k optimize) old new (Err e))
     → (e ≡ bounded.Refutation refutation.Stream → IsTrue failed)
-    → bounding.TellsOfSize limit k old new e
+    → bounding.TellsOfSize limit (λ c. question_size c k) old new e
     → TellsOfGiven (commands.RefutedTo k optimize) limit old new given failed (errors.Bounded e)
 tells_of_bounded k limit optimize old new given failed (bounded.Solution e) own told stream size = absurd own
 tells_of_bounded k limit optimize old new given failed (bounded.Refutation e) own told stream size =
@@ -196,7 +197,7 @@ tells_of_bounded k limit optimize old new given failed e own told stream size = 
 -- and of a solver's answer
 pub tells_of_answer : (k limit : ℕ) (optimize : Bool) (old new given : Option (List ℕ)) (failed : Bool) (e : BoundedAnswerError) → IsOfWitness e
     → bounding.TellsOfSolution limit k optimize old new given failed e
-    → bounding.TellsOfSize limit k old new e
+    → bounding.TellsOfSize limit (λ c. question_size c k) old new e
     → TellsOfGiven (commands.WitnessTo k optimize) limit old new given failed (errors.Bounded e)
 tells_of_answer k limit optimize old new given failed (bounded.Refutation e) own told size = absurd own
 tells_of_answer k limit optimize old new given failed (bounded.Solution e) own told size = told

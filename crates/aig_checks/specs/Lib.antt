@@ -7,3 +7,5 @@ pub mod Printing
 pub mod Asked
 pub mod Opening
 pub mod Acting
+pub mod About
+pub mod Explaining

@@ -31,6 +31,7 @@ use Rattle.aig_witness.specs.declared.file.Shown.{Shown}
 use Rattle.aig_witness.specs.Files as showing
 use Rattle.aig_witness.specs.Files.{ShowsNext}
 use Rattle.aig_witness.specs.Machine.{ShowsBad}
+use Rattle.aig_bounded.specs.Question.{question_size}
 use Rattle.aig_bounded_answers.specs.declared.error.BoundedAnswerError.{BoundedAnswerError}
 use Rattle.aig_bounded_answers.specs.declared.error.BoundedAnswerError.TheVariants as bounded
 use Rattle.aig_bounded_answers.specs.Asking as bounding
@@ -247,11 +248,11 @@ TellsOfSettled c limit old new = ⊥
 abbrev pub TellsOfQuestion : FileCommand → ℕ → Option (List ℕ) → Option (List ℕ)
     → BoundedAnswerError → Type 0
 TellsOfQuestion (commands.Bounded k optimize) limit old new e =
-    bounding.TellsOfSize limit k old new e
+    bounding.TellsOfSize limit (λ c. question_size c k) old new e
 TellsOfQuestion (commands.RefutedTo k optimize) limit old new e =
-    bounding.TellsOfSize limit k old new e
+    bounding.TellsOfSize limit (λ c. question_size c k) old new e
 TellsOfQuestion (commands.WitnessTo k optimize) limit old new e =
-    bounding.TellsOfSize limit k old new e
+    bounding.TellsOfSize limit (λ c. question_size c k) old new e
 TellsOfQuestion c limit old new e = ⊥
 
 -- what a refusal tells of the file's question or of what is given beside the file: a read of it is

@@ -5,13 +5,14 @@ ghost use Rattle.aig_command_line.specs.declared.status.Ending.TheVariants as en
 ghost use Rattle.aig_checks.specs.Acting.{Acts, Obeys, RunsFile, RunsProofs, Says};
 ghost use Rattle.aig_checks.specs.Asked.{answer_of};
 ghost use Rattle.aig_checks.specs.Opening.{unopened};
+ghost use Rattle.aig_checks.specs.Running.{Runs};
 ghost use Rattle.aig_checks.specs.Words.{beside_of, paths_of, step_of};
 
 use crate::bounded::{print_bounded, print_refuted_to, print_witness_to};
 use crate::command::{Call, Command, FileCommand, PairCommand, call_of};
 use crate::pairs::{print_certified, print_equal, print_obligations};
 use crate::tool::{
-    CheckError, print_clauses, print_inductive, print_refuted, print_run, print_window,
+    CheckError, LIMIT, print_clauses, print_inductive, print_refuted, print_run, print_window,
     print_witness, write_text,
 };
 use aig_base::{MemoryError, Sink, Source};
@@ -39,6 +40,38 @@ impl From<OpenError> for CheckError {
     }
 }
 
+/// Runs a command on a file and on what is given beside it.
+pub(crate) fn run_given<R: Source, P: Source, W: Sink>(
+    alloc: Global,
+    command: FileCommand,
+    r: &mut R,
+    given: &mut P,
+    w: &mut W,
+) -> Result<(), CheckError>
+    requires beside { beside_of (Command.File command) ≡ 1 }
+    requires small { step_of (Command.File command) < 2 ^ 32 }
+    ensures { Runs R.left R.failed P.left P.failed W.held W.failed command LIMIT r.old given.old
+        w.old result r.new given.new w.new }
+{
+    match command {
+        FileCommand::Refuted { k, optimize } => print_refuted(alloc, k, optimize, r, given, w),
+        FileCommand::Inductive { k, form, optimize } => {
+            print_inductive(alloc, k, form, optimize, r, given, w)
+        }
+        FileCommand::Witness { k, optimize } => print_witness(alloc, k, optimize, r, given, w),
+        FileCommand::Run => print_run(alloc, r, given, w),
+        FileCommand::RefutedTo { k, optimize } => {
+            print_refuted_to(alloc, k, optimize, r, given, w)
+        }
+        FileCommand::WitnessTo { k, optimize } => {
+            print_witness_to(alloc, k, optimize, r, given, w)
+        }
+        FileCommand::Clauses { .. } | FileCommand::Window { .. } | FileCommand::Bounded { .. } => {
+            unreachable!()
+        }
+    }
+}
+
 /// Runs a command on a file and on the one at a path beside it.
 fn run_beside<F: Opens, R: Source, W: Sink>(
     alloc: Global,
@@ -54,27 +87,7 @@ fn run_beside<F: Opens, R: Source, W: Sink>(
         W.failed command (path.now ∷ []) r.old w.old result r.new w.new }
 {
     let mut given = files.open(path)?;
-    match command {
-        FileCommand::Refuted { k, optimize } => {
-            print_refuted(alloc, k, optimize, r, &mut given, w)
-        }
-        FileCommand::Inductive { k, form, optimize } => {
-            print_inductive(alloc, k, form, optimize, r, &mut given, w)
-        }
-        FileCommand::Witness { k, optimize } => {
-            print_witness(alloc, k, optimize, r, &mut given, w)
-        }
-        FileCommand::Run => print_run(alloc, r, &mut given, w),
-        FileCommand::RefutedTo { k, optimize } => {
-            print_refuted_to(alloc, k, optimize, r, &mut given, w)
-        }
-        FileCommand::WitnessTo { k, optimize } => {
-            print_witness_to(alloc, k, optimize, r, &mut given, w)
-        }
-        FileCommand::Clauses { .. } | FileCommand::Window { .. } | FileCommand::Bounded { .. } => {
-            unreachable!()
-        }
-    }
+    run_given(alloc, command, r, &mut given, w)
 }
 
 /// Runs a command on a file, and on what the words name beside it.

@@ -1,10 +1,13 @@
 //! The commands of `aigcheck`: which words give them, and what they do with the bytes of files.
 #![tactic(auto)]
 
+mod about;
 mod acting;
+mod again;
 mod bounded;
 mod command;
 mod comments;
+mod explaining;
 mod line;
 mod pairs;
 mod tool;
@@ -12,6 +15,7 @@ mod tool;
 pub use acting::{USAGE, act};
 pub use bounded::{print_bounded, print_refuted_to, print_witness_to};
 pub use command::{Command, FileCommand, PairCommand, parse};
+pub use explaining::explain;
 pub use pairs::{print_certified, print_equal, print_obligations};
 pub use tool::{
     CheckError, print_clauses, print_inductive, print_refuted, print_run, print_window,

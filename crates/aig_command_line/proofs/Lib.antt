@@ -2,3 +2,4 @@ mod Parsing
 pub mod Giving
 pub mod Apart
 pub mod Kept
+pub mod Counting

@@ -1,10 +1,10 @@
 //! Files that a program reads.
 
-ghost use Rattle.std.specs.Prelude.{⊤, ℕ, List, Result};
+ghost use Rattle.std.specs.Prelude.{⊤, ℕ, List, Result, IfSome};
 ghost use Rattle.aig_command_line.specs.declared.files.OpenError.{OpenError};
 
 use aig_base::{FromRead, Source};
-use std::fs::File;
+use std::fs::{self, File};
 use std::rt::Files;
 
 /// Why a file wasn't opened.
@@ -25,6 +25,14 @@ pub trait Opens {
     /// Opens the file at a path.
     fn open(&self, path: &str) -> Result<Self::File, OpenError>
         ensures { opens self.now path.now result };
+}
+
+/// Opens files a second time.
+pub trait Reopens: Opens {
+    /// Opens the file at a path as `open` does, if that gives its first byte first again. A pipe or a terminal isn't opened: what was
+    /// read of it is gone, and it may wait for more.
+    fn reopen(&self, path: &str) -> Option<Result<Self::File, OpenError>>
+        ensures { IfSome result (Self.opens self.now path.now) };
 }
 
 /// The files of the system. Nothing is known of their bytes before they are read.
@@ -49,6 +57,15 @@ impl<'a, R: Files> Opens for SystemFiles<'a, R> {
         match File::open(self.rt, path) {
             Ok(file) => Ok(FromRead::new(file)),
             Err(_) => Err(OpenError::Refused),
+        }
+    }
+}
+
+impl<'a, R: Files> Reopens for SystemFiles<'a, R> {
+    fn reopen(&self, path: &str) -> Option<Result<FromRead<R::File>, OpenError>> {
+        match fs::metadata(self.rt, path) {
+            Ok(found) if !found.is_file() => None,
+            _ => Some(self.open(path)),
         }
     }
 }

@@ -4,17 +4,27 @@
 mod about;
 mod arguments;
 mod command;
+mod counted;
+mod discarded;
 mod environment;
+mod fault;
 mod files;
 mod number;
 mod output;
+mod reading;
 mod status;
+mod tally;
 
 pub use about::{Question, asked};
 pub use arguments::{Form, Given, Step};
 pub use command::{HasForm, find};
+pub use counted::{Counted, Origin};
+pub use discarded::Discarded;
 pub use environment::words;
-pub use files::{OpenError, Opens, SystemFiles};
+pub use fault::Fault;
+pub use files::{OpenError, Opens, Reopens, SystemFiles};
 pub use number::steps;
 pub use output::{Flush, FlushedWriter};
+pub use reading::place_in_file;
 pub use status::{Ending, HasStatus, StandardError, Tells, end};
+pub use tally::{Measure, Place};

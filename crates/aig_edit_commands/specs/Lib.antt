@@ -1,3 +1,5 @@
 pub mod Words
 pub mod Acting
 pub mod Asked
+pub mod About
+pub mod Explaining

@@ -1,13 +1,16 @@
 -- What the definitions say of small proofs: some follow, and wrong ones are refused.
-use Rattle.std.proofs.Common.{◌≡◌, ℕ, true, false, inl, inr, List, [], ◌∷◌, ◌++◌, Option, Ok, Err, slice_get, refl, subst, arith}
+use Rattle.std.proofs.Common.{◌≡◌, ℕ, true, false, inl, inr, List, [], ◌∷◌, ◌++◌, Option, None, Ok, Err, slice_get, refl, subst, arith}
 use Rattle.aig_base.specs.declared.logic.literal.Lit.{Lit}
 use Rattle.aig_base.specs.Clauses.{lit_to}
 use Rattle.aig_refutation.specs.declared.error.RefutationError.TheVariants as errors
 use Rattle.aig_refutation.specs.declared.error.RefutationError.{RefutationError}
 use Rattle.aig_refutation.specs.Checking.{IsInConflict, IsPlainOutcome, Shows}
-use Rattle.aig_refutation.specs.Proofs.{Script, after_clause, after_first, after_number, after_word, clause_from, line_in, plain_of, plain_steps_in}
+use Rattle.aig_format.specs.Parse.{parse_groups}
+use Rattle.aig_refutation.specs.Binary.{binary_script, binary_steps_in, groups_in}
+use Rattle.aig_refutation.specs.Forms.{is_binary, plain_steps_in, steps_in}
+use Rattle.aig_refutation.specs.Proofs.{Script, after_clause, after_first, after_number, after_word, clause_from, line_in, plain_of}
 use Rattle.aig_refutation.specs.Propagation.{is_rup}
-use Rattle.aig_refutation.specs.Steps.{Adds, Deletes, Learns, PlainStep, Refute, is_refutation, without_one}
+use Rattle.aig_refutation.specs.Steps.{Adds, Deletes, Drops, Learns, PlainStep, Refute, is_refutation, without_one}
 use Rattle.aig_refutation.specs.Text.{digits_after, lines_after, number_in, word_at, word_in, words_after, words_of}
 use Rattle.aig_refutation.proofs.Plainly.{refutation_taken}
 
@@ -104,6 +107,105 @@ not_refused e wrong =
     refutation_taken four (Learns (plain 0 ∷ []) ∷ Learns [] ∷ []) errors.Unfinished e
     (subst (λ (script : Script PlainStep). IsPlainOutcome four script (Err e)) two_steps wrong)
     refute_four
+
+-- ---- binary proofs
+
+-- the same steps
+abbrev binary_of_four : List ℕ
+binary_of_four = 97 ∷ 2 ∷ 0 ∷ 97 ∷ 0 ∷ []
+
+binary_steps : plain_steps_in 2 binary_of_four ≡ record {
+  steps = Learns (plain 0 ∷ []) ∷ Learns [] ∷ [];
+  fault = errors.Unfinished;
+}
+unfolding groups_in binary_script parse_groups
+binary_steps = refl
+
+no_lrat : steps_in 2 binary_of_four ≡ None
+no_lrat = refl
+
+-- `d -63 -8193 0` and `129 -8191 0`, as drat-trim's description writes them
+abbrev described : List ℕ
+described = 100 ∷ 127 ∷ 131 ∷ 128 ∷ 1 ∷ 0 ∷ 97 ∷ 130 ∷ 2 ∷ 255 ∷ 127 ∷ 0 ∷ []
+
+from_description : binary_steps_in 8193 described ≡ record {
+  steps =
+      Drops (inverted 62 ∷ inverted 8192 ∷ [])
+      ∷ Learns (plain 128 ∷ inverted 8190 ∷ [])
+      ∷ [];
+  fault = errors.Unfinished;
+}
+unfolding groups_in binary_script parse_groups
+from_description = refl
+
+-- a literal past the variables
+no_literal : binary_steps_in 1 (97 ∷ 4 ∷ 0 ∷ []) ≡ record { steps = []; fault = errors.Literal }
+unfolding groups_in binary_script parse_groups
+no_literal = refl
+
+-- 1 is no literal
+no_number : binary_steps_in 1 (97 ∷ 1 ∷ 0 ∷ []) ≡ record { steps = []; fault = errors.Binary }
+unfolding groups_in binary_script parse_groups
+no_number = refl
+
+-- bytes that end in a clause, in a number, and after a step
+cut_in_a_clause : binary_steps_in 1 (97 ∷ 2 ∷ []) ≡ record { steps = []; fault = errors.Binary }
+unfolding groups_in binary_script parse_groups
+cut_in_a_clause = refl
+
+cut_in_a_number : binary_steps_in 1 (97 ∷ 130 ∷ []) ≡ record { steps = []; fault = errors.Binary }
+unfolding groups_in binary_script parse_groups
+cut_in_a_number = refl
+
+cut_after_a_step : binary_steps_in 1 (97 ∷ 2 ∷ 0 ∷ []) ≡ record {
+  steps = Learns (plain 0 ∷ []) ∷ [];
+  fault = errors.Unfinished;
+}
+unfolding groups_in binary_script parse_groups
+cut_after_a_step = refl
+
+-- a letter that is none, where a step should begin
+no_letter : binary_steps_in 1 (97 ∷ 2 ∷ 0 ∷ 98 ∷ 0 ∷ []) ≡ record {
+  steps = Learns (plain 0 ∷ []) ∷ [];
+  fault = errors.Binary;
+}
+unfolding groups_in binary_script parse_groups
+no_letter = refl
+
+-- a number of six groups, and one that is 2^32
+too_long : binary_steps_in 1 (97 ∷ 130 ∷ 128 ∷ 128 ∷ 128 ∷ 128 ∷ 0 ∷ 0 ∷ [])
+    ≡ record { steps = []; fault = errors.Binary }
+unfolding groups_in binary_script parse_groups
+too_long = refl
+
+too_large : binary_steps_in 1 (97 ∷ 128 ∷ 128 ∷ 128 ∷ 128 ∷ 16 ∷ 0 ∷ [])
+    ≡ record { steps = []; fault = errors.Binary }
+unfolding groups_in binary_script parse_groups
+too_large = refl
+
+-- an `a` at the front
+adds_first : is_binary (97 ∷ 0 ∷ []) ≡ true
+adds_first = refl
+
+-- a `d` and a byte 0, as no text has one
+deletes_first : is_binary (100 ∷ 32 ∷ 0 ∷ []) ≡ true
+deletes_first = refl
+
+-- `d 1 0`
+text_deletes_first : is_binary (100 ∷ 32 ∷ 49 ∷ 32 ∷ 48 ∷ 10 ∷ []) ≡ false
+text_deletes_first = refl
+
+-- other bytes, whatever follows
+text_first : is_binary text_of_four ≡ false
+text_first = refl
+
+blank_first : is_binary (32 ∷ 97 ∷ 0 ∷ []) ≡ false
+blank_first = refl
+
+nothing_first : is_binary [] ≡ false
+nothing_first = refl
+
+-- ---- clauses that are dropped
 
 -- of two clauses of the same literals one is dropped
 dropped_once : without_one (plain 1 ∷ plain 0 ∷ plain 0 ∷ []) (four ++ four)

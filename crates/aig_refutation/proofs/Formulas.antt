@@ -1,11 +1,9 @@
 -- The clauses of a formula, as they are taken and compared with a proof's text.
-use Rattle.std.proofs.Common.{◌≡◌, ℕ, zero, suc, ◌<◌, ◌≤◌, Bool, true, false, ◌&&◌, inl, Option, Some, None, Result, Ok, Err, List, [], ◌∷◌, ◌++◌, length, slice_get, get_or, refl, sym, ap, subst, ◌∙◌, arith}
+use Rattle.std.proofs.Common.{◌≡◌, ℕ, zero, suc, ◌<◌, ◌≤◌, Bool, true, false, cond, ◌&&◌, inl, Option, Some, None, Result, Ok, Err, List, [], ◌∷◌, ◌++◌, length, slice_get, get_or, refl, sym, ap, subst, ◌∙◌, arith}
 use Rattle.std.specs.List.{Contains}
 use Rattle.std.proofs.lemmas.List.Elements.{Contains-get_or}
 use Rattle.std.proofs.lemmas.Option.{get_or_from_slice_get, slice_get_within}
 use Rattle.std.specs.Prelude.{IfSome, option_map}
-use Rattle.std.specs.Io.KnownBytes.{prepend_known}
-use Rattle.std.proofs.KnownBytes.{prepend_known-nil}
 use Rattle.std.proofs.lemmas.Bool.{false≢true}
 use Rattle.std.proofs.lemmas.List.Folds.{list_all-append}
 use Rattle.aig_base.specs.declared.logic.literal.Lit.{Lit}
@@ -13,9 +11,12 @@ use Rattle.aig_base.specs.Clauses.{number_of_lit}
 use Rattle.aig_base.specs.Formula.{clauses_in}
 use Rattle.aig_refutation.specs.declared.error.RefutationError.{RefutationError}
 use Rattle.aig_refutation.specs.declared.error.RefutationError.TheVariants as errors
-use Rattle.aig_refutation.specs.Checking.{IsInConflict, IsOutcome, IsPlainOutcome, Shows, all_live, are_all_in, are_in}
-use Rattle.aig_refutation.specs.Concluding.{IsFormula, RefusesFormula, ShowsPlain, ShowsText, text_outcome}
-use Rattle.aig_refutation.specs.Proofs.{plain_steps_in, script_if}
+use Rattle.aig_refutation.specs.Checking.{IsInConflict, IsOutcome, IsPlainOutcome, IsRefusal, Shows, shown_by, all_live, are_all_in, are_in}
+use Rattle.aig_refutation.specs.Concluding.{ConcludesPlain, IsFormula, RefusesFormula, ShowsPlain, ShowsText, shown_of, text_outcome}
+use Rattle.aig_refutation.specs.Binary.{binary_steps_in}
+use Rattle.aig_refutation.specs.Forms.{is_binary, plain_steps_in}
+use Rattle.aig_refutation.specs.Proofs.{Script, plain_of, script_if}
+use Rattle.aig_refutation.specs.Steps.{PlainStep}
 use Rattle.aig_refutation.specs.Tables.{Checked, HoldsFormula}
 use Rattle.aig_refutation.specs.Text.{lines_of}
 use Rattle.aig_refutation.specs.Words.{Says, Tells}
@@ -208,36 +209,83 @@ module _ (variables : ℕ) (clauses : List (List Lit)) (text : Option (List ℕ)
   turned None r h = tt
   turned (Some x) r h = sym h
 
-  -- the steps of the text were checked
+  -- the steps of the proof were checked
   module _ (inside : are_all_in variables clauses ≡ true) (none : IsInConflict clauses → ⊥)
-      (f : Feed) (is : f.coming ≡ prepend_known [] text) where
-    abbrev Plainly : Result (Unit {0}) RefutationError → Type 0
-    Plainly r = Says f (λ bytes. script_if variables (lines_of bytes) ≡ None
-        → IsPlainOutcome clauses (plain_steps_in variables bytes) r)
-
+      (f : Feed) (there : (bytes : List ℕ) → text ≡ Some bytes → f.coming ≡ Some bytes) where
     unmapped : {A B : Type 0} (g : A → B) (o : Option A) → option_map g o ≡ None → o ≡ None
     unmapped g None e = refl
     unmapped g (Some x) e = absurd cc
 
-    is_shown : (r : Result (Unit {0}) RefutationError)
-        → Says f (λ bytes. IfSome (text_outcome variables (all_live clauses) bytes) (λ x. x ≡ r))
-        → Plainly r → IsShown r
-    is_shown r says plain = record {
-      no_variable = λ out. absurd (false≢true (sym out ∙ inside));
-      in_conflict = λ _ conflict. absurd (none conflict);
-      by_steps = λ _ _. known _ (λ bytes there.
-          turned (text_outcome variables (all_live clauses) bytes) r
-          (says bytes (is ∙ prepend_known-nil text ∙ there)));
-      by_propagation = λ _ _. known _ (λ bytes there unnumbered.
-          plain bytes (is ∙ prepend_known-nil text ∙ there)
-          (unmapped _ (script_if variables (lines_of bytes)) unnumbered));
-    }
+    -- they are those of a text
+    module _ (form : (bytes : List ℕ) → text ≡ Some bytes → is_binary bytes ≡ false) where
+      abbrev Plainly : Result (Unit {0}) RefutationError → Type 0
+      Plainly r = Says f (λ bytes. script_if variables (lines_of bytes) ≡ None
+          → IsPlainOutcome clauses (plain_of variables (lines_of bytes)) r)
 
-    pub shows_text : (r : Result (Unit {0}) RefutationError)
-        → ShowsText f (text_outcome variables (all_live clauses)) r
-        → ShowsPlain f variables clauses r → Shows variables clauses text r
-    shows_text (Ok done) h plain = is_shown (Ok tt) h (λ bytes known none. tt)
-    shows_text (Err e) h plain =
-        shows_err e (tells_on e _ (IsShown (Err e)) (λ both. is_shown (Err e) both.0 both.1)
-        (tells_both e (Says f (λ bytes. IfSome (text_outcome variables (all_live clauses) bytes)
-        (λ x. x ≡ Err e))) (Plainly (Err e)) h plain))
+      shown_as : (bytes : List ℕ) → text ≡ Some bytes
+          → shown_by variables clauses bytes ≡ text_outcome variables (all_live clauses) bytes
+      shown_as bytes is = ap (λ (b : Bool). option_map (shown_of variables (all_live clauses))
+          (cond b None (script_if variables (lines_of bytes)))) (form bytes is)
+
+      plain_as : (bytes : List ℕ) → text ≡ Some bytes
+          → plain_steps_in variables bytes ≡ plain_of variables (lines_of bytes)
+      plain_as bytes is = ap (λ (b : Bool). cond b (binary_steps_in variables bytes)
+          (plain_of variables (lines_of bytes))) (form bytes is)
+
+      is_shown : (r : Result (Unit {0}) RefutationError)
+          → Says f (λ bytes. IfSome (text_outcome variables (all_live clauses) bytes) (λ x. x ≡ r))
+          → Plainly r → IsShown r
+      is_shown r says plain = record {
+        no_variable = λ out. absurd (false≢true (sym out ∙ inside));
+        in_conflict = λ _ conflict. absurd (none conflict);
+        by_steps = λ _ _. known _ (λ bytes is.
+            subst (λ (o : Option (Result (Unit {0}) RefutationError)). IfSome o (λ x. r ≡ x))
+            (sym (shown_as bytes is))
+            (turned (text_outcome variables (all_live clauses) bytes) r
+            (says bytes (there bytes is))));
+        by_propagation = λ _ _. known _ (λ bytes is unnumbered.
+            subst (λ (script : Script PlainStep). IsPlainOutcome clauses script r)
+            (sym (plain_as bytes is))
+            (plain bytes (there bytes is) (unmapped _ (script_if variables (lines_of bytes))
+            (sym (shown_as bytes is) ∙ unnumbered))));
+      }
+
+      pub shows_text : (r : Result (Unit {0}) RefutationError)
+          → ShowsText f (text_outcome variables (all_live clauses)) r
+          → ShowsPlain f variables clauses r → Shows variables clauses text r
+      shows_text (Ok done) h plain = is_shown (Ok tt) h (λ bytes known none. tt)
+      shows_text (Err e) h plain =
+          shows_err e (tells_on e _ (IsShown (Err e)) (λ both. is_shown (Err e) both.0 both.1)
+          (tells_both e (Says f (λ bytes. IfSome (text_outcome variables (all_live clauses) bytes)
+          (λ x. x ≡ Err e))) (Plainly (Err e)) h plain))
+
+    -- they are those of a binary proof
+    module _ (form : (bytes : List ℕ) → text ≡ Some bytes → is_binary bytes ≡ true) where
+      unnumbered : (bytes : List ℕ) → text ≡ Some bytes → shown_by variables clauses bytes ≡ None
+      unnumbered bytes is = ap (λ (b : Bool). option_map (shown_of variables (all_live clauses))
+          (cond b None (script_if variables (lines_of bytes)))) (form bytes is)
+
+      binary_as : (bytes : List ℕ) → text ≡ Some bytes
+          → plain_steps_in variables bytes ≡ binary_steps_in variables bytes
+      binary_as bytes is = ap (λ (b : Bool). cond b (binary_steps_in variables bytes)
+          (plain_of variables (lines_of bytes))) (form bytes is)
+
+      is_plain : (r : Result (Unit {0}) RefutationError)
+          → Says f (λ bytes. IsPlainOutcome clauses (binary_steps_in variables bytes) r) → IsShown r
+      is_plain r says = record {
+        no_variable = λ out. absurd (false≢true (sym out ∙ inside));
+        in_conflict = λ _ conflict. absurd (none conflict);
+        by_steps = λ _ _. known _ (λ bytes is.
+            subst (λ (o : Option (Result (Unit {0}) RefutationError)). IfSome o (λ x. r ≡ x))
+            (sym (unnumbered bytes is)) tt);
+        by_propagation = λ _ _. known _ (λ bytes is _.
+            subst (λ (script : Script PlainStep). IsPlainOutcome clauses script r)
+            (sym (binary_as bytes is)) (says bytes (there bytes is)));
+      }
+
+      pub shows_binary : (r : Result (Unit {0}) RefutationError)
+          → ConcludesPlain f clauses (binary_steps_in variables) r → Shows variables clauses text r
+      shows_binary (Ok done) h = is_plain (Ok tt) (λ bytes is. tt)
+      shows_binary (Err e) h =
+          shows_err e (tells_on e (Says f (λ bytes. IsRefusal clauses
+          (binary_steps_in variables bytes) e)) (IsShown (Err e)) (is_plain (Err e)) h)

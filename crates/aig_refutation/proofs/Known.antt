@@ -7,13 +7,13 @@ use Rattle.aig_refutation.specs.declared.error.RefutationError.{RefutationError}
 use Rattle.aig_refutation.specs.declared.error.RefutationError.TheVariants as errors
 use Rattle.aig_refutation.specs.Words.{Leaves, Says, Tells, front}
 
-consumed : (old new : Option (List ℕ)) (taken xs : List ℕ) → Consumes old new taken → old ≡ Some xs
-    → (ys : List ℕ) × (new ≡ Some ys) × (xs ≡ taken ++ ys)
+pub consumed : (old new : Option (List ℕ)) (taken xs : List ℕ) → Consumes old new taken
+    → old ≡ Some xs → (ys : List ℕ) × (new ≡ Some ys) × (xs ≡ taken ++ ys)
 consumed None new taken xs c is = absurd cc
 consumed (Some zs) None taken xs c is = absurd c
 consumed (Some zs) (Some ys) taken xs c is = (ys, refl, sym (same_Some zs xs is) ∙ c)
 
-at_end : (known : Option (List ℕ)) (xs : List ℕ) → IsAtEnd known → known ≡ Some xs → xs ≡ []
+pub at_end : (known : Option (List ℕ)) (xs : List ℕ) → IsAtEnd known → known ≡ Some xs → xs ≡ []
 at_end None xs end is = absurd cc
 at_end (Some zs) xs end is = sym (same_Some zs xs is) ∙ end
 

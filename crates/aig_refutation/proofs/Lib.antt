@@ -28,3 +28,6 @@ mod Amounts
 mod Unfollowed
 mod Keeping
 mod Plainly
+mod Groups
+mod Fronts
+mod BinarySteps

@@ -57,24 +57,24 @@ pub record PassesOn (clauses now : List (List Lit)) (before after : Script Plain
   pub fault : before.fault ≡ after.fault
   pub empty : list_any adds_empty before.steps ≡ list_any adds_empty after.steps
 
-passed_on : (clauses now next : List (List Lit)) (s t u : Script PlainStep) → PassesOn clauses now s t
-    → PassesOn now next t u → PassesOn clauses next s u
+pub passed_on : (clauses now next : List (List Lit)) (s t u : Script PlainStep)
+    → PassesOn clauses now s t → PassesOn now next t u → PassesOn clauses next s u
 passed_on clauses now next s t u p q = record {
   stand = λ all. q.stand (p.stand all);
   fault = p.fault ∙ q.fault;
   empty = p.empty ∙ q.empty;
 }
 
-refused_on : (clauses now : List (List Lit)) (s t : Script PlainStep) (e : RefutationError)
+pub refused_on : (clauses now : List (List Lit)) (s t : Script PlainStep) (e : RefutationError)
     → PassesOn clauses now s t → IsRefusal now t e → IsRefusal clauses s e
 refused_on clauses now s t e p (inl wrong) = inl (wrong.0, λ all. wrong.1 (p.stand all))
 refused_on clauses now s t e p (inr none) = inr (none.0 ∙ sym p.fault, p.empty ∙ none.1)
 
-abbrev GoesBy : List (List Lit) → Line → List (List Lit) → Type 0
+abbrev pub GoesBy : List (List Lit) → Line → List (List Lit) → Type 0
 GoesBy now line next = (rest : Script PlainStep)
     → PassesOn now next (then_plain (Ok line) rest) rest
 
-line_passes : (variables : ℕ) (now : List (List Lit)) (t : Table) (line : Line)
+pub line_passes : (variables : ℕ) (now : List (List Lit)) (t : Table) (line : Line)
     → TakesLine variables now line t (Ok false)
     → (next : List (List Lit)) × IsAhead next t × GoesBy now line next
 line_passes variables now t (Numbered step) h = absurd h
@@ -91,7 +91,7 @@ line_passes variables now t (Plain (Learns clause)) h = (
 )
 
 -- the literals of a clause that is added have variables
-abbrev IsInside : ℕ → Line → Type 0
+abbrev pub IsInside : ℕ → Line → Type 0
 IsInside variables (Numbered step) = Unit {0}
 IsInside variables (Plain (Drops clause)) = Unit {0}
 IsInside variables (Plain (Learns clause)) = are_in variables clause ≡ true
@@ -107,7 +107,7 @@ inside_said variables s inside = by s.is_numbered s.deletes
     by false true = tt
     by false false = inside
 
-line_refused : (variables : ℕ) (now : List (List Lit)) (t : Table) (line : Line)
+pub line_refused : (variables : ℕ) (now : List (List Lit)) (t : Table) (line : Line)
     (e : RefutationError) → IsInside variables line → TakesLine variables now line t (Err e)
     → Tells e ((rest : Script PlainStep) → IsRefusal now (then_plain (Ok line) rest) e)
 line_refused variables now t (Numbered step) e inside h =

@@ -9,7 +9,8 @@ use Rattle.aig_base.specs.Formula.{IsSatisfiable}
 use Rattle.aig_refutation.specs.declared.error.RefutationError.{RefutationError}
 use Rattle.aig_refutation.specs.declared.error.RefutationError.TheVariants as errors
 use Rattle.aig_refutation.specs.Checking.{Live, added, all_live, are_in, clause_at, deleted, follows, is_named, is_too_large, is_used, outcome, shown_by, taken, with_clause, with_next, without_clause}
-use Rattle.aig_refutation.specs.Proofs.{Script, steps_in}
+use Rattle.aig_refutation.specs.Forms.{steps_in}
+use Rattle.aig_refutation.specs.Proofs.{Script}
 use Rattle.aig_refutation.specs.Propagation.{is_rup, is_tautology}
 use Rattle.aig_refutation.specs.Steps.{Step, Adds, Deletes, is_empty}
 use Rattle.aig_refutation.proofs.LineParts.{bound_ok}

@@ -8,7 +8,8 @@ use Rattle.aig_base.specs.Clauses.{inverse_lit, variable_of}
 use Rattle.aig_refutation.specs.declared.error.RefutationError.{RefutationError}
 use Rattle.aig_refutation.specs.declared.error.RefutationError.TheVariants as errors
 use Rattle.aig_refutation.specs.Propagation.{is_rup, is_tautology}
-use Rattle.aig_refutation.specs.Proofs.{Script, plain_steps_in, steps_in}
+use Rattle.aig_refutation.specs.Forms.{plain_steps_in, steps_in}
+use Rattle.aig_refutation.specs.Proofs.{Script}
 use Rattle.aig_refutation.specs.Steps.{Step, Adds, Deletes, PlainStep, Stand, adds_empty, is_empty, without}
 use Rattle.aig_refutation.specs.Text.{◌>>=◌}
 
@@ -137,11 +138,11 @@ pub record IsOutcome (variables : ℕ) (clauses : List (List Lit)) (text : Optio
   pub no_variable : are_all_in variables clauses ≡ false → result ≡ Err errors.Variable
   -- those in conflict at once need no proof
   pub in_conflict : are_all_in variables clauses ≡ true → IsInConflict clauses → result ≡ Ok tt
-  -- Of others, a proof of known bytes whose first line that is a step has a number is taken exactly
+  -- Of others, a text of known bytes whose first line that is a step has a number is taken exactly
   -- where its steps refute them, and refused for the reason that they have.
   pub by_steps : are_all_in variables clauses ≡ true → (IsInConflict clauses → ⊥)
       → IfSome text (λ bytes. IfSome (shown_by variables clauses bytes) (λ shown. result ≡ shown))
-  -- One whose first step has no number, or without steps, is refused for a reason alone.
+  -- A proof whose first step has no number, binary or text, is refused for a reason alone.
   pub by_propagation : are_all_in variables clauses ≡ true → (IsInConflict clauses → ⊥)
       → IfSome text (λ bytes. shown_by variables clauses bytes ≡ None
       → IsPlainOutcome clauses (plain_steps_in variables bytes) result)

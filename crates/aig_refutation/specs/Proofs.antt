@@ -8,7 +8,7 @@ use Rattle.aig_base.specs.Clauses.{lit_to}
 use Rattle.aig_refutation.specs.declared.error.RefutationError.{RefutationError}
 use Rattle.aig_refutation.specs.declared.error.RefutationError.TheVariants as errors
 use Rattle.aig_refutation.specs.Steps.{Step, Adds, Deletes, PlainStep, Drops, Learns}
-use Rattle.aig_refutation.specs.Text.{Word, ◌>>=◌, begins, lines_of, word_in}
+use Rattle.aig_refutation.specs.Text.{Word, ◌>>=◌, begins, word_in}
 use Rattle.aig_refutation.specs.Text as text
 
 -- ---- parts of a line
@@ -184,11 +184,6 @@ script_if variables ((word ∷ words) ∷ lines) =
     else if_numbered (line_in false variables (is_none lines) word words)
     (script_of variables lines)
 
--- the steps that the bytes of a proof say, if the first line that is one has the form of an LRAT
--- file
-abbrev pub steps_in : ℕ → List ℕ → Option (Script Step)
-steps_in variables bytes = script_if variables (lines_of bytes)
-
 -- what a line of a DRAT file says, and then others
 abbrev pub then_plain : Result Line RefutationError → Script PlainStep → Script PlainStep
 then_plain (Ok (Plain step)) rest = record { steps = step ∷ rest.steps; fault = rest.fault }
@@ -202,8 +197,3 @@ plain_of variables ([] ∷ lines) = plain_of variables lines
 plain_of variables ((word ∷ words) ∷ lines) =
     if is_comment word then plain_of variables lines
     else then_plain (line_in false variables (is_none lines) word words) (plain_of variables lines)
-
--- the steps that the bytes of a proof say, if the first line that is one has the form of a DRAT
--- file
-abbrev pub plain_steps_in : ℕ → List ℕ → Script PlainStep
-plain_steps_in variables bytes = plain_of variables (lines_of bytes)

@@ -5,7 +5,8 @@ ghost use Rattle.aig_base.specs.declared.logic.literal.Lit.{Lit};
 ghost use Rattle.aig_base.specs.Formula.{clauses_in, IsSatisfiable};
 ghost use Rattle.aig_lexer.specs.Takes.{feed};
 ghost use Rattle.aig_refutation.specs.Ahead.{AddsAhead, IsAhead, LearnsAhead, StaysAhead, TakesPlain};
-ghost use Rattle.aig_refutation.specs.Checking.{Live, Shows, are_in, is_last_step, taken};
+ghost use Rattle.aig_refutation.specs.Binary.{binary_steps_in};
+ghost use Rattle.aig_refutation.specs.Checking.{IsInConflict, Live, Shows, are_in, is_last_step, taken};
 ghost use Rattle.aig_refutation.specs.Concluding.{Concludes, ConcludesConflict, ConcludesPlain, IsFormula, MovesStep, RefusesFormula, ShowsPlain, ShowsText, TakesLine, TakesStep, left_outcome, plain_left, text_outcome};
 ghost use Rattle.aig_refutation.specs.Formula.{Implies, ImpliesAll};
 ghost use Rattle.aig_refutation.specs.Proofs.{Numbered};
@@ -15,6 +16,8 @@ ghost use Rattle.aig_refutation.specs.Steps.{Follows};
 ghost use Rattle.aig_refutation.specs.Tables.{Holds};
 ghost use Rattle.aig_refutation.specs.Words.{place};
 
+use crate::binary::read_step;
+use crate::buffer::{ProofBuffer, is_binary};
 use crate::checker::Checker;
 use crate::error::RefutationError;
 use crate::step::Step;
@@ -364,10 +367,11 @@ fn take_steps<R: Source>(
     Ok(())
 }
 
-/// Checks steps up to the first with the empty clause, against the clauses. `step` is used, whatever
-/// it has.
+/// Checks the steps of a text up to the first with the empty clause, against the clauses. `step` is
+/// used, whatever it has.
 fn check_steps<R: Source>(
     alloc: Global,
+    buffer: ProofBuffer,
     r: &mut R,
     checker: &mut Checker,
     step: &mut Step,
@@ -378,12 +382,13 @@ fn check_steps<R: Source>(
     ensures stream { IsErrOf result RefutationError.Stream → R.failed r.new ≡ true }
     ensures shown { (live : Live) → step.old.is_numbered ≡ false
         → Holds checker.old.table live → checker.old.variables ≡ variables
-        → ShowsText (feed R.left R.failed R.pulls [] r.old) (text_outcome variables live) result }
+        → ShowsText (feed R.left R.failed R.pulls buffer r.old) (text_outcome variables live)
+        result }
     ensures plain { (clauses : List (List Lit)) → step.old.is_numbered ≡ false
         → IsAhead clauses checker.old.table → checker.old.variables ≡ variables
-        → ShowsPlain (feed R.left R.failed R.pulls [] r.old) variables clauses result }
+        → ShowsPlain (feed R.left R.failed R.pulls buffer r.old) variables clauses result }
 {
-    let words = &mut Words::new();
+    let words = &mut Words::new(buffer);
     let there = step.read(words, r, variables)?;
     let mut search = search_for(alloc, checker, step)?;
     if refutes_at_first(checker, &mut search, step)? {
@@ -393,6 +398,81 @@ fn check_steps<R: Source>(
         return Err(RefutationError::Unfinished);
     }
     take_steps(words, r, checker, &mut search, step, variables)
+}
+
+/// Takes the steps that are read of a binary proof, up to the first with the empty clause.
+fn take_binary<R: Source>(
+    buffer: &mut ProofBuffer,
+    r: &mut R,
+    checker: &mut Checker,
+    search: &mut Search,
+    step: &mut Step,
+    variables: usize,
+) -> Result<(), RefutationError>
+    requires { variables ≤ 2 ^ 31 }
+    ensures refuted { OnOk result (¬ IsSatisfiable checker.old.table.clauses) }
+    ensures stream { IsErrOf result RefutationError.Stream → R.failed r.new ≡ true }
+    ensures plain { (clauses : List (List Lit)) → IsAhead clauses checker.old.table
+        → checker.old.variables ≡ variables
+        → ConcludesPlain (feed R.left R.failed R.pulls buffer.old r.old) clauses
+        (binary_steps_in variables) result }
+{
+    'steps: while read_step(buffer, r, step, variables)? {
+        if take_searched(checker, search, step)? {
+            return Ok(());
+        }
+    }
+    Err(RefutationError::Unfinished)
+}
+
+/// Checks the steps of a binary proof up to the first with the empty clause, against the clauses.
+/// `step` is used, whatever it has.
+fn check_binary<R: Source>(
+    alloc: Global,
+    buffer: &mut ProofBuffer,
+    r: &mut R,
+    checker: &mut Checker,
+    step: &mut Step,
+    variables: usize,
+) -> Result<(), RefutationError>
+    requires { variables ≤ 2 ^ 31 }
+    ensures refuted { OnOk result (¬ IsSatisfiable checker.old.table.clauses) }
+    ensures stream { IsErrOf result RefutationError.Stream → R.failed r.new ≡ true }
+    ensures plain { (clauses : List (List Lit)) → IsAhead clauses checker.old.table
+        → checker.old.variables ≡ variables
+        → ConcludesPlain (feed R.left R.failed R.pulls buffer.old r.old) clauses
+        (binary_steps_in variables) result }
+{
+    let mut search = Search::new(alloc, checker.variables())?;
+    start_search(alloc, checker, &mut search)?;
+    if add_empty(checker, &mut search, &mut step.numbers)? {
+        return Ok(());
+    }
+    take_binary(buffer, r, checker, &mut search, step, variables)
+}
+
+/// Checks the steps of a proof, whatever its form, up to the first with the empty clause, against
+/// clauses that aren't in conflict by themselves. `step` is used, whatever it has.
+fn check_proof<R: Source>(
+    alloc: Global,
+    r: &mut R,
+    checker: &mut Checker,
+    step: &mut Step,
+    variables: usize,
+) -> Result<(), RefutationError>
+    requires { variables ≤ 2 ^ 31 }
+    ensures refuted { OnOk result (¬ IsSatisfiable checker.old.table.clauses) }
+    ensures stream { IsErrOf result RefutationError.Stream → R.failed r.new ≡ true }
+    ensures shown { (clauses : List (List Lit)) → step.old.is_numbered ≡ false
+        → IsFormula checker.old → checker.old.table.clauses ≡ clauses
+        → checker.old.variables ≡ variables → (IsInConflict clauses → ⊥)
+        → Shows variables clauses (R.left r.old) result }
+{
+    let mut buffer = ProofBuffer::begin(r)?;
+    if is_binary(buffer.window()) {
+        return check_binary(alloc, &mut buffer, r, checker, step, variables);
+    }
+    check_steps(alloc, buffer, r, checker, step, variables)
 }
 
 /// Checks steps against a formula's clauses, where these aren't in conflict by themselves. There are
@@ -416,12 +496,12 @@ fn check_clauses<R: Source>(
     if refutes_at_once(alloc, checker)? {
         return Ok(());
     }
-    check_steps(alloc, r, checker, step, cnf.num_vars())
+    check_proof(alloc, r, checker, step, cnf.num_vars())
 }
 
-/// Checks a proof that clauses can't be satisfied: the text of an LRAT or of a DRAT file, whose
-/// steps follow by reverse unit propagation. The clauses of `cnf`, variable by variable, and those
-/// of `further` after them are numbered from 1 on, and variable v is written as v + 1.
+/// Checks a proof that clauses can't be satisfied: the text of an LRAT file, or a DRAT file, text or
+/// binary, whose steps follow by reverse unit propagation. The clauses of `cnf`, variable by variable,
+/// and those of `further` after them are numbered from 1 on, and variable v is written as v + 1.
 ///
 /// Clauses of which a literal has no variable are refused as `Variable`. Others in conflict at once
 /// need no proof, and nothing is read: one is empty, or one has a literal alone and another its
@@ -435,7 +515,12 @@ fn check_clauses<R: Source>(
 /// The lines of a DRAT file are `L.. 0` and `d L.. 0`. Hints are searched for; a clause of one
 /// literal is never deleted, and to delete one that isn't there does nothing.
 ///
-/// The first line says which form all have. Steps by resolution asymmetry (RAT) are refused: as
+/// A binary DRAT file has the letter `a` or `d` for each step, then each literal as twice its number,
+/// one more where it is inverted, in groups of seven bits, the lowest first, and then a 0. The bytes
+/// after the empty clause don't matter.
+///
+/// A proof is binary where it begins with `a`, or with `d` and a byte 0 is among the first 1,024. The
+/// first line of a text says which form all have. Steps by resolution asymmetry (RAT) are refused: as
 /// `Asymmetry` where a hint is negative, and as `Step` where there are no hints.
 ///
 /// The proof is read through a buffer of 16,384 bytes, up to the empty clause, and nothing is
@@ -453,9 +538,9 @@ pub fn check_refutation<R: Source>(
     ensures stream { IsErrOf result RefutationError.Stream → R.failed r.new ≡ true }
     // Memory and the stream aside: Variable where a literal has no variable, else Ok where the
     // clauses are in conflict at once. Of another LRAT proof whose bytes are known Ok exactly where
-    // its steps refute the clauses, and else the error that its text has. Such a DRAT proof is
-    // refused only as Step, where not all its steps follow, or as what is wrong with its text after
-    // steps none of which adds the empty clause.
+    // its steps refute the clauses, and else the error that its text has. Such a DRAT proof, text or
+    // binary, is refused only as Step, where not all its steps follow, or as what is wrong with its
+    // bytes after steps none of which adds the empty clause.
     ensures shown { Shows (length cnf.now) (clauses_in cnf.now ++ further.now) (R.left r.old)
         result }
 {

@@ -41,8 +41,8 @@ pub enum RefutationError {
     /// checked.
     #[error("proof step by resolution asymmetry")]
     Asymmetry,
-    /// The proof is no text, as solvers write them where they aren't asked for one.
-    #[error("binary proof; text is taken (cadical --no-binary)")]
+    /// The proof is neither a text nor binary DRAT, or a binary one is cut or malformed in a step.
+    #[error("bad binary proof; LRAT is taken as text (cadical --no-binary)")]
     Binary,
     /// The bytes end before the empty clause.
     #[error("proof ends before the empty clause")]

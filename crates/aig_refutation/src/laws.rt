@@ -6,7 +6,7 @@ ghost use Rattle.aig_base.specs.Clauses.{is_true_clause};
 ghost use Rattle.aig_base.specs.Formula.{IsSatisfiable};
 ghost use Rattle.aig_refutation.specs.declared.error.RefutationError.{RefutationError};
 ghost use Rattle.aig_refutation.specs.Checking.{IsPlainOutcome, shown_by};
-ghost use Rattle.aig_refutation.specs.Proofs.{plain_steps_in};
+ghost use Rattle.aig_refutation.specs.Forms.{plain_steps_in};
 ghost use Rattle.aig_refutation.specs.Propagation.{is_rup};
 ghost use Rattle.aig_refutation.specs.Steps.{PlainStep, Refute, Step, is_refutation};
 
@@ -39,7 +39,7 @@ pub fn plainly_refuted_clauses_are_unsatisfiable()
         → Refute clauses steps → ¬ IsSatisfiable clauses }
 {}
 
-/// Law: a DRAT text whose steps refute the clauses isn't refused.
+/// Law: a DRAT proof, text or binary, whose steps refute the clauses isn't refused.
 pub fn plain_refutations_are_taken()
     ensures { (variables : ℕ) (clauses : List (List Lit)) (bytes : List ℕ) (e : RefutationError)
         → let script = plain_steps_in variables bytes in

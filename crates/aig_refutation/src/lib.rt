@@ -1,6 +1,8 @@
 //! Checks proofs that clauses can't be satisfied, whoever made them.
 #![tactic(auto)]
 
+mod binary;
+mod buffer;
 mod check;
 mod checker;
 mod closure;

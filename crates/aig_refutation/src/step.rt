@@ -13,7 +13,7 @@ use aig_base::{Lit, Source, Var};
 use std::alloc::Global;
 
 /// A step of a proof: a line `N L.. 0 H.. 0` or `N d M.. 0` of an LRAT file, or `L.. 0` or `d L..
-/// 0` of a DRAT file. Its lists are used again for the next one.
+/// 0` of a DRAT file, text or binary. Its lists are used again for the next one.
 #[derive(Drop)]
 pub(crate) struct Step {
     /// Whether clauses are named by numbers, as in an LRAT file.

@@ -10,9 +10,9 @@ ghost use Rattle.aig_refutation.specs.Skipping.{EndsLine, GivesDigits, SkipsBlan
 ghost use Rattle.aig_refutation.specs.Text.{fault, number_in, signed, word_in};
 ghost use Rattle.aig_refutation.specs.Words.{Answers, ClosesAt, Gives, GivesFirst, GivesWord, IsAfter, IsClosed, IsWord, end_after, fault_of, is_last, next_in, next_number, place, rest, said_number};
 
+use crate::buffer::ProofBuffer;
 use crate::error::RefutationError;
 use aig_base::Source;
-use aig_lexer::InputBuffer;
 use std::marker::Model;
 
 /// A number, which may have a minus in front.
@@ -69,7 +69,7 @@ fn fault(byte: u8) -> RefutationError
 /// The next byte that isn't blank, if there is one.
 #[inline(always)]
 fn skip_blanks<R: Source>(
-    buffer: &mut InputBuffer,
+    buffer: &mut ProofBuffer,
     r: &mut R,
 ) -> Result<Option<u8>, RefutationError>
     ensures stream { IsErrOf result RefutationError.Stream → R.failed r.new ≡ true }
@@ -88,7 +88,7 @@ fn skip_blanks<R: Source>(
 }
 
 /// Goes past the line feed of a line, and says whether there is one.
-fn skip_line<R: Source>(buffer: &mut InputBuffer, r: &mut R) -> Result<bool, RefutationError>
+fn skip_line<R: Source>(buffer: &mut ProofBuffer, r: &mut R) -> Result<bool, RefutationError>
     ensures stream { IsErrOf result RefutationError.Stream → R.failed r.new ≡ true }
     ensures fewer { IfOk result (λ there. IsTrue there
         → (feed R.left R.failed R.pulls buffer.new r.new).most
@@ -108,7 +108,7 @@ fn skip_line<R: Source>(buffer: &mut InputBuffer, r: &mut R) -> Result<bool, Ref
 /// it, if there is one.
 #[inline(always)]
 fn read_digits<R: Source>(
-    buffer: &mut InputBuffer,
+    buffer: &mut ProofBuffer,
     r: &mut R,
     first: u8,
 ) -> Result<(u32, Option<u8>), RefutationError>
@@ -137,7 +137,7 @@ fn read_digits<R: Source>(
 /// The text of a proof, from which words are taken.
 #[derive(Drop)]
 pub(crate) struct Words {
-    buffer: InputBuffer,
+    buffer: ProofBuffer,
     /// How the line ended whose words were taken, if it did.
     end: Option<End>,
 }
@@ -151,14 +151,11 @@ impl Model for Words {
 }
 
 impl Words {
-    /// A text none of which was taken.
-    pub(crate) fn new() -> Words
-        ensures { result ≡ record { held = []; end = None } }
+    /// A text none of which was taken: what is held of it, and what is left in the source.
+    pub(crate) fn new(buffer: ProofBuffer) -> Words
+        ensures { result ≡ record { held = buffer; end = None } }
     {
-        Words {
-            buffer: InputBuffer::new(),
-            end: None,
-        }
+        Words { buffer, end: None }
     }
 
     /// Ends a word at the byte after it, or at the end of the stream.

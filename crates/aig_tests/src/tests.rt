@@ -3,6 +3,7 @@
 ghost use Rattle.std.specs.Prelude.{◌≤◌, ◌^◌, IfOk, length};
 
 mod answers;
+mod binary_proofs;
 mod certificates;
 mod examples;
 mod streams;

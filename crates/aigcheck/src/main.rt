@@ -1,7 +1,7 @@
 //! `aigcheck` checks proofs and witnesses about the machines of AIGER files, and prints the clauses that such proofs are of.
 #![tactic(auto)]
 
-use aig_checks::{USAGE, act};
+use aig_checks::{USAGE, act, explain};
 pub use aig_checks::{
     CheckError, Command, FileCommand, PairCommand, parse, print_bounded, print_certified,
     print_clauses, print_equal, print_inductive, print_obligations, print_refuted,
@@ -12,11 +12,10 @@ use std::io;
 use std::process::ExitCode;
 
 fn main(rt: HostRuntime) -> ExitCode {
-    let ending = act(
-        rt.alloc(),
-        &words(&rt),
-        &SystemFiles::new(&rt),
-        &mut FlushedWriter::new(io::writer(&rt)),
-    );
-    ExitCode::from(end("aigcheck", USAGE, &ending, &mut StandardError::new(&rt)))
+    let words = words(&rt);
+    let files = SystemFiles::new(&rt);
+    let mut out = FlushedWriter::new(io::writer(&rt));
+    let ending = act(rt.alloc(), &words, &files, &mut out);
+    let told = explain(rt.alloc(), &words, &files, ending);
+    ExitCode::from(end("aigcheck", USAGE, &told, &mut StandardError::new(&rt)))
 }

@@ -2,16 +2,15 @@
 #![tactic(auto)]
 
 use aig_command_line::{FlushedWriter, StandardError, SystemFiles, end, words};
-use aig_edit_commands::{USAGE, act};
+use aig_edit_commands::{USAGE, act, explain};
 use std::io;
 use std::process::ExitCode;
 
 fn main(rt: HostRuntime) -> ExitCode {
-    let ending = act(
-        rt.alloc(),
-        &words(&rt),
-        &SystemFiles::new(&rt),
-        &mut FlushedWriter::new(io::writer(&rt)),
-    );
-    ExitCode::from(end("aigedit", USAGE, &ending, &mut StandardError::new(&rt)))
+    let words = words(&rt);
+    let files = SystemFiles::new(&rt);
+    let mut out = FlushedWriter::new(io::writer(&rt));
+    let ending = act(rt.alloc(), &words, &files, &mut out);
+    let told = explain(rt.alloc(), &words, &files, ending);
+    ExitCode::from(end("aigedit", USAGE, &told, &mut StandardError::new(&rt)))
 }

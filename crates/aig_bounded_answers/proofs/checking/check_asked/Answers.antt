@@ -3,6 +3,7 @@ use Rattle.std.proofs.lemmas.Result.{IfOk-weaker, err_from_is_err_and}
 use Rattle.aig_reader.specs.Verdicts.{Judges}
 use Rattle.aig_refutation.specs.declared.error.RefutationError.TheVariants as RefutationError
 use Rattle.aig_bounded_answers.specs.Asking.{bounded_verdict}
+use Rattle.aig_bounded_answers.specs.Encoded.{size_by}
 use Rattle.aig_bounded_answers.proofs.Verdicts.{no_proof, proof_own, proof_small, proof_taken, question_of_check, untaken_question}
 use Rattle.aig_bounded_answers.proofs.checking.check_asked.Goals as goal
 
@@ -35,7 +36,8 @@ returns-in_err-made-clause-large g c =
 
 pub returns-clause-large : goal.returns-clause-large
 returns-clause-large g c =
-    proof_small c.refute.result c.refute.ensures.own c.args.limit c.args.last _ _
+    proof_small c.refute.result c.refute.ensures.own c.args.limit (size_by c.args.asked c.args.last)
+    _ _
 
 pub returns-clause-answer : goal.returns-clause-answer
 returns-clause-answer g c =

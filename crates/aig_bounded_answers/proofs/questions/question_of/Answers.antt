@@ -10,6 +10,12 @@ returns-in-Reached-clause-question c =
     × IsQuestionBy a c.args.last c.args.circuit.now (lists_circuit made.circuit) output
     made.places.items)) (sym c.in-Reached.is) c.bounded_question.ensures.question
 
+pub returns-in-Step-clause-question : goal.returns-in-Step-clause-question
+returns-in-Step-clause-question c =
+    subst (λ a. IfOk c.step_question.result (λ made. (output : AigEdge)
+    × IsQuestionBy a c.args.last c.args.circuit.now (lists_circuit made.circuit) output
+    made.places.items)) (sym c.in-Step.is) c.step_question.ensures.question
+
 pub returns-in-Window-clause-question : goal.returns-in-Window-clause-question
 returns-in-Window-clause-question c =
     subst (λ a. IfOk c.window_question.result (λ made. (output : AigEdge)

@@ -1,4 +1,4 @@
-use Rattle.std.proofs.Common.{ℕ, None, Some, false, List, Vec, Global, ap, sym, ◌∙◌, rules}
+use Rattle.std.proofs.Common.{ℕ, None, Some, false, List, Vec, Global, ap, refl, sym, ◌∙◌, rules}
 use Rattle.aig_bounded_answers.specs.Asking.{IsAskedWithin, bounded_verdict}
 use Rattle.aig_checks.specs.Running.{Answers}
 use Rattle.aig_checks.specs.declared.command.FileCommand.TheVariants as commands
@@ -6,6 +6,7 @@ use Rattle.aig_commands.specs.declared.tool.TheConstants.{LIMIT}
 use Rattle.aig_calls.specs.Parts.{IsOwnOf}
 use Rattle.aig_calls.proofs.Bounding.{settled_read}
 use Rattle.aig_calls.proofs.Making.{text_made}
+use Rattle.aig_calls.proofs.Shown.{size_printed}
 use Rattle.aig_calls.proofs.Taken.{check_not_made}
 use Rattle.aig_calls.proofs.bounded.bounded_text.Goals as goal
 
@@ -24,6 +25,7 @@ returns-in-Ok c =
           (rw c.new-source.ensures.reader at told.verdict)
           (rw c.new-source.ensures.reader at told.ok) none all;
       safe = tt;
+      large = tt;
     }
 
 pub returns-in-Err : goal.returns-in-Err
@@ -42,4 +44,6 @@ returns-in-Err c =
           settled_read c.args.k c.args.optimize LIMIT bytes _ None _ false e settles.0 settles.1
           judges
           (rw c.new-source.ensures.reader at told.refusal);
+      large = λ is. size_printed command c.args.k LIMIT bytes _ None _ false e refl
+          (c.of_check.ensures.large is) judges (rw c.new-source.ensures.reader at told.refusal);
     }

@@ -1,15 +1,16 @@
-use Rattle.std.proofs.Common.{ℕ, Some, List, Vec, Global, ap, sym, ◌∙◌, rules}
+use Rattle.std.proofs.Common.{ℕ, Some, List, Vec, Global, ap, refl, sym, ◌∙◌, rules}
 use Rattle.aig_bounded_answers.specs.Asking.{IsAskedWithin, bounded_verdict}
 use Rattle.aig_checks.specs.Running.{Answers}
 use Rattle.aig_checks.specs.declared.command.FileCommand.TheVariants as commands
 use Rattle.aig_commands.specs.declared.tool.TheConstants.{LIMIT}
 use Rattle.aig_calls.specs.Parts.{IsOwnOf}
 use Rattle.aig_calls.proofs.Making.{text_made}
+use Rattle.aig_calls.proofs.Shown.{size_printed}
 use Rattle.aig_calls.proofs.Taken.{check_not_made}
 use Rattle.aig_calls.proofs.bounded.witness_text.Goals as goal
 
-pub returns-in-Ok : goal.returns-in-Ok
-returns-in-Ok c =
+pub returns-in-Ok-clause-makes : goal.returns-in-Ok-clause-makes
+returns-in-Ok-clause-makes c =
     let command = (commands.WitnessTo c.args.k c.args.optimize) in
     let told = c.in-Ok.ensures in
     let items = λ (v : Vec ℕ Global). Some v.items in
@@ -23,8 +24,8 @@ returns-in-Ok c =
     (rw c.new-source.ensures.reader at told.verdict)
     (rw (c.new-source.ensures.reader, c.new-answer.ensures.reader) at told.ok) none all
 
-pub returns-in-Err : goal.returns-in-Err
-returns-in-Err c =
+pub returns-in-Err-clause-makes : goal.returns-in-Err-clause-makes
+returns-in-Err-clause-makes c =
     let command = (commands.WitnessTo c.args.k c.args.optimize) in
     let told = c.in-Err.ensures in
     check_not_made LIMIT c.args.file.now _ _ command (Some c.args.solution.now) c.in-Err.error
@@ -32,3 +33,12 @@ returns-in-Err c =
     (rw c.new-source.ensures.reader at told.verdict) c.of_check.ensures.said
     c.of_check.ensures.least
     (c.of_check.ensures.own command told.own)
+
+pub returns-in-Err-clause-large : goal.returns-in-Err-clause-large
+returns-in-Err-clause-large c =
+    let command = (commands.WitnessTo c.args.k c.args.optimize) in
+    let told = c.in-Err.ensures in
+    λ is. size_printed command c.args.k LIMIT c.args.file.now _ (Some c.args.solution.now) _ _
+    c.in-Err.error refl (c.of_check.ensures.large is) (rw c.new-source.ensures.reader at
+    told.verdict)
+    (rw (c.new-source.ensures.reader, c.new-answer.ensures.reader) at told.refusal)

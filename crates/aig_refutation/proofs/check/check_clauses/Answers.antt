@@ -1,16 +1,13 @@
-use Rattle.std.proofs.Common.{◌≡◌, ℕ, Bool, false, ◌++◌, List, Ok, [], length, refl, sym, ap, subst, ◌∙◌}
+use Rattle.std.proofs.Common.{◌≡◌, ℕ, Bool, false, ◌++◌, List, Ok, length, sym, ap, subst, ◌∙◌}
 use Rattle.std.proofs.lemmas.Result.{err_from_is_err_and}
 use Rattle.aig_base.specs.declared.logic.literal.Lit.{Lit}
 use Rattle.aig_base.specs.Formula.{clauses_in}
-use Rattle.aig_lexer.specs.Takes.{feed}
 use Rattle.aig_refutation.specs.declared.error.RefutationError.TheVariants as errors
-use Rattle.aig_refutation.specs.Ahead.{IsAhead}
-use Rattle.aig_refutation.specs.Checking.{IsInConflict, all_live, are_all_in}
-use Rattle.aig_refutation.specs.Concluding.{ConcludesConflict, ShowsPlain, ShowsText, text_outcome}
-use Rattle.aig_refutation.specs.Tables.{Checked, Holds}
+use Rattle.aig_refutation.specs.Checking.{IsInConflict, Shows, are_all_in}
+use Rattle.aig_refutation.specs.Concluding.{ConcludesConflict, IsFormula}
+use Rattle.aig_refutation.specs.Tables.{Checked}
 use Rattle.aig_refutation.specs.Words.{Tells}
-use Rattle.aig_refutation.proofs.Formulas.{formula_inside, shows_conflict, shows_memory, shows_refused, shows_text}
-use Rattle.aig_refutation.proofs.Keeping.{formula_ahead}
+use Rattle.aig_refutation.proofs.Formulas.{formula_inside, shows_conflict, shows_memory, shows_refused}
 use Rattle.aig_refutation.proofs.check.check_clauses.Goals as goal
 
 pub returns-in_err-number_clauses-clause-shown : goal.returns-in_err-number_clauses-clause-shown
@@ -50,35 +47,19 @@ returns-then-branch-clause-shown g c formula same fresh =
 pub returns-clause-shown : goal.returns-clause-shown
 returns-clause-shown g c formula same fresh =
     let clauses = clauses_in c.args.cnf.now ++ c.args.further.now in
-    let live = all_live clauses in
-    let before = feed g.R.Source.left g.R.Source.failed g.R.Source.pulls [] c.args.r.now in
     let checker = c.number_clauses.new.checker in
-    let formula_holds = c.in_ok-number_clauses.ensures.holds formula in
+    let holds = c.in_ok-number_clauses.ensures.holds formula in
     let list = c.in_ok-number_clauses.ensures.formula in
     let kept = c.in_ok-refutes_at_once.ensures.same c.if-branch.false in
-    let here : Holds checker.table live = subst (λ (list : List (List Lit)). Holds checker.table
-    (all_live list)) list formula_holds.holds.holds in
-    let holds : Holds c.refutes_at_once.new.checker.table live = subst (λ (checker : Checked). Holds
-    checker.table live) (sym kept) here in
     let count = c.num_vars.ensures.count in
     let variables : c.refutes_at_once.new.checker.variables ≡ c.num_vars.result =
     ap (λ checker. checker.variables) kept ∙ c.in_ok-number_clauses.ensures.variables ∙ same ∙ sym
     count in
-    let shown : ShowsText before (text_outcome (length c.args.cnf.now) live) c.check_steps.result =
-    subst (λ (n : ℕ). ShowsText before (text_outcome n live) c.check_steps.result) count
-    (c.check_steps.ensures.shown live fresh holds variables) in
-    let first : IsAhead clauses checker.table = subst (λ (list : List (List Lit)). IsAhead list
-    checker.table) list (formula_ahead checker.table formula_holds.holds) in
-    let ahead : IsAhead clauses c.refutes_at_once.new.checker.table = subst (λ (checker : Checked).
-    IsAhead clauses checker.table) (sym kept) first in
-    let plain : ShowsPlain before (length c.args.cnf.now) clauses c.check_steps.result =
-    subst (λ (n : ℕ). ShowsPlain before n clauses c.check_steps.result) count
-    (c.check_steps.ensures.plain clauses fresh ahead variables) in
     let none : IsInConflict checker.table.clauses → ⊥ = subst (λ (b : Bool). ConcludesConflict
     checker.table.clauses (Ok b)) c.if-branch.false
-    (c.in_ok-refutes_at_once.ensures.conflict formula_holds) in
-    let inside = formula_inside checker (length c.args.cnf.now) clauses formula_holds
-    (c.in_ok-number_clauses.ensures.variables ∙ same) list in
-    shows_text (length c.args.cnf.now) clauses (g.R.Source.left c.args.r.now) inside
-    (subst (λ (list : List (List Lit)). IsInConflict list → ⊥) list none) before refl
-    c.check_steps.result shown plain
+    (c.in_ok-refutes_at_once.ensures.conflict holds) in
+    subst (λ (n : ℕ). Shows n clauses (g.R.Source.left c.args.r.now) c.check_proof.result) count
+    (c.check_proof.ensures.shown clauses fresh
+    (subst (λ (k : Checked). IsFormula k) (sym kept) holds)
+    (ap (λ (k : Checked). k.table.clauses) kept ∙ list) variables
+    (subst (λ (list : List (List Lit)). IsInConflict list → ⊥) list none))

@@ -1,4 +1,4 @@
-use Rattle.std.proofs.Common.{◌≡◌, Bool, true, false, None, Ok, Err, [], refl, sym, ap, subst, ◌∙◌}
+use Rattle.std.proofs.Common.{◌≡◌, Bool, true, false, None, Ok, Err, refl, sym, ap, subst, ◌∙◌}
 use Rattle.std.proofs.lemmas.Result.{err_from_is_err_and}
 use Rattle.std.proofs.lemmas.Bool.{false≢true}
 use Rattle.aig_refutation.specs.declared.error.RefutationError.TheVariants as errors
@@ -16,7 +16,7 @@ use Rattle.aig_refutation.proofs.check.check_steps.Goals as goal
 pub returns-in_err-there-clause-shown : goal.returns-in_err-there-clause-shown
 returns-in_err-there-clause-shown g c live fresh holds same =
     let at = place g.R.Source.left g.R.Source.failed g.R.Source.pulls in
-    let none : Text = record { held = []; end = None } in
+    let none : Text = record { held = c.args.buffer; end = None } in
     let before = at none c.args.r.now in
     let after = at c.read.new.words c.read.new.r in
     let variables = c.args.variables in
@@ -32,7 +32,7 @@ returns-in_err-there-clause-shown g c live fresh holds same =
 pub returns-in_err-search-clause-shown : goal.returns-in_err-search-clause-shown
 returns-in_err-search-clause-shown g c live fresh holds same =
     let at = place g.R.Source.left g.R.Source.failed g.R.Source.pulls in
-    let none : Text = record { held = []; end = None } in
+    let none : Text = record { held = c.args.buffer; end = None } in
     let before = at none c.args.r.now in
     let after = at c.read.new.words c.read.new.r in
     let variables = c.args.variables in
@@ -52,7 +52,7 @@ pub returns-in_err-refutes_at_first-clause-shown :
     goal.returns-in_err-refutes_at_first-clause-shown
 returns-in_err-refutes_at_first-clause-shown g c live fresh holds same =
     let at = place g.R.Source.left g.R.Source.failed g.R.Source.pulls in
-    let none : Text = record { held = []; end = None } in
+    let none : Text = record { held = c.args.buffer; end = None } in
     let before = at none c.args.r.now in
     let after = at c.read.new.words c.read.new.r in
     let variables = c.args.variables in
@@ -74,7 +74,7 @@ returns-in_err-refutes_at_first-clause-shown g c live fresh holds same =
 pub returns-then-branch-clause-shown : goal.returns-then-branch-clause-shown
 returns-then-branch-clause-shown g c live fresh holds same =
     let at = place g.R.Source.left g.R.Source.failed g.R.Source.pulls in
-    let none : Text = record { held = []; end = None } in
+    let none : Text = record { held = c.args.buffer; end = None } in
     let before = at none c.args.r.now in
     let after = at c.read.new.words c.read.new.r in
     let variables = c.args.variables in
@@ -97,7 +97,7 @@ returns-then-branch-clause-shown g c live fresh holds same =
 pub returns-then-not-there-clause-shown : goal.returns-then-not-there-clause-shown
 returns-then-not-there-clause-shown g c live fresh holds same =
     let at = place g.R.Source.left g.R.Source.failed g.R.Source.pulls in
-    let none : Text = record { held = []; end = None } in
+    let none : Text = record { held = c.args.buffer; end = None } in
     let before = at none c.args.r.now in
     let after = at c.read.new.words c.read.new.r in
     let variables = c.args.variables in
@@ -113,7 +113,7 @@ returns-then-not-there-clause-shown g c live fresh holds same =
 pub returns-clause-shown : goal.returns-clause-shown
 returns-clause-shown g c live fresh holds same =
     let at = place g.R.Source.left g.R.Source.failed g.R.Source.pulls in
-    let none : Text = record { held = []; end = None } in
+    let none : Text = record { held = c.args.buffer; end = None } in
     let before = at none c.args.r.now in
     let after = at c.read.new.words c.read.new.r in
     let variables = c.args.variables in
@@ -144,7 +144,7 @@ returns-clause-shown g c live fresh holds same =
 pub returns-in_err-there-clause-plain : goal.returns-in_err-there-clause-plain
 returns-in_err-there-clause-plain g c clauses fresh ahead same =
     let at = place g.R.Source.left g.R.Source.failed g.R.Source.pulls in
-    let none : Text = record { held = []; end = None } in
+    let none : Text = record { held = c.args.buffer; end = None } in
     let before = at none c.args.r.now in
     let after = at c.read.new.words c.read.new.r in
     let variables = c.args.variables in
@@ -160,7 +160,7 @@ returns-in_err-there-clause-plain g c clauses fresh ahead same =
 pub returns-in_err-search-clause-plain : goal.returns-in_err-search-clause-plain
 returns-in_err-search-clause-plain g c clauses fresh ahead same =
     let at = place g.R.Source.left g.R.Source.failed g.R.Source.pulls in
-    let none : Text = record { held = []; end = None } in
+    let none : Text = record { held = c.args.buffer; end = None } in
     let before = at none c.args.r.now in
     let variables = c.args.variables in
     let e = c.in_err-search.field-0.0 in
@@ -173,7 +173,7 @@ pub returns-in_err-refutes_at_first-clause-plain :
     goal.returns-in_err-refutes_at_first-clause-plain
 returns-in_err-refutes_at_first-clause-plain g c clauses fresh ahead same =
     let at = place g.R.Source.left g.R.Source.failed g.R.Source.pulls in
-    let none : Text = record { held = []; end = None } in
+    let none : Text = record { held = c.args.buffer; end = None } in
     let before = at none c.args.r.now in
     let variables = c.args.variables in
     let e = c.in_err-refutes_at_first.field-0.0 in
@@ -186,7 +186,7 @@ returns-in_err-refutes_at_first-clause-plain g c clauses fresh ahead same =
 pub returns-then-not-there-clause-plain : goal.returns-then-not-there-clause-plain
 returns-then-not-there-clause-plain g c clauses fresh ahead same =
     let at = place g.R.Source.left g.R.Source.failed g.R.Source.pulls in
-    let none : Text = record { held = []; end = None } in
+    let none : Text = record { held = c.args.buffer; end = None } in
     let before = at none c.args.r.now in
     let after = at c.read.new.words c.read.new.r in
     let variables = c.args.variables in
@@ -204,7 +204,7 @@ returns-then-not-there-clause-plain g c clauses fresh ahead same =
 pub returns-clause-plain : goal.returns-clause-plain
 returns-clause-plain g c clauses fresh ahead same =
     let at = place g.R.Source.left g.R.Source.failed g.R.Source.pulls in
-    let none : Text = record { held = []; end = None } in
+    let none : Text = record { held = c.args.buffer; end = None } in
     let before = at none c.args.r.now in
     let after = at c.read.new.words c.read.new.r in
     let variables = c.args.variables in

@@ -1,4 +1,4 @@
-use Rattle.aig_refutation.specs.Proofs.{plain_steps_in}
+use Rattle.aig_refutation.specs.Forms.{plain_steps_in}
 use Rattle.aig_refutation.proofs.Plainly.{refutation_taken}
 use Rattle.aig_refutation.proofs.laws.plain_refutations_are_taken.Goals as goal
 

@@ -1,0 +1,47 @@
+-- The clauses of a window can be satisfied exactly where there is one with a bad literal at its
+-- end.
+use Rattle.std.proofs.Common.{◌↔◌, ℕ, ◌+◌, Bool, List, ◌++◌, IsTrue, sym, ◌∙◌}
+use Rattle.std.specs.List.{list_any}
+use Rattle.std.proofs.lemmas.Bool.{false≢true, true_from_ne_false}
+use Rattle.aig_base.specs.declared.logic.literal.Lit.{Lit}
+use Rattle.aig_base.specs.Formula.{IsSatisfiable, clauses_in}
+use Rattle.aig_format.specs.Circuit.{circuit_of}
+use Rattle.aig_format.specs.File.{File}
+use Rattle.aig_format.specs.Fits.{Fits}
+use Rattle.aig_format.specs.Machine.{value_of_literal}
+use Rattle.aig_runs.specs.Induction.{IsKInductive}
+use Rattle.aig_runs.specs.Safety.{IsGood}
+use Rattle.aig_runs.specs.WindowClauses.{AsksWindow}
+use Rattle.aig_runs.specs.declared.window.Window.{Window}
+use Rattle.aig_runs.proofs.Rows.{any_none}
+use Rattle.aig_answers.proofs.Deciding.{satisfiable_unless}
+use Rattle.aig_answers.proofs.WindowRuns.{HasBadWindow, satisfied_window}
+
+-- some bad literal holds exactly where it isn't so that none does
+pub bad_is : (f : File) (values : ℕ → Bool)
+    → IsTrue (list_any (value_of_literal values) f.properties.bads) ↔ (¬ IsGood f values)
+bad_is f values =
+    let test = value_of_literal values in
+    let bads = f.properties.bads in
+    let none = any_none test bads in (
+      λ bad good. false≢true (sym (none.1 good) ∙ bad),
+      λ not_good. true_from_ne_false (list_any test bads) (λ is. not_good (none.0 is)),
+    )
+
+-- refuted clauses leave no window
+abbrev RefutedAreInductive : Type 0
+RefutedAreInductive = (form : Window) (f : File) (limit k : ℕ) (optimize : Bool)
+    (clauses : List (List (List Lit))) (further : List (List Lit)) → Fits f limit
+    → AsksWindow form (circuit_of f) k optimize clauses further
+    → ¬ IsSatisfiable (clauses_in clauses ++ further) → IsKInductive form f k
+
+pub windows_asked : RefutedAreInductive → (form : Window) (f : File) (limit k : ℕ)
+    (optimize : Bool) (clauses : List (List (List Lit))) (further : List (List Lit))
+    → Fits f limit → AsksWindow form (circuit_of f) k optimize clauses further
+    → IsSatisfiable (clauses_in clauses ++ further) ↔ HasBadWindow form f k
+windows_asked refuted form f limit k optimize clauses further fits asks = (
+  satisfied_window form f limit k optimize clauses further fits asks,
+  λ w. satisfiable_unless (clauses_in clauses ++ further) (λ none.
+      (bad_is f (w.0 (k + 1))).0 w.2
+      (refuted form f limit k optimize clauses further fits asks none w.0 w.1)),
+)

@@ -1,0 +1,142 @@
+-- Serves private clauses alone.
+-- What an error is about: a file, or none, and how the place is found where reading it stopped.
+use Rattle.aig_answers.specs.declared.error.AnswerError.{AnswerError}
+use Rattle.aig_answers.specs.declared.error.AnswerError.TheVariants as answers
+use Rattle.aig_bounded.specs.declared.error.BoundedError.TheVariants as questions
+use Rattle.aig_bounded_answers.specs.declared.error.BoundedAnswerError.{BoundedAnswerError}
+use Rattle.aig_bounded_answers.specs.declared.error.BoundedAnswerError.TheVariants as bounded
+use Rattle.aig_certificates.specs.declared.error.CertificateError.{CertificateError}
+use Rattle.aig_certificates.specs.declared.error.CertificateError.TheVariants as certificate
+use Rattle.aig_command_line.specs.declared.tally.Measure.{Measure}
+use Rattle.aig_command_line.specs.declared.tally.Measure.TheVariants as measures
+use Rattle.aig_edits.specs.declared.error.PairError.{PairError}
+use Rattle.aig_edits.specs.declared.error.PairError.TheVariants as pair
+use Rattle.aig_encode.specs.declared.error.EncodeError.{EncodeError}
+use Rattle.aig_encode.specs.declared.error.EncodeError.TheVariants as encode
+use Rattle.aig_reader.specs.declared.error.ReadError.{ReadError}
+use Rattle.aig_reader.specs.declared.error.ReadError.TheVariants as read
+use Rattle.aig_refutation.specs.declared.error.RefutationError.{RefutationError}
+use Rattle.aig_refutation.specs.declared.error.RefutationError.TheVariants as refutation
+use Rattle.aig_solutions.specs.declared.error.SolutionError.{SolutionError}
+use Rattle.aig_solutions.specs.declared.error.SolutionError.TheVariants as solution
+use Rattle.aig_witness.specs.declared.error.WitnessError.{WitnessError}
+use Rattle.aig_witness.specs.declared.error.WitnessError.TheVariants as witness
+use Rattle.aig_witness.specs.declared.fault.WitnessFault.{WitnessFault}
+use Rattle.aig_witness.specs.declared.fault.WitnessFault.TheVariants as faults
+use Rattle.aig_witness.specs.declared.file.ShowError.{ShowError}
+use Rattle.aig_witness.specs.declared.file.ShowError.TheVariants as shows
+use Rattle.aig_checks.specs.declared.about.About.{About}
+use Rattle.aig_checks.specs.declared.about.Search.TheVariants as searches
+use Rattle.aig_checks.specs.declared.about.Subject.{Subject}
+use Rattle.aig_checks.specs.declared.about.Subject.TheVariants as subjects
+use Rattle.aig_checks.specs.declared.tool.CheckError.{CheckError}
+use Rattle.aig_checks.specs.declared.tool.CheckError.TheVariants as errors
+
+-- a file as a whole
+abbrev pub whole : Subject → About
+whole subject = record { subject = subject; search = searches.Nowhere }
+
+-- no file
+abbrev pub nothing : About
+nothing = whole subjects.Nothing
+
+-- a place that is found by running the command again, and told so
+abbrev pub found : Subject → Measure → About
+found subject measure = record { subject = subject; search = searches.Run measure }
+
+-- a place that is found by reading the AIGER file again
+abbrev pub read_again : Subject → ReadError → About
+read_again subject e = record { subject = subject; search = searches.Read e }
+
+-- an AIGER file
+abbrev pub about_read : Subject → ReadError → About
+about_read subject read.Memory = nothing
+about_read subject read.Open = whole subjects.Unopened
+about_read subject e = read_again subject e
+
+-- FILE, of which clauses are made
+abbrev pub about_encode : EncodeError → About
+about_encode (encode.Read e) = about_read subjects.File e
+about_encode encode.Memory = nothing
+about_encode encode.TooLarge = whole subjects.File
+
+-- a proof
+abbrev pub about_refutation : Subject → RefutationError → About
+about_refutation subject refutation.Memory = nothing
+about_refutation subject refutation.Variable = nothing
+about_refutation subject refutation.Stream = whole subject
+about_refutation subject refutation.Unfinished = whole subject
+about_refutation subject refutation.Binary = found subject measures.Byte
+about_refutation subject e = found subject measures.Proof
+
+-- FILE or the proof about it
+abbrev pub about_answer : Subject → AnswerError → About
+about_answer proof (answers.Encode e) = about_encode e
+about_answer proof answers.NoBads = whole subjects.File
+about_answer proof answers.TooLarge = whole subjects.File
+about_answer proof (answers.Refutation e) = about_refutation proof e
+
+-- values that show no bad state
+abbrev pub about_fault : WitnessFault → About
+about_fault faults.Memory = nothing
+about_fault fault = whole subjects.Given
+
+-- a solver's answer
+abbrev pub about_solution : SolutionError → About
+about_solution solution.Memory = nothing
+about_solution solution.Answer = found subjects.Given measures.Line
+about_solution solution.Line = found subjects.Given measures.Line
+about_solution solution.Literal = found subjects.Given measures.Line
+about_solution solution.Variable = found subjects.Given measures.Line
+about_solution solution.Clash = found subjects.Given measures.Line
+about_solution (solution.Check fault) = about_fault fault
+about_solution e = whole subjects.Given
+
+-- a witness's text
+abbrev pub about_witness : WitnessError → About
+about_witness witness.Memory = nothing
+about_witness witness.Stream = whole subjects.Given
+about_witness e = found subjects.Given measures.Line
+
+-- FILE or a witness of it
+abbrev pub about_show : ShowError → About
+about_show (shows.File e) = about_read subjects.File e
+about_show (shows.Witness e) = about_witness e
+about_show shows.NoWitness = whole subjects.Given
+about_show (shows.Check fault) = about_fault fault
+
+-- FILE, or the file beside it
+abbrev pub about_pair : PairError → About
+about_pair (pair.Read e) = about_read subjects.File e
+about_pair (pair.Other e) = about_read subjects.Other e
+about_pair pair.Misfit = whole subjects.Other
+about_pair pair.TooLarge = whole subjects.File
+about_pair pair.Memory = nothing
+about_pair pair.Write = nothing
+
+-- one of two files, or of the proofs about them
+abbrev pub about_certificate : CertificateError → About
+about_certificate (certificate.Pair e) = about_pair e
+about_certificate (certificate.Query e) = about_answer subjects.Given e
+about_certificate (certificate.Window e) = about_answer subjects.Step e
+
+-- FILE, or what is given beside it
+abbrev pub about_bounded : BoundedAnswerError → About
+about_bounded (bounded.Read e) = about_read subjects.File e
+about_bounded bounded.NoBads = whole subjects.File
+about_bounded (bounded.Question questions.TooLarge) = whole subjects.File
+about_bounded (bounded.Question questions.Memory) = nothing
+about_bounded (bounded.Refutation e) = about_refutation subjects.Given e
+about_bounded (bounded.Solution e) = about_solution e
+
+-- what an error of the program is about
+abbrev pub about_error : CheckError → About
+about_error errors.Open = whole subjects.Unopened
+about_error errors.Memory = nothing
+about_error errors.Write = nothing
+about_error (errors.Answer e) = about_answer subjects.Given e
+about_error (errors.Solution e) = about_solution e
+about_error (errors.Show e) = about_show e
+about_error (errors.Certificate e) = about_certificate e
+about_error (errors.Bounded e) = about_bounded e
+about_error (errors.Settled k) = whole subjects.File

@@ -1,0 +1,151 @@
+-- Serves private clauses alone.
+-- What is told of an error: the path of the file that it is about, and the place where reading that
+-- file stopped.
+use Rattle.std.specs.Prelude.{◌≡◌, ℕ, ◌⊎◌, Bool, List, [], ◌∷◌, ◌++◌, Contains, Option, None, Result, Ok, Err, IfSome, slice_get}
+use Rattle.aig_command_line.specs.Came.{IsPlaceIn}
+use Rattle.aig_command_line.specs.Faults.{error_of, path_of, place_in}
+use Rattle.aig_command_line.specs.Places.{IsPlaced}
+use Rattle.aig_command_line.specs.declared.fault.Fault.{Fault}
+use Rattle.aig_command_line.specs.declared.fault.Fault.TheVariants.{Alone}
+use Rattle.aig_command_line.specs.declared.files.OpenError.{OpenError}
+use Rattle.aig_command_line.specs.declared.files.OpenError.TheVariants as opening
+use Rattle.aig_command_line.specs.declared.status.Ending.{Ending}
+use Rattle.aig_command_line.specs.declared.status.Ending.TheVariants as endings
+use Rattle.aig_command_line.specs.declared.tally.Measure.{Measure}
+use Rattle.aig_command_line.specs.declared.tally.Place.{Place}
+use Rattle.aig_command_line.specs.declared.tally.Place.TheVariants.{Whole}
+use Rattle.aig_edits.specs.Pairs.{AreReadAs}
+use Rattle.aig_format.specs.File.{File}
+use Rattle.aig_reader.specs.Verdicts.{Accepted}
+use Rattle.aig_checks.specs.declared.about.Search.{Search}
+use Rattle.aig_checks.specs.declared.about.Search.TheVariants as searches
+use Rattle.aig_checks.specs.declared.about.Subject.{Subject}
+use Rattle.aig_checks.specs.declared.about.Subject.TheVariants as subjects
+use Rattle.aig_checks.specs.declared.command.Command.{Command}
+use Rattle.aig_checks.specs.declared.command.Command.TheVariants as commands
+use Rattle.aig_checks.specs.declared.command.FileCommand.{FileCommand}
+use Rattle.aig_checks.specs.declared.command.PairCommand.{PairCommand}
+use Rattle.aig_checks.specs.declared.tool.TheConstants.{LIMIT}
+use Rattle.aig_checks.specs.declared.tool.CheckError.{CheckError}
+use Rattle.aig_checks.specs.declared.tool.CheckError.TheVariants as errors
+use Rattle.aig_checks.specs.About.{about_error}
+use Rattle.aig_checks.specs.Pairs.{RefusesPair, other_verdict_of}
+use Rattle.aig_checks.specs.Running.{TellsOfGiven, verdict_of}
+use Rattle.aig_checks.specs.Words.{IsCall}
+
+-- ---- paths
+
+-- the word that is the path of what an error is about, if there is one
+abbrev pub word_of : Subject → List (List ℕ) → List (List ℕ) → Option (List ℕ)
+word_of subjects.File paths further = slice_get paths 0
+word_of subjects.Other paths further = slice_get paths 1
+word_of subjects.Given paths further = slice_get further 0
+word_of subjects.Step paths further = slice_get further 1
+word_of subject paths further = None
+
+-- it is that word, or one of those at which no file is opened
+abbrev pub IsPathOf : {F : Type 0} → (List ℕ → Result F OpenError → Type 0) → Subject
+    → List (List ℕ) → List (List ℕ) → Option (List ℕ) → Type 0
+IsPathOf opens subjects.Unopened paths further path =
+    IfSome path (λ p. Contains (paths ++ further) p × opens p (Err opening.Refused))
+IsPathOf opens subject paths further path = path ≡ word_of subject paths further
+
+-- ---- places
+
+-- what is given beside a file was read up to this place, and refused so by the command
+pub record IsRefusedBeside (c : FileCommand) (file known : Option (List ℕ)) (e : CheckError)
+    (measure : Measure) (place : Place) : Type 0 where
+  pub at : IsPlaceIn known measure place
+  pub rest : Option (List ℕ)
+  pub failed : Bool
+  pub refused : TellsOfGiven c LIMIT file rest known failed e
+
+-- why a command shows nothing of two files
+abbrev pub RefusesFor : PairCommand → File → File → CheckError → Type 0
+RefusesFor c f g (errors.Certificate e) = RefusesPair c LIMIT f g e
+RefusesFor c f g e = Unit {0}
+
+-- a proof about two files was read up to this place, and refused so by the command
+pub record IsRefusedOnPair (c : PairCommand) (file other known : Option (List ℕ)) (e : CheckError)
+    (measure : Measure) (place : Place) : Type 0 where
+  pub at : IsPlaceIn known measure place
+  pub rest : Option (List ℕ)
+  pub other_rest : Option (List ℕ)
+  pub refused : verdict_of e ≡ Accepted → other_verdict_of e ≡ Accepted
+      → AreReadAs LIMIT (RefusesFor c) file rest other other_rest e
+
+-- the same of bytes that are given to a command on the files at its paths
+abbrev pub IsRefusedBy : {F : Type 0} → (List ℕ → Result F OpenError → Type 0)
+    → (F → Option (List ℕ)) → Command → List (List ℕ) → Option (List ℕ) → CheckError → Measure
+    → Place → Type 0
+IsRefusedBy {F} opens left (commands.File c) (path ∷ []) known e measure place =
+    (file : F) × opens path (Ok file) × IsRefusedBeside c (left file) known e measure place
+IsRefusedBy {F} opens left (commands.Pair c) (path ∷ beside ∷ []) known e measure place =
+    (file : F) × (other : F) × opens path (Ok file) × opens beside (Ok other)
+    × IsRefusedOnPair c (left file) (left other) known e measure place
+IsRefusedBy opens left c paths known e measure place = ⊥
+
+-- the file at the path was opened again, read up to this place, and refused so
+pub record IsRunAgain {F : Type 0} (opens : List ℕ → Result F OpenError → Type 0)
+    (left : F → Option (List ℕ)) (c : Command) (paths : List (List ℕ)) (path : List ℕ)
+    (e : CheckError) (measure : Measure) (place : Place) : Type 0 where
+  pub source : F
+  pub opened : opens path (Ok source)
+  pub refused : IsRefusedBy opens left c paths (left source) e measure place
+
+-- the file as a whole, or the place where the command refused it again
+abbrev pub IsRunPlace : {F : Type 0} → (List ℕ → Result F OpenError → Type 0)
+    → (F → Option (List ℕ)) → Command → List (List ℕ) → List ℕ → CheckError → Measure → Place
+    → Type 0
+IsRunPlace opens left c paths path e measure place =
+    (place ≡ Whole) ⊎ IsRunAgain opens left c paths path e measure place
+
+-- it is found by running the command again
+abbrev pub IsRun : Search → Type 0
+IsRun (searches.Run measure) = Unit {0}
+IsRun search = ⊥
+
+-- the place, as it is looked for
+abbrev pub IsPlaceOf : {F : Type 0} → (List ℕ → Result F OpenError → Type 0)
+    → (F → Option (List ℕ)) → Command → List (List ℕ) → List ℕ → CheckError → Search → Place
+    → Type 0
+IsPlaceOf opens left c paths path e searches.Nowhere place = place ≡ Whole
+IsPlaceOf opens left c paths path e (searches.Read error) place =
+    IsPlaced opens left LIMIT path error place
+IsPlaceOf opens left c paths path e (searches.Run measure) place =
+    IsRunPlace opens left c paths path e measure place
+
+-- ---- endings
+
+-- the error is told with the path of what it is about, and the place there
+pub record Tells {F : Type 0} (opens : List ℕ → Result F OpenError → Type 0)
+    (left : F → Option (List ℕ)) (c : Command) (paths further : List (List ℕ)) (e : CheckError)
+    (fault : Fault CheckError) : Type 0 where
+  pub error : error_of fault ≡ e
+  pub path : IsPathOf opens (about_error e).subject paths further (path_of fault)
+  pub place : IfSome (path_of fault)
+      (λ p. IsPlaceOf opens left c paths p e (about_error e).search (place_in fault))
+
+-- the error is told, of the words' command where there is one
+pub record TellsOf {F : Type 0} (opens : List ℕ → Result F OpenError → Type 0)
+    (left : F → Option (List ℕ)) (words : List (List ℕ)) (e : CheckError)
+    (fault : Fault CheckError) : Type 0 where
+  pub error : error_of fault ≡ e
+  pub told : (c : Command) (paths further : List (List ℕ)) → IsCall words c paths further
+      → Tells opens left c paths further e fault
+
+-- each ending stays, and of a refusal it is told what it is about
+abbrev pub Explains : {F : Type 0} → (List ℕ → Result F OpenError → Type 0)
+    → (F → Option (List ℕ)) → List (List ℕ) → Ending CheckError → Ending (Fault CheckError)
+    → Type 0
+Explains opens left words endings.Done told = told ≡ endings.Done
+Explains opens left words endings.NoCommand told = told ≡ endings.NoCommand
+Explains opens left words (endings.Refused e) told =
+    (fault : Fault CheckError) × (told ≡ endings.Refused fault)
+    × TellsOf opens left words e fault
+
+-- each ending stays, and a refusal is about no file
+abbrev pub IsToldAlone : Ending CheckError → Ending (Fault CheckError) → Type 0
+IsToldAlone endings.Done told = told ≡ endings.Done
+IsToldAlone endings.NoCommand told = told ≡ endings.NoCommand
+IsToldAlone (endings.Refused e) told = told ≡ endings.Refused (Alone e)

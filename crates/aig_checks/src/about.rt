@@ -1,0 +1,230 @@
+//! What an error is about.
+
+ghost use Rattle.std.specs.Prelude.{◌≡◌};
+ghost use Rattle.aig_checks.specs.About as specs;
+
+use crate::tool::CheckError;
+use aig_answers::AnswerError;
+use aig_bounded::BoundedError;
+use aig_bounded_answers::BoundedAnswerError;
+use aig_certificates::CertificateError;
+use aig_command_line::Measure;
+use aig_edits::PairError;
+use aig_encode::EncodeError;
+use aig_reader::ReadError;
+use aig_refutation::RefutationError;
+use aig_solutions::SolutionError;
+use aig_witness::{ShowError, WitnessError, WitnessFault};
+
+/// What an error is about.
+#[derive(Clone, Copy, PartialEq, Eq)]
+pub(crate) enum Subject {
+    /// No file.
+    Nothing,
+    /// A file that isn't opened.
+    Unopened,
+    /// FILE.
+    File,
+    /// CERT or OTHER.
+    Other,
+    /// PROOF, SOLUTION, WITNESS or BASE.
+    Given,
+    /// STEP.
+    Step,
+}
+
+/// How the place is found where reading stopped.
+#[derive(Clone, Copy)]
+pub(crate) enum Search {
+    /// There is none.
+    Nowhere,
+    /// The file is an AIGER file that is refused so.
+    Read(ReadError),
+    /// The command is run again, and the place is told so.
+    Run(Measure),
+}
+
+/// What an error is about, and how the place is found where reading stopped.
+#[derive(Clone, Copy)]
+pub(crate) struct About {
+    pub(crate) subject: Subject,
+    pub(crate) search: Search,
+}
+
+/// About no file.
+const NOTHING: About = About {
+    subject: Subject::Nothing,
+    search: Search::Nowhere,
+};
+
+/// About a file as a whole.
+fn whole(subject: Subject) -> About
+    ensures { result ≡ specs.whole subject }
+{
+    About {
+        subject,
+        search: Search::Nowhere,
+    }
+}
+
+/// About a place that is found by running the command again.
+fn found(subject: Subject, measure: Measure) -> About
+    ensures { result ≡ specs.found subject measure }
+{
+    About {
+        subject,
+        search: Search::Run(measure),
+    }
+}
+
+/// What an error of reading an AIGER file is about.
+fn about_read(subject: Subject, error: ReadError) -> About
+    ensures { result ≡ specs.about_read subject error }
+{
+    match error {
+        ReadError::Memory => NOTHING,
+        ReadError::Open => whole(Subject::Unopened),
+        _ => About {
+            subject,
+            search: Search::Read(error),
+        },
+    }
+}
+
+/// What an error of making clauses is about.
+fn about_encode(error: EncodeError) -> About
+    ensures { result ≡ specs.about_encode error }
+{
+    match error {
+        EncodeError::Read(error) => about_read(Subject::File, error),
+        EncodeError::Memory => NOTHING,
+        EncodeError::TooLarge => whole(Subject::File),
+    }
+}
+
+/// What an error of a proof is about.
+fn about_refutation(subject: Subject, error: RefutationError) -> About
+    ensures { result ≡ specs.about_refutation subject error }
+{
+    match error {
+        RefutationError::Memory | RefutationError::Variable => NOTHING,
+        RefutationError::Stream | RefutationError::Unfinished => whole(subject),
+        RefutationError::Binary => found(subject, Measure::Byte),
+        _ => found(subject, Measure::Proof),
+    }
+}
+
+/// What an error of an answer is about, of which this is the proof.
+fn about_answer(proof: Subject, error: AnswerError) -> About
+    ensures { result ≡ specs.about_answer proof error }
+{
+    match error {
+        AnswerError::Encode(error) => about_encode(error),
+        AnswerError::NoBads | AnswerError::TooLarge => whole(Subject::File),
+        AnswerError::Refutation(error) => about_refutation(proof, error),
+    }
+}
+
+/// What an error of values that show no bad state is about.
+fn about_fault(fault: WitnessFault) -> About
+    ensures { result ≡ specs.about_fault fault }
+{
+    match fault {
+        WitnessFault::Memory => NOTHING,
+        _ => whole(Subject::Given),
+    }
+}
+
+/// What an error of a solver's answer is about.
+fn about_solution(error: SolutionError) -> About
+    ensures { result ≡ specs.about_solution error }
+{
+    match error {
+        SolutionError::Memory => NOTHING,
+        SolutionError::Answer
+        | SolutionError::Line
+        | SolutionError::Literal
+        | SolutionError::Variable
+        | SolutionError::Clash => found(Subject::Given, Measure::Line),
+        SolutionError::Check(fault) => about_fault(fault),
+        _ => whole(Subject::Given),
+    }
+}
+
+/// What an error of a witness's text is about.
+fn about_witness(error: WitnessError) -> About
+    ensures { result ≡ specs.about_witness error }
+{
+    match error {
+        WitnessError::Memory => NOTHING,
+        WitnessError::Stream => whole(Subject::Given),
+        _ => found(Subject::Given, Measure::Line),
+    }
+}
+
+/// What an error of a witness of a file is about.
+fn about_show(error: ShowError) -> About
+    ensures { result ≡ specs.about_show error }
+{
+    match error {
+        ShowError::File(error) => about_read(Subject::File, error),
+        ShowError::Witness(error) => about_witness(error),
+        ShowError::NoWitness => whole(Subject::Given),
+        ShowError::Check(fault) => about_fault(fault),
+    }
+}
+
+/// What an error of two files is about.
+fn about_pair(error: PairError) -> About
+    ensures { result ≡ specs.about_pair error }
+{
+    match error {
+        PairError::Read(error) => about_read(Subject::File, error),
+        PairError::Other(error) => about_read(Subject::Other, error),
+        PairError::Misfit => whole(Subject::Other),
+        PairError::TooLarge => whole(Subject::File),
+        PairError::Memory | PairError::Write => NOTHING,
+    }
+}
+
+/// What an error of a certificate is about.
+fn about_certificate(error: CertificateError) -> About
+    ensures { result ≡ specs.about_certificate error }
+{
+    match error {
+        CertificateError::Pair(error) => about_pair(error),
+        CertificateError::Query(error) => about_answer(Subject::Given, error),
+        CertificateError::Window(error) => about_answer(Subject::Step, error),
+    }
+}
+
+/// What an error of a bounded check is about.
+fn about_bounded(error: BoundedAnswerError) -> About
+    ensures { result ≡ specs.about_bounded error }
+{
+    match error {
+        BoundedAnswerError::Read(error) => about_read(Subject::File, error),
+        BoundedAnswerError::NoBads | BoundedAnswerError::Question(BoundedError::TooLarge) => {
+            whole(Subject::File)
+        }
+        BoundedAnswerError::Question(BoundedError::Memory) => NOTHING,
+        BoundedAnswerError::Refutation(error) => about_refutation(Subject::Given, error),
+        BoundedAnswerError::Solution(error) => about_solution(error),
+    }
+}
+
+/// What an error of the program is about.
+pub(crate) fn about_error(error: CheckError) -> About
+    ensures { result ≡ specs.about_error error }
+{
+    match error {
+        CheckError::Open => whole(Subject::Unopened),
+        CheckError::Memory | CheckError::Write => NOTHING,
+        CheckError::Answer(error) => about_answer(Subject::Given, error),
+        CheckError::Solution(error) => about_solution(error),
+        CheckError::Show(error) => about_show(error),
+        CheckError::Certificate(error) => about_certificate(error),
+        CheckError::Bounded(error) => about_bounded(error),
+        CheckError::Settled(_) => whole(Subject::File),
+    }
+}

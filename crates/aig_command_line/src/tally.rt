@@ -1,0 +1,105 @@
+//! Where in a file reading stopped.
+
+ghost use Rattle.std.specs.Prelude.{◌≡◌, ◌-◌, ◌<◌, ◌≤◌, ◌^◌, ◌++◌, ◌∷◌, [], List, ℕ, false};
+
+/// A place in a file.
+#[derive(Clone, Copy, Debug, PartialEq, Eq)]
+pub enum Place {
+    /// No one place: it is the file as a whole.
+    Whole,
+    /// A line, the first of which is 1.
+    Line(u64),
+    /// A byte, the first of which is 1.
+    Byte(u64),
+}
+
+/// How a place is told.
+#[derive(Clone, Copy, Debug, PartialEq, Eq)]
+pub enum Measure {
+    /// By its line.
+    Line,
+    /// By its byte.
+    Byte,
+    /// By its byte in a binary AIGER file, whose second byte is `i`, and else by its line.
+    Aiger,
+    /// By its byte in a binary proof, which begins with `a`, and else by its line.
+    Proof,
+}
+
+/// The counts of bytes that came.
+#[derive(Clone, Copy)]
+pub(crate) struct Tally {
+    /// How many they are.
+    bytes: u64,
+    /// How many of them are line feeds.
+    feeds: u64,
+    /// The line of the last one.
+    line: u64,
+    /// The first one, and 0 where there is none.
+    first: u8,
+    /// The second one, and 0 where there is none.
+    second: u8,
+    ghost few: { feeds ≤ bytes },
+}
+
+impl Tally {
+    ghost use Rattle.aig_command_line.specs.Counts.{IsTally, is_by_bytes, place_of};
+
+    /// The counts of no bytes.
+    pub(crate) fn new() -> Self
+        ensures { IsTally result [] }
+    {
+        Tally {
+            bytes: 0,
+            feeds: 0,
+            line: 1,
+            first: 0,
+            second: 0,
+        }
+    }
+
+    /// Whether no further byte can be counted.
+    pub(crate) fn is_full(&self) -> bool
+        ensures { result ≡ false → self.now.bytes < 2 ^ 64 - 1 }
+    {
+        self.bytes == u64::MAX
+    }
+
+    /// The counts with a further byte.
+    pub(crate) fn with(self, byte: u8) -> Self
+        requires { self.bytes < 2 ^ 64 - 1 }
+        ensures { (came : List ℕ) → IsTally self came → IsTally result (came ++ byte ∷ []) }
+    {
+        let is_feed = byte == b'\n';
+        Tally {
+            bytes: self.bytes + 1,
+            feeds: if is_feed { self.feeds + 1 } else { self.feeds },
+            line: self.feeds + 1,
+            first: if self.bytes == 0 { byte } else { self.first },
+            second: if self.bytes == 1 { byte } else { self.second },
+        }
+    }
+
+    /// Whether places are told by bytes.
+    fn is_by_bytes(&self, measure: Measure) -> bool
+        ensures { (came : List ℕ) → IsTally self.now came → result ≡ is_by_bytes measure came }
+    {
+        match measure {
+            Measure::Line => false,
+            Measure::Byte => true,
+            Measure::Aiger => self.second == b'i',
+            Measure::Proof => self.first == b'a',
+        }
+    }
+
+    /// The place of the last byte that came.
+    pub(crate) fn place(&self, measure: Measure) -> Place
+        ensures { (came : List ℕ) → IsTally self.now came → result ≡ place_of measure came }
+    {
+        if self.is_by_bytes(measure) {
+            Place::Byte(self.bytes)
+        } else {
+            Place::Line(self.line)
+        }
+    }
+}

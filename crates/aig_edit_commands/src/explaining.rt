@@ -1,0 +1,106 @@
+//! Which file a refusal is about, and where reading that file stopped.
+
+ghost use Rattle.std.specs.Prelude.{◌≡◌, IfNone, IfOk, IfSome, IsErr, IsNone, None, Some, map, slice_get, string_bytes};
+ghost use Rattle.aig_edit_commands.specs.Explaining.{Explains, IsPlaceOf, IsToldAlone, Tells, TellsOf, word_of};
+
+use crate::about::{Subject, about_error};
+use crate::acting::{CommandError, LIMIT};
+use crate::command::call;
+use aig_base::MemoryError;
+use aig_command_line::{Ending, Fault, Place, Reopens, place_in_file};
+use aig_reader::ReadError;
+use std::alloc::Global;
+
+/// The path at an index.
+fn path_at(paths: &[String], index: usize) -> Option<&str>
+    ensures some { IfSome result
+        (λ path. slice_get (map string_bytes paths.now) index ≡ Some path.now) }
+    ensures none { IfNone result (slice_get (map string_bytes paths.now) index ≡ None) }
+{
+    match paths.get(index) {
+        Some(path) => Some(path.as_str()),
+        None => None,
+    }
+}
+
+/// The path of what an error is about, if it is about a file.
+fn path_of(paths: &[String], subject: Subject) -> Option<&str>
+    ensures some { IfSome result
+        (λ path. word_of subject (map string_bytes paths.now) ≡ Some path.now) }
+    ensures none { IfNone result (word_of subject (map string_bytes paths.now) ≡ None) }
+{
+    match subject {
+        Subject::Nothing => None,
+        Subject::File => path_at(paths, 0),
+        Subject::Other => path_at(paths, 1),
+    }
+}
+
+/// The place where reading the file at a path stopped, if it did.
+fn place_at<F: Reopens>(alloc: Global, files: &F, path: &str, read: Option<ReadError>) -> Place
+    ensures { IsPlaceOf (F.opens files.now) F.File.left path.now read result }
+{
+    match read {
+        Some(error) => place_in_file(alloc, files, path, error, LIMIT),
+        None => Place::Whole,
+    }
+}
+
+/// What is told of an error of a command on the files at these paths.
+fn fault_of<'a, F: Reopens>(
+    alloc: Global,
+    files: &F,
+    paths: &'a [String],
+    error: CommandError,
+) -> Fault<'a, CommandError>
+    ensures { Tells (F.opens files.now) F.File.left (map string_bytes paths.now) error result }
+{
+    let about = about_error(error);
+    match path_of(paths, about.subject) {
+        Some(path) => Fault::In {
+            path,
+            place: place_at(alloc, files, path, about.read),
+            error,
+        },
+        None => Fault::Alone(error),
+    }
+}
+
+/// What is told of an error of the command that words give.
+fn fault_by<'a, F: Reopens>(
+    alloc: Global,
+    words: &'a [String],
+    files: &F,
+    error: CommandError,
+) -> Fault<'a, CommandError>
+    ensures { TellsOf (F.opens files.now) F.File.left (map string_bytes words.now) error result }
+{
+    match call(words) {
+        Some((_, paths)) => fault_of(alloc, files, paths, error),
+        None => Fault::Alone(error),
+    }
+}
+
+/// Tells which file a refusal is about, and where reading that file stopped: it is opened and read again for that. Each other ending
+/// stays, and so does the error of a refusal.
+pub fn explain<'a, F: Reopens>(
+    alloc: Global,
+    words: &'a Result<Option<Vec<String>>, MemoryError>,
+    files: &F,
+    ending: Ending<CommandError>,
+) -> Ending<Fault<'a, CommandError>>
+    ensures words { IfOk words.now (λ read. IfSome read (λ given.
+        Explains (F.opens files.now) F.File.left (map string_bytes given.items) ending result)) }
+    // An error before there are words is about no file.
+    ensures other { IfOk words.now (λ read. IsNone read → IsToldAlone ending result) }
+    ensures memory { IsErr words.now → IsToldAlone ending result }
+{
+    match (ending, words) {
+        (Ending::Done, _) => Ending::Done,
+        (Ending::NoCommand, _) => Ending::NoCommand,
+        (Ending::Refused(error), Ok(Some(words))) => {
+            Ending::Refused(fault_by(alloc, words.as_slice(), files, error))
+        }
+        (Ending::Refused(error), _) => Ending::Refused(Fault::Alone(error)),
+    }
+}

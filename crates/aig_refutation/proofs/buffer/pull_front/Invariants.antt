@@ -1,0 +1,12 @@
+use Rattle.std.proofs.Common.{◌≤◌, ◌-◌, length, take}
+use Rattle.std.specs.Io.KnownBytes.{Consumes}
+use Rattle.aig_refutation.proofs.buffer.pull_front.Given as goal
+
+abbrev pub invariant-loop-end : goal.invariant-loop-end
+invariant-loop-end g l = record {
+  bound : l.end ≤ length l.bytes;
+  moved : Consumes (g.R.Source.left l.fn.r) (g.R.Source.left l.r) (take l.end l.bytes);
+}
+
+abbrev pub decreases-loop-end : goal.decreases-loop-end
+decreases-loop-end g l = l.count - l.end

@@ -1,0 +1,32 @@
+use Rattle.std.proofs.Common.{◌∙◌}
+use Rattle.std.proofs.lemmas.Result.{err_from_is_err_and}
+use Rattle.aig_lexer.specs.Takes.{feed}
+use Rattle.aig_refutation.proofs.BinarySteps.{binary_stays}
+use Rattle.aig_refutation.proofs.check.check_binary.Goals as goal
+
+pub returns-in_err-start_search-clause-plain : goal.returns-in_err-start_search-clause-plain
+returns-in_err-start_search-clause-plain g c clauses ahead same =
+    let before = feed g.R.Source.left g.R.Source.failed g.R.Source.pulls c.args.buffer.now
+    c.args.r.now in
+    let e = c.in_err-start_search.field-0.0 in
+    let p = err_from_is_err_and c.from_residual-in_err-start_search.result
+    c.from_residual-in_err-start_search.ensures.1 in
+    rw (p.1, p.2) (binary_stays before c.args.variables clauses e
+    (c.in_err-start_search.ensures.ahead clauses ahead))
+
+pub returns-in_err-add_empty-clause-plain : goal.returns-in_err-add_empty-clause-plain
+returns-in_err-add_empty-clause-plain g c clauses ahead same =
+    let before = feed g.R.Source.left g.R.Source.failed g.R.Source.pulls c.args.buffer.now
+    c.args.r.now in
+    let e = c.in_err-add_empty.field-0.0 in
+    let p = err_from_is_err_and c.from_residual-in_err-add_empty.result
+    c.from_residual-in_err-add_empty.ensures.1 in
+    rw (p.1, p.2) (binary_stays before c.args.variables clauses e
+    (c.in_err-add_empty.ensures.ahead clauses
+    (c.in_ok-start_search.ensures.ahead clauses ahead)))
+
+pub returns-clause-plain : goal.returns-clause-plain
+returns-clause-plain g c clauses ahead same =
+    c.take_binary.ensures.plain clauses
+    (c.in_ok-add_empty.ensures.ahead clauses (c.in_ok-start_search.ensures.ahead clauses ahead))
+    (c.in_ok-add_empty.ensures.variables ∙ c.in_ok-start_search.ensures.variables ∙ same)
