@@ -13,16 +13,15 @@ pub(crate) struct Seeded {
 }
 
 impl Seeded {
-    /// Returns what makes hashers for the gates of these nodes.
+    /// Returns what makes hashers for the gates of these nodes. Two fast hashes go over the gates, and a slow one over these
+    /// two.
     pub(crate) fn of(nodes: &[AigNode]) -> Seeded {
-        let mut gates = DefaultHasher::new();
-        for node in nodes {
-            if let AigNodeType::And(fanin0, fanin1) = *node.typ() {
-                write_literals(&mut gates, literal(fanin0), literal(fanin1));
-            }
-        }
+        let (forward, backward) = hash_gates(nodes);
+        let mut both = DefaultHasher::new();
+        both.write_u64(forward);
+        both.write_u64(backward);
         let mut first = FoldHasher::default();
-        first.write_u64(gates.finish());
+        first.write_u64(both.finish());
         Seeded { first }
     }
 }
@@ -37,13 +36,28 @@ impl BuildHasher for Seeded {
     }
 }
 
+/// Two hashes of all gates, which take the literals of a gate in one order and in the other.
+fn hash_gates(nodes: &[AigNode]) -> (u64, u64) {
+    let mut forward = FoldHasher::default();
+    let mut backward = FoldHasher::default();
+    backward.write_u64(1);
+    for node in nodes {
+        if let AigNodeType::And(fanin0, fanin1) = *node.typ() {
+            let (first, second) = (literal(fanin0), literal(fanin1));
+            write_literals(&mut forward, first, second);
+            write_literals(&mut backward, second, first);
+        }
+    }
+    (forward.finish(), backward.finish())
+}
+
 /// The literal of an edge, unless its node's number has 64 bits.
 fn literal(edge: AigEdge) -> u64 {
     (edge.node_id() as u64).rotate_left(1) ^ u64::from(edge.compl())
 }
 
 /// Writes the literals of a gate, in 8 bytes where they fit 32 bits each.
-fn write_literals(hasher: &mut DefaultHasher, first: u64, second: u64) {
+fn write_literals(hasher: &mut FoldHasher, first: u64, second: u64) {
     if (first | second) >> 32 == 0 {
         hasher.write_u64(first | second << 32);
     } else {
