@@ -4,7 +4,7 @@
 //! their gate. Each edge that is given has its node in the list. The one error is refused memory, and after it the list
 //! is as it was.
 
-ghost use Rattle.std.specs.Prelude.{◌≡◌, ◌↔◌, ◌<◌, ◌&&◌, ◌||◌, ℕ, Bool, IsTrue, IfOk, IsOk, MatchOption, OnErr, All, length, map, not};
+ghost use Rattle.std.specs.Prelude.{◌≡◌, ◌≢◌, ◌↔◌, ◌<◌, ◌&&◌, ◌||◌, ℕ, Bool, IsTrue, IfOk, IsOk, MatchOption, OnErr, All, length, map, not};
 ghost use Rattle.aig_circuit.specs.declared.node.AigNodeType.TheVariants.{Leaf};
 ghost use Rattle.aig_circuit.specs.Edge.{inverse};
 ghost use Rattle.aig_circuit.specs.Build.{with_node, AddsGate, AddsGates, AddsGateForEach, AddsOneEach, Folds, FoldsOrAdds, FoldsOrAddsAll, FoldsOrAddsEq, Grows, JoinsByAnd, JoinsByOr};
@@ -78,11 +78,23 @@ pub fn new_and_node(
     trivial_new_and_node(nodes, fanin0, fanin1)
 }
 
+/// Whether two edges are of two nodes, none of which is false. Then they don't fold.
+fn are_apart(fanin0: AigEdge, fanin1: AigEdge) -> bool
+    ensures { IsTrue result ↔ ((fanin0.node_id ≢ 0) × (fanin1.node_id ≢ 0)
+        × (fanin0.node_id ≢ fanin1.node_id)) }
+{
+    let (first, second) = (fanin0.node_id(), fanin1.node_id());
+    first != 0 && second != 0 && first != second
+}
+
 /// The edge that the and of two edges folds to, where they fold.
 fn folded_and(fanin0: AigEdge, fanin1: AigEdge) -> Option<AigEdge>
     ensures { MatchOption result ((f : AigEdge) → ¬ Folds fanin0 fanin1 f)
         (λ e. Folds fanin0 fanin1 e) }
 {
+    if are_apart(fanin0, fanin1) {
+        return None;
+    }
     if fanin0 == AigEdge::constant(true) {
         return Some(fanin1);
     }

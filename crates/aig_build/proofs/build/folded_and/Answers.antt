@@ -1,4 +1,4 @@
-use Rattle.std.proofs.Common.{◌≡◌, ◌≢◌, Bool, true, false, ◌&&◌, eqb, refl, sym, ◌∙◌, arith}
+use Rattle.std.proofs.Common.{◌≡◌, ◌≢◌, Bool, true, false, ◌&&◌, eqb, refl, sym, ap, ◌∙◌, arith}
 use Rattle.std.proofs.lemmas.Grind.{common_steps}
 use Rattle.std.proofs.Math.Bool.{beq}
 use Rattle.aig_circuit.specs.declared.edge.AigEdge.{AigEdge}
@@ -27,6 +27,19 @@ none_folds a b p q r s t u f (false_first h e) = r h
 none_folds a b p q r s t u f (false_second h e) = s h
 none_folds a b p q r s t u f (same h e) = t h
 none_folds a b p q r s t u f (opposite h e) = u h
+
+-- nor where two nodes differ, and none of them is false
+apart : (a b : AigEdge) → (a.node_id ≢ 0) × (b.node_id ≢ 0) × (a.node_id ≢ b.node_id)
+    → (f : AigEdge) → ¬ Folds a b f
+apart a b differ f (true_first h e) = differ.0 (ap (λ (d : AigEdge). d.node_id) h)
+apart a b differ f (true_second h e) = differ.1 (ap (λ (d : AigEdge). d.node_id) h)
+apart a b differ f (false_first h e) = differ.0 (ap (λ (d : AigEdge). d.node_id) h)
+apart a b differ f (false_second h e) = differ.1 (ap (λ (d : AigEdge). d.node_id) h)
+apart a b differ f (same h e) = differ.2 (ap (λ (d : AigEdge). d.node_id) h)
+apart a b differ f (opposite h e) = differ.2 (ap (λ (d : AigEdge). d.node_id) h)
+
+pub returns-then-are_apart : goal.returns-then-are_apart
+returns-then-are_apart c = apart c.args.fanin0 c.args.fanin1 (c.are_apart.ensures.0 c.if-are_apart.true)
 
 pub returns-then-eq : goal.returns-then-eq
 returns-then-eq c = true_first (same_edge c.args.fanin0 c.constant.result c.eq.result c.eq.ensures c.if-eq.true ∙ c.constant.ensures) refl
