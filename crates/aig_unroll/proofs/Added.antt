@@ -30,14 +30,6 @@ leaf_test node = is_leaf node.typ
 abbrev pub no_node : AigNode
 no_node = record { node_id = 0; typ = False }
 
--- what says whether a kind is a leaf is the test
-pub told_leaf : (k : AigNodeType) (b : Bool) → IsTrue b ↔ (k ≡ Leaf) → is_leaf k ≡ b
-told_leaf Leaf b told = sym (told.1 refl)
-told_leaf False true told = cc (told.0 refl)
-told_leaf False false told = refl
-told_leaf (And x y) true told = cc (told.0 refl)
-told_leaf (And x y) false told = refl
-
 -- ---- the leaves of a list that grows
 
 -- the leaves of two lists in a row
@@ -59,11 +51,6 @@ leaves_after-more count old new h grows =
     ∙ ap (λ l. map number_of (filter leaf_test l)) (drop-append-le count old grows.added h)
     ∙ leaves-append (drop count old) grows.added
     ∙ ap (λ l. leaves_after count old ++ map number_of (filter leaf_test l)) (sym (added-following old new grows))
-
--- as many as leaves are counted
-pub count-leaves_after : (count : ℕ) (nodes : List AigNode)
-    → length (leaves_after count nodes) ≡ count_by leaf_test (drop count nodes)
-count-leaves_after count nodes = length-map (filter leaf_test (drop count nodes)) number_of ∙ length-filter leaf_test (drop count nodes)
 
 -- ---- numbers
 

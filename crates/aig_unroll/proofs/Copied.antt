@@ -58,12 +58,14 @@ none_stands (x ∷ xs) all = absurd (all 0 x (omega arith))
 
 -- ---- the leaves after the first nodes
 
+-- no node comes after all
+pub leaves_after-all : (nodes : List AigNode) → leaves_after (length nodes) nodes ≡ []
+leaves_after-all nodes = ap (λ l. map (λ (node : AigNode). node.node_id) (filter (λ (node : AigNode). is_leaf node.typ) l)) (drop_all (length nodes) nodes (omega arith))
+
 -- added gates are no leaves
-pub leaves_after-gates : (count : ℕ) (old new : List AigNode) → count ≤ length old
-    → AddsGates old new → leaves_after count new ≡ leaves_after count old
-leaves_after-gates count old new h adds =
-    let none : leaves_after (length old) new ≡ [] = none_stands (leaves_after (length old) new) (λ k d l. no_gate (get_or (leaves_after (length old) new) k d) (following-are new adds.grows.sound (length old) k d l)) in
-    leaves_after-more count old new h adds.grows ∙ ap (λ ns. leaves_after count old ++ ns) none ∙ append-nil (leaves_after count old)
+pub added_leaves-gates : (old new : List AigNode) → AddsGates old new
+    → leaves_after (length old) new ≡ []
+added_leaves-gates old new adds = none_stands (leaves_after (length old) new) (λ k d l. no_gate (get_or (leaves_after (length old) new) k d) (following-are new adds.grows.sound (length old) k d l))
   where
     no_gate : (n : ℕ) → IsLeaf new n × (length old ≤ n) → ⊥
     no_gate n is = let within = kind_within new n is.0 in let g = adds.gates n is.1 within in differ g.0 g.1 (same_Some _ _ (sym is.0 ∙ g.2))
@@ -74,12 +76,20 @@ leaves_after-gates count old new h adds =
         kind_within : (nodes : List AigNode) (n : ℕ) → IsLeaf nodes n → n < length nodes
         kind_within nodes n leaf = kind_at-within nodes n Leaf leaf
 
+pub leaves_after-gates : (count : ℕ) (old new : List AigNode) → count ≤ length old
+    → AddsGates old new → leaves_after count new ≡ leaves_after count old
+leaves_after-gates count old new h adds =
+    leaves_after-more count old new h adds.grows ∙ ap (λ ns. leaves_after count old ++ ns) (added_leaves-gates old new adds) ∙ append-nil (leaves_after count old)
+
 -- a new leaf is one more
+pub added_leaves-leaf : (old : List AigNode)
+    → leaves_after (length old) (with_node old Leaf) ≡ length old ∷ []
+added_leaves-leaf old = ap (λ l. map (λ (node : AigNode). node.node_id) (filter (λ (node : AigNode). is_leaf node.typ) l)) (drop_at old (record { node_id = length old; typ = Leaf } ∷ []) (length old) refl)
+
 pub leaves_after-leaf : (count : ℕ) (old : List AigNode) → count ≤ length old → AreNodes old
     → leaves_after count (with_node old Leaf) ≡ leaves_after count old ++ length old ∷ []
 leaves_after-leaf count old h are =
-    let last : leaves_after (length old) (with_node old Leaf) ≡ length old ∷ [] = ap (λ l. map (λ (node : AigNode). node.node_id) (filter (λ (node : AigNode). is_leaf node.typ) l)) (drop_at old (record { node_id = length old; typ = Leaf } ∷ []) (length old) refl) in
-    leaves_after-more count old (with_node old Leaf) h (Grows-leaf old are) ∙ ap (λ ns. leaves_after count old ++ ns) last
+    leaves_after-more count old (with_node old Leaf) h (Grows-leaf old are) ∙ ap (λ ns. leaves_after count old ++ ns) (added_leaves-leaf old)
 
 -- ---- one node more
 
@@ -300,14 +310,13 @@ at_most_one_more old new a b e (inr p) = let same : length new ≡ length old + 
 pub copies_none : (from : Circuit) (old : List AigNode) (images : List AigEdge) → AreNodes old
     → length images ≡ length from.nodes → CopiesBelow from old old images images 0
 copies_none from old images sound count =
-    let none : leaves_after (length old) old ≡ [] = ap (λ l. map (λ (node : AigNode). node.node_id) (filter (λ (node : AigNode). is_leaf node.typ) l)) (drop_all (length old) old (omega arith)) in
     record {
       grows = Grows-itself old sound;
       count = count;
       there = λ n h. absurd (omega arith);
       latches = λ n h. refl;
       rest = λ n h. refl;
-      others = sym (ap (map (λ n. edge_to n false)) none);
+      others = sym (ap (map (λ n. edge_to n false)) (leaves_after-all old));
       value = λ y x leaves n h. absurd (omega arith);
       size = omega arith;
     }

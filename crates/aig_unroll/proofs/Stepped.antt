@@ -179,16 +179,17 @@ module _ (from old new : Circuit) (images : List AigEdge) (is_from : IsCircuit f
     size = copies.size;
   }
 
--- what was made of a circuit is one step more: first its nodes and justice sets, and then its other lists
-pub stepped_in_parts : (from old mid new : Circuit) (images : List AigEdge) (start : ℕ) → start ≡ length old.nodes → CopiesAll from old.latchs old.nodes mid.nodes images
+-- what was made of a circuit is one step more: first its nodes, its inputs and its justice sets, and then its other lists
+pub stepped_in_parts : (from old mid new : Circuit) (images : List AigEdge) → CopiesAll from old.latchs old.nodes mid.nodes images
+    → mid.inputs ≡ old.inputs ++ leaves_after (length old.nodes) mid.nodes
     → mid.properties.justice ≡ old.properties.justice ++ map (map (image_in images)) from.properties.justice
-    → record mid { properties = record mid.properties { justice = old.properties.justice } } ≡ record old { nodes = mid.nodes } → new.nodes ≡ mid.nodes → new.inputs ≡ mid.inputs ++ leaves_after start mid.nodes → HaveNextImages images from.latchs mid.latchs new.latchs
+    → record mid { properties = record mid.properties { justice = old.properties.justice } } ≡ record old { nodes = mid.nodes; inputs = mid.inputs } → new.nodes ≡ mid.nodes → new.inputs ≡ mid.inputs → HaveNextImages images from.latchs mid.latchs new.latchs
     → AppendsButJustice images from.properties mid.properties new.properties → new.names ≡ mid.names → CopiesAll from old.latchs old.nodes new.nodes images × AppendsImages from old images new
-stepped_in_parts from old mid new images start begins copies sets same nodes inputs latchs properties names =
+stepped_in_parts from old mid new images copies leaves sets same nodes inputs latchs properties names =
     let more = map_properties (image_in images) from.properties in (
       subst (λ ns. CopiesAll from old.latchs old.nodes ns images) (sym nodes) copies,
       record {
-        inputs = inputs ∙ ap (λ (c : Circuit). c.inputs ++ leaves_after start mid.nodes) same ∙ ap (λ n. old.inputs ++ leaves_after n mid.nodes) begins ∙ ap (λ ns. old.inputs ++ leaves_after (length old.nodes) ns) (sym nodes);
+        inputs = inputs ∙ leaves ∙ ap (λ ns. old.inputs ++ leaves_after (length old.nodes) ns) (sym nodes);
         latchs = subst (λ (ls : List AigLatch). HaveNextImages images from.latchs ls new.latchs) (ap (λ (c : Circuit). c.latchs) same) latchs;
         properties = properties ∙ ap (λ justice. record (append_properties mid.properties more) { justice = justice }) sets ∙ ap (λ (c : Circuit). append_properties c.properties more) same;
         names = names ∙ ap (λ (c : Circuit). c.names) same;

@@ -1,7 +1,7 @@
 -- Serves private clauses alone.
 -- One step more: the images of the nodes of a circuit in it, and what is appended to the lists.
 -- (The crate aig: `unroll`.)
-use Rattle.std.specs.Prelude.{◌≡◌, ◌≢◌, ℕ, ◌+◌, ◌-◌, ◌<◌, ◌≤◌, Bool, false, not, All, Vec, ◌&&◌, ◌||◌, Some, List, ◌++◌, length, map, filter, take, Contains, slice_index_or, vec_len, vec_capacity}
+use Rattle.std.specs.Prelude.{◌≡◌, ◌≢◌, ℕ, ◌+◌, ◌-◌, ◌<◌, ◌≤◌, Bool, false, not, All, Vec, ◌&&◌, ◌||◌, Some, List, ◌++◌, length, map, filter, take, Contains, slice_index_or}
 use Rattle.std.specs.declared.alloc.Global.{Global}
 use Rattle.aig_circuit.specs.declared.edge.AigEdge.{AigEdge}
 use Rattle.aig_circuit.specs.declared.node.AigNode.{AigNode}
@@ -148,12 +148,6 @@ AppendsButJustice images p old new =
       justice = old.justice;
     }
 
--- there is room for the entries of a step, but for justice
-pub record HasRoomForStep (lists : CircuitLists) (from : Circuit) (before : ℕ) : Type 0 where
-  pub inputs : vec_len lists.inputs + length (leaves_after before lists.nodes.items)
-      ≤ vec_capacity lists.inputs
-  pub properties : HasRoomFor lists.properties from.properties
-
 -- the latches have their leaves and initial edges, and the images of the next edges of others
 pub record HaveNextImages (images : List AigEdge) (others old new : List AigLatch) : Type 0 where
   pub leaves : latch_leaves new ≡ latch_leaves old
@@ -168,11 +162,14 @@ pub record AppendsImages (from old : Circuit) (images : List AigEdge) (new : Cir
   pub properties : AppendsProperties images from.properties old.properties new.properties
   pub names : new.names ≡ old.names
 
--- the nodes and the justice sets of the step stand, the rest is as it was, and there is room for it
+-- the nodes, the inputs and the justice sets of the step stand, the rest is as it was, and there is
+-- room for it
 pub record IsPrepared (from : Circuit) (old new : CircuitLists) (images : List AigEdge)
     : Type 0 where
   pub copies : CopiesAll from old.latchs.items old.nodes.items new.nodes.items images
-  pub room : HasRoomForStep new from (length old.nodes.items)
+  pub inputs : new.inputs.items
+      ≡ old.inputs.items ++ leaves_after (length old.nodes.items) new.nodes.items
+  pub room : HasRoomFor new.properties from.properties
   pub justice : AppendsSets images from.properties.justice
       (entries_of old.properties.justice.items) (entries_of new.properties.justice.items)
   pub same : record (lists_circuit new) {
@@ -181,7 +178,7 @@ pub record IsPrepared (from : Circuit) (old new : CircuitLists) (images : List A
           justice = (properties_of old.properties).justice;
         };
   }
-      ≡ record (lists_circuit old) { nodes = new.nodes.items }
+      ≡ record (lists_circuit old) { nodes = new.nodes.items; inputs = new.inputs.items }
 
 -- ---- all steps
 

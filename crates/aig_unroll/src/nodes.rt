@@ -1,9 +1,11 @@
 //! The nodes of one step more (crate aig, `unroll`).
 
-ghost use Rattle.std.specs.Prelude.{◌≡◌, ◌≢◌, ◌<◌, ◌≤◌, ℕ, false, IfOk, OnOk, All, AllPairs, length};
+ghost use Rattle.std.specs.Prelude.{◌≡◌, ◌≢◌, ◌<◌, ◌≤◌, ◌++◌, ◌∷◌, [], ℕ, false, IfOk, OnErr, OnOk, All, AllPairs, length, take};
+ghost use Rattle.aig_circuit.specs.declared.node.AigNodeType.TheVariants.{Leaf};
 ghost use Rattle.aig_circuit.specs.Edge.{edge_to};
-ghost use Rattle.aig_circuit.specs.Build.{Grows};
+ghost use Rattle.aig_circuit.specs.Build.{Grows, with_node};
 ghost use Rattle.aig_circuit.specs.Circuit.{AreNodes, IsInRange, latch_leaves};
+ghost use Rattle.aig_unroll.specs.Places.{leaves_after};
 ghost use Rattle.aig_unroll.specs.Step.{Copies, CopiesAll, CopiesBelow, HasLatchImages, MarksLatches, image_at, image_in};
 
 use aig_base::MemoryError;
@@ -42,10 +44,26 @@ fn set_latch_images(images: &mut [AigEdge], latchs: &[AigLatch], current: &[AigL
     }
 }
 
+/// Adds a leaf that is an input. A refused one may leave the leaf.
+fn new_input(nodes: &mut Vec<AigNode>, inputs: &mut Vec<usize>) -> Result<AigEdge, MemoryError>
+    requires { AreNodes nodes.old.items }
+    ensures edge { IfOk result (λ e. e ≡ edge_to (length nodes.old.items) false) }
+    ensures leaf { IfOk result (λ _. nodes.new.items ≡ with_node nodes.old.items Leaf) }
+    ensures input { IfOk result
+        (λ _. inputs.new.items ≡ inputs.old.items ++ length nodes.old.items ∷ []) }
+    ensures err { OnErr result (inputs.new.items ≡ inputs.old.items) }
+    ensures grows { Grows nodes.old.items nodes.new.items }
+{
+    let leaf = new_leaf_node(nodes)?;
+    inputs.push(leaf)?;
+    Ok(AigEdge::from(leaf))
+}
+
 /// Makes the image of node `id` from those of smaller nodes: a gate is rebuilt, a leaf whose image is among the first
-/// `start` nodes keeps it, and every other leaf becomes a new leaf.
+/// `start` nodes keeps it, and every other leaf becomes a new leaf that is an input. A refused one leaves the inputs.
 fn copy_node(
     nodes: &mut Vec<AigNode>,
+    inputs: &mut Vec<usize>,
     from: &CircuitView<'_>,
     id: usize,
     images: &[AigEdge],
@@ -59,6 +77,9 @@ fn copy_node(
     ensures copies { IfOk result
         (λ e. Copies from.now id start nodes.old.items nodes.new.items images.now e) }
     ensures edge { IfOk result (λ e. IsInRange nodes.new.items e) }
+    ensures inputs { IfOk result (λ _. inputs.new.items
+        ≡ inputs.old.items ++ leaves_after (length nodes.old.items) nodes.new.items) }
+    ensures err { OnErr result (inputs.new.items ≡ inputs.old.items) }
     ensures grows { Grows nodes.old.items nodes.new.items }
 {
     match *from.nodes()[id].typ() {
@@ -68,7 +89,7 @@ fn copy_node(
             if image.node_id() < start {
                 return Ok(image);
             }
-            Ok(AigEdge::from(new_leaf_node(nodes)?))
+            new_input(nodes, inputs)
         }
         AigNodeType::And(fanin0, fanin1) => {
             let first = image_of(images, fanin0);
@@ -81,6 +102,7 @@ fn copy_node(
 /// Makes the images of all nodes, in rising number.
 fn copy_nodes(
     nodes: &mut Vec<AigNode>,
+    inputs: &mut Vec<usize>,
     from: &CircuitView<'_>,
     images: &mut [AigEdge],
 ) -> Result<(), MemoryError>
@@ -90,20 +112,24 @@ fn copy_nodes(
     ensures copies { OnOk result
         (CopiesBelow from.now nodes.old.items nodes.new.items images.old images.new
         (length from.now.nodes)) }
+    ensures inputs { OnOk result (inputs.new.items
+        ≡ inputs.old.items ++ leaves_after (length nodes.old.items) nodes.new.items) }
+    ensures kept { take (length inputs.old.items) inputs.new.items ≡ inputs.old.items }
     ensures grows { Grows nodes.old.items nodes.new.items }
 {
     let start = nodes.len();
     for id in 0..from.nodes().len() {
-        let image = copy_node(nodes, from, id, images, start)?;
+        let image = copy_node(nodes, inputs, from, id, images, start)?;
         images[id] = image;
     }
     Ok(())
 }
 
 /// Adds the nodes of one step more, in which the latches have the values of their next edges in `latchs`, and makes the
-/// images of all nodes of `from`. A refused one leaves the nodes that it added.
+/// images of all nodes of `from`. The new leaves are inputs. A refused one leaves the nodes and the inputs that it added.
 pub(crate) fn copy_step(
     nodes: &mut Vec<AigNode>,
+    inputs: &mut Vec<usize>,
     latchs: &[AigLatch],
     from: &CircuitView<'_>,
     images: &mut [AigEdge],
@@ -114,8 +140,11 @@ pub(crate) fn copy_step(
     requires table { length images.old ≡ length from.now.nodes }
     ensures copies { OnOk result
         (CopiesAll from.now latchs.now nodes.old.items nodes.new.items images.new) }
+    ensures inputs { OnOk result (inputs.new.items
+        ≡ inputs.old.items ++ leaves_after (length nodes.old.items) nodes.new.items) }
+    ensures kept { take (length inputs.old.items) inputs.new.items ≡ inputs.old.items }
     ensures grows { Grows nodes.old.items nodes.new.items }
 {
     set_latch_images(images, from.latchs(), latchs, nodes.len());
-    copy_nodes(nodes, from, images)
+    copy_nodes(nodes, inputs, from, images)
 }

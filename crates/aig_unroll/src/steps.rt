@@ -1,13 +1,13 @@
 //! Further steps of a circuit.
 
-ghost use Rattle.std.specs.Prelude.{◌≡◌, ◌+◌, ◌-◌, ◌*◌, ◌≤◌, ◌↔◌, IfOk, IsTrue, OnErr, OnOk, length};
+ghost use Rattle.std.specs.Prelude.{◌≡◌, ◌+◌, ◌-◌, ◌*◌, ◌≤◌, ◌↔◌, IfOk, IsTrue, OnErr, OnOk, length, take};
 ghost use Rattle.aig_circuit.specs.Build.{Grows};
 ghost use Rattle.aig_circuit.specs.Circuit.{BeginsWith, IsCircuit};
 ghost use Rattle.aig_circuit.specs.View.{lists_circuit};
 ghost use Rattle.aig_unroll.specs.Step.{IsPrepared, IsUnrolled};
 ghost use Rattle.aig_unroll.specs.Unroll.{UnrollsBySteps, UnrollsOnce, UnrollsTo};
 
-use crate::entries::{append_sets, append_step, reserve};
+use crate::entries::{append_sets, append_step};
 use crate::nodes::copy_step;
 use aig_base::MemoryError;
 use aig_circuit::{AigEdge, CircuitLists, CircuitView};
@@ -21,8 +21,8 @@ pub fn step_table(circuit: &CircuitView<'_>) -> Result<Vec<AigEdge>, MemoryError
     Ok(vec![in circuit.allocator(); AigEdge::constant(false); circuit.nodes().len()]?)
 }
 
-/// Adds the nodes and the justice sets of one step more, and makes room for its other entries. A refused one leaves the
-/// nodes that it added.
+/// Adds the nodes, the inputs and the justice sets of one step more, and makes room for its other entries. A refused one
+/// leaves the nodes and the inputs that it added.
 fn add_nodes_and_reserve(
     lists: &mut CircuitLists,
     from: &CircuitView<'_>,
@@ -32,14 +32,22 @@ fn add_nodes_and_reserve(
     requires begins { BeginsWith (lists_circuit lists.old) from.now }
     requires table { length images.old ≡ length from.now.nodes }
     ensures nodes { Grows lists.old.nodes.items lists.new.nodes.items }
+    ensures inputs { take (length lists.old.inputs.items) lists.new.inputs.items
+        ≡ lists.old.inputs.items }
     ensures ok { OnOk result (IsPrepared from.now lists.old lists.new images.new) }
     ensures err { OnErr result
         (lists_circuit lists.new
-        ≡ record (lists_circuit lists.old) { nodes = lists.new.nodes.items }) }
+        ≡ record (lists_circuit lists.old)
+        { nodes = lists.new.nodes.items; inputs = lists.new.inputs.items }) }
 {
-    let start = lists.nodes.len();
-    copy_step(&mut lists.nodes, &lists.latchs, from, images)?;
-    reserve(lists, from, start)?;
+    copy_step(
+        &mut lists.nodes,
+        &mut lists.inputs,
+        &lists.latchs,
+        from,
+        images,
+    )?;
+    lists.properties.reserve(from.properties())?;
     append_sets(&mut lists.properties.justice, from.justice(), images)
 }
 
@@ -66,14 +74,16 @@ pub fn unroll(
         (UnrollsOnce from.now (lists_circuit lists.old) (lists_circuit lists.new)) }
     ensures err { OnErr result (lists_circuit lists.new ≡ lists_circuit lists.old) }
 {
-    let start = lists.nodes.len();
+    let nodes = lists.nodes.len();
+    let inputs = lists.inputs.len();
     match add_nodes_and_reserve(lists, from, images) {
         Ok(()) => {
-            append_step(lists, from, images, start);
+            append_step(lists, from, images);
             Ok(())
         }
         Err(error) => {
-            lists.nodes.truncate(start);
+            lists.nodes.truncate(nodes);
+            lists.inputs.truncate(inputs);
             Err(error)
         }
     }

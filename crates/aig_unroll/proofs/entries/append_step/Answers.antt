@@ -4,14 +4,8 @@ use Rattle.aig_circuit.specs.View.{properties_of}
 use Rattle.aig_unroll.specs.Step.{AppendsButJustice, HaveNextImages}
 use Rattle.aig_unroll.proofs.entries.append_step.Goals as goal
 
-pub append_leaves-requires-clause-start : goal.append_leaves-requires-clause-start
-append_leaves-requires-clause-start c = rw c.deref.ensures.value c.requires.start
-
-pub append_leaves-requires-clause-room : goal.append_leaves-requires-clause-room
-append_leaves-requires-clause-room c = rw c.deref.ensures.value c.requires.room.inputs
-
 pub append_properties-requires-clause-room : goal.append_properties-requires-clause-room
-append_properties-requires-clause-room c = rw c.properties.ensures.value c.requires.room.properties
+append_properties-requires-clause-room c = rw c.properties.ensures.value c.requires.room
 
 pub append_properties-requires-clause-there : goal.append_properties-requires-clause-there
 append_properties-requires-clause-there c = rw (c.properties.ensures.value, c.requires.table) c.properties.ensures.circuit.properties
@@ -29,7 +23,7 @@ pub returns-clause-nodes : goal.returns-clause-nodes
 returns-clause-nodes c = refl
 
 pub returns-clause-inputs : goal.returns-clause-inputs
-returns-clause-inputs c = rw c.deref.ensures.value at c.append_leaves.ensures
+returns-clause-inputs c = refl
 
 pub returns-clause-latchs : goal.returns-clause-latchs
 returns-clause-latchs c =

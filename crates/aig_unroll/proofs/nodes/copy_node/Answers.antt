@@ -1,4 +1,4 @@
-use Rattle.std.proofs.Common.{Ok, Err, Result, ◌&&◌, ◌<◌, ◌≤◌, ℕ, false, length, refl, ap, ◌∙◌, arith}
+use Rattle.std.proofs.Common.{Ok, Err, Result, ◌≡◌, ◌&&◌, ◌<◌, ◌≤◌, ℕ, false, List, [], ◌++◌, length, append-nil, refl, sym, ap, ◌∙◌, arith}
 use Rattle.std.specs.Prelude.{IfOk}
 use Rattle.aig_circuit.specs.declared.node.AigNodeType.TheVariants.{And, False, Leaf}
 use Rattle.aig_circuit.specs.Edge.{edge_to}
@@ -7,7 +7,9 @@ use Rattle.aig_circuit.proofs.Trees.{kind_at-within}
 use Rattle.aig_circuit.proofs.Building.{Grows-itself}
 use Rattle.aig_unroll.specs.Step.Copies.{false_node, gate, latch_leaf, other_leaf}
 use Rattle.aig_unroll.specs.Step.{image_at, image_in}
-use Rattle.aig_unroll.proofs.Copied.{at_most_one_more, kind_read, leaf_in_range, operands_there}
+use Rattle.aig_unroll.specs.Places.{leaves_after}
+use Rattle.aig_unroll.proofs.Copied.{added_leaves-gates, added_leaves-leaf, at_most_one_more, kind_read, leaf_in_range, leaves_after-all, operands_there}
+use Rattle.aig_unroll.proofs.Pushed.{if_ok, on_err}
 use Rattle.aig_unroll.proofs.nodes.copy_node.Goals as goal
 
 -- below what is below
@@ -19,6 +21,10 @@ from_both : {X E : Type 0} (r : Result X E) (P Q R : X → Type 0) → ((x : X) 
     → IfOk r P → IfOk r Q → IfOk r R
 from_both (Ok x) P Q R both p q = both x p q
 from_both (Err e) P Q R both p q = tt
+
+-- no input is added
+no_more : (inputs more : List ℕ) → more ≡ [] → inputs ≡ inputs ++ more
+no_more inputs more none = sym (ap (λ ns. inputs ++ ns) none ∙ append-nil inputs)
 
 pub returns-in-And-clause-copies : goal.returns-in-And-clause-copies
 returns-in-And-clause-copies c =
@@ -53,30 +59,6 @@ returns-then-node_id-start-clause-edge c = below_start (image_at c.args.images.n
 pub returns-then-node_id-start-clause-grows : goal.returns-then-node_id-start-clause-grows
 returns-then-node_id-start-clause-grows c = Grows-itself c.args.nodes.now.items c.requires.sound
 
-pub new_leaf_node-requires : goal.new_leaf_node-requires
-new_leaf_node-requires c = c.requires.sound
-
-pub returns-in_err-new_leaf_node-in-Leaf-clause-grows :
-    goal.returns-in_err-new_leaf_node-in-Leaf-clause-grows
-returns-in_err-new_leaf_node-in-Leaf-clause-grows c = c.new_leaf_node.ensures.grows
-
-pub returns-in_ok-new_leaf_node-in-Leaf-clause-copies :
-    goal.returns-in_ok-new_leaf_node-in-Leaf-clause-copies
-returns-in_ok-new_leaf_node-in-Leaf-clause-copies c =
-    let is = kind_read c.args.from.now.nodes c.nodes.result.now c.args.id Leaf c.typ.result.now c.requires.there c.nodes.ensures.value c.typ.ensures c.in-Leaf.is in
-    let ensures = c.in_ok-new_leaf_node-in-Leaf.ensures in
-    other_leaf is (rw c.node_id.ensures at c.if-node_id-start.false) (c.from.ensures ∙ ap (λ n. edge_to n false) ensures.number) ensures.ok
-
-pub returns-in_ok-new_leaf_node-in-Leaf-clause-edge :
-    goal.returns-in_ok-new_leaf_node-in-Leaf-clause-edge
-returns-in_ok-new_leaf_node-in-Leaf-clause-edge c =
-    let ensures = c.in_ok-new_leaf_node-in-Leaf.ensures in
-    leaf_in_range c.args.nodes.now.items c.new_leaf_node.new.nodes.items c.from.result (c.from.ensures ∙ ap (λ n. edge_to n false) ensures.number) ensures.ok
-
-pub returns-in_ok-new_leaf_node-in-Leaf-clause-grows :
-    goal.returns-in_ok-new_leaf_node-in-Leaf-clause-grows
-returns-in_ok-new_leaf_node-in-Leaf-clause-grows c = c.new_leaf_node.ensures.grows
-
 pub image_of-first-requires : goal.image_of-first-requires
 image_of-first-requires c =
     let is = kind_read c.args.from.now.nodes c.nodes.result.now c.args.id (And c.in-And.fanin0 c.in-And.fanin1) c.typ.result.now c.requires.there c.nodes.ensures.value c.typ.ensures c.in-And.is in
@@ -105,3 +87,38 @@ returns-in-And-clause-edge c = c.new_and_node.ensures.edge
 
 pub returns-in-And-clause-grows : goal.returns-in-And-clause-grows
 returns-in-And-clause-grows c = c.new_and_node.ensures.gates.grows
+
+pub new_input-requires : goal.new_input-requires
+new_input-requires c = c.requires.sound
+
+pub returns-else-node_id-start-clause-copies : goal.returns-else-node_id-start-clause-copies
+returns-else-node_id-start-clause-copies c =
+    let is = kind_read c.args.from.now.nodes c.nodes.result.now c.args.id Leaf c.typ.result.now c.requires.there c.nodes.ensures.value c.typ.ensures c.in-Leaf.is in
+    let high = rw c.node_id.ensures at c.if-node_id-start.false in
+    from_both c.new_input.result _ _ _ (λ e edge leaf. other_leaf is high edge leaf) c.new_input.ensures.edge c.new_input.ensures.leaf
+
+pub returns-else-node_id-start-clause-edge : goal.returns-else-node_id-start-clause-edge
+returns-else-node_id-start-clause-edge c = from_both c.new_input.result _ _ _ (λ e edge leaf. leaf_in_range c.args.nodes.now.items c.new_input.new.nodes.items e edge leaf) c.new_input.ensures.edge c.new_input.ensures.leaf
+
+pub returns-else-node_id-start-clause-inputs : goal.returns-else-node_id-start-clause-inputs
+returns-else-node_id-start-clause-inputs c =
+    let old = c.args.nodes.now.items in
+    from_both c.new_input.result _ _ _ (λ e leaf input. input ∙ ap (λ ns. c.args.inputs.now.items ++ ns) (sym (ap (leaves_after (length old)) leaf ∙ added_leaves-leaf old))) c.new_input.ensures.leaf c.new_input.ensures.input
+
+pub returns-else-node_id-start-clause-err : goal.returns-else-node_id-start-clause-err
+returns-else-node_id-start-clause-err c = c.new_input.ensures.err
+
+pub returns-else-node_id-start-clause-grows : goal.returns-else-node_id-start-clause-grows
+returns-else-node_id-start-clause-grows c = c.new_input.ensures.grows
+
+pub returns-in-False-clause-inputs : goal.returns-in-False-clause-inputs
+returns-in-False-clause-inputs c = no_more c.args.inputs.now.items _ (leaves_after-all c.args.nodes.now.items)
+
+pub returns-then-node_id-start-clause-inputs : goal.returns-then-node_id-start-clause-inputs
+returns-then-node_id-start-clause-inputs c = no_more c.args.inputs.now.items _ (leaves_after-all c.args.nodes.now.items)
+
+pub returns-in-And-clause-inputs : goal.returns-in-And-clause-inputs
+returns-in-And-clause-inputs c = if_ok c.new_and_node.result _ (λ e. no_more c.args.inputs.now.items _ (added_leaves-gates c.args.nodes.now.items c.new_and_node.new.nodes.items c.new_and_node.ensures.gates))
+
+pub returns-in-And-clause-err : goal.returns-in-And-clause-err
+returns-in-And-clause-err c = on_err c.new_and_node.result refl

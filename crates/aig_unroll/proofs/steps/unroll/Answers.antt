@@ -1,7 +1,7 @@
-use Rattle.std.proofs.Common.{◌≡◌, length, sym, ap, subst, ◌∙◌, arith}
+use Rattle.std.proofs.Common.{length, ap, ◌∙◌}
 use Rattle.aig_circuit.specs.Circuit.{Circuit}
 use Rattle.aig_circuit.specs.View.{lists_circuit, names_of}
-use Rattle.aig_unroll.specs.Step.{AppendsImages, CopiesAll, HasRoomForStep, IsPrepared}
+use Rattle.aig_unroll.specs.Step.{AppendsImages, CopiesAll, IsPrepared}
 use Rattle.aig_unroll.proofs.Table.{as_many_latchs}
 use Rattle.aig_unroll.proofs.Stepped.{stepped_in_parts, stepped_is_circuit, stepped_unrolls}
 use Rattle.aig_unroll.proofs.steps.unroll.Goals as goal
@@ -17,10 +17,9 @@ stepped c =
     let mid = c.add_nodes_and_reserve.new.lists in
     let new = c.append_step.new.lists in
     let images = c.add_nodes_and_reserve.new.images in
-    let start : c.len-start.result ≡ length old.nodes.items = omega arith in
     let prepared : IsPrepared c.args.from.now old mid images = c.in-Ok.ensures.ok in
     let ensures = c.append_step.ensures in
-    stepped_in_parts c.args.from.now (lists_circuit old) (lists_circuit mid) (lists_circuit new) images c.len-start.result start prepared.copies prepared.justice prepared.same
+    stepped_in_parts c.args.from.now (lists_circuit old) (lists_circuit mid) (lists_circuit new) images prepared.copies prepared.inputs prepared.justice prepared.same
     ensures.nodes ensures.inputs ensures.latchs ensures.properties (ap (λ names. names_of names.entries) ensures.names)
 
 pub returns-in-Ok-clause-circuit : goal.returns-in-Ok-clause-circuit
@@ -40,14 +39,7 @@ pub add_nodes_and_reserve-requires-clause-table : goal.add_nodes_and_reserve-req
 add_nodes_and_reserve-requires-clause-table c = c.requires.table
 
 pub append_step-requires-clause-room : goal.append_step-requires-clause-room
-append_step-requires-clause-room c =
-    let start : c.len-start.result ≡ length c.args.lists.now.nodes.items = omega arith in
-    subst (HasRoomForStep c.add_nodes_and_reserve.new.lists c.args.from.now) (sym start) c.in-Ok.ensures.ok.room
-
-pub append_step-requires-clause-start : goal.append_step-requires-clause-start
-append_step-requires-clause-start c =
-    let start : c.len-start.result ≡ length c.args.lists.now.nodes.items = omega arith in
-    rw start c.add_nodes_and_reserve.ensures.nodes.longer
+append_step-requires-clause-room c = c.in-Ok.ensures.ok.room
 
 pub append_step-requires-clause-table : goal.append_step-requires-clause-table
 append_step-requires-clause-table c = c.in-Ok.ensures.ok.copies.count
