@@ -36,8 +36,7 @@ impl Tables {
         ensures limit { IfOk result (λ new. 2 * length nodes.now ≤ literal_limit new) }
     {
         let count = nodes.len();
-        let gates = nodes.iter().filter(|node| node.is_and()).count();
-        let seeded = Seeded::of(nodes);
+        let (seeded, gates) = Seeded::of(nodes);
         if count <= MOST_NARROW {
             Ok(Tables::Narrow {
                 numbers: Vec::with_capacity(alloc, count)?,
@@ -133,7 +132,7 @@ fn widened(alloc: Global, numbers: &[u32]) -> Result<Vec<usize>, MemoryError>
 {
     let mut wide = Vec::with_capacity(alloc, numbers.len())?;
     for number in numbers {
-        wide.push(*number as usize)?;
+        wide.push_reserved(*number as usize);
     }
     Ok(wide)
 }

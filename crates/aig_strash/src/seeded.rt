@@ -13,16 +13,16 @@ pub(crate) struct Seeded {
 }
 
 impl Seeded {
-    /// Returns what makes hashers for the gates of these nodes. Two fast hashes go over the gates, and a slow one over these
-    /// two.
-    pub(crate) fn of(nodes: &[AigNode]) -> Seeded {
-        let (forward, backward) = hash_gates(nodes);
+    /// Returns what makes hashers for the gates of these nodes, and how many gates there are. Two fast hashes go over the
+    /// gates, and a slow one over these two.
+    pub(crate) fn of(nodes: &[AigNode]) -> (Seeded, usize) {
+        let (forward, backward, count) = hash_gates(nodes);
         let mut both = DefaultHasher::new();
         both.write_u64(forward);
         both.write_u64(backward);
         let mut first = FoldHasher::default();
         first.write_u64(both.finish());
-        Seeded { first }
+        (Seeded { first }, count)
     }
 }
 
@@ -36,19 +36,21 @@ impl BuildHasher for Seeded {
     }
 }
 
-/// Two hashes of all gates, which take the literals of a gate in one order and in the other.
-fn hash_gates(nodes: &[AigNode]) -> (u64, u64) {
+/// Two hashes of all gates, which take the literals of a gate in one order and in the other, and how many gates there are.
+fn hash_gates(nodes: &[AigNode]) -> (u64, u64, usize) {
     let mut forward = FoldHasher::default();
     let mut backward = FoldHasher::default();
     backward.write_u64(1);
+    let mut count = 0;
     for node in nodes {
         if let AigNodeType::And(fanin0, fanin1) = *node.typ() {
             let (first, second) = (literal(fanin0), literal(fanin1));
             write_literals(&mut forward, first, second);
             write_literals(&mut backward, second, first);
+            count += 1;
         }
     }
-    (forward.finish(), backward.finish())
+    (forward.finish(), backward.finish(), count)
 }
 
 /// The literal of an edge, unless its node's number has 64 bits.

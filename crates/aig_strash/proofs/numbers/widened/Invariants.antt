@@ -1,5 +1,9 @@
-use Rattle.std.proofs.Common.{◌≡◌, take}
+use Rattle.std.proofs.Common.{◌≡◌, ◌≤◌, length, take}
+use Rattle.std.specs.Prelude.{vec_capacity}
 use Rattle.aig_strash.proofs.numbers.widened.Given as goal
 
 abbrev pub invariant-loop-number : goal.invariant-loop-number
-invariant-loop-number l = l.wide.items ≡ take l.number-index l.numbers
+invariant-loop-number l = record {
+  made : l.wide.items ≡ take l.number-index l.numbers;
+  room : length l.numbers ≤ vec_capacity l.wide;
+}
