@@ -1,14 +1,12 @@
 -- The leaves after the first so many nodes, and the leaves that are no latch's: none stands twice.
-use Rattle.std.proofs.Common.{◌≡◌, ◌≢◌, ℕ, ◌+◌, ◌-◌, ◌<◌, ◌≤◌, Bool, true, false, Some, List, ◌++◌, length, map, get_or, drop, refl, sym, ap, subst, ◌∙◌, arith}
-use Rattle.std.specs.Prelude.{◌↔◌, All, AllPairs, Contains, IsTrue, count_by, filter, option_map}
+use Rattle.std.proofs.Common.{◌≡◌, ◌≢◌, ℕ, ◌+◌, ◌-◌, ◌<◌, ◌≤◌, Bool, true, Some, List, ◌++◌, length, map, get_or, drop, refl, sym, ap, subst, ◌∙◌, arith}
+use Rattle.std.specs.Prelude.{All, AllPairs, Contains, filter, option_map}
 use Rattle.std.proofs.lemmas.Option.{same_Some, slice_get-get_or}
-use Rattle.std.proofs.lemmas.List.{drop-append-le, drop_at, get_or-drop, length-drop, length-map, map-append}
+use Rattle.std.proofs.lemmas.List.{drop-append-le, drop_at, get_or-drop, length-drop, map-append}
 use Rattle.std.proofs.lemmas.List.Elements.{All-filter, All-map, Contains-get_or, filter-append, filter_passes}
-use Rattle.std.proofs.lemmas.List.Sums.{length-filter}
 use Rattle.std.proofs.lemmas.List.Kept.{AllPairs-filter}
 use Rattle.aig_circuit.specs.declared.node.AigNode.{AigNode}
-use Rattle.aig_circuit.specs.declared.node.AigNodeType.{AigNodeType}
-use Rattle.aig_circuit.specs.declared.node.AigNodeType.TheVariants.{And, False, Leaf}
+use Rattle.aig_circuit.specs.declared.node.AigNodeType.TheVariants.{False, Leaf}
 use Rattle.aig_circuit.specs.Build.{Grows}
 use Rattle.aig_circuit.specs.Circuit.{AreNodes, Circuit, IsLeaf}
 use Rattle.aig_circuit.specs.Runs.{is_leaf}

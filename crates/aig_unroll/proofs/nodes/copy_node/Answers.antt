@@ -1,7 +1,6 @@
 use Rattle.std.proofs.Common.{Ok, Err, Result, ◌≡◌, ◌&&◌, ◌<◌, ◌≤◌, ℕ, false, List, [], ◌++◌, length, append-nil, refl, sym, ap, ◌∙◌, arith}
 use Rattle.std.specs.Prelude.{IfOk}
 use Rattle.aig_circuit.specs.declared.node.AigNodeType.TheVariants.{And, False, Leaf}
-use Rattle.aig_circuit.specs.Edge.{edge_to}
 use Rattle.aig_circuit.specs.Tree.{edge_value}
 use Rattle.aig_circuit.proofs.Trees.{kind_at-within}
 use Rattle.aig_circuit.proofs.Building.{Grows-itself}
