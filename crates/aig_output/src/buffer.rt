@@ -65,7 +65,7 @@ impl OutputBuffer {
     }
 
     /// Appends the first `count` bytes of a piece, by a copy of as many bytes as a short piece has.
-    #[inline]
+    #[inline(always)]
     fn push_short(&mut self, piece: &[u8], count: usize)
         requires room { length self.old + 32 ≤ 32768 }
         requires long { 32 ≤ length piece.now }
@@ -90,6 +90,8 @@ impl OutputBuffer {
     }
 
     /// Writes a piece of text.
+    // Short pieces go by `write_front`, which stands where it is called, and leaves this one outside.
+    #[inline(never)]
     pub fn write_bytes<W: Sink>(&mut self, w: &mut W, piece: &[u8]) -> Result<(), StreamFault>
         ensures { BuffersOrStops W.held W.failed self.old w.old result piece.now self.new w.new }
     {
@@ -101,7 +103,7 @@ impl OutputBuffer {
     }
 
     /// Writes the first `count` bytes of a piece. What stands after them makes the copy of a short piece quicker.
-    #[inline]
+    #[inline(always)]
     pub fn write_front<W: Sink>(
         &mut self,
         w: &mut W,

@@ -52,6 +52,7 @@ impl<'a, W: Sink> TextOut for BufferedSink<'a, W> {
         self.buffer.write_bytes(self.sink, piece)
     }
 
+    #[inline(always)]
     fn write_front(&mut self, piece: &[u8], count: usize) -> Result<(), StreamFault> {
         self.buffer.write_front(self.sink, piece, count)
     }
