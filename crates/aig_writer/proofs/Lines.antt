@@ -1,7 +1,8 @@
 -- A line of numbers, built from its last number on.
-use Rattle.std.proofs.Common.{◌≡◌, ℕ, ◌+◌, ◌-◌, ◌<◌, ◌≤◌, List, [], ◌∷◌, ◌++◌, length, take, drop, replicate, get_or, refl, sym, ap, ◌∙◌, append_assoc, length-append, arith}
+use Rattle.std.proofs.Common.{◌≡◌, ℕ, ◌+◌, ◌-◌, ◌<◌, ◌≤◌, List, [], ◌∷◌, ◌++◌, length, take, drop, replicate, set, get_or, refl, sym, ap, ◌∙◌, append_assoc, length-append, arith}
 use Rattle.std.specs.Prelude.{decimal}
-use Rattle.std.proofs.lemmas.List.{drop_all, drop_more, get_or-replicate, get_or-take, length-drop, take-replicate, take-take}
+use Rattle.std.proofs.lemmas.Grind.{drop-set_at}
+use Rattle.std.proofs.lemmas.List.{drop_all, drop_more, get_or-replicate, get_or-take, length-drop, take-replicate, take-set-le, take-take}
 use Rattle.std.proofs.Math.Seq.{take-append_seam}
 use Rattle.aig_format.specs.Written.{line_text}
 
@@ -50,15 +51,27 @@ Built-turn text new start at n ns built some within before written same =
       blank = sym (take-take (at - 1) at new (omega arith)) ∙ ap (take (at - 1)) blanks ∙ take-replicate (at - 1) at 32 (omega arith);
     }
 
--- a line that is built
-pub Built-line : (text : List ℕ) (start : ℕ) (ns : List ℕ) → Built text start ns → 0 < length ns → 0 < start → start ≤ 192 → length text ≡ 224
-    → take (192 - start) (drop start text) ≡ line_text ns
-Built-line text start [] built some at within size = absurd (omega arith)
-Built-line text start (n ∷ ns) built some at within size =
+-- a line that is built, up to `end`
+pub Built-line : (text : List ℕ) (start end : ℕ) (ns : List ℕ) → Built text start ns → 0 < length ns → 0 < start → start ≤ end → length text ≡ end + 32
+    → take (end - start) (drop start text) ≡ line_text ns
+Built-line text start end [] built some at within size = absurd (omega arith)
+Built-line text start end (n ∷ ns) built some at within size =
     let line = line_text (n ∷ ns) in
     let next : start - 1 + 1 ≡ start = omega arith in
     let whole : get_or text (start - 1) 0 ∷ drop (start - 1 + 1) text ≡ 32 ∷ line ++ built.more = sym (drop_more text (start - 1) 0 (omega arith)) ∙ built.written in
     let rest : drop start text ≡ line ++ built.more = ap (λ k. drop k text) (sym next) ∙ ap (drop 1) whole in
-    let long : 192 - start ≡ length line =
+    let long : end - start ≡ length line =
     omega (arith, built.many, ap length rest, length-drop start text, length-append line built.more) in
     rw (long, rest) (take-append_seam line built.more)
+
+-- blanks with a line feed for the last of those up to `end`
+pub feed_after : (text : List ℕ) (end : ℕ) → 0 < end → end ≤ length text → drop end text ≡ replicate 32 32
+    → drop (end - 1) (set text (end - 1) 10) ≡ 10 ∷ replicate 32 32
+feed_after text end some within after =
+    let next : end - 1 + 1 ≡ end = omega arith in
+    drop-set_at text (end - 1) (end - 1) 10 refl (omega arith) ∙ ap (λ k. 10 ∷ drop k text) next ∙ ap (λ l. 10 ∷ l) after
+
+pub feed_before : (text : List ℕ) (end : ℕ) → take end text ≡ replicate end 32
+    → take (end - 1) (set text (end - 1) 10) ≡ replicate (end - 1) 32
+feed_before text end blank =
+    take-set-le (end - 1) text (end - 1) 10 (omega arith) ∙ sym (take-take (end - 1) end text (omega arith)) ∙ ap (take (end - 1)) blank ∙ take-replicate (end - 1) end 32 (omega arith)

@@ -1,17 +1,17 @@
 //! The header of a file.
 
-ghost use Rattle.std.specs.Prelude.{◌≡◌, ◌≤◌, length, take, filter_map};
+ghost use Rattle.std.specs.Prelude.{◌≡◌, ◌<◌, ◌≤◌, length, take, filter_map};
 ghost use Rattle.aig_circuit.specs.Circuit.{IsCircuit};
 ghost use Rattle.aig_format.specs.File.{header_of};
 ghost use Rattle.aig_format.specs.Spells.{magic, numbers_in};
-ghost use Rattle.aig_format.specs.Written.{shortened, header_line_of};
+ghost use Rattle.aig_format.specs.Written.{shortened, header_line_of, line_text};
 ghost use Rattle.aig_format.specs.Circuit.{file_of, gate_line};
 ghost use Rattle.aig_output.specs.Writing.{WritesPieces};
 
-use crate::line::write_line;
+use crate::line::put_line;
 use aig_circuit::{AigNode, CircuitView};
 use aig_format::FileKind;
-use aig_output::TextOut;
+use aig_output::{SHORT_PIECE, TextOut};
 
 /// How many numbers a header has at least: M I L O A.
 const FEWEST_NUMBERS: usize = 5;
@@ -69,6 +69,20 @@ fn magic_word(kind: FileKind) -> &'static [u8]
     }
 }
 
+/// Room for nine numbers with a byte after each.
+const LINE: usize = 192;
+
+/// Writes a line of numbers, one at least and nine at most, apart by one space each.
+fn write_numbers<O: TextOut>(out: &mut O, numbers: &[usize]) -> Result<(), O::Error>
+    requires some { 0 < length numbers.now }
+    requires few { length numbers.now ≤ 9 }
+    ensures { WritesPieces O.wrote O.stopped out.old result (line_text numbers.now) out.new }
+{
+    let mut text = [b' '; LINE + SHORT_PIECE];
+    let start = put_line(&mut text, LINE, numbers);
+    out.write_front(&text[start..], LINE - start)
+}
+
 /// Writes the header line.
 pub(crate) fn write_header<O: TextOut>(
     out: &mut O,
@@ -82,5 +96,5 @@ pub(crate) fn write_header<O: TextOut>(
     let numbers = header_numbers(circuit);
     let written = FEWEST_NUMBERS + written_count(&numbers[FEWEST_NUMBERS..]);
     out.write_bytes(magic_word(kind))?;
-    write_line(out, &numbers[..written])
+    write_numbers(out, &numbers[..written])
 }

@@ -1,29 +1,45 @@
 //! Numbers as they are written.
 
-ghost use Rattle.std.specs.Prelude.{◌≡◌, ◌+◌, ◌^◌, ◌++◌, ◌<◌, ◌≤◌, length, take};
+ghost use Rattle.std.specs.Prelude.{◌≡◌, ◌+◌, ◌-◌, ◌*◌, ◌^◌, ◌++◌, ◌<◌, ◌≤◌, drop, length, replicate, take};
 ghost use Rattle.aig_format.specs.Written.{delta_of, line_text};
 ghost use Rattle.aig_output.specs.Writing.{WritesPieces};
 
 use aig_output::{SHORT_PIECE, TextOut};
 use itoa::write_digits;
 
-/// Room for the longest line, of nine numbers with a byte after each.
-const LINE: usize = 192;
+/// Room for a line of three numbers with a byte after each.
+const LINE: usize = 64;
 
-/// Writes a line of numbers, one at least and nine at most, apart by one space each.
-pub(crate) fn write_line<O: TextOut>(out: &mut O, numbers: &[usize]) -> Result<(), O::Error>
+/// Puts a line of numbers, apart by one space each, into blanks, so that it ends at `end`, and returns where it starts.
+#[inline(always)]
+pub(crate) fn put_line(text: &mut [u8], end: usize, numbers: &[usize]) -> usize
     requires some { 0 < length numbers.now }
-    requires few { length numbers.now ≤ 9 }
-    ensures { WritesPieces O.wrote O.stopped out.old result (line_text numbers.now) out.new }
+    requires room { 21 * length numbers.now < end }
+    requires long { length text.old ≡ end + 32 }
+    requires after { drop end text.old ≡ replicate 32 32 }
+    requires blank { take end text.old ≡ replicate end 32 }
+    ensures within { result ≤ end }
+    ensures line { take (end - result) (drop result text.new) ≡ line_text numbers.now }
 {
-    let mut text = [b' '; LINE + SHORT_PIECE];
-    text[LINE - 1] = b'\n';
-    let mut start = LINE;
+    text[end - 1] = b'\n';
+    let mut start = end;
     let mut left = numbers.len();
     while left > 0 {
         left -= 1;
-        start = write_digits(numbers[left] as u64, &mut text, start - 1);
+        start = write_digits(numbers[left] as u64, text, start - 1);
     }
+    start
+}
+
+/// Writes a line of numbers, one at least and three at most, apart by one space each.
+#[inline(always)]
+pub(crate) fn write_line<O: TextOut>(out: &mut O, numbers: &[usize]) -> Result<(), O::Error>
+    requires some { 0 < length numbers.now }
+    requires few { length numbers.now ≤ 3 }
+    ensures { WritesPieces O.wrote O.stopped out.old result (line_text numbers.now) out.new }
+{
+    let mut text = [b' '; LINE + SHORT_PIECE];
+    let start = put_line(&mut text, LINE, numbers);
     out.write_front(&text[start..], LINE - start)
 }
 

@@ -17,4 +17,4 @@ pub returns-clause-writes : goal.returns-clause-writes
 returns-clause-writes g c =
     let word = c.magic_word.ensures in
     rw (header_text (file_of c.args.kind c.args.circuit.now) c.written_count-written.result c.header_numbers-numbers.result (c.header_numbers-numbers.ensures.value c.args.kind) c.written_count-written.ensures.value)
-    (then_call calls_laws (rw word at c.in_ok-write_bytes.ensures.ok) c.write_line.ensures)
+    (then_call calls_laws (rw word at c.in_ok-write_bytes.ensures.ok) c.write_numbers.ensures)

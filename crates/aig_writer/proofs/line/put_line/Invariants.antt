@@ -1,14 +1,15 @@
-use Rattle.std.proofs.Common.{◌+◌, ◌*◌, ◌≤◌, length, drop}
+use Rattle.std.proofs.Common.{◌≡◌, ◌+◌, ◌*◌, ◌≤◌, length, drop}
 use Rattle.aig_writer.proofs.Lines.{Built}
-use Rattle.aig_writer.proofs.line.write_line.Given as goal
+use Rattle.aig_writer.proofs.line.put_line.Given as goal
 
 abbrev pub invariant-loop-left : goal.invariant-loop-left
-invariant-loop-left g l = record {
+invariant-loop-left l = record {
   fewer : l.left ≤ length l.numbers;
-  room : 192 + 21 * l.left ≤ l.start + 21 * length l.numbers;
-  within : l.start ≤ 192;
+  room : l.end + 21 * l.left ≤ l.start + 21 * length l.numbers;
+  within : l.start ≤ l.end;
+  size : length l.text ≡ l.end + 32;
   built : Built l.text l.start (drop l.left l.numbers);
 }
 
 abbrev pub decreases-loop-left : goal.decreases-loop-left
-decreases-loop-left g l = l.left
+decreases-loop-left l = l.left

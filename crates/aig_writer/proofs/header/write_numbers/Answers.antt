@@ -1,0 +1,8 @@
+use Rattle.std.proofs.Common.{◌-◌, drop, arith, ◌∙◌}
+use Rattle.std.proofs.lemmas.List.{take-take}
+use Rattle.aig_writer.proofs.header.write_numbers.Goals as goal
+
+pub returns : goal.returns
+returns g c =
+    let start = c.put_line-start.result in
+    rw (take-take (192 - start) (224 - start) (drop start c.put_line-start.new.text) (omega arith) ∙ c.put_line-start.ensures.line) at c.write_front.ensures
