@@ -102,6 +102,8 @@ fn gate_line<R: Source>(
 }
 
 /// Reads the gates, defines their variables, and puts them in their places.
+// In a frame of its own, so that the registers are its loop's alone.
+#[inline(never)]
 pub fn read_gates<R: Source>(
     alloc: Global,
     buffer: &mut InputBuffer,
