@@ -87,6 +87,11 @@ AreHeld size gates (held.InOrder rising) =
     AreFirstNodes gates rising.nodes.items × (vec_len rising.nodes ≤ size)
 AreHeld size gates (held.Shuffled table) = HoldsPending size gates table
 
+-- the same, in a table
+abbrev pub AreInTable : ℕ → List GateLine → GateStore → Type 0
+AreInTable size gates (held.InOrder rising) = ⊥
+AreInTable size gates (held.Shuffled table) = HoldsPending size gates table
+
 -- the literal that the last of these gates defines, which rise, each above its operands, and all
 -- have numbers of 32 bits
 pub record AreInOrder (gates : List GateLine) (rising : InOrder) : Type 0 where

@@ -4,7 +4,7 @@ ghost use Rattle.std.specs.Prelude.{◌≡◌, ℕ, ◌+◌, ◌/◌, ◌<◌, �
 ghost use Rattle.aig_format.specs.File.{GateLine};
 ghost use Rattle.aig_format.specs.Numbering.{is_above_operands};
 ghost use Rattle.aig_ordering.specs.Gates.{nodes_in};
-ghost use Rattle.aig_reader.specs.Gates.{AreFirstNodes, AreHeld, ArePlaced, MayFollow, is_in_order, line_of, literals_of};
+ghost use Rattle.aig_reader.specs.Gates.{AreFirstNodes, AreHeld, AreInTable, ArePlaced, MayFollow, is_in_order, line_of, literals_of};
 ghost use Rattle.aig_reader.specs.declared.gate_store.GateStore.TheVariants as held;
 ghost use Rattle.aig_format.specs.declared.FileKind.{FileKind};
 ghost use Rattle.aig_reader.specs.Variables.{AreDefined, IsNewAmong};
@@ -77,6 +77,34 @@ impl GateStore {
         }))
     }
 
+    /// Puts a gate that doesn't follow those before it: all gates are put in a table first, if they are in none yet.
+    // Outside `put`, so that no room for tables is cleared there for each gate.
+    #[cold]
+    fn put_in_table(
+        &mut self,
+        alloc: Global,
+        lhs: u32,
+        operands: Operands,
+    ) -> Result<(), AllocError>
+        requires { (greatest : ℕ) × (leaves : List ℕ) × (before : List GateLine)
+            × ArePlaced greatest leaves before self.old }
+        ensures { (greatest : ℕ) (leaves : List ℕ) (before : List GateLine)
+            → ArePlaced greatest leaves before self.old
+            → IsNewAmong (literals_of before) lhs → 2 ≤ lhs → lhs / 2 ≤ greatest
+            → OnOk result
+            (AreInTable (greatest + 1) (before ++ line_of lhs operands ∷ []) self.new) }
+    {
+        match self {
+            GateStore::InOrder(rising) => {
+                let mut table = Table::new(alloc, &rising.nodes)?;
+                let pushed = table.push(lhs, operands);
+                *self = GateStore::Shuffled(table);
+                pushed
+            }
+            GateStore::Shuffled(table) => table.push(lhs, operands),
+        }
+    }
+
     /// Puts a gate in its place, whose variable is the last that was defined. Where gates don't rise, or a variable below
     /// theirs is defined by none before, all gates are put in a table.
     pub fn put(
@@ -100,10 +128,7 @@ impl GateStore {
                 if rising.is_next(variables, lhs, operands) {
                     return rising.put(lhs, operands);
                 }
-                let mut table = Table::new(alloc, &rising.nodes)?;
-                let pushed = table.push(lhs, operands);
-                *self = GateStore::Shuffled(table);
-                pushed
+                self.put_in_table(alloc, lhs, operands)
             }
             GateStore::Shuffled(table) => table.push(lhs, operands),
         }

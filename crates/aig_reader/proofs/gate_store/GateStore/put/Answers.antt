@@ -1,15 +1,18 @@
-use Rattle.std.proofs.Common.{◌+◌, length, ap, sym, subst, arith, inl, inr}
-use Rattle.std.specs.Prelude.{All}
+use Rattle.std.proofs.Common.{◌+◌, ◌∷◌, ◌++◌, [], ℕ, List, sym, arith, inl, inr}
 use Rattle.std.proofs.lemmas.Result.{on_ok_weaker}
-use Rattle.aig_reader.specs.Gates.{AreFirstNodes}
+use Rattle.aig_format.specs.File.{GateLine}
+use Rattle.aig_reader.specs.declared.gate_store.GateStore.{GateStore}
+use Rattle.aig_reader.specs.declared.gate_store.GateStore.TheVariants as held
+use Rattle.aig_reader.specs.declared.table.Table.{Table}
+use Rattle.aig_reader.specs.Gates.{AreInTable, ArePlaced, HoldsPending, line_of}
 use Rattle.aig_reader.proofs.GateLines.{passes_over, is_increasing_no_more, is_increasing_still, still_in_table}
-use Rattle.aig_reader.proofs.TableEntries.{HasSmall, small_nodes}
 use Rattle.aig_reader.proofs.gate_store.GateStore.put.Goals as goal
 
-pub new-requires : goal.new-requires
-new-requires c =
-    let h = rw c.in-InOrder.is at c.requires.3 in
-    subst (All HasSmall) (sym c.deref.ensures.value) (small_nodes c.requires.2 c.in-InOrder.rising h.form h.nodes.0)
+-- what holds of each table with these gates holds of where they are
+in_table : (P : GateStore → Type 0) (size : ℕ) (gates : List GateLine) (now : GateStore) → AreInTable size gates now
+    → ((table : Table) → HoldsPending size gates table → P (held.Shuffled table)) → P now
+in_table P size gates (held.InOrder rising) none each = absurd none
+in_table P size gates (held.Shuffled table) holds each = each table holds
 
 pub returns-then-is_next : goal.returns-then-is_next
 returns-then-is_next c = λ kind greatest leaves before h defined new own high.
@@ -20,19 +23,19 @@ returns-then-is_next c = λ kind greatest leaves before h defined new own high.
     (λ now. is_increasing_still greatest leaves before c.args.lhs c.args.operands own rising c.put.new.self placed next now.0 now.1 (omega arith, omega arith))
     (c.put.ensures (greatest + 1) before placed.nodes new own (omega (arith, high)))
 
-pub returns-in_ok-table-in-InOrder : goal.returns-in_ok-table-in-InOrder
-returns-in_ok-table-in-InOrder c = λ kind greatest leaves before h defined new own high.
+pub returns-else-is_next : goal.returns-else-is_next
+returns-else-is_next c = λ kind greatest leaves before h defined new own high.
     let rising = c.in-InOrder.rising in
     let placed = rw c.in-InOrder.is at h in
-    let all = c.deref.ensures.value in
-    let made = c.in_ok-table-in-InOrder.ensures (greatest + 1) before (subst (AreFirstNodes before) (sym all) placed.nodes.0) (omega (arith, ap length all, placed.nodes.1, rising.nodes.ok)) in
     let some = placed.nodes.0.some in
-    on_ok_weaker c.push-pushed.result
-    (λ now. elim (rw c.if-is_next.false at c.is_next.ensures) [
-      | inl other ↦ is_increasing_no_more greatest leaves before c.args.lhs c.args.operands own rising c.push-pushed.new.self placed other now
-      | inr p ↦ passes_over greatest leaves before c.args.lhs c.args.operands own kind c.args.variables.now p.0 c.push-pushed.new.self defined (omega (arith, p.1, some, rising.nodes.ok)) p.2 p.3 now
-    ])
-    (c.push-pushed.ensures.held (greatest + 1) before made new own (omega (arith, high)))
+    let gates = before ++ line_of c.args.lhs c.args.operands ∷ [] in
+    on_ok_weaker c.put_in_table.result
+    (λ now. in_table (ArePlaced greatest leaves gates) (greatest + 1) gates c.put_in_table.new.self now
+    (λ table holds. elim (rw c.if-is_next.false at c.is_next.ensures) [
+      | inl other ↦ is_increasing_no_more greatest leaves before c.args.lhs c.args.operands own rising table placed other holds
+      | inr p ↦ passes_over greatest leaves before c.args.lhs c.args.operands own kind c.args.variables.now p.0 table defined (omega (arith, p.1, some, rising.nodes.ok)) p.2 p.3 holds
+    ]))
+    (c.put_in_table.ensures greatest leaves before placed new own high)
 
 pub returns-in-Shuffled : goal.returns-in-Shuffled
 returns-in-Shuffled c = λ kind greatest leaves before h defined new own high.
