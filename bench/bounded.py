@@ -1,9 +1,10 @@
 #!/usr/bin/env python3
 """Measures bounded checks by one question beside ABC's: bounded.py [GATES [STEP ..]]
 
-For the designs of tests/designs and a file of GATES (5000) gates in which tokens go through 52 stages (`circuits.py`), up to each STEP (20,
-50): processor seconds of `aigcheck bounded`, of `cadical --unsat`, of `aigcheck refuted FILE to K` or `witness FILE to K`, of all three, and of
-ABC's `bmc3`, and what part of the last the sum is. Then the geometric mean of these ratios, and that of `bounded` to `aigtool cnf FILE K`.
+For the designs of tests/designs and a file of GATES (5000) gates in which tokens go through 52 stages (`circuits.py`), up to each STEP
+(20, 50): processor seconds of `aigcheck bounded`, of `cadical --unsat`, of `aigcheck refuted FILE to K` or `witness FILE to K`, of all
+three, and of ABC's `bmc3`, and what part of the last the sum is. Then the geometric mean of these ratios, and that of `bounded` to
+`aigtool cnf FILE K`.
 Times below 10 ms count as 10 ms. A program has 20 seconds; a row where one takes longer counts for nothing."""
 import os
 import statistics

@@ -6,13 +6,12 @@ takes: by `check_refuted` of lib/python/aig.py, and by a process of aigcheck for
 that prints beside its program. In processor seconds, the least of some runs. It needs cadical, and the libraries that tests/archive.py
 builds.
 """
-import argparse
 import os
 import pathlib
 import sys
 import time
 
-from measuring import CHECK, TOOL, TOP, make, new_folder, row, run
+from measuring import TOP, make, new_folder, parser, row, run
 
 RUNS = 5
 
@@ -67,14 +66,12 @@ def measure_prints(aig, given, folder):
 
 
 def main():
-    parser = argparse.ArgumentParser(description=__doc__, formatter_class=argparse.RawDescriptionHelpFormatter)
-    parser.add_argument("--aigtool", metavar="PATH", default=TOOL)
-    parser.add_argument("--aigcheck", metavar="PATH", default=CHECK)
-    parser.add_argument("--bound", type=int, default=10, metavar="K")
-    parser.add_argument("--gates", type=int, default=1_000_000)
-    parser.add_argument("--kind", default="random")
-    parser.add_argument("files", type=pathlib.Path, nargs="*")
-    given = parser.parse_args()
+    words = parser(__doc__, "aigtool", "aigcheck")
+    words.add_argument("--bound", type=int, default=10, metavar="K")
+    words.add_argument("--gates", type=int, default=1_000_000)
+    words.add_argument("--kind", default="random")
+    words.add_argument("files", type=pathlib.Path, nargs="*")
+    given = words.parse_args()
     os.environ.setdefault("LIBAIG", str(TOP / "crates" / "aig_c" / "out" / "libaig.so"))
     sys.path.insert(0, str(TOP / "lib" / "python"))
     import aig

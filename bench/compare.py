@@ -10,7 +10,6 @@ each counts, and the greatest peak of memory. Peaks are compared where both are 
 ones. --instructions counts instructions by callgrind instead of time. In the end there are geometric means of the ratios in the
 first columns, for each command.
 """
-import argparse
 import filecmp
 import math
 import os
@@ -19,7 +18,7 @@ import statistics
 import subprocess
 import sys
 
-from measuring import heads, instructions, make, new_folder, row, run
+from measuring import heads, instructions, make, new_folder, parser, row, run
 
 ABC = shutil.which("berkeley-abc")
 SEEN = 16 * 1024
@@ -44,7 +43,6 @@ ROWS = [
 
 
 def make_files(tool, gates, folder):
-    """Makes the files of so many gates."""
     counts = {"random": gates, "shuffled": gates, "multiplier": math.isqrt(gates // 10), "pipeline": gates // STEPS}
     for kind, count in counts.items():
         make(kind, count, folder / f"{kind}.aag")
@@ -133,7 +131,7 @@ def geometric_mean(values):
 
 
 def main():
-    words = argparse.ArgumentParser(description=__doc__, formatter_class=argparse.RawDescriptionHelpFormatter)
+    words = parser(__doc__)
     words.add_argument("tool")
     words.add_argument("--yardstick")
     words.add_argument("--runs", type=int, default=5)

@@ -16,7 +16,6 @@ COMMANDS = ["text TEXT", "binary BINARY OUT", "strash BINARY", "cnf BINARY 0", "
 
 
 def count_all(tool, folder):
-    """The instructions of each command."""
     paths = {name: str(folder / name.lower()) for name in ["TEXT", "BINARY", "OUT"]}
     make("random", 100_000, paths["TEXT"])
     add_bad(folder / "text")

@@ -22,7 +22,6 @@ def measured(call):
 
 
 def ask(words, clauses):
-    """Prints clauses and has them solved."""
     with clauses.open("wb") as out:
         subprocess.run(words, stdout=out, check=True)
     subprocess.run(["cadical", "-q", "--no-binary", clauses, clauses.with_name("proof")], stdout=subprocess.DEVNULL)

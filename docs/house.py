@@ -5,6 +5,7 @@ A crate stands in a row above all that it stands on, by crates.txt, which is nam
 also is the count of its definitions that public contracts and laws rest on. --check writes nothing and fails where the drawing is
 another.
 """
+import functools
 import pathlib
 import sys
 
@@ -15,7 +16,8 @@ import promises
 
 DRAWING = TOP / "docs" / "house.svg"
 MARGIN, GAP, BOX, ROW, LEGEND = 12, 10, 48, 60, 60
-NOTE = "A crate stands on those that its box names, and on what these stand on. So many of its definitions public contracts and laws rest on."
+NOTE = "A crate stands on those that its box names, and on what these stand on. "
+NOTE += "So many of its definitions public contracts and laws rest on."
 # How wide a letter of a name and of the small text is.
 LETTER, SMALL = 7.3, 4.9
 PROGRAM, PROMISE, LAW, ENGINE, TEST = "program", "public calls and values", "definitions and laws", "engine", "test or sample"
@@ -23,20 +25,7 @@ COLOURS = {PROGRAM: "#f6b26b", PROMISE: "#9fc5e8", LAW: "#b6d7a8", ENGINE: "#d9d
 # Whose types the public calls take and give.
 VALUES = ["aig_base", "aig_circuit"]
 TESTS = ["aig_tests", "aig_script", "aig_sample"]
-
-
-def needs():
-    """What each crate stands on, without what follows, and its row, from the bottom."""
-    lines = harness.crates()
-    below = {name: [other for other in line.partition(":")[2].split() if other in lines] for name, line in lines.items()}
-
-    def row(name):
-        return 1 + max(map(row, below[name]), default=-1)
-
-    def under(name):
-        return set(below[name]).union(*map(under, below[name]))
-
-    return {name: [low for low in below[name] if not any(low in under(it) for it in below[name])] for name in below}, {it: row(it) for it in below}
+LINES = harness.crates()
 
 
 def kind_of(name, code):
@@ -47,10 +36,9 @@ def kind_of(name, code):
         return PROGRAM
     if name in VALUES or any(name in crates for _, crates in promises.CALLS):
         return PROMISE
-    items = code.exports[name]
-    runs = [part for item in items for part in code.functions.get(item, ()) if not part.is_law]
-    runs += [part for item in items for part in code.types.get(item, ()) if part.name]
-    return ENGINE if runs else LAW
+    functions = [part for item in code.exports[name] for part in code.functions.get(item, ()) if not part.is_law]
+    methods = [part for item in code.exports[name] for part in code.types.get(item, ()) if part.name]
+    return ENGINE if functions or methods else LAW
 
 
 def text(x, y, size, words, anchor="middle"):
@@ -61,33 +49,58 @@ def rectangle(x, y, width, height, colour):
     return f'<rect x="{x}" y="{y}" width="{width}" height="{height}" rx="4" fill="{colour}" stroke="#404040"/>'
 
 
+@functools.cache
+def below(name):
+    """The crates that the line of a crate names."""
+    return [other for other in LINES[name].partition(":")[2].split() if other in LINES]
+
+
+@functools.cache
+def under(name):
+    """All crates that a crate stands on."""
+    return set(below(name)).union(*map(under, below(name)))
+
+
+def row(name):
+    """The row of a crate, from the bottom."""
+    return 1 + max(map(row, below(name)), default=-1)
+
+
+class Box:
+    """A crate, with the small lines below its name."""
+
+    def __init__(self, name, code, definitions):
+        needed = [low.removeprefix("aig_") for low in below(name) if not any(low in under(it) for it in below(name))]
+        count = sum(word.crate == name for word in definitions)
+        self.name, self.colour = name, COLOURS[kind_of(name, code)]
+        self.lines = [f"on {', '.join(needed)}"] * bool(needed) + [f"{count} definition{'s' * (count != 1)}"] * bool(count)
+        self.width = round(max([LETTER * len(name), *(SMALL * len(line) for line in self.lines)])) + 2 * GAP
+
+    def drawn(self, x, y):
+        middle = x + self.width // 2
+        lines = [text(middle, y + 30 + 12 * i, 9.5, line) for i, line in enumerate(self.lines)]
+        return [rectangle(x, y, self.width, BOX, self.colour), text(middle, y + 17, 12, self.name), *lines]
+
+
 def drawing():
     """The text of the drawing."""
-    (below, rows), (_, code, found) = needs(), promises.layers()
-    told = {}
-    for name in below:
-        count = sum(word.crate == name for word in found[-1][1])
-        on = "on " + ", ".join(other.removeprefix("aig_") for other in below[name]) if below[name] else ""
-        told[name] = [on, f"{count} definition{'s' * (count != 1)}" if count else ""]
-    widths = {name: round(max([LETTER * len(name), *(SMALL * len(line) for line in told[name])])) + 2 * GAP for name in below}
-    layers = [[name for name in sorted(below) if rows[name] == row] for row in range(max(rows.values()), -1, -1)]
-    page = 2 * MARGIN + max(sum(widths[name] + GAP for name in layer) - GAP for layer in layers)
-    boxes = []
-    for at, layer in enumerate(layers):
-        x, y = (page - sum(widths[name] + GAP for name in layer) + GAP) // 2, MARGIN + at * ROW
-        for name in layer:
-            lines = [line for line in told[name] if line]
-            boxes += [rectangle(x, y, widths[name], BOX, COLOURS[kind_of(name, code)]), text(x + widths[name] // 2, y + 17, 12, name)]
-            boxes += [text(x + widths[name] // 2, y + 30 + 12 * i, 9.5, line) for i, line in enumerate(lines)]
-            x += widths[name] + GAP
-    height, x = len(layers) * ROW + LEGEND, MARGIN
-    boxes.append(text(x, height - 44, 12, NOTE, "start"))
+    _, code, (*_, (_, definitions, _)) = promises.layers()
+    rows = [[Box(name, code, definitions) for name in sorted(LINES) if row(name) == at] for at in range(max(map(row, LINES)), -1, -1)]
+    widths = [sum(box.width + GAP for box in boxes) - GAP for boxes in rows]
+    page, height, drawn = 2 * MARGIN + max(widths), len(rows) * ROW + LEGEND, []
+    for at, (boxes, width) in enumerate(zip(rows, widths)):
+        x = (page - width) // 2
+        for box in boxes:
+            drawn += box.drawn(x, MARGIN + at * ROW)
+            x += box.width + GAP
+    x = MARGIN
+    drawn.append(text(x, height - 44, 12, NOTE, "start"))
     for kind, colour in COLOURS.items():
-        boxes += [rectangle(x, height - 30, 16, 16, colour), text(x + 22, height - 17, 12, kind, "start")]
+        drawn += [rectangle(x, height - 30, 16, 16, colour), text(x + 22, height - 17, 12, kind, "start")]
         x += 50 + round(len(kind) * LETTER)
     head = f'<svg xmlns="http://www.w3.org/2000/svg" viewBox="0 0 {page} {height}" font-family="Helvetica, Arial, sans-serif">'
     title, paper = "<title>The crates, and what they stand on</title>", f'<rect width="{page}" height="{height}" fill="#ffffff"/>'
-    return "\n".join([head, title, paper, *boxes, "</svg>", ""])
+    return "\n".join([head, title, paper, *drawn, "</svg>", ""])
 
 
 def main():

@@ -48,7 +48,6 @@ def graph(circuit):
 
 
 def parse():
-    """The words of the command line."""
     parser = argparse.ArgumentParser(description=__doc__, formatter_class=argparse.RawDescriptionHelpFormatter)
     parser.add_argument("--gates", metavar="N", type=int, default=MOST, help=f"draw a circuit of up to so many gates ({MOST})")
     parser.add_argument("file", metavar="FILE", help="a file in AIGER form, text or binary")

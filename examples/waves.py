@@ -21,20 +21,17 @@ from aigprove.aiger import Circuit, Fault, Lines
 
 
 def read(path):
-    """The bytes of a file."""
     with open(path, "rb") as file:
         return file.read()
 
 
 def positive(word):
-    """A number from 1 on."""
     if not word.isascii() or not word.isdigit() or int(word) == 0:
         raise argparse.ArgumentTypeError(f"{word} is no number from 1 on")
     return int(word)
 
 
 def parse():
-    """The words of the command line."""
     parser = argparse.ArgumentParser(description=__doc__, formatter_class=argparse.RawDescriptionHelpFormatter)
     parser.add_argument("--number", metavar="N", type=positive, default=1, help="which witness of the stream, from 1 on (1)")
     parser.add_argument("file", metavar="FILE", help="a file in AIGER form, text or binary")

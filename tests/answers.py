@@ -10,12 +10,10 @@ cells `\\n` is a line feed, `\\x` a byte in hexadecimal, and `{PIECE}*N` the pie
 What aigtool and aigedit print is cut at each length, too, by a limit on the size of files: then a beginning of it is there, and the
 last write is told to have failed. And rows that are made here have long clauses, limits on time and memory, and full devices.
 """
-import pathlib
 import resource
 import shlex
 import subprocess
 import sys
-import tempfile
 
 import harness
 from harness import TESTS, limit, limit_files, repeated, spelled
@@ -48,7 +46,7 @@ MANY = " ".join(str(i) for i in range(4, 1104))
 # What costs no more than it touches: proofs about opposed.aag with so many steps, literals or hints, and a machine that at so many steps
 # has two literals that follow: a latch that is 1 where it was and an input is, from any start, and is bad where it is 1. Where each cost
 # what is there already, these took a minute; CPU seconds are enough.
-COUNT, LAST_STEP, CPU = 200_000, 500_000, 10
+COUNT, CPU = 200_000, 10
 MADE = {
     "wide": WIDE,
     "many": f"2 {MANY} 0\nd {MANY} 2 0\nd {MANY} 0\n" + SPLIT,
@@ -61,26 +59,9 @@ MADE = {
     "solved": "s SATISFIABLE\nv -1 2 -3 -4 0\n",
     "shown": "1\nb0\n00\n1\n1\n1\n0\n.\n",
 }
-# The words of aigcheck, in which a name in braces is one of these files, and what is printed. No limit; that of CPU seconds; and 4 GB of
-# memory for 100,000 steps, which grows with the steps and not with the pairs of them.
-LONG = [
-    ("refuted {wide} 0 {many}", "no bad state at step 0\n"),
-    ("refuted {wide} 0 {many_numbered}", "no bad state at step 0\n"),
-    ("refuted {wide} 0 {many_deleted}", "aigcheck: number of no clause in proof\n"),
-]
-TIMED = [
-    ("refuted opposed.aag 0 {deletions}", "no bad state at step 0\n"),
-    ("refuted opposed.aag 0 {repeats}", "no bad state at step 0\n"),
-    (f"refuted {{staying}} {LAST_STEP} {{conflict}}", "aigcheck: proof step does not follow\n"),
-]
-LARGE = [("inductive stateless.aag 100000 {conflict} distinct", "no bad state at any step, if none up to step 100000\n")]
-# Commands that print to a device that takes no byte.
-UNWRITTEN = {
-    "aigcheck": ["clauses stuck.aag 0", "window stuck.aag 0", "refuted stuck.aag 0 stuck.lrat", "inductive stuck.aag 0 stuck.lrat"],
-    "aigedit": ["refine toggle.aag", "unroll toggle.aag 1", "miter toggle.aag stuck.aag", "join toggle.aag stuck.aag", "merge toggle.aag stuck.aag"],
-}
-UNWRITTEN["aigcheck"] += ["witness delayed.aag 1 {solved}", "run ../witnesses/counter.aag {shown}"]
-UNWRITTEN["aigcheck"] += ["certified stuck.aag stuck.aag {conflict} {conflict}", "equal toggle.aag stuck.aag 0 {conflict}", "obligations stuck.aag stuck.aag"]
+# What limits the programs of limits.tsv: CPU seconds, and 4 GB of memory for 100,000 steps, which grows with the steps and not with the
+# pairs of them.
+LIMITS = {"": None, "cpu": limit(resource.RLIMIT_CPU, CPU), "memory": limit(resource.RLIMIT_AS, 4 << 30)}
 # The comments of the query of credits.aag for step 0: each leaf and gate is the variable of its number in the file, and one more.
 CREDITS = "../../examples/credits.aag"
 COMMENTS = b"c i0 at step 0 is 2\nc i1 at step 0 is 3\nc l0 at step 0 is 4\nc l1 at step 0 is 5\nc b0 at step 0 is 20\n"
@@ -124,11 +105,10 @@ class Answers:
 
     def rows(self, path):
         """The words of each row of a table, the bytes of its file, which is there then, and what is printed."""
-        for row in path.read_text().splitlines():
-            if row and row[0] != "#":
-                words, given, printed = (repeated(cell) for cell in row.split("\t")[:3])
-                (self.folder / "GIVEN").write_bytes(spelled(given))
-                yield words, given, printed
+        for row in harness.rows(path):
+            words, given, printed = map(repeated, row[:3])
+            (self.folder / "GIVEN").write_bytes(spelled(given))
+            yield words, given, printed
 
     def check_table(self, path, form):
         """Checks the rows of a table."""
@@ -150,15 +130,12 @@ class Answers:
         """Checks the rows that are made here."""
         harness.write_files(self.folder, {name: text.encode() for name, text in MADE.items()})
         files = {name: self.folder / name for name in MADE}
-        limits = limit(resource.RLIMIT_CPU, CPU), limit(resource.RLIMIT_AS, 4 << 30)
-        for rows, before in zip([LONG, TIMED, LARGE], [None, *limits]):
-            for words, printed in rows:
-                self.check("aigcheck " + words.format(**files), wanted_of("aigcheck", printed.encode()), FILES, preexec_fn=before)
+        for limited, line, printed in harness.rows(FILES / "limits.tsv"):
+            self.check(line.format(**files), wanted_of("aigcheck", spelled(printed)), FILES, preexec_fn=LIMITS[limited])
         with open("/dev/full", "wb") as full:
-            for program, rows in UNWRITTEN.items():
-                for words in rows:
-                    wanted = (1, b"", f"{program}: write failed\n".encode())
-                    self.check(f"{program} {words.format(**files)}", wanted, FILES, stdout=full)
+            for (line,) in harness.rows(FILES / "unwritten.tsv"):
+                wanted = (1, b"", f"{line.split()[0]}: write failed\n".encode())
+                self.check(line.format(**files), wanted, FILES, stdout=full)
         for form in ["", " raw"]:
             query = harness.run([self.programs["aigtool"], "query", CREDITS, "0", *form.split()], cwd=FILES)[1]
             self.check(f"aigcheck clauses {CREDITS} 0{form}", (0, COMMENTS + query, b""), FILES)
@@ -175,8 +152,8 @@ class Answers:
 
 def main():
     programs, tally = vars(harness.parser(__doc__, "aigtool", "aigedit", "aigcheck").parse_args()), harness.Tally()
-    with tempfile.TemporaryDirectory() as folder:
-        answers = Answers(programs, pathlib.Path(folder), tally)
+    with harness.new_folder() as folder:
+        answers = Answers(programs, folder, tally)
         for table, form in TABLES.items():
             answers.check_table(TESTS / table, form)
         answers.check_places(TESTS / "answers/places.tsv")

@@ -1,9 +1,9 @@
 #!/usr/bin/env python3
 """Builds the library for C from what a run of the gate proved: archive.py [FOLDER]
 
-Puts libaig.a and libaig.so into crates/aig_c/out, if they aren't there of this text, and into the folder. `aig_c` is proved and compiled over the libraries that `rt`
-built of the crates below it, as they are: so a run of `rt ci` has to come before, or `rt lib` in crates/aig_c. Nothing below is proved
-again. What C's heap takes is linked in, and both files have the names of include/aig.h alone.
+Puts libaig.a and libaig.so into crates/aig_c/out, if they aren't there of this text, and into the folder. `aig_c` is proved and
+compiled over the libraries that `rt` built of the crates below it, as they are: so a run of `rt ci` has to come before, or `rt lib` in
+crates/aig_c. Nothing below is proved again. What C's heap takes is linked in, and both files have the names of include/aig.h alone.
 
 Needs a C compiler ($CC, cc) and binutils.
 """
@@ -15,18 +15,13 @@ import shlex
 import shutil
 import subprocess
 import sys
-import tempfile
 
-TOP = pathlib.Path(__file__).resolve().parent.parent
+import kit
+from harness import TOP, new_folder
+
 CRATE = TOP / "crates" / "aig_c"
 HEADER = TOP / "include" / "aig.h"
 BUILT = ["libaig.a", "libaig.so"]
-
-
-def kit():
-    """The folder of the kit whose `rt` is run."""
-    found = shutil.which("rt")
-    return pathlib.Path(found).resolve().parent.parent if found else sys.exit("archive: there is no rt")
 
 
 def names():
@@ -40,26 +35,6 @@ def run(*words, **how):
         sys.exit(f"archive: {words[0]} failed")
 
 
-def crate_of(tools):
-    """The crate, as `rt` knows it."""
-    sys.path.insert(0, str(tools / "bin"))
-    import rtlib
-
-    os.chdir(CRATE)
-    crate = rtlib.Crate(str(CRATE), str(TOP), {})
-    crate.out = sys.stderr
-    return crate
-
-
-def sum_of(crate, tools):
-    """A sum of all that the library is made from."""
-    total = hashlib.sha256((tools / "WHAT").read_bytes() + HEADER.read_bytes() + (TOP / "crates.txt").read_bytes())
-    folders = sorted(it.folder for it in [crate, *crate.below()])
-    for path in (path for folder in folders for part in ("src", "specs", "proofs") for path in sorted(pathlib.Path(folder, part).rglob("*.*t"))):
-        total.update(str(path.relative_to(TOP)).encode() + path.read_bytes())
-    return total.hexdigest()
-
-
 def compile_crate(crate, to):
     """Proves and compiles the crate over the libraries below it as they lie there."""
     missing = [dep.name for dep in crate.below() if not os.path.isdir(dep.rlib)]
@@ -69,14 +44,13 @@ def compile_crate(crate, to):
         sys.exit("archive: aig_c didn't build")
 
 
-def build(crate, tools, folder):
+def build(crate, folder):
     """Puts both libraries into the folder."""
     compiler = shlex.split(os.environ.get("CC") or "cc")
-    with tempfile.TemporaryDirectory() as place:
-        made = pathlib.Path(place)
+    with new_folder() as made:
         compile_crate(crate, made / "libaig_c.a")
         (made / "names").write_text("\n".join(names()) + "\n", encoding="utf-8")
-        whole = ["--whole-archive", made / "libaig_c.a", "--no-whole-archive", tools / "c" / "liblibc_c.a"]
+        whole = ["--whole-archive", made / "libaig_c.a", "--no-whole-archive", kit.tools() / "c" / "liblibc_c.a"]
         run("ld", "-r", "-o", made / "all.o", *whole)
         run("objcopy", f"--keep-global-symbols={made / 'names'}", made / "all.o", made / "aig.o")
         run("ar", "rcsD", made / "libaig.a", made / "aig.o")
@@ -86,14 +60,14 @@ def build(crate, tools, folder):
 
 
 def main():
-    tools = kit()
     folder = pathlib.Path(sys.argv[1]).resolve() if len(sys.argv) > 1 else None
-    crate, out = crate_of(tools), CRATE / "out"
+    crate, out = kit.crate(CRATE, TOP), CRATE / "out"
+    crate.out = sys.stderr
     out.mkdir(exist_ok=True)
-    told, stamp = out / "libaig.stamp", sum_of(crate, tools)
+    told, stamp = out / "libaig.stamp", crate.stamp() + hashlib.sha256(HEADER.read_bytes()).hexdigest()
     if not (told.is_file() and told.read_text() == stamp and all((out / name).is_file() for name in BUILT)):
         told.unlink(missing_ok=True)
-        build(crate, tools, out)
+        build(crate, out)
         told.write_text(stamp)
     if folder:
         for name in BUILT:

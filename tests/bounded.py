@@ -7,18 +7,15 @@ witness `aigcheck run` takes. Where a question is settled at once, the search ha
 question` has an output that can be true exactly where the search finds one. Where a bad state is reached, mangled proofs are refused.
 
 It ends with the first that differs, and else prints one line. It needs cadical, and is no part of tests/run."""
-import collections
 import concurrent.futures
 import itertools
 import random
-import sys
-import tempfile
 from pathlib import Path
 
 import harness
 from aiger import machine_of
-from harness import CHECK, EDIT, output
-from random_machines import Files, deep_machine, random_machine
+from harness import CHECK, EDIT, numbers, output
+from random_machines import Files, counted, deep_machine, random_machine, told
 
 LAST = 12
 # How many inputs a question may have of which all values are tried.
@@ -109,16 +106,11 @@ class Trial(Files):
             self.fail(f"a question's output: {made}")
 
 
-def counts_of(words):
-    """What is counted of a trial."""
-    return Trial(*words).run().counts
-
-
 def main():
-    files, seed = [int(word) for word in sys.argv[1:]] + [500, 1][len(sys.argv) - 1 :]
-    with tempfile.TemporaryDirectory() as folder, concurrent.futures.ProcessPoolExecutor() as pool:
-        counts = sum(pool.map(counts_of, [(f"{seed} {i}", f"{folder}/{i}") for i in range(files)]), collections.Counter())
-    print(f"seed {seed}: {files} files agree (" + ", ".join(f"{counts[what]} {what}" for what in sorted(counts)) + ")")
+    files, seed = numbers(500, 1)
+    with harness.new_folder() as folder, concurrent.futures.ProcessPoolExecutor() as pool:
+        counts = counted(pool, Trial, [(f"{seed} {i}", folder / str(i)) for i in range(files)])
+    print(f"seed {seed}: {files} files agree ({told(counts)})")
 
 
 if __name__ == "__main__":

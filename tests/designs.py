@@ -12,16 +12,11 @@ import subprocess
 import sys
 
 import harness
-from harness import CHECK, PROVE, TESTS, TOP
+from harness import CHECK, PROVE, TESTS, TOP, rows
 
 from aigprove.aiger import Header, Lines
 
-DESIGNS, VERILOG = TESTS / "designs", TESTS / "verilog"
-
-
-def rows(folder):
-    """The rows of a folder's table of answers."""
-    return [line.split("\t") for line in (folder / "answers.tsv").read_text().splitlines() if line[0] != "#"]
+DESIGNS = TESTS / "designs"
 
 
 def is_right(answer, status, printed):
@@ -107,12 +102,14 @@ def verilog_faults(words, wanted_status, wanted, folder):
 
 def main():
     tally, seconds = harness.Tally(), (sys.argv[1:] or ["60"])[0]
-    designs = rows(VERILOG) if shutil.which("yosys") else print("designs in Verilog: passed over, without yosys") or []
     with harness.new_folder() as folder:
-        for design, answer in rows(DESIGNS):
+        for design, answer in rows(DESIGNS / "answers.tsv"):
             tally.wants(design, [], list(file_faults(design, answer, folder / design, seconds)))
-        for i, (words, status, *wanted) in enumerate(designs):
-            tally.wants(words, [], list(verilog_faults(words, status, wanted, folder / str(i))))
+        if shutil.which("yosys"):
+            for i, (words, status, *wanted) in enumerate(rows(TESTS / "verilog" / "answers.tsv")):
+                tally.wants(words, [], list(verilog_faults(words, status, wanted, folder / str(i))))
+        else:
+            print("designs in Verilog: passed over, without yosys")
     return tally.end()
 
 

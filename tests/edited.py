@@ -5,11 +5,8 @@ For the examples and for FILES (200) random files a search over all states says 
 output is reached by a run that meets the constraints. What is printed is read by tests/aiger.py, and has to reach bad states at the
 steps that the command says. The files are small, so that the search is over all runs.
 """
-import itertools
-import pathlib
 import random
 import sys
-import tempfile
 
 import harness
 from aiger import Machine, machine_of
@@ -37,19 +34,11 @@ def random_machine(rng):
     return Machine(leaves[:inputs], states, *lists, [], literals(rng, most, rng.randint(0, 1)), made, {})
 
 
-def steps(machine, state):
-    """The values of all literals in each step from a state that meets the constraints."""
-    for inputs in itertools.product([False, True], repeat=len(machine.inputs)):
-        values = machine.values(state, inputs)
-        if machine.is_allowed(values):
-            yield values
-
-
 def reached(machine, asked):
     """The steps up to LAST at which a run from a start that meets the constraints has one of these literals."""
     states, found = machine.starts(), set()
     for k in range(LAST + 1):
-        values = [values for state in states for values in steps(machine, state)]
+        values = [values for state in states for _, values in machine.steps(state)]
         if any(value[literal] for value in values for literal in asked):
             found.add(k)
         states = {machine.following(value) for value in values}
@@ -63,7 +52,7 @@ def reached_by(machine, last):
         states = {
             (machine.following(values), bad or any(values[literal] for literal in machine.bads))
             for state, bad in states
-            for values in steps(machine, state)
+            for _, values in machine.steps(state)
         }
     return any(bad for _, bad in states)
 
@@ -73,9 +62,8 @@ def counts(machine):
     levels = {}
     for gate, *operands in machine.gates:
         levels[gate // 2] = 1 + max(levels.get(literal // 2, 0) for literal in operands)
-    lists = machine.inputs, machine.latches, machine.outputs, machine.gates, machine.bads, machine.constraints, machine.justice, machine.fairness
-    words = "inputs latches outputs gates bads constraints justice fairness levels".split()
-    return "".join(f"{word} {count}\n" for word, count in zip(words, [*map(len, lists), max(levels.values(), default=0)]))
+    words = "inputs latches outputs gates bads constraints justice fairness".split()
+    return "".join(f"{word} {len(getattr(machine, word))}\n" for word in words) + f"levels {max(levels.values(), default=0)}\n"
 
 
 class Edits:
@@ -130,8 +118,8 @@ def main():
     parser.add_argument("seed", nargs="?", type=int, default=1)
     given, tally = parser.parse_args(), harness.Tally()
     rng = random.Random(given.seed)
-    with tempfile.TemporaryDirectory() as name:
-        edits = Edits(given.aigedit, pathlib.Path(name), tally)
+    with harness.new_folder() as folder:
+        edits = Edits(given.aigedit, folder, tally)
         for path in EXAMPLES:
             machine = machine_of(path.read_text().split("\nc\n")[0])
             if len(machine.inputs) + len(machine.latches) <= 6:

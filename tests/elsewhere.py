@@ -3,21 +3,26 @@
 
 Makes FOLDER, or a new one that goes again, copies the crates that the caller of examples/caller stands on, with their lines of
 crates.txt, and the caller beside them, proves, builds and runs it there with `rt run`, and compares what it prints with its file
-stdout. Says how long that took. With --proved what was proved here is copied too (crates/NAME/out), so that the caller alone is
-proved. With --jobs N so many processors work on each crate, where rt takes two. Run by hand.
+stdout. Says how long that took. With --jobs N so many processors work on each crate, where rt takes two. Run by hand.
+
+With --proved the libraries that were built here are copied too, so that the caller alone is proved. `rt ci` leaves its libraries
+without the stamp by which other commands know the text of one, since they fit only those that they were built over. All come from one
+run where each is later than its text and than those below it; this fails where one isn't, and else stamps them in the new repository.
 """
-import argparse
 import pathlib
 import shutil
 import subprocess
 import sys
 import time
 
+import harness
+import kit
 from harness import TOP, crates, new_folder
 
 CALLER = TOP / "examples" / "caller"
 # Whose words its contracts cite, and whose items it calls.
 STANDS_ON = ["aig", "aig_base", "aig_circuit", "aig_encode", "aig_format", "aig_reader", "aig_runs", "aig_unroll"]
+TEXTS = ["src", "specs", "proofs"]
 
 
 def lines_below(names):
@@ -31,14 +36,11 @@ def lines_below(names):
     return {name: line for name, line in lines.items() if name in found}
 
 
-def copy(folder, proved):
+def copy(folder):
     """The repository of the caller, with the files that it reads in the folder that it is run in; says which crates it has."""
     lines = lines_below(STANDS_ON)
     for name in lines:
-        if proved and not (TOP / "crates" / name / "out").is_dir():
-            sys.exit(f"not proved here: crates/{name}")
-        leave = None if proved else shutil.ignore_patterns("out")
-        shutil.copytree(TOP / "crates" / name, folder / "crates" / name, symlinks=True, ignore=leave)
+        shutil.copytree(TOP / "crates" / name, folder / "crates" / name, symlinks=True, ignore=shutil.ignore_patterns("out"))
     caller = folder / "crates" / "caller"
     shutil.copytree(CALLER, caller)
     (caller / "src").mkdir()
@@ -49,9 +51,40 @@ def copy(folder, proved):
     return caller, len(lines)
 
 
+def built(name):
+    """The library of a crate here."""
+    return TOP / "crates" / name / "out" / "rlib" / f"{name}.rlib"
+
+
+def time_of(*paths):
+    """When the last of some files was written, those below a folder with it."""
+    return max(file.stat().st_mtime for path in paths for file in [path, *path.rglob("*")])
+
+
+def is_current(crate):
+    """Whether the library of a crate here is one of its text, by its stamp or by the times of files."""
+    library = built(crate.name)
+    stamp, texts = library.with_name("stamp"), [path for part in TEXTS if (path := TOP / "crates" / crate.name / part).is_dir()]
+    if stamp.exists():
+        return stamp.read_text() == crate.stamp()
+    return time_of(library) > time_of(*texts, *(built(it.name) for it in crate.deps))
+
+
+def copy_built(caller, folder):
+    """Copies and stamps the libraries below the caller."""
+    for crate in kit.crate(caller, folder).below():
+        library = built(crate.name)
+        if not library.is_dir() or not is_current(crate):
+            sys.exit(f"not proved here as it is now: crates/{crate.name}")
+        shutil.copytree(library, crate.rlib)
+        pathlib.Path(crate.rlib).with_name("stamp").write_text(crate.stamp())
+
+
 def try_in(folder, proved, jobs):
     """Makes the repository in a folder, and runs the caller. Returns the exit status."""
-    caller, count = copy(folder, proved)
+    caller, count = copy(folder)
+    if proved:
+        copy_built(caller, folder)
     print(f"{count} crates in {folder}", flush=True)
     begin = time.monotonic()
     ran = subprocess.run(["rt", "run", *jobs], cwd=caller, stdin=subprocess.DEVNULL, stdout=subprocess.PIPE, encoding="utf-8")
@@ -64,7 +97,7 @@ def try_in(folder, proved, jobs):
 
 
 def main():
-    parser = argparse.ArgumentParser(description=__doc__, formatter_class=argparse.RawDescriptionHelpFormatter)
+    parser = harness.parser(__doc__)
     parser.add_argument("folder", nargs="?", type=pathlib.Path)
     parser.add_argument("--proved", action="store_true")
     parser.add_argument("--jobs", type=int)

@@ -5,8 +5,7 @@ Files are made at random and damaged by bytes, by numbers and by lines. Of each:
 or with one line of a known text on standard error; it takes no more memory than the file and its header account for; what it
 prints is read again as the same; the text and the binary form of a file are one circuit, and have its counts and names; hashing
 twice is hashing once; clauses have the counts that their first line says, and variables of it alone; and aigedit and aigcheck take
-it or refuse it by one line, too. Files that once
-showed a fault stand in ROWS and are tried first.
+it or refuse it by one line, too. Those of fuzz/rows.tsv are tried first.
 
 A run is repeated by its seed and the same count of files: --seed S --files N.
 """
@@ -34,21 +33,7 @@ OF_A_BYTE = 200
 OF_A_VARIABLE = 200
 
 # Files that are tried first.
-ROWS = [
-    b"",
-    b"aag 0 0 0 0 0\n",
-    b"aag 0 0 0 1 0\n1\n",
-    b"aag 0 0 0 0 0 0 0 1\n0\n",
-    b"aag 1 0 1 0 0 1\n2 3\n2\n",
-    b"aag 7 2 1 2 4\n2\n4\n6 8\n6\n7\n8 4 10\n10 13 15\n12 2 6\n14 3 7\n",
-    b"aag 2 0 0 1 2\n2\n2 4 4\n4 2 2\n",
-    b"aag 1 1 0 0 0\n2\ni0 \xc3\xa9\r\nc\xff",
-    b"aig 3 2 0 1 1\n6\n\x82\x80\x80\x80\x00\x02",
-    b"aag 16777215 0 0 0 16777215\n",
-    b"aag 000000000000000000000000000000000000000016777215 1 0 0 1\n2\n4 2 \xa22\n",
-    b"aag 4294967295 4294967295 0 0 0\n",
-]
-
+ROWS = list(harness.files(harness.TESTS / "fuzz" / "rows.tsv").values())
 
 # ---- files
 
@@ -56,9 +41,9 @@ ROWS = [
 def made_machine(rng):
     """A machine of random gates, whose literals are 2, 4, .. in the order of a binary file, with names for some places, in any order."""
     inputs, latches, gates = rng.randint(0, 4), rng.randint(0, 4), rng.randint(0, 12)
-    leaves = inputs + latches
-    some = lambda *counts: [rng.randrange(2 * (leaves + gates) + 2) for _ in range(rng.choice(counts))]
-    ands = [[own, *sorted((rng.randrange(own), rng.randrange(own)), reverse=True)] for own in range(2 * leaves + 2, 2 * (leaves + gates) + 2, 2)]
+    leaves, end = inputs + latches, 2 * (inputs + latches + gates) + 2
+    some = lambda *counts: [rng.randrange(end) for _ in range(rng.choice(counts))]
+    ands = [[own, *sorted((rng.randrange(own), rng.randrange(own)), reverse=True)] for own in range(2 * leaves + 2, end, 2)]
     states = [[2 * v, *some(1), *rng.choice([[], [0], [1], [2 * v]])] for v in range(inputs + 1, leaves + 1)]
     outputs, bads, constraints = (some(0, 0, 1, 2) for _ in range(3))
     justice = [some(0, 1, 2) for _ in range(rng.choice([0, 0, 1, 2]))]

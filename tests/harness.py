@@ -40,9 +40,9 @@ NAMED = re.compile(rb"^(aigcheck|aigedit): (?!query: |window: )[^ :]+: (?:(?:lin
 def parser(doc, *programs):
     """The words of a script, with an option for the path of each of these programs, as `--aigtool PATH`: that which `rt run` builds."""
     made = argparse.ArgumentParser(description=doc, formatter_class=argparse.RawDescriptionHelpFormatter)
+    path = lambda word: pathlib.Path(word).resolve()
     for name in programs:
-        path = TOP / "crates" / name / "out" / name
-        made.add_argument(f"--{name}", metavar="PATH", type=lambda word: pathlib.Path(word).resolve(), default=path, help="the built program")
+        made.add_argument(f"--{name}", metavar="PATH", type=path, default=TOP / "crates" / name / "out" / name, help="the built program")
     return made
 
 
@@ -136,6 +136,17 @@ def repeated(line):
 def spelled(text):
     """The bytes of a text in which `\\n` is a line feed and `\\x` a byte in hexadecimal."""
     return SPELLED.sub(lambda found: chr(int(found[1], 16)) if found[1] else "\n", text).encode("latin-1")
+
+
+def rows(path):
+    """The cells of each row of a table, but for empty lines and those that begin with #."""
+    lines = path.read_text(encoding="utf-8").splitlines()
+    return [line.split("\t") for line in lines if line and line[0] != "#"]
+
+
+def files(path):
+    """The bytes of files by their names, as a table has them."""
+    return {name: spelled(text) for name, text in rows(path)}
 
 
 def numbers(*defaults):

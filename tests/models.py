@@ -96,12 +96,17 @@ def holds(values, clauses):
 # ---- both
 
 
+def clauses_of(lines):
+    """The clauses among printed lines."""
+    return [list(map(int, re.findall(r"\d+", line))) for line in lines if line.startswith("clause")]
+
+
 def query(program, text, k, name):
     """The circuit with k further steps, its clauses, and the further ones, as the program prints them."""
     (lines,) = answers(program, [f"{name} file {k}"], {"file": text})
     end = lines.index("extra")
-    clauses, extra = ([list(map(int, re.findall(r"\d+", line))) for line in part if line.startswith("clause")] for part in (lines[:end], lines[end:]))
-    return sections([line for line in lines[:end] if not line.startswith(("clause", "variable"))][:-1]), clauses, extra
+    circuit = [line for line in lines[:end] if not line.startswith(("clause", "variable"))][:-1]
+    return sections(circuit), clauses_of(lines[:end]), clauses_of(lines[end:])
 
 
 def leaves(machine, circuit, steps):

@@ -151,7 +151,8 @@ def the_limit_is_on_variables(room):
 
 def a_failed_output_is_told(room):
     with open("/dev/full", "wb") as full:
-        room.fails(b"write failed", ["text", "and.aag"], ["strash", "and.aag"], ["cnf", "and.aag", "1"], ["query", "and.aag", "1"], stdout=full)
+        commands = ["text", "and.aag"], ["strash", "and.aag"], ["cnf", "and.aag", "1"], ["query", "and.aag", "1"]
+        room.fails(b"write failed", *commands, stdout=full)
     room.fails(b"write failed", ["text", "and.aag"], before=lambda: os.close(1), stdout=None)
     room.ends("text", "missing", status=1, before=lambda: os.close(2), stderr=None)
     read_end, write_end = os.pipe()
@@ -199,11 +200,11 @@ def a_small_stack_is_enough(room):
     room.write("old", b"old", 0o660)
     room.path("link").symlink_to("old")
     files = memory.both_forms(room.tool, room.folder)
-    for name, data in (files | memory.CHECKED).items():
+    for name, data in files.items():
         room.write(name, data)
-    commands = [(room.tool, words) for words, _ in memory.tool_cases(files)]
+    commands = [(room.tool, words) for words, _ in memory.cases("aigtool", files)]
     commands += [(room.tool, ["binary", "and.aag", out]) for out in ("old", "link", "/dev/fd/1", "/dev/null")]
-    commands += [(room.checker, words) for words in memory.CHECKS]
+    commands += [(room.checker, words) for words in memory.commands("aigcheck")]
     room.write("deep", chain(200_000).replace(b" 1 200000\n", b" 0 200000 1\n", 1))
     commands += [(room.checker, [command, "deep", "0"]) for command in ("clauses", "window")]
     for program, words in commands:

@@ -16,7 +16,7 @@ from pathlib import Path
 import harness
 from aiger import Gates, Machine
 from harness import CHECK, numbers, output
-from random_machines import Files, mangled, random_machine, text_of, told
+from random_machines import Files, counted, mangled, random_machine, text_of, told
 
 # How often a proof is mangled.
 MANGLED = 2
@@ -339,17 +339,12 @@ class Trial(Files):
         return self
 
 
-def counts_of(words):
-    """What is counted of a trial."""
-    return Trial(*words).run().counts
-
-
 def main():
     proofs, seed = numbers(1000, 1)
     counts, count = collections.Counter(), 0
     with harness.new_folder() as folder, concurrent.futures.ProcessPoolExecutor() as pool:
         while sum(counts[kind] for kind in ["cadical", "hints", "binary"]) < proofs:
-            counts = sum(pool.map(counts_of, [(f"{seed} {i}", folder / str(i)) for i in range(count, count + 50)]), counts)
+            counts += counted(pool, Trial, [(f"{seed} {i}", folder / str(i)) for i in range(count, count + 50)])
             count += 50
     print(f"seed {seed}: {count} steps agree ({told(counts)})")
 

@@ -191,8 +191,8 @@ class Trial(Files):
         bits = {}
         for signal, bit, width, digits in SIGNAL.findall(line):
             if bit:
-                place = next(i for i in range(count + 1) if i not in bits and (i == count or self.names_place(signal, f"{letter}{i}", names)))
-                bits[place] = bit
+                places = (i for i in range(count) if i not in bits and self.names_place(signal, f"{letter}{i}", names))
+                bits[next(places, count)] = bit
                 continue
             for n, value in enumerate(reversed(f"{int(digits, 16):0{width}b}")):
                 (place,) = [i for i in range(count) if names.get(f"{letter}{i}") == f"{signal}[{n}]"]
@@ -316,6 +316,16 @@ def told(counts):
     return ", ".join(f"{counts[what]} {what}" for what in sorted(counts))
 
 
+def counts_of(trial, words):
+    """What is counted of a trial."""
+    return trial(*words).run().counts
+
+
+def counted(pool, trial, words):
+    """What is counted of trials with these words, side by side."""
+    return sum(pool.map(functools.partial(counts_of, trial), words), collections.Counter())
+
+
 def main():
     files, tries, seed = numbers(300, 1000, 1)
     rng = random.Random(seed)
@@ -325,7 +335,8 @@ def main():
         mangler = Mangler(rng, trials)
         steps = sum(mangler.attempt() for _ in range(tries))
     said = told(sum((trial.counts for trial in trials), collections.Counter()))
-    print(f"seed {seed}: {len(EXAMPLES)} examples and {files} random files agree ({said}); {tries} mangled proofs of {steps} lines are refused")
+    print(f"seed {seed}: {len(EXAMPLES)} examples and {files} random files agree ({said})", end="; ")
+    print(f"{tries} mangled proofs of {steps} lines are refused")
 
 
 if __name__ == "__main__":

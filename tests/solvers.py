@@ -1,13 +1,14 @@
 #!/usr/bin/env python3
 """Runs bin/aigprove with engines that lie, meddle or break, and under closed outputs and signals.
 
-The engines are shell scripts that were written by hand: a SAT solver, and one in the place of ABC. Each row says what is wanted:
-the exit status, the lines of standard output and standard error (its first line, where more follow). After each nothing is left
-in the temporary folder, and no program that was started by an engine runs."""
+The engines are shell scripts that were written by hand: a SAT solver, and one in the place of ABC. Each row of solvers/rows.tsv says what
+is wanted: the exit status, the lines of standard output and standard error (its first line, where more follow). After each nothing is
+left in the temporary folder, and no program that was started by an engine runs."""
 import contextlib
 import gzip
 import os
 import pty
+import re
 import shlex
 import signal
 import subprocess
@@ -16,7 +17,9 @@ import time
 from pathlib import Path
 
 import harness
-from harness import PROVE, TOP
+from harness import PROVE, TOP, spelled
+
+PIECE = re.compile(r"\{([A-Z_]+)\}")
 
 # Bad at step 1, and a latch that keeps 0, which is never bad.
 TOGGLE = "aag 1 0 1 0 0 1\n2 3\n2\n"
@@ -49,105 +52,10 @@ INDUCTION = "no bad state at any step, if none up to step 0\nno bad state at any
 REACHED = "a bad state at step 1: b0\nstart: l0=0\nstep 0:\nstep 1:\n"
 
 
-def step(k):
-    """The line for a step."""
-    return f"no bad state at step {k}\n"
-
-
-def solver_rows():
-    """File, what the solver's script does, options, and the status, standard output and first line of standard error."""
-    fault = "aigprove: steps: "
-    for meddling in [FILES, MEMORY, f"printf {SAFE} > $(dirname $0)/t.aag; ", ""]:
-        yield TOGGLE, meddling + REFUTES, [], (1, step(0), fault + FOLLOWS)
-    for leaving in ["mkfifo $2", "mkdir $2", "ln -s /dev/zero $2", "true"]:
-        yield TOGGLE, f"rm -f $2; {leaving}; exit 20", [], (1, step(0), fault + "left no file as its proof")
-    yield TOGGLE, "exit 0", [], (1, step(0), fault + "solver ended with status 0")
-    yield TOGGLE, "kill -SEGV $$", [], (1, step(0), fault + "solver was ended by SIGSEGV")
-    yield TOGGLE, "printf '\\033]0;title\\a\\033[2J\\377' >&2; exit 3", [], (1, step(0), "\\x1b]0;title\\x07\\x1b[2J\\xff")
-    yield TOGGLE, "head -c 1000000 /dev/zero | tr '\\0' a >&2; exit 3", [], (1, step(0), 4096 * "a")
-    yield TOGGLE, "cat > /dev/null; " + SOLVES, [], (10, step(0) + REACHED, "")
-    yield TOGGLE, "echo 's SATISFIABLE'; echo 'v 1 2 0'; exit 10", [], (1, step(0), fault + "aigcheck: no bad state property is true in the solution")
-    yield TOGGLE, "setsid sleep 1000 & " + SOLVES, [], (10, step(0) + REACHED, "")
-    yield STUCK, "exit 3", ["windows"], (1, "", "aigprove: windows: solver ended with status 3")
-    yield TOGGLE, REFUTES, ["windows"], (1, "", "aigprove: windows: " + FOLLOWS)
-    yield GONE, REFUTES, ["windows"], (0, "nothing was shown\n", "")
-    yield STUCK, REFUTES, ["windows"], (0, "nothing was shown\n", "")
-    yield STUCK, REFUTES, ["steps,windows", "--bound", "0"], (20, step(0) + INDUCTION, "")
-    # As cadical does, where the window's clauses have an empty one.
-    yield NEVER, "echo 'd 2 3 0' > $2; exit 20", ["steps,windows", "--bound", "0"], (20, step(0) + INDUCTION, "")
-    yield OLD, SOLVES, [], (10, "the outputs are taken for bad state properties: the file is of a time before these\n" + step(0) + REACHED.replace("b0", "b0 high"), "")
-
-
-def abc_rows():
-    """File, what the script in the place of ABC does, options, and the status, standard output and first line of standard error."""
-    yield TOGGLE, ANYTHING, ["pdr"], (1, "", "aigprove: pdr: " + KEPT)
-    yield TOGGLE, FILES + MEMORY + ANYTHING, ["pdr"], (1, "", "aigprove: pdr: " + KEPT)
-    yield TOGGLE, "printf '.ilb l1\\n1 1\\n.e\\n' > inv.pla", ["pdr"], (1, "", "aigprove: pdr: its invariant isn't one of the machine")
-    yield TOGGLE, "printf '.ilb l0\\n111 1\\n.e\\n' > inv.pla", ["pdr"], (1, "", "aigprove: pdr: its invariant isn't one of the machine")
-    yield TOGGLE, "printf 'l0@0=0\\n' > run", ["bmc3"], (1, "", "aigprove: bmc3: its counterexample reaches no bad state")
-    yield TOGGLE, "printf 'l0@999999999999=0\\n' > run", ["bmc3"], (1, "", "aigprove: bmc3: its counterexample reaches no bad state")
-    yield TOGGLE, "printf '# COUNTEREXAMPLE LENGTH: 999999999\\n' > run", ["bmc3"], (1, "", "aigprove: bmc3: its counterexample has too many steps")
-    yield TOGGLE, "head -c 100000 /dev/urandom > run", ["bmc3"], (1, "", "aigprove: bmc3: its counterexample reaches no bad state")
-    yield TOGGLE, "kill -SEGV $$", ["bmc3"], (1, "", "aigprove: bmc3: ABC was ended by SIGSEGV")
-    yield TOGGLE, "ln -s /dev/zero run; mkfifo inv.pla", ["bmc3"], (0, "nothing was shown\n", "")
-    yield TOGGLE, "echo proved; yes | head -c 1000000", ["pdr"], (0, "nothing was shown\n", "")
-    yield TOGGLE, RUN, ["bmc3"], (10, REACHED, "")
-    yield STUCK, ANYTHING, ["pdr"], (20, SAFE_LINE, "")
-    # An open latch that is 1 at first, by the name that the machine for ABC has for its input.
-    yield OPENED, "printf '# COUNTEREXAMPLE LENGTH: 1\\ni0@0=1\\nl0@0=0\\nr0@0=1\\n' > run", ["bmc3"], (10, "a bad state at step 0: b0\nstart: l0=1\nstep 0: i0=1\n", "")
-
-
-def given_rows():
-    """File, what somebody else gives, how, and the status, standard output and first line of standard error."""
-    yield TOGGLE, WITNESS, "--run", (10, REACHED, "")
-    yield TOGGLE, "0\n\n# DONE\n", "--run", (1, "", "aigprove: run: WITNESS is neither")
-    yield TOGGLE, "# COUNTEREXAMPLE LENGTH: 2\nl0@0=0\n# DONE\n", "--run", (10, REACHED, "")
-    yield OPENED, "00\n11\n00# DONE\n", "--run", (10, "a bad state at step 0: b0\nstart: l0=1\nstep 0: i0=1\n", "")
-    yield OPENED, "# COUNTEREXAMPLE LENGTH: 1\nlo0@0=0\nlo1@0=0\npi0@0=1\npi1@0=1\n# DONE\n", "--run", (10, "a bad state at step 0: b0\nstart: l0=1\nstep 0: i0=1\n", "")
-    yield STUCK, WITNESS, "--run", (1, "", "aigprove: run: aigcheck: the bad literal is not known to hold")
-    yield STUCK, "1\nb0\n\x1b]0;t\x07\n\n.\n", "--run", (1, "", "aigprove: run: the state is no value for each of 1")
-    yield STUCK, STUCK, "--certificate", (20, SAFE_LINE, "")
-    # Certificates of another machine, of too few latches, and of a machine that reaches a bad state.
-    yield TOGGLE, STUCK, "--certificate", (1, "", "aigprove: certificate: " + KEPT)
-    # Inductive, and bad at step 0.
-    yield GONE, GONE, "--certificate", (1, "", "aigprove: certificate: aigcheck: query: proof step does not follow")
-    # With a bad state property that is never true, and with a constraint that makes it so.
-    yield TOGGLE, "aag 1 0 1 0 0 1\n2 3\n0\n", "--certificate", (1, "", "aigprove: certificate: " + KEPT)
-    yield TOGGLE, "aag 1 0 1 0 0 1 1\n2 3\n0\n3\n", "--certificate", (1, "", "aigprove: certificate: " + KEPT)
-    # With a further latch and input, in a text that begins with other variables; and of the time before bad state properties.
-    yield STUCK, "aag 4 1 2 0 0 1\n8\n6 6\n2 8 1\n6\n", "--certificate", (20, SAFE_LINE, "")
-    yield STUCK, "aag 1 0 1 1 0\n2 3\n2\n", "--certificate", (20, SAFE_LINE, "")
-    yield TOGGLE, NEVER, "--certificate", (1, "", "aigprove: certificate: aigedit: files do not fit")
-    yield TOGGLE, "aag 1 0 1\n", "--certificate", (1, "", "aigprove: certificate: aigedit: other file: bad header line")
-
-
-def equal_rows():
-    """File, the file that it is compared with, what the solver's script does, options, and the status, standard output and first
-    line of standard error. In a miter the second one's latches follow on those of the first."""
-    always = INDUCTION.replace(SAFE_LINE, "equal at every step\n")
-    yield PASSES, PASSES, REFUTES, ["steps,windows", "--bound", "0"], (20, EQUAL + "miter: " + always, "")
-    yield PASSES, PASSES, "exit 3", ["pdr"], (1, "", "aigprove: pdr: solver ended with status 3")
-    yield PASSES, PASSES, REFUTES, ["pdr"], (20, "miter: no bad state at any step\nequal at every step\n", "")
-    yield TOGGLE, STUCK, REFUTES, ["steps"], (1, EQUAL, "aigprove: steps: aigcheck: query: proof step does not follow")
-    yield TOGGLE, STUCK, REFUTES, ["steps", "--bound", "0"], (0, EQUAL + "equal up to step 0\n", "")
-    yield TOGGLE, STUCK, "", ["--run", "1\nb0\n00\n\n\n.\n"], (10, "a difference at step 1: b0\nstart: l0=0 l1=0\nstep 0:\nstep 1:\n", "")
-    yield TOGGLE, STUCK, "", ["--run", "1\nb0\n00\n\n.\n"], (1, "", "aigprove: run: aigcheck: the bad literal is not known to hold")
-    # Two of three outputs differ, and a bad state property.
-    outputs = "aag 1 1 0 3 0 1\n2\n2\n0\n3\n2\ni0 in\no2 out\nb0 bad\n"
-    found = "inputs are matched by position: i0 is in and on\na difference at step 0: o0, o2 out, b0 bad\nstart:\nstep 0: in=1\n"
-    yield outputs, "aag 1 1 0 3 0 1\n2\n3\n0\n2\n3\ni0 on\n", "", ["--run", "1\nb2\n\n1\n.\n"], (10, found, "")
-    yield TOGGLE, NEVER, "", ["steps"], (1, "", "aigprove: aigedit: files do not fit")
-    yield TOGGLE, "aag 1\n", "", ["steps"], (1, "", "aigprove: aigedit: other file: bad header line")
-    yield "aag 0 0 0 0 0\n", "aag 0 0 0 0 0\n", "", ["steps"], (1, "", "aigprove: t.aag and other.aag: no output and no bad state property")
-
-
-def file_rows():
-    """What FILE has, and the first line of standard error, with status 1."""
-    yield b"", "aigprove: t.aag: bad header line"
-    yield b"aag 1 0 1 0 0\n2 3\n", "aigprove: t.aag: no bad state property"
-    yield b"aag 1 0 1 1 0 0\n2 3\n2\n", "aigprove: t.aag: no bad state property"
-    yield b"aag 1 0 1 0 0 1\n2 3\n4\n", "aigprove: t.aag: bad literal in bads"
-    yield b"\x1f\x8b\x08", "aigprove: t.aag: "
+def cells():
+    """The cells of each row of the table, with constants in the place of their names."""
+    for row in harness.rows(harness.TESTS / "solvers" / "rows.tsv"):
+        yield [PIECE.sub(lambda found: globals()[found[1]], cell) for cell in [*row, *[""] * 9][:9]]
 
 
 class Run:
@@ -234,22 +142,15 @@ def compared(what, wanted, given):
 
 def answers():
     """What the rows give, and what is wanted."""
-    for file, script, options, wanted in solver_rows():
-        yield compared(script, wanted, asked(["--engine", *(options or ["steps"])] + ["--bound", "3"] * (len(options) < 3), file, script))
-    for file, script, engine, wanted in abc_rows():
-        yield compared(script, wanted, asked(["--engine", *engine], file, REFUTES, script))
-    for file, text, option, wanted in given_rows():
-        yield compared((option, text), wanted, asked([option, "given"], file, REFUTES, "exit 3", {"given": text}))
-    for file, other, script, options, wanted in equal_rows():
-        given = {"other.aag": other, "given": options[-1]}
-        options = ["--run", "given"] if options[0] == "--run" else ["--engine", *options]
-        yield compared((file, other, options), wanted, asked(["--equal", "other.aag", *options], file, script, ANYTHING, given))
+    for options, status, printed, said, file, solver, abc, other, given in cells():
+        wanted = int(status), spelled(printed).decode(), harness.repeated(said)
+        files = {"other.aag": spelled(other), "given": spelled(given)}
+        given = asked(options.split(), spelled(file), solver or "exit 3", abc or "exit 3", files)
+        yield compared((options, file, solver, abc, other), wanted, given)
 
 
 def files():
-    """Files that are refused, one that is packed, and one whose names would drive a terminal."""
-    for data, error in file_rows():
-        yield compared(data, (1, "", error), asked([], data))
+    """A file that is refused and one that is packed, whose names would drive a terminal."""
     with running("", files={"\x1b[2J.aag": ""}) as run:
         yield "a path", (1, "", "aigprove: \\x1b[2J.aag: bad header line\n", []), run.result(["\x1b[2J.aag"], run.words[:-1])
     named = TOGGLE + "l0 a\x1b[2J\nb0 \x1b]0;t\x07\n"
@@ -266,7 +167,8 @@ def hung():
         own, other = pty.openpty()
         given = run.result(["--engine", "pdr", "--timeout", "2"], stderr=other)[1]
         said = os.read(own, 4096).decode()
-        yield "a terminal", (True, True, True, "nothing was shown\n"), ("pdr: 0 s" in said, "pdr: 1 s" in said, said.endswith("\r\x1b[K"), given)
+        shown = "pdr: 0 s" in said, "pdr: 1 s" in said, said.endswith("\r\x1b[K")
+        yield "a terminal", ((True, True, True), "nothing was shown\n"), (shown, given)
 
 
 def together():
@@ -315,7 +217,8 @@ def missing():
     with running(TOGGLE) as run:
         run.environment["PATH"] = str(run.temporary)
         solver, abc = "passed over: cadical is not installed", "passed over: none of berkeley-abc, yosys-abc, abc is installed"
-        wanted = "".join(f"aigprove: {name}: {why}\n" for name, why in [("steps", solver), ("windows", solver), ("bmc3", abc), ("pdr", abc)])
+        engines = {"steps": solver, "windows": solver, "bmc3": abc, "pdr": abc}
+        wanted = "".join(f"aigprove: {name}: {why}\n" for name, why in engines.items())
         yield "nothing is installed", (1, "", wanted, []), run.result(["t.aag"], [sys.executable, *run.words[:7]])
 
 

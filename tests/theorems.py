@@ -17,8 +17,8 @@ NAMED = re.compile(r"`([^`]+)`")
 
 
 def calls_of(code):
-    """The parts of each call and law by its names: `encode`, `Aig::new`, `Aig as Clone`, and with the crate's `aigtool::run`; and what has to
-    stand in rows: crate, name, and the name of the crate's own parts."""
+    """The parts of each call and law by its names: `encode`, `Aig::new`, `Aig as Clone`, and with the crate's `aigtool::run`; and what has
+    to stand in rows: crate, name, and the name of the crate's own parts."""
     named = {crate for _, crates in promises.CALLS for crate in crates}
     calls, needed = collections.defaultdict(list), set()
     for crate, (owner, name) in ((crate, item) for crate in code.crates for item in code.exports[crate]):
@@ -69,8 +69,9 @@ def main():
             line = f"| {' | '.join(cells)} |"
         lines.append(line.replace("|  |", "| |"))
     for crate, item, own in needed:
-        clauses = [clause for part in calls[own] for clause in part.ensures]
-        wrong += [f"no row: {item} of {crate}, clause {clause}" for clause in clauses if not {(item, clause), (f"{crate}::{item}", clause)} & told]
+        for clause in (clause for part in calls[own] for clause in part.ensures):
+            if not {(item, clause), (f"{crate}::{item}", clause)} & told:
+                wrong.append(f"no row: {item} of {crate}, clause {clause}")
     links = re.findall(r"\]\(([^)#]+)\)", text)
     wrong += [f"leads nowhere: {link}" for link in links if "://" not in link and not (PAGE.parent / link).exists()]
     if option == "--write":

@@ -21,10 +21,7 @@ def run(words):
 
 def main():
     tally = harness.Tally()
-    for line in (FOLDER / "rows.tsv").read_text().splitlines():
-        if line[0] == "#":
-            continue
-        words, printed = line.split("\t")
+    for words, printed in harness.rows(FOLDER / "rows.tsv"):
         if printed.startswith("waves: "):
             tally.wants(words, (1, b"", printed.encode() + b"\n"), run(words.split()))
             continue

@@ -8,7 +8,7 @@ COMMENT = re.compile(rb"c(?![0-9])")
 
 
 class Fault(Exception):
-    """Why a file isn't taken, or nothing is printed."""
+    """Why a file isn't taken, or there is no answer."""
 
 
 class Lines:
@@ -182,11 +182,9 @@ def names(lines):
 
 
 def value(values, literal):
-    """The value of a literal."""
     known = values[literal & ~1]
     return {"0": "1", "1": "0", "x": "x"}[known] if literal & 1 else known
 
 
 def both(left, right):
-    """The value of an and."""
     return "0" if "0" in (left, right) else "x" if "x" in (left, right) else "1"

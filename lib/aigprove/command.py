@@ -8,7 +8,8 @@ import signal
 import sys
 import tempfile
 
-from aigprove import VERSION, aiger, programs
+from aigprove import VERSION, programs
+from aigprove.aiger import Fault
 from aigprove.judge import Judge
 from aigprove.questions import cadical
 from aigprove.race import FAILED, Race
@@ -50,7 +51,6 @@ def count(pattern, what, kind=int):
 
 
 def engines(word):
-    """Names of engines."""
     names = word.replace("abc", "bmc3,pdr").split(",")
     if not set(names) <= set(ALL):
         raise argparse.ArgumentTypeError(f"{word} names others than {', '.join(ALL)} and abc")
@@ -69,7 +69,8 @@ def parser():
     it.add_argument("--version", action="version", version=f"aigprove {VERSION}")
     it.add_argument("--equal", metavar="OTHER", help="compare FILE with this file")
     it.add_argument("--bound", metavar="N", type=count("[0-9]{1,10}", "steps"), help=bound)
-    it.add_argument("--timeout", metavar="S", type=count(r"[0-9]{1,9}(\.[0-9]{1,9})?", "seconds", float), help="end after so many seconds (never)")
+    seconds = count(r"[0-9]{1,9}(\.[0-9]{1,9})?", "seconds", float)
+    it.add_argument("--timeout", metavar="S", type=seconds, help="end after so many seconds (never)")
     it.add_argument("--jobs", metavar="N", type=count("[1-9][0-9]{0,4}", "programs"), default=processors, help=running)
     it.add_argument("--engine", metavar="NAMES", type=engines, help="ask these engines alone, with commas between; abc is bmc3 and pdr")
     it.add_argument("--certificate", metavar="CERT", help="check an inductive machine in AIGER form that somebody else made")
@@ -88,15 +89,14 @@ def found(name, given):
     places = [given] if given else [os.path.join(TOP, "bin", name), os.path.join(TOP, "crates", name, "out", name), name]
     path = next(filter(None, map(shutil.which, places)), None)
     if path is None:
-        raise programs.Fault(f"{given or name} is not there; tests/run builds it, and so does `rt run` in crates/{name}")
+        raise Fault(f"{given or name} is not there; tests/run builds it, and so does `rt run` in crates/{name}")
     return os.path.abspath(path)
 
 
 def engine(name):
-    """The path of an engine's program."""
     path = shutil.which(name)
     if path is None:
-        raise programs.Fault(f"{name} is not there")
+        raise Fault(f"{name} is not there")
     return os.path.abspath(path)
 
 
@@ -162,7 +162,7 @@ def main():
     except BrokenPipeError:
         status = 128 + signal.SIGPIPE
         hush()
-    except (programs.Fault, aiger.Fault, OSError) as error:
+    except (Fault, OSError) as error:
         programs.say(error)
         status = FAILED
         hush()

@@ -7,7 +7,7 @@ import concurrent.futures
 import itertools
 import shutil
 
-from aigprove import aiger, plain, witness
+from aigprove import aiger, witness
 from aigprove.programs import Fault, Folder, Sealed, ending
 from aigprove.questions import Question
 
@@ -40,7 +40,6 @@ class Steps(Asking):
     """Asks about step 0, 1 and so on, up to the bound; while proofs are checked the next question is asked."""
 
     def run(self):
-        """Asks step by step."""
         # Steps that unit propagation is tried on, and claims that are being checked.
         self.tried, self.checking, propagates = {}, collections.deque(), False
         with concurrent.futures.ThreadPoolExecutor(CHECKS) as self.checker:
@@ -55,7 +54,7 @@ class Steps(Asking):
 
     def propagation(self, k):
         """That unit propagation finds that no bad state is reached at step k."""
-        return self.source.step(Question("query", k), self.judge.empty_clause)
+        return self.source.unsolvable(Question("query", k), self.judge.empty_clause)
 
     def propagates(self, k, ahead):
         """Whether unit propagation finds that no bad state is reached at step k, while so many steps further on are tried."""
@@ -76,7 +75,7 @@ class Steps(Asking):
         has_solution, given = self.solver.ask(question, self.source.asked)
         if not has_solution:
             self.finish(CHECKS - 1)
-            claim = self.source.step(question, given)
+            claim = self.source.unsolvable(question, given)
             self.checking.append((question.k, claim, self.checker.submit(self.judge.check, claim)))
             return False
         self.finish()
@@ -95,7 +94,6 @@ class Bounded(Asking):
     """Asks one question about all steps up to K, where K is 1, 2, 4 and so on, and the bound; then for the least step by halves."""
 
     def run(self):
-        """Asks about more and more steps."""
         shown = -1
         for k in self.steps():
             if run := self.reaches(k):
@@ -105,7 +103,6 @@ class Bounded(Asking):
         self.race.bound_reached()
 
     def steps(self):
-        """The steps up to which it asks."""
         bound = self.race.bound
         yield from itertools.takewhile(lambda k: bound is None or k < bound, (1 << i for i in itertools.count()))
         yield bound
@@ -117,7 +114,7 @@ class Bounded(Asking):
         has_solution, given = self.solver.ask(question, self.source.asked)
         if has_solution:
             return self.judge.witness(self.source.asked, question, given)
-        claim = self.source.steps(question, given)
+        claim = self.source.unsolvable(question, given)
         self.judge.check(claim)
         self.race.step(k, claim, self.source.prefix)
         return None
@@ -131,7 +128,6 @@ class Bounded(Asking):
         return run
 
     def last(self, run):
-        """The last step of a witness."""
         header = self.race.circuit.header
         return len(witness.read(aiger.Lines(run, "WITNESS"), header.latches, header.inputs).steps) - 1
 
@@ -140,20 +136,18 @@ class Windows(Asking):
     """Asks about windows of K + 2 steps, where K is 0 or a power of two: all, and then those on which no state comes twice."""
 
     def run(self):
-        """Asks about longer and longer windows."""
         for k in powers(self.race.bound):
             for form in self.forms(k):
                 self.race.progress("window", k)
                 question = Question("window", k, form)
                 has_solution, given = self.solver.ask(question, self.source.asked)
                 if not has_solution:
-                    claim = self.source.window(question, given)
+                    claim = self.source.unsolvable(question, given)
                     self.judge.check(claim)
                     self.race.window(k, claim)
                     return
 
     def forms(self, k):
-        """The forms of windows that are asked about."""
         latches = self.race.circuit.header.latches
         return [(), ("distinct",)] if latches and latches * (k + 2) * (k + 2) <= PAIRS else [()]
 
@@ -168,7 +162,6 @@ class Abc:
             raise Missing(f"none of {', '.join(ABCS)} is installed")
 
     def run(self):
-        """Runs it, and hands in what it found."""
         self.race.progress(self.name)
         self.plain = self.race.plain
         command = COMMANDS[self.name].format(steps=0 if self.race.bound is None else self.race.bound + 1)
@@ -192,14 +185,12 @@ class Abc:
             return None
 
     def hand_in_run(self, found):
-        """Hands in the run that a counterexample tells."""
         reached = witness.reached(self.race.circuit, *self.plain.run(found))
         if reached is None:
             raise Fault("its counterexample reaches no bad state")
         self.race.hand_in_run(reached.text().encode())
 
     def hand_in_invariant(self, invariant):
-        """Hands in the certificate of an invariant."""
         made = self.plain.certificate(invariant)
         if made is None:
             raise Fault("its invariant isn't one of the machine")
@@ -229,7 +220,6 @@ class Run:
         self.race, self.data = race, data
 
     def run(self):
-        """Has the run checked, and hands it in."""
         if self.data.startswith((b"1\nb", b"c")):
             self.race.hand_in_run(self.data)
             return

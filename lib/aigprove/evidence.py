@@ -46,7 +46,6 @@ class Evidence:
                 out.write(file.bytes())
 
     def add(self, *words):
-        """Adds a line to the script."""
         self.lines.append(shlex.join(words) + "\n")
 
     def shows(self, claim):
@@ -61,7 +60,6 @@ class Evidence:
         self.add("makes", name, *words)
 
     def end(self):
-        """Writes the script."""
         path = os.path.join(self.folder, "check.sh")
         with open(path, "x", encoding="utf-8") as out:
             out.writelines(self.lines)

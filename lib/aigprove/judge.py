@@ -37,7 +37,6 @@ class Judge:
         return self.output(self.aigtool, "text", file).encode("ascii", "surrogateescape")
 
     def made(self, command, *files):
-        """The file that aigedit makes of others."""
         return Sealed(self.output(self.aigedit, command, *files).encode("ascii", "surrogateescape"))
 
     def print_question(self, question, file, out):
@@ -60,7 +59,6 @@ class Judge:
         return self.refusal(claim) is None
 
     def check(self, claim):
-        """Has a claim checked."""
         if why := self.refusal(claim):
             raise Fault(why)
 

@@ -45,7 +45,6 @@ class Gates:
         return literals[0]
 
     def choice(self, condition, left, right):
-        """The literal of an if-then-else."""
         return self.both(self.both(condition, left) ^ 1, self.both(condition ^ 1, right) ^ 1) ^ 1
 
 

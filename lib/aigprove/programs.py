@@ -15,6 +15,8 @@ import tempfile
 import threading
 import time
 
+from aigprove.aiger import Fault
+
 # No write, no other length, and no seal less.
 SEALS = fcntl.F_SEAL_WRITE | fcntl.F_SEAL_GROW | fcntl.F_SEAL_SHRINK | fcntl.F_SEAL_SEAL
 SUBREAPER = 36
@@ -24,10 +26,6 @@ TURN = 0.5
 PART = 4
 # How many files an engine may write.
 FILES = 1000
-
-
-class Fault(Exception):
-    """Why there is no answer."""
 
 
 class Stopped(Exception):
@@ -72,7 +70,6 @@ class Sealed:
         os.close(self.descriptor)
 
     def bytes(self):
-        """The bytes."""
         with open(self.path, "rb") as file:
             return file.read()
 
@@ -96,7 +93,6 @@ class Group:
         self.process = subprocess.Popen(words, cwd=folder, env=environment, start_new_session=True, stdin=subprocess.DEVNULL, **streams)
 
     def signal(self, number):
-        """Sends a signal to all of it."""
         signal_group(self.process.pid, number)
 
 
@@ -275,11 +271,9 @@ class Folder:
             os.rmdir(self.path)
 
     def place(self, name):
-        """The path of a file in it."""
         return os.path.join(self.path, name)
 
     def make(self, name):
-        """A new file in it, to be written."""
         return open(self.place(name), "xb")
 
     def run(self, programs, words):
@@ -325,5 +319,4 @@ class Folder:
             return Sealed(file)
 
     def text(self, name, what):
-        """The text of a file that a program left in it."""
         return self.taken(name, what).bytes().decode("utf-8", "replace")

@@ -16,7 +16,6 @@ class Question(collections.namedtuple("Question", "command k form", defaults=[()
 
     @property
     def name(self):
-        """The name of its proof."""
         return "-".join([{"query": "step", "bounded": "steps", "window": "window"}[self.command], str(self.k), *self.form])
 
 

@@ -46,16 +46,13 @@ class Race:
 
     @functools.cached_property
     def circuit(self):
-        """The circuit of the file, as aigtool prints it."""
         return aiger.Circuit(aiger.Lines(self.text, "FILE"))
 
     @functools.cached_property
     def plain(self):
-        """The machine as every model checker reads it."""
         return plain.Plain(self.circuit)
 
     def needs_solver(self):
-        """The solver."""
         if not self.words.solver:
             raise Missing("cadical is not installed")
         return Solver(self.words.solver, self.programs, self.judge, self.above)
@@ -71,12 +68,10 @@ class Race:
         self.events.put(lambda: self.print_step(k, claim, prefix))
 
     def window(self, k, claim):
-        """Takes a window that was checked."""
         self.shown_window = k, claim
         self.events.put(self.print_induction)
 
     def certificate(self, claim):
-        """Takes a certificate that was checked."""
         self.events.put(lambda: self.print_safe(claim))
 
     def hand_in_run(self, data):

@@ -65,7 +65,6 @@ class Shown:
         return " ".join([f"{label}:", *shown])
 
     def lines(self, witness):
-        """The lines that show the values of a run."""
         yield self.values("start", "l", witness.start)
         for t, inputs in enumerate(witness.steps):
             yield self.values(f"step {t}", "i", inputs)

@@ -13,6 +13,12 @@ from aigprove.verilog import Design
 VERILOG = (".v", ".sv")
 # How many outputs that differ are named.
 NAMED = 100
+# By the command of a question: what aigcheck prints where that has no solution, and by which words.
+CLAIMS = {
+    "query": ["no bad state at step {}", "refuted"],
+    "bounded": ["no bad state up to step {}", "refuted", "to"],
+    "window": ["no bad state at any step, if none up to step {}", "inductive"],
+}
 
 
 class Given:
@@ -35,7 +41,6 @@ class Given:
         return Circuit(Lines(self.file.bytes(), "FILE"))
 
     def keep(self, evidence):
-        """Keeps the file, and its design."""
         evidence.put(self.name, self.file)
         if self.design:
             evidence.put(self.name[:-3] + self.path.rpartition(".")[2], Sealed(read(self.path)))
@@ -52,19 +57,11 @@ class Asked:
         """What aigcheck says of the file."""
         return Claim(line, [command, self.name, *words], {self.name: self.asked, **files})
 
-    def step(self, question, proof):
-        """That no bad state is reached at a step."""
-        return self.claim(f"no bad state at step {question.k}", "refuted", [str(question.k), question.name], {question.name: proof})
-
-    def steps(self, question, proof):
-        """That none is reached at the steps up to one."""
-        words = ["to", str(question.k), question.name]
-        return self.claim(f"no bad state up to step {question.k}", "refuted", words, {question.name: proof})
-
-    def window(self, question, proof):
-        """That none is reached by windows from states that aren't bad."""
-        line = f"no bad state at any step, if none up to step {question.k}"
-        return self.claim(line, "inductive", [str(question.k), question.name, *question.form], {question.name: proof})
+    def unsolvable(self, question, proof):
+        """That a question has no solution, by a proof."""
+        line, command, *words = CLAIMS[question.command]
+        words += [str(question.k), question.name, *question.form]
+        return self.claim(line.format(question.k), command, words, {question.name: proof})
 
     def certified(self, certificate, base, step):
         """That none is reached at all, by a certificate and proofs about both."""
@@ -72,7 +69,6 @@ class Asked:
         return self.claim("no bad state at any step", "certified", files, files)
 
     def run(self, told, data):
-        """That a run reaches one."""
         return self.claim(f"b{told.bad} at step {len(told.steps) - 1}", "run", ["witness"], {"witness": data})
 
     def others(self, circuit, told):
@@ -113,7 +109,6 @@ class Source(Asked):
             return [f"yosys doesn't run it: {why}"]
 
     def keep(self, evidence):
-        """Keeps the file."""
         self.given.keep(evidence)
         if self.is_old:
             evidence.makes(self.name, self.asked, "bads", self.given.name)
@@ -129,8 +124,10 @@ class Pair(Asked):
         self.first, self.other = Given(path, top, above), Given(other, None, above, "other")
         self.asked = judge.made("miter", self.first.file, self.other.file)
 
-    def step(self, question, proof):
-        """That both are equal at a step."""
+    def unsolvable(self, question, proof):
+        """That a question has no solution: of a step, that both are equal there."""
+        if question.command != "query":
+            return super().unsolvable(question, proof)
         files = {self.first.name: self.first.file, self.other.name: self.other.file, question.name: proof}
         return Claim(f"equal at step {question.k}", ["equal", self.first.name, self.other.name, str(question.k), question.name], files)
 
@@ -166,7 +163,6 @@ class Pair(Asked):
         return f"a difference at step {len(tolds[0].steps) - 1}: {', '.join(names)}"
 
     def keep(self, evidence):
-        """Keeps both files and their miter."""
         self.first.keep(evidence)
         self.other.keep(evidence)
         evidence.makes(self.name, self.asked, "miter", self.first.name, self.other.name)
@@ -188,6 +184,6 @@ def is_old(line):
     """Whether a file's first line is of the time before bad state properties, with outputs that stand for them."""
     try:
         header = aiger.Header(Lines(line, "FILE"))
-    except aiger.Fault:
+    except Fault:
         return False
     return header.is_old and header.outputs > 0

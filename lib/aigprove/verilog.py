@@ -67,7 +67,6 @@ class Design:
         return next((name, it) for name, it in modules.items() if "top" in it["attributes"])
 
     def place(self, name):
-        """The path of a file in the folder."""
         return os.path.join(self.folder, name)
 
     def yosys(self, script, folder, **words):
