@@ -46,7 +46,7 @@ def numbers_of(bits):
 def multiplier(bits):
     """A file whose outputs are a product's bits: 10 gates for each pair of bits."""
     gates, a, b = numbers_of(bits)
-    return Machine(a + b, [], gates.product(a, b), [], [], [], [], gates, {}).text()
+    return Machine(a + b, outputs=gates.product(a, b), gates=gates).text()
 
 
 def multipliers(bits):
@@ -55,7 +55,7 @@ def multipliers(bits):
     bad = 0
     for one, other in zip(gates.product(a, b), gates.product(b, a)):
         bad = gates.either(bad, gates.differ(one, other))
-    return Machine(a + b, [], [], [bad], [], [], [], gates, {}).text()
+    return Machine(a + b, bads=[bad], gates=gates).text()
 
 
 def pipeline(gates):
@@ -69,7 +69,7 @@ def pipeline(gates):
         goes, stays = made.both(before, rng.choice(pool) ^ rng.randrange(2)), made.both(latch, rng.choice(pool) ^ 1)
         states.append((latch, made.either(goes, stays)))
     bad = functools.reduce(made.both, latches[-4:], 1)
-    return Machine(inputs, states, [], [bad], [], [], [], made, {}).text()
+    return Machine(inputs, states, bads=[bad], gates=made).text()
 
 
 def random_circuit(gates, inputs=1000, latches=1000, outputs=16):

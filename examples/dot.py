@@ -8,10 +8,10 @@ is open; a bold edge leads to it from its next value. An edge whose value is inv
 Exit status 0: printed. 1: not printed, with one line of why. 2: wrong words."""
 import argparse
 import json
-import os
+import pathlib
 import sys
 
-sys.path.insert(0, os.path.join(os.path.dirname(os.path.dirname(os.path.realpath(__file__))), "lib"))
+sys.path.insert(0, str(pathlib.Path(__file__).resolve().parent.parent / "lib"))
 
 from aigprove.aiger import Circuit, Fault, Lines
 
@@ -57,8 +57,7 @@ def parse():
 def main():
     words = parse()
     try:
-        with open(words.file, "rb") as file:
-            circuit = Circuit(Lines(file.read(), "FILE"))
+        circuit = Circuit(Lines(pathlib.Path(words.file).read_bytes(), "FILE"))
         if len(circuit.gates) > words.gates:
             raise Fault(f"FILE has {len(circuit.gates)} gates; --gates {len(circuit.gates)} draws them")
         print("\n".join(graph(circuit)))

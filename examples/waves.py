@@ -11,18 +11,13 @@ Nothing is judged: whether the run begins in a start, meets the constraints and 
 
 Exit status 0: printed. 1: not printed, with one line of why. 2: wrong words."""
 import argparse
-import os
+import pathlib
 import sys
 
-sys.path.insert(0, os.path.join(os.path.dirname(os.path.dirname(os.path.realpath(__file__))), "lib"))
+sys.path.insert(0, str(pathlib.Path(__file__).resolve().parent.parent / "lib"))
 
 from aigprove import waves, witness
 from aigprove.aiger import Circuit, Fault, Lines
-
-
-def read(path):
-    with open(path, "rb") as file:
-        return file.read()
 
 
 def positive(word):
@@ -42,8 +37,8 @@ def parse():
 
 def show(words):
     """Prints the dump, once both files were read."""
-    circuit = Circuit(Lines(read(words.file), "FILE"))
-    lines = Lines(read(words.witness), "WITNESS")
+    circuit = Circuit(Lines(pathlib.Path(words.file).read_bytes(), "FILE"))
+    lines = Lines(pathlib.Path(words.witness).read_bytes(), "WITNESS")
     for _ in range(words.number):
         told = witness.read(lines, len(circuit.latches), len(circuit.inputs))
     text = "".join(line + "\n" for line in waves.dump(circuit, told.start, told.steps))

@@ -16,19 +16,24 @@ AND = b"aag 3 2 0 1 1\n2\n4\n6\n6 4 2\n"
 BINARY_AND = b"aig 3 2 0 1 1\n6\n\x02\x02"
 
 
+def empty():
+    """A section that is empty where nothing is said."""
+    return dataclasses.field(default_factory=list)
+
+
 @dataclasses.dataclass
 class Machine:
     """The sections of a file, gates above their operands, sets of justice as lists, and names by their places, as i0 and l0."""
 
     inputs: list
-    latches: list
-    outputs: list
-    bads: list
-    constraints: list
-    justice: list
-    fairness: list
-    gates: list
-    names: dict
+    latches: list = empty()
+    outputs: list = empty()
+    bads: list = empty()
+    constraints: list = empty()
+    justice: list = empty()
+    fairness: list = empty()
+    gates: list = empty()
+    names: dict = dataclasses.field(default_factory=dict)
 
     def header(self, form, most=None, all_counts=False):
         """The header line: with this greatest variable, and with all counts or up to the last that has to be there."""
@@ -142,4 +147,4 @@ def machine_of(text):
     """The machine of a text file, whose last line may lack its end, without its names; each latch has a reset."""
     it = Circuit(Lines(text.removesuffix("\n").encode() + b"\n", "FILE"))
     latches = [list(row) for row in zip(it.latches, it.nexts, it.resets)]
-    return Machine(it.inputs, latches, it.outputs, it.bads, it.constraints, it.justice, it.fairness, it.gates, {})
+    return Machine(it.inputs, latches, it.outputs, it.bads, it.constraints, it.justice, it.fairness, it.gates)

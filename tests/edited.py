@@ -31,7 +31,7 @@ def random_machine(rng):
     most = 2 * (len(leaves) + gates) + 1
     states = [[leaf, rng.randint(0, most), rng.choice([0, 1, leaf])] for leaf in leaves[inputs:]]
     lists = (literals(rng, most, rng.randint(0, count)) for count in (3, 2, 2))
-    return Machine(leaves[:inputs], states, *lists, [], literals(rng, most, rng.randint(0, 1)), made, {})
+    return Machine(leaves[:inputs], states, *lists, fairness=literals(rng, most, rng.randint(0, 1)), gates=made)
 
 
 def reached(machine, asked):

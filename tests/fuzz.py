@@ -47,7 +47,7 @@ def made_machine(rng):
     states = [[2 * v, *some(1), *rng.choice([[], [0], [1], [2 * v]])] for v in range(inputs + 1, leaves + 1)]
     outputs, bads, constraints = (some(0, 0, 1, 2) for _ in range(3))
     justice = [some(0, 1, 2) for _ in range(rng.choice([0, 0, 1, 2]))]
-    made = Machine([2 * v for v in range(1, inputs + 1)], states, outputs, bads, constraints, justice, some(0, 0, 1), ands, {})
+    made = Machine([2 * v for v in range(1, inputs + 1)], states, outputs, bads, constraints, justice, some(0, 0, 1), ands)
     lists = [made.inputs, states, outputs, bads, constraints, justice]
     places = [f"{letter}{i}" for letter, one in zip("ilobcj", lists) for i in range(len(one)) if rng.random() < 0.3]
     rng.shuffle(places)

@@ -71,7 +71,8 @@ def changed(machine, rng):
     made = machine_of(machine.text())
     new = 2 * (len(made.inputs) + len(made.latches) + len(made.gates) + 1)
     made.gates.append([new, *sorted(rng.sample(range(2, new), 2), reverse=True)])
-    row, i = rng.choice([*((list, i) for list in (made.outputs, made.bads) for i in range(len(list))), *((row, 1) for row in made.latches)])
+    places = [(literals, i) for literals in (made.outputs, made.bads) for i in range(len(literals))]
+    row, i = rng.choice([*places, *((row, 1) for row in made.latches)])
     row[i] = new + rng.randrange(2)
     return made
 
@@ -86,7 +87,7 @@ class Pair(Files):
             # As ABC reads it: outputs alone, no latches or such that are 0 at first, no names.
             made, latches = self.machine, [[*row[:2], 0] for row in self.machine.latches]
             inputs, latches = (made.inputs + [row[0] for row in latches], []) if self.abc_command == "cec" else (made.inputs, latches)
-            self.machine = Machine(inputs, latches, made.outputs + made.bads, [], [], [], [], made.gates, {})
+            self.machine = Machine(inputs, latches, made.outputs + made.bads, gates=made.gates)
         self.file = self.put("file.aag", self.machine.text())
         self.other_machine = self.rewritten(rng) if self.abc_command and rng.random() < 0.7 else changed(self.machine, rng)
         self.other = self.put("other.aag", self.other_machine.text())

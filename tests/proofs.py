@@ -273,7 +273,7 @@ def random_formula(rng):
     for _ in range(round(inputs * rng.uniform(5, 6))):
         a, b, c = (2 * variable + rng.randrange(2) for variable in rng.sample(range(1, inputs + 1), 3))
         bad = gates.both(bad, gates.both(gates.both(a, b), c) ^ 1)
-    return Machine(list(range(2, gates.first, 2)), [], [], [bad], [], [], [], gates, {})
+    return Machine(list(range(2, gates.first, 2)), bads=[bad], gates=gates)
 
 
 class Trial(Files):

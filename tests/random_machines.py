@@ -62,7 +62,7 @@ def random_machine(rng):
     bads += [literal() for _ in range(rng.choice([0] * 7 + [1]))]
     places = [f"{letter}{i}" for letter, count in [("i", inputs), ("l", latches), ("b", len(bads))] for i in range(count)]
     names = {place: rng.choice(NAMES) for place in places if rng.random() < 0.7}
-    return Machine(leaves[:inputs], resets, [], bads, constraints, [], [], made, names)
+    return Machine(leaves[:inputs], resets, bads=bads, constraints=constraints, gates=made, names=names)
 
 
 def deep_machine(rng):

@@ -84,20 +84,22 @@ def parser():
     return it
 
 
-def found(name, given):
-    """The path of one of our programs: the one that is given, beside this script, built here, or in PATH."""
-    places = [given] if given else [os.path.join(TOP, "bin", name), os.path.join(TOP, "crates", name, "out", name), name]
+def program(places, missing):
+    """The path of the first of some programs that is there."""
     path = next(filter(None, map(shutil.which, places)), None)
     if path is None:
-        raise Fault(f"{given or name} is not there; tests/run builds it, and so does `rt run` in crates/{name}")
+        raise Fault(missing)
     return os.path.abspath(path)
+
+
+def believed(name, given):
+    """The path of one of our programs: the one that is given, beside this script, built here, or in PATH."""
+    places = [given] if given else [os.path.join(TOP, "bin", name), os.path.join(TOP, "crates", name, "out", name), name]
+    return program(places, f"{given or name} is not there; tests/run builds it, and so does `rt run` in crates/{name}")
 
 
 def engine(name):
-    path = shutil.which(name)
-    if path is None:
-        raise Fault(f"{name} is not there")
-    return os.path.abspath(path)
+    return program([name], f"{name} is not there")
 
 
 def parse(line):
@@ -106,7 +108,7 @@ def parse(line):
     given = words.certificate or words.run
     words.engines = words.engine or ([] if given else ENGINES)
     words.certificate, words.run = (path and read(path) for path in [words.certificate, words.run])
-    words.believed = [found(name, vars(words)[name]) for name in BELIEVED]
+    words.believed = [believed(name, vars(words)[name]) for name in BELIEVED]
     words.solver = words.solver or cadical()
     words.solver[:1] = map(engine, words.solver[:1])
     words.abc = words.abc and engine(words.abc)
