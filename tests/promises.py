@@ -229,34 +229,22 @@ class Code:
         return {home for home in homes if (home, name) in self.types}
 
 
-def is_call(part):
-    """Whether a part of what is exported, or a type, which has none, is of the calls."""
-    return part is None or not part.is_law
-
-
-def is_law(part):
-    """Whether it is a law."""
-    return not is_call(part)
-
-
-def promised_words(code, crates, takes=is_call):
-    """The words that the exported items of crates cite, and those of all types that they name."""
-    words, seen, todo = set(), set(), []
-    for exporter, (owner, name) in ((crate, item) for crate in crates for item in code.exports[crate]):
-        if not any((owner, name) in known for known in (code.functions, code.types, code.constants)):
-            raise ValueError(f"exported and not found: {name} of {exporter}")
-        for part in filter(takes, code.functions.get((owner, name), [])):
-            words |= part.words
-            todo += [(part.crate, used) for used in part.names]
-        if takes(None) and (owner, name) in code.types:
-            todo.append((owner, name))
+def promised_words(code, crates, laws=False):
+    """The words that the exported calls of crates cite, or their laws, and those of all types that they name."""
+    exported = [(crate, item) for crate in crates for item in code.exports[crate]]
+    for crate, item in exported:
+        if not any(item in known for known in (code.functions, code.types, code.constants)):
+            raise ValueError(f"exported and not found: {item[1]} of {crate}")
+    words, seen = set(), {item for _, item in exported if item in code.types and not laws}
+    todo = [part for _, item in exported for part in code.functions.get(item, ()) if part.is_law == laws]
+    todo += [part for item in seen for part in code.types[item]]
     while todo:
-        crate, name = todo.pop()
-        for owner in code.owners(crate, name):
-            for part in code.types[owner, name] if (owner, name) not in seen else ():
-                words |= part.words
-                todo += [(part.crate, used) for used in part.names]
-            seen.add((owner, name))
+        part = todo.pop()
+        words |= part.words
+        for name in part.names:
+            found = {(owner, name) for owner in code.owners(part.crate, name)} - seen
+            seen |= found
+            todo += [more for item in found for more in code.types[item]]
     return words
 
 
@@ -288,8 +276,8 @@ def layers():
     """What is promised, in layers: a title, the definitions of this layer and those before, and the words of std."""
     specs, code, found, std, out = Specs(), Code(), set(), set(), []
     of_laws = [crate for crate in code.crates if crate != SERVES_PROOFS]
-    for title, names, takes in [*((*calls, is_call) for calls in CALLS), (LAWS, of_laws, is_law)]:
-        more, of_std = closed(promised_words(code, names, takes), specs, code)
+    for title, names, laws in [*((*calls, False) for calls in CALLS), (LAWS, of_laws, True)]:
+        more, of_std = closed(promised_words(code, names, laws), specs, code)
         found, std = found | more, std | of_std
         out.append((title, found, std))
     return specs, code, out
