@@ -37,9 +37,8 @@ def run(*words, **how):
 
 def compile_crate(crate, to):
     """Proves and compiles the crate over the libraries below it as they lie there."""
-    missing = [dep.name for dep in crate.below() if not os.path.isdir(dep.rlib)]
-    if missing:
-        sys.exit(f"archive: run rt ci first: {missing[0]} isn't built, of {len(missing)}")
+    if stale := kit.stale(crate):
+        sys.exit(f"archive: run rt ci first: {stale[0]} isn't built as it is now, of {len(stale)}")
     if crate.compile(["--jobs", "1"], str(to)):
         sys.exit("archive: aig_c didn't build")
 

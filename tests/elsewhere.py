@@ -5,9 +5,8 @@ Makes FOLDER, or a new one that goes again, copies the crates that the caller of
 crates.txt, and the caller beside them, proves, builds and runs it there with `rt run`, and compares what it prints with its file
 stdout. Says how long that took. With --jobs N so many processors work on each crate, where rt takes two. Run by hand.
 
-With --proved the libraries that were built here are copied too, so that the caller alone is proved. `rt ci` leaves its libraries
-without the stamp by which other commands know the text of one, since they fit only those that they were built over. All come from one
-run where each is later than its text and than those below it; this fails where one isn't, and else stamps them in the new repository.
+With --proved the libraries that were built here are copied too, so that the caller alone is proved: those of `rt run`, or those of `rt ci`,
+which have no stamp (tests/kit.py), and get one in the new repository. This fails where one isn't of the text that is here.
 """
 import pathlib
 import shutil
@@ -22,23 +21,18 @@ from harness import TOP, crates, new_folder
 CALLER = TOP / "examples" / "caller"
 # Whose words its contracts cite, and whose items it calls.
 STANDS_ON = ["aig", "aig_base", "aig_circuit", "aig_encode", "aig_format", "aig_reader", "aig_runs", "aig_unroll"]
-TEXTS = ["src", "specs", "proofs"]
 
 
-def lines_below(names):
-    """The lines of crates.txt of these crates and of all that they stand on."""
-    lines, found, todo = crates(), set(), list(names)
-    while todo:
-        name = todo.pop()
-        if name in lines and name not in found:
-            found.add(name)
-            todo += lines[name].partition(":")[2].split()
-    return {name: line for name, line in lines.items() if name in found}
+def lines_of_needed():
+    """The lines of crates.txt of those crates and of all that they stand on."""
+    known = [kit.crate(TOP / "crates" / name, TOP) for name in STANDS_ON]
+    needed = {it.name for crate in known for it in [crate, *crate.below()]}
+    return {name: line for name, line in crates().items() if name in needed}
 
 
 def copy(folder):
     """The repository of the caller, with the files that it reads in the folder that it is run in; says which crates it has."""
-    lines = lines_below(STANDS_ON)
+    lines = lines_of_needed()
     for name in lines:
         shutil.copytree(TOP / "crates" / name, folder / "crates" / name, symlinks=True, ignore=shutil.ignore_patterns("out"))
     caller = folder / "crates" / "caller"
@@ -51,32 +45,13 @@ def copy(folder):
     return caller, len(lines)
 
 
-def built(name):
-    """The library of a crate here."""
-    return TOP / "crates" / name / "out" / "rlib" / f"{name}.rlib"
-
-
-def time_of(*paths):
-    """When the last of some files was written, those below a folder with it."""
-    return max(file.stat().st_mtime for path in paths for file in [path, *path.rglob("*")])
-
-
-def is_current(crate):
-    """Whether the library of a crate here is one of its text, by its stamp or by the times of files."""
-    library = built(crate.name)
-    stamp, texts = library.with_name("stamp"), [path for part in TEXTS if (path := TOP / "crates" / crate.name / part).is_dir()]
-    if stamp.exists():
-        return stamp.read_text() == crate.stamp()
-    return time_of(library) > time_of(*texts, *(built(it.name) for it in crate.deps))
-
-
 def copy_built(caller, folder):
     """Copies and stamps the libraries below the caller."""
     for crate in kit.crate(caller, folder).below():
-        library = built(crate.name)
-        if not library.is_dir() or not is_current(crate):
+        here = kit.crate(TOP / "crates" / crate.name, TOP)
+        if not kit.is_current(here):
             sys.exit(f"not proved here as it is now: crates/{crate.name}")
-        shutil.copytree(library, crate.rlib)
+        shutil.copytree(here.rlib, crate.rlib)
         pathlib.Path(crate.rlib).with_name("stamp").write_text(crate.stamp())
 
 

@@ -1,8 +1,14 @@
-"""The kit whose `rt` is found, and crates as it knows them."""
+"""The kit whose `rt` is found, crates as it knows them, and the libraries that it left.
+
+`rt ci` leaves its libraries without the stamp by which other commands know the text of one, since they fit only those that they were built
+over. All come from one run where each is later than its text and than those below it.
+"""
 import importlib
 import pathlib
 import shutil
 import sys
+
+TEXTS = ["src", "specs", "proofs"]
 
 
 def tools():
@@ -15,3 +21,22 @@ def crate(folder, top):
     """The crate of a folder in the repository at the top."""
     sys.path.insert(0, str(tools() / "bin"))
     return importlib.import_module("rtlib").Crate(str(folder), str(top), {})
+
+
+def time_of(*paths):
+    """When the last of some files was written, those below a folder with it."""
+    return max(file.stat().st_mtime for path in map(pathlib.Path, paths) for file in [path, *path.rglob("*")])
+
+
+def is_current(it):
+    """Whether a crate's library is there, and one of its text, by its stamp or by the times of files."""
+    library, folder = pathlib.Path(it.rlib), pathlib.Path(it.folder)
+    stamp = library.with_name("stamp")
+    if stamp.exists() or not all(pathlib.Path(crate.rlib).is_dir() for crate in [it, *it.deps]):
+        return it.is_built()
+    return time_of(library) > time_of(*(path for part in TEXTS if (path := folder / part).is_dir()), *(dep.rlib for dep in it.deps))
+
+
+def stale(it):
+    """The names of the crates below a crate whose libraries aren't current."""
+    return [crate.name for crate in it.below() if not is_current(crate)]
