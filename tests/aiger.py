@@ -50,11 +50,9 @@ class Machine:
         return [*self.outputs, *self.bads, *self.constraints, *sizes, *itertools.chain(*self.justice), *self.fairness]
 
     def name_lines(self):
-        """The lines of names."""
         return [f"{place} {name}" for place, name in self.names.items()]
 
     def text(self, **header):
-        """The text file."""
         rows = [" ".join(map(str, row)) for row in self.latches], [" ".join(map(str, row)) for row in self.gates]
         return joined([self.header("aag", **header), *self.inputs, *rows[0], *self.properties(), *rows[1], *self.name_lines()])
 
@@ -90,7 +88,6 @@ class Machine:
         return set(itertools.product(*([bool(reset)] if reset < 2 else [False, True] for reset in resets)))
 
     def is_bad(self, values):
-        """Whether a step is bad."""
         return any(values[literal] for literal in self.bads)
 
     def steps(self, state):
@@ -133,13 +130,11 @@ class Gates(list):
         self.first = 2 * (leaves + 1)
 
     def both(self, left, right):
-        """The literal of an and."""
         self.append((self.first + 2 * len(self), max(left, right), min(left, right)))
         return self[-1][0]
 
 
 def joined(lines):
-    """Lines as a text."""
     return "".join(f"{line}\n" for line in lines)
 
 

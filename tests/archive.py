@@ -25,7 +25,6 @@ BUILT = ["libaig.a", "libaig.so"]
 
 
 def names():
-    """The names of the calls, as the header declares them."""
     return re.findall(r"^uint32_t (\w+)\(", HEADER.read_text(encoding="utf-8"), re.M)
 
 

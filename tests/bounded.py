@@ -55,7 +55,6 @@ class Trial(Files):
         return self
 
     def compare_settled(self, clauses, said):
-        """Compares an answer that needs no solver."""
         self.counts["settled"] += 1
         if self.is_reached or clauses or harness.unnamed(said) != f"aigcheck: no bad state up to step {self.step}\n".encode():
             self.fail(f"settled: {clauses} {said}")

@@ -113,7 +113,6 @@ def exported(argument):
 
 
 def source(*path):
-    """The text of a file of the repository."""
     return TOP.joinpath(*path).read_text(encoding="utf-8")
 
 
@@ -141,7 +140,6 @@ class Clients:
             yield f"{program} {' '.join(words)}: {given[:300]}", program, printed, ended
 
     def check_c(self):
-        """Checks the rows from C."""
         calls = self.build_c("calls")
         for what, program, printed, given in self.run_rows(calls):
             self.tally.wants(f"C: {what}", told(program, printed), given)

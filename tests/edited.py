@@ -16,7 +16,6 @@ LAST = 4
 
 
 def literals(rng, most, count):
-    """Literals up to a greatest one."""
     return [rng.randint(0, most) for _ in range(count)]
 
 
@@ -73,13 +72,11 @@ class Edits:
         self.program, self.folder, self.tally = program, folder, tally
 
     def printed(self, *words):
-        """What a command prints."""
         status, out, said = harness.run([self.program, *words], cwd=self.folder)
         self.tally.check(status == 0, f"{words}: status {status}, {said}")
         return out.decode()
 
     def edited(self, *words):
-        """The machine of what a command prints."""
         return machine_of(self.printed(*words))
 
     def compare(self, what, wanted, given):

@@ -29,7 +29,6 @@ KINDS = ("aag ", "aig ")
 
 
 def page(name):
-    """The text of a page."""
     return (TOP / "docs" / name).read_text()
 
 

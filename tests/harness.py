@@ -123,7 +123,6 @@ def shim(source, folder):
 
 
 def write_files(folder, files):
-    """Writes files of these names and bytes."""
     for name, data in files.items():
         (folder / name).write_bytes(data)
 

@@ -89,7 +89,6 @@ def fixed(clauses, values):
 
 
 def holds(values, clauses):
-    """Whether a literal of each clause is true."""
     return all(any(literal // 2 in values and value(values, literal) for literal in clause) for clause in clauses)
 
 
@@ -228,7 +227,6 @@ def put(program, text, steps):
 
 
 def held(data):
-    """How bytes are printed."""
     return " ".join(map(str, data))
 
 

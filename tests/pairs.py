@@ -59,7 +59,6 @@ def is_inductive(machine):
 
 
 def with_outputs(rng):
-    """A random machine with outputs."""
     machine = random_machine(rng)
     literals = [0, *machine.inputs, *(row[0] for row in [*machine.latches, *machine.gates])]
     machine.outputs = [rng.choice(literals) + rng.randrange(2) for _ in range(rng.randint(1, 3))]
@@ -171,7 +170,6 @@ class Invariant(Files):
         return certificate, machine_of(Path(joint).read_text()), proofs
 
     def is_certified(self, certificate, proofs):
-        """Whether aigcheck takes a certificate."""
         return self.takes("no bad state at any step", "certified", self.file, certificate, *proofs)
 
     def compare(self):

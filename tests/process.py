@@ -93,7 +93,6 @@ class Room:
             self.holds(out, data)
 
     def holds(self, name, data):
-        """Checks what a file holds."""
         found = self.path(name).read_bytes() if self.path(name).is_file() else None
         self.check(found == data, f"{name!r} holds {found and found[:80]}")
 

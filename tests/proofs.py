@@ -32,13 +32,11 @@ class Clauses:
             self.add(number, clause)
 
     def add(self, number, clause):
-        """One more, under a number."""
         self.all[number] = clause
         for literal in clause:
             self.having[literal].add(number)
 
     def remove(self, number):
-        """One less."""
         for literal in self.all.pop(number):
             self.having[literal].discard(number)
 
@@ -74,7 +72,6 @@ class Clauses:
         return fixed
 
     def follow(self, clause):
-        """The hints by which a clause follows, or None."""
         return self.propagate([-literal for literal in clause])
 
 
@@ -87,7 +84,6 @@ class Formula:
         self.clauses = [tuple(map(int, words[:-1])) for words in lines]
 
     def has(self, literals):
-        """Whether its variables have these literals."""
         return all(abs(literal) <= self.variables for literal in literals)
 
     def is_in_conflict(self):
@@ -304,7 +300,6 @@ class Trial(Files):
         return Path(path).read_bytes()
 
     def is_taken(self, path):
-        """Whether aigcheck takes a proof."""
         return self.takes(f"no bad state at step {self.step}", "refuted", self.file, str(self.step), path)
 
     def compare(self, kind, proof, mangle):
@@ -316,14 +311,12 @@ class Trial(Files):
             self.compare_mangled(kind, mangle())
 
     def compare_mangled(self, kind, proof):
-        """Compares a mangled proof."""
         taken = is_taken(self.formula, proof)
         self.counts[f"{kind} mangled, {'taken' if taken else 'refused'}"] += 1
         if self.is_taken(self.put("mangled", proof)) != taken:
             self.fail(f"a mangled proof of {kind} is {'refused' if taken else 'taken'}:\n{proof}")
 
     def compare_lines(self, kind, lines):
-        """Compares a text."""
         self.compare(kind, text_of(lines).encode(), lambda: text_of(mangled(self.rng, lines, self.rng.randint(1, 3))).encode())
 
     def run(self):

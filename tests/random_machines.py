@@ -86,7 +86,6 @@ class Files:
         return str(self.folder / name)
 
     def fail(self, why):
-        """Ends with the files that show a fault."""
         sys.exit(f"{why}\n" + "\n".join(f"{path.name}:\n{path.read_text()}" for path in self.folder.glob("*.aag")))
 
     def proof(self, text, name):
@@ -207,7 +206,6 @@ class Trial(Files):
         return names[place] == (json.loads(given) if given[0] == '"' else given)
 
     def is_taken(self, witness):
-        """Whether `aigcheck run` takes a witness."""
         return self.takes(f"b{witness.bad} at step {len(witness.steps) - 1}", "run", self.text, self.put("given", witness.text()))
 
     def compare_witness(self, witness, fits):
@@ -278,7 +276,6 @@ def mangled(rng, lines, count, others=()):
 
 
 def text_of(lines):
-    """The text of lines of words."""
     return "".join(" ".join(line) + "\n" for line in lines)
 
 

@@ -72,7 +72,6 @@ class Run:
         self.environment = {**os.environ, "TMPDIR": str(self.temporary), "FOLDER": str(folder)}
 
     def start(self, words, stdout=subprocess.PIPE, stderr=subprocess.PIPE):
-        """Starts a program."""
         streams = {"stdout": stdout, "stderr": stderr, "encoding": "ascii", "errors": "backslashreplace"}
         return subprocess.Popen(words, cwd=self.folder, env=self.environment, **streams)
 
@@ -108,7 +107,6 @@ def running(file, solver="exit 3", abc="exit 3", files={}):
 
 
 def asked(options, *run):
-    """What a run with these options gives."""
     with running(*run) as made:
         return made.result(options)
 
