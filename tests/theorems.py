@@ -49,13 +49,9 @@ def row_of(calls, specs, items, clauses, common):
     return ", ".join(link for link in links if link not in common), wrong
 
 
-def main():
-    option = (sys.argv[1:] or [""])[0]
-    if option not in ("", "--write"):
-        sys.exit(__doc__)
-    specs, code = promises.Specs(), promises.Code()
-    calls, needed = calls_of(code)
-    text, told, wrong, lines = PAGE.read_text(), set(), [], []
+def filled(text, calls, specs):
+    """The lines of the page with its last column filled, the items with clauses that its rows tell, and what is wrong with these."""
+    lines, told, wrong = [], set(), []
     common = re.findall(r"\[`[^`]+`\]\([^)]+\)", text.partition("\n|")[0])
     for line in text.split("\n"):
         cells = [cell.strip() for cell in line.split("|")[1:-1]]
@@ -68,6 +64,16 @@ def main():
             told |= {(item, clause) for item in items for clause in clauses}
             line = f"| {' | '.join(cells)} |"
         lines.append(line.replace("|  |", "| |"))
+    return lines, told, wrong
+
+
+def main():
+    option = (sys.argv[1:] or [""])[0]
+    if option not in ("", "--write"):
+        sys.exit(__doc__)
+    text, specs, code = PAGE.read_text(), promises.Specs(), promises.Code()
+    calls, needed = calls_of(code)
+    lines, told, wrong = filled(text, calls, specs)
     for crate, item, own in needed:
         for clause in (clause for part in calls[own] for clause in part.ensures):
             if not {(item, clause), (f"{crate}::{item}", clause)} & told:
