@@ -23,16 +23,17 @@ CALLER = TOP / "examples" / "caller"
 STANDS_ON = ["aig", "aig_base", "aig_circuit", "aig_encode", "aig_format", "aig_reader", "aig_runs", "aig_unroll"]
 
 
-def lines_of_needed():
-    """The lines of crates.txt of those crates and of all that they stand on."""
-    known = [kit.crate(TOP / "crates" / name, TOP) for name in STANDS_ON]
-    needed = {it.name for crate in known for it in [crate, *crate.below()]}
-    return {name: line for name, line in crates().items() if name in needed}
+def needed():
+    """The crates of those names and all that they stand on, by their names."""
+    known = {}
+    found = [kit.crate(TOP / "crates" / name, TOP, known) for name in STANDS_ON]
+    return {it.name: it for crate in found for it in [*crate.below(), crate]}
 
 
 def copy(folder):
     """The repository of the caller, with the files that it reads in the folder that it is run in; says which crates it has."""
-    lines = lines_of_needed()
+    known = needed()
+    lines = {name: line for name, line in crates().items() if name in known}
     for name in lines:
         shutil.copytree(TOP / "crates" / name, folder / "crates" / name, symlinks=True, ignore=shutil.ignore_patterns("out"))
     caller = folder / "crates" / "caller"
@@ -47,11 +48,11 @@ def copy(folder):
 
 def copy_built(caller, folder):
     """Copies and stamps the libraries below the caller."""
+    here = needed()
     for crate in kit.crate(caller, folder).below():
-        here = kit.crate(TOP / "crates" / crate.name, TOP)
-        if not kit.is_current(here):
+        if not kit.is_current(here[crate.name]):
             sys.exit(f"not proved here as it is now: crates/{crate.name}")
-        shutil.copytree(here.rlib, crate.rlib)
+        shutil.copytree(here[crate.name].rlib, crate.rlib)
         pathlib.Path(crate.rlib).with_name("stamp").write_text(crate.stamp())
 
 

@@ -3,6 +3,7 @@
 `rt ci` leaves its libraries without the stamp by which other commands know the text of one, since they fit only those that they were built
 over. All come from one run where each is later than its text and than those below it.
 """
+import functools
 import importlib
 import pathlib
 import shutil
@@ -17,10 +18,18 @@ def tools():
     return pathlib.Path(found).resolve().parent.parent if found else sys.exit("there is no rt")
 
 
-def crate(folder, top):
-    """The crate of a folder in the repository at the top."""
+@functools.cache
+def rtlib():
+    """The kit's own module, in which a crate's stamp, made of those below it, is made once."""
     sys.path.insert(0, str(tools() / "bin"))
-    return importlib.import_module("rtlib").Crate(str(folder), str(top), {})
+    found = importlib.import_module("rtlib")
+    found.Crate.stamp = functools.cache(found.Crate.stamp)
+    return found
+
+
+def crate(folder, top, known=None):
+    """The crate of a folder in the repository at the top, with those that are known already."""
+    return rtlib().Crate(str(folder), str(top), {} if known is None else known)
 
 
 def time_of(*paths):
