@@ -20,42 +20,17 @@ import harness
 from harness import PROVE, TOP, spelled
 
 PIECE = re.compile(r"\{([A-Z_]+)\}")
-
-# Bad at step 1, and a latch that keeps 0, which is never bad.
-TOGGLE = "aag 1 0 1 0 0 1\n2 3\n2\n"
-STUCK = "aag 1 0 1 0 0 1\n2 2\n2\n"
-# A latch that is 1 at first, which is bad, and then 0.
-GONE = "aag 1 0 1 0 0 1\n2 0 1\n2\n"
-# Bad where an input is 0 and 1, without latches.
-NEVER = "aag 2 1 0 0 1 1\n2\n4\n4 3 2\n"
-# Bad where its input is 1.
-PASSES = "aag 1 1 0 0 0 1\n2\n2\n"
-# Bad where the input is 1 at the step after one at which it was 1, from a latch that is open at first, and the constraint is the input.
-OPENED = "aag 3 1 1 0 1 1 1\n2\n4 2 4\n6\n2\n6 4 2\n"
-# The same, of the time before bad state properties.
-OLD = "aag 1 0 1 1 0\n2 3\n2\no0 high\n"
-SAFE = "'aag 1 0 1 0 0 1\\n2 2\\n2\\n'"
-# Says that the machine is another one, which is safe, in each file of the folder above and in each file in memory.
-FILES = f"for f in $(find .. -type f ! -name err); do printf {SAFE} > $f; done; "
-MEMORY = f"for f in /proc/$PPID/fd/*; do case $(readlink $f) in /memfd*) (printf {SAFE} > $f) 2> /dev/null;; esac; done; "
-REFUTES = "echo 0 > $2; exit 20"
-SOLVES = "echo 's SATISFIABLE'; echo 'v -1 -2 0'; exit 10"
-# An invariant that excludes nothing, and a counterexample of two steps.
-ANYTHING = "printf '.i 0\\n.o 1\\n.p 0\\n.ilb \\n.ob inv\\n.e\\n' > inv.pla"
-RUN = "printf '# COUNTEREXAMPLE LENGTH: 2\\nl0@0=0\\n# DONE\\n' > run"
-WITNESS = "1\nb0\n0\n\n\n.\n"
-FOLLOWS = "aigcheck: proof step does not follow"
-KEPT = "aigcheck: window: proof step does not follow"
-SAFE_LINE = "no bad state at any step\n"
-EQUAL = "equal at step 0\n"
-INDUCTION = "no bad state at any step, if none up to step 0\nno bad state at any step\n"
-REACHED = "a bad state at step 1: b0\nstart: l0=0\nstep 0:\nstep 1:\n"
+TABLES = harness.TESTS / "solvers"
+PIECES = dict(harness.rows(TABLES / "pieces.tsv"))
 
 
-def cells():
-    """The cells of each row of the table, with constants in the place of their names."""
-    for row in harness.rows(harness.TESTS / "solvers" / "rows.tsv"):
-        yield [PIECE.sub(lambda found: globals()[found[1]], cell) for cell in [*row, *[""] * 9][:9]]
+def filled(text):
+    """A cell with pieces in the place of their names."""
+    return PIECE.sub(lambda found: filled(PIECES[found[1]]), text)
+
+
+TOGGLE, REACHED = (spelled(PIECES[name]).decode() for name in ["TOGGLE", "REACHED"])
+FILES, REFUTES, SOLVES, ANYTHING, RUN = (filled(PIECES[name]) for name in ["FILES", "REFUTES", "SOLVES", "ANYTHING", "RUN"])
 
 
 class Run:
@@ -140,7 +115,8 @@ def compared(what, wanted, given):
 
 def answers():
     """What the rows give, and what is wanted."""
-    for options, status, printed, said, file, solver, abc, other, given in cells():
+    for row in harness.rows(TABLES / "rows.tsv"):
+        options, status, printed, said, file, solver, abc, other, given = [*map(filled, row), *[""] * 9][:9]
         wanted = int(status), spelled(printed).decode(), harness.repeated(said)
         files = {"other.aag": spelled(other), "given": spelled(given)}
         given = asked(options.split(), spelled(file), solver or "exit 3", abc or "exit 3", files)
@@ -173,8 +149,8 @@ def together():
     """Engines of which all but one lie, break or hang: the answer of that one comes, and the others are ended."""
     hang = "trap '' TERM INT; setsid sleep 1000 & sleep 1000"
     runs = [([], "sleep 1; " + SOLVES, abc) for abc in [
-        hang, ANYTHING, FILES + "kill -SEGV $$", "printf 'l0@0=0\\n' > run", "while :; do mkdir d; cd d; done"]]
-    runs += [(["--jobs", "1"], solver, f"sleep 1; {RUN}") for solver in [hang, "exit 0", FILES + REFUTES, "kill -KILL $$"]]
+        hang, ANYTHING, f"{FILES} kill -SEGV $$", "printf 'l0@0=0\\n' > run", "while :; do mkdir d; cd d; done"]]
+    runs += [(["--jobs", "1"], solver, f"sleep 1; {RUN}") for solver in [hang, "exit 0", f"{FILES} {REFUTES}", "kill -KILL $$"]]
     for options, *scripts in runs:
         status, out, _, left = asked(options, TOGGLE, *scripts)
         yield scripts, (10, REACHED, []), (status, out[-len(REACHED):], left)
