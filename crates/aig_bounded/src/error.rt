@@ -4,7 +4,6 @@ ghost use Rattle.std.specs.Prelude.{◌≡◌};
 ghost use Rattle.aig_bounded.specs.declared.error.BoundedError.TheVariants as errors;
 
 use aig_base::MemoryError;
-use std::alloc::{AllocError, AllocFailed};
 use thiserror::Error;
 
 /// Why there is no question.
@@ -22,22 +21,6 @@ impl From<MemoryError> for BoundedError {
     ghost from_gives = { λ _ r. r ≡ errors.Memory };
 
     fn from(_error: MemoryError) -> BoundedError {
-        BoundedError::Memory
-    }
-}
-
-impl From<AllocError> for BoundedError {
-    ghost from_gives = { λ _ r. r ≡ errors.Memory };
-
-    fn from(_error: AllocError) -> BoundedError {
-        BoundedError::Memory
-    }
-}
-
-impl<T: Drop> From<AllocFailed<T>> for BoundedError {
-    ghost from_gives = { λ _ r. r ≡ errors.Memory };
-
-    fn from(_error: AllocFailed<T>) -> BoundedError {
         BoundedError::Memory
     }
 }

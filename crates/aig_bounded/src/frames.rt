@@ -1,6 +1,8 @@
 //! The nodes of a question while it is made.
 
-ghost use Rattle.std.specs.Prelude.{◌≡◌, ◌≤◌, ◌&&◌, ◌||◌, ℕ, Bool, IfOk, OnOk, length};
+ghost use Rattle.std.specs.Prelude.{◌≡◌, ◌≤◌, ◌++◌, ◌∷◌, [], ◌&&◌, ◌||◌, ℕ, Bool, IfOk, OnOk, length};
+ghost use Rattle.aig_circuit.specs.declared.node.AigNodeType.TheVariants.{Leaf};
+ghost use Rattle.aig_circuit.specs.Build.{with_node};
 ghost use Rattle.aig_circuit.specs.Circuit.{AreNodes, Circuit, IsInRange};
 ghost use Rattle.aig_circuit.specs.Tree.{edge_value};
 ghost use Rattle.aig_bounded.specs.Apart.{differ};
@@ -53,15 +55,31 @@ impl Frames {
         })
     }
 
+    /// Appends a leaf, which is the input of this place, whatever the limit, and returns its number.
+    fn new_input(&mut self, place: Place) -> Result<usize, MemoryError>
+        requires { AreNodes self.old.nodes.items }
+        ensures number { IfOk result (λ id. id ≡ length self.old.nodes.items) }
+        ensures nodes { OnOk result (self.new.nodes.items ≡ with_node self.old.nodes.items Leaf) }
+        ensures inputs { OnOk result (self.new.inputs.items
+            ≡ self.old.inputs.items ++ length self.old.nodes.items ∷ []) }
+        ensures places { OnOk result (self.new.places.items
+            ≡ self.old.places.items ++ place ∷ []) }
+        ensures limit { self.new.limit ≡ self.old.limit }
+        ensures start { self.new.start ≡ self.old.start }
+    {
+        let id = new_leaf_node(&mut self.nodes)?;
+        self.inputs.push(id)?;
+        self.places.push(place)?;
+        Ok(id)
+    }
+
     /// Adds a leaf, which is the input of this place.
     pub(crate) fn open(&mut self, place: Place) -> Result<AigEdge, BoundedError>
         requires { AreNodes self.old.nodes.items }
         ensures opens { IfOk result (Opens self.old self.new place) }
         ensures size { AddsUpTo 1 self.old self.new result }
     {
-        let id = new_leaf_node(&mut self.nodes)?;
-        self.inputs.push(id)?;
-        self.places.push(place)?;
+        let id = self.new_input(place)?;
         if self.nodes.len() > self.limit {
             return Err(BoundedError::TooLarge);
         }

@@ -392,6 +392,13 @@ fn start_states(
     Ok(states)
 }
 
+/// Room for so many images, none of which is made yet.
+fn blank_images(alloc: Global, count: usize) -> Result<Vec<AigEdge>, MemoryError>
+    ensures { IfOk result (λ images. length images.items ≡ count) }
+{
+    Ok(vec![in alloc; AigEdge::constant(false); count]?)
+}
+
 /// The nodes of the steps 0 to `last`, and the edge that is true where the run is as sought.
 pub(crate) fn expanded(
     alloc: Global,
@@ -414,7 +421,7 @@ pub(crate) fn expanded(
 {
     let count = circuit.nodes().len();
     let depths = depths(alloc, circuit, sought, last)?;
-    let mut images = vec![in alloc; AigEdge::constant(false); count]?;
+    let mut images = blank_images(alloc, count)?;
     let mut states = start_states(alloc, circuit, start)?;
     let mut frames = Frames::new(alloc, limit, start)?;
     let output = frames.add_asked(
