@@ -15,15 +15,17 @@ ghost use Rattle.aig_circuit.specs.Circuit.{IsClosed};
 ghost use Rattle.aig_format.specs.Writable.{IsWritable};
 ghost use Rattle.aig.specs.Reading.{IsFileCircuit};
 ghost use Rattle.aig.specs.Writing.{IsRefusal, IsVerdictOf};
+ghost use Rattle.aig.specs.Opened.{ReadsFile, WritesFile};
 ghost use Rattle.aig.specs.declared.aiger.WriteError.TheVariants as errors;
 
+use crate::files::{Makes, Opens, SystemFiles};
 use crate::graph::Aig;
-use aig_base::{FromRead, MemoryError, Sink, Source, StreamFault, ToWrite};
+use aig_base::{MemoryError, Sink, Source, StreamFault};
 use aig_reader::ReadError;
 use std::alloc::Global;
+use std::fmt;
 use std::path::Path;
 use std::rt::Files;
-use std::{fmt, fs};
 use thiserror::Error;
 
 /// Why a circuit isn't written.
@@ -66,16 +68,6 @@ impl From<StreamFault> for WriteError {
     fn from(_fault: StreamFault) -> WriteError {
         WriteError::Stream
     }
-}
-
-/// Makes the file of a path anew.
-fn create_file<R: Files>(rt: &R, f: Path<'_>) -> Result<ToWrite<R::File>, WriteError>
-    ensures { IfErr result (λ e. e ≡ WriteError.Open) }
-{
-    let Ok(file) = fs::create(rt, f) else {
-        return Err(WriteError::Open);
-    };
-    Ok(ToWrite::new(file))
 }
 
 impl Aig {
@@ -165,9 +157,28 @@ impl Aig {
         // The limit is on its nodes.
         ensures few { IfOk result (λ aig. length aig.nodes ≤ limit) }
     {
-        match fs::open(rt, f) {
-            Ok(file) => Aig::from_aiger(alloc, &mut FromRead::new(file), limit),
-            Err(_) => Err(ReadError::Open),
+        Aig::read_file(alloc, &SystemFiles::new(rt), f.as_str(), limit)
+    }
+
+    /// The circuit of the file of a path.
+    fn read_file<F: Opens>(
+        alloc: Global,
+        files: &F,
+        path: &str,
+        limit: usize,
+    ) -> Result<Aig, ReadError>
+        requires some { 1 ≤ limit }
+        requires few { limit ≤ 2 ^ 31 }
+        ensures circuit { IfOk result (λ aig. (file : File) × (bytes : List ℕ)
+            × Accepts bytes limit file × (aig ≡ circuit_of file)) }
+        ensures few { IfOk result (λ aig. length aig.nodes ≤ limit) }
+        // The answer is that to the bytes of the file that was opened, or Open where none can be.
+        ensures reads { ReadsFile F.File.left F.File.failed (F.opens path.now files.now) limit
+            result }
+    {
+        match files.open(path) {
+            Ok(mut file) => Aig::from_aiger(alloc, &mut file, limit),
+            Err(error) => Err(error),
         }
     }
 
@@ -266,47 +277,24 @@ impl Aig {
         // Of the text form Memory is never answered.
         ensures no_memory { ascii ≡ true → IsErrOf result WriteError.Memory → ⊥ }
     {
+        self.write_file(&mut SystemFiles::new(rt), f.as_str(), ascii)
+    }
+
+    /// Writes a form to the file of a path, which is made once only the write can fail.
+    fn write_file<M: Makes>(&self, files: &mut M, path: &str, ascii: bool) -> Result<(), WriteError>
+        ensures tells { IsVerdictOf self.now result }
+        ensures no_memory { ascii ≡ true → IsErrOf result WriteError.Memory → ⊥ }
+        // The whole form was written to the file that was made of the path, or a beginning and then it failed.
+        ensures writes { let form = if ascii then text_of self.now else binary_of self.now in
+            WritesFile M.File.held M.File.failed (M.makes path.now) (M.closes path.now)
+            files.old result form files.new }
+    {
         self.check_writable()?;
         let numbers = self.form_numbers(ascii)?;
-        self.write_file(rt, f, ascii, &numbers)
-    }
-
-    /// Makes the file of a path anew, and writes a form to it. The table of new numbers is there
-    /// before the file is made.
-    fn write_file(
-        &self,
-        rt: &impl Files,
-        f: Path<'_>,
-        ascii: bool,
-        numbers: &[usize],
-    ) -> Result<(), WriteError>
-        requires closed { IsClosed self.now }
-        requires few { length self.now.nodes ≤ 2 ^ 31 }
-        requires numbers { ascii ≡ false → IsBinaryNumbering self.now numbers.now }
-        ensures faults { IfErr result (λ e. (e ≡ WriteError.Open) ⊎ (e ≡ WriteError.Stream)) }
-    {
-        self.write_made(create_file(rt, f), ascii, numbers)
-    }
-
-    /// Writes a form to a file that was made, if one was.
-    fn write_made<W: Sink + Drop>(
-        &self,
-        made: Result<W, WriteError>,
-        ascii: bool,
-        numbers: &[usize],
-    ) -> Result<(), WriteError>
-        requires closed { IsClosed self.now }
-        requires few { length self.now.nodes ≤ 2 ^ 31 }
-        requires numbers { ascii ≡ false → IsBinaryNumbering self.now numbers.now }
-        ensures open { IfErr made (λ e. result ≡ Err e) }
-        // The whole form was written to it, or a beginning and then it failed.
-        ensures writes { IfOk made (λ file.
-            let form = if ascii then text_of self.now else binary_of self.now in
-            (written : W) × WritesOrStops W.held W.failed file result form written) }
-        ensures stream { IfOk made (λ _. IfErr result (λ e. e ≡ WriteError.Stream)) }
-    {
-        let mut file = made?;
-        Ok(self.write_form(&mut file, ascii, numbers)?)
+        let mut file = files.make(path)?;
+        let written = self.write_form(&mut file, ascii, &numbers);
+        files.close(path, file);
+        Ok(written?)
     }
 
     /// The table of new numbers that a form is written through: none for the text form.

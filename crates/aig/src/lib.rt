@@ -3,6 +3,7 @@
 
 mod aiger;
 mod cnf;
+mod files;
 mod graph;
 mod others;
 mod strash;
