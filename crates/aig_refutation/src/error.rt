@@ -4,7 +4,7 @@ ghost use Rattle.std.specs.Prelude.{◌≡◌};
 ghost use Rattle.aig_refutation.specs.declared.error.RefutationError.TheVariants as errors;
 
 use aig_base::{MemoryError, StreamFault};
-use std::alloc::{AllocError, AllocFailed};
+use std::alloc::AllocFailed;
 use thiserror::Error;
 
 /// Why a proof doesn't show that clauses can't be satisfied.
@@ -61,14 +61,6 @@ impl From<MemoryError> for RefutationError {
     ghost from_gives = { λ _ r. r ≡ errors.Memory };
 
     fn from(_error: MemoryError) -> RefutationError {
-        RefutationError::Memory
-    }
-}
-
-impl From<AllocError> for RefutationError {
-    ghost from_gives = { λ _ r. r ≡ errors.Memory };
-
-    fn from(_error: AllocError) -> RefutationError {
         RefutationError::Memory
     }
 }
