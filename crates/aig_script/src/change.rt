@@ -4,7 +4,7 @@ use crate::script::{Refusal, Script};
 use crate::show::{call, print, print_answer, print_map};
 use crate::words::{Line, find};
 use aig::Aig;
-use aig_base::VarVMap;
+use aig_base::{MemoryError, VarVMap};
 use std::alloc::Global;
 use std::io::Print;
 use std::mem;
@@ -65,6 +65,11 @@ fn unroll(script: &mut Script) -> Result<(), Refusal> {
     Ok(script.circuit.unroll(&script.kept)?)
 }
 
+/// A copy of a circuit.
+fn copied(aig: &Aig) -> Result<Aig, MemoryError> {
+    Ok(aig.clone()?)
+}
+
 /// The circuit that is made of another.
 fn made(alloc: Global, aig: &Aig, making: &Making, numbers: &[usize]) -> Result<Aig, Refusal> {
     let made = match making {
@@ -83,7 +88,7 @@ fn alter(script: &mut Script, step: &Change, numbers: &[usize]) -> Result<(), Re
         Change::Make(making) => {
             script.circuit = made(script.alloc, &script.circuit, making, numbers)?;
         }
-        Change::Keep => script.kept = script.circuit.clone()?,
+        Change::Keep => script.kept = copied(&script.circuit)?,
         Change::Swap => mem::swap(&mut script.circuit, &mut script.kept),
         Change::Unroll => unroll(script)?,
         Change::Merge => script.circuit.merge(&script.kept)?,

@@ -5,7 +5,7 @@ ghost use Rattle.std.specs.Prelude.{◌≡◌, ◌∷◌, [], IfOk};
 use crate::script::{Fault, Refusal};
 use crate::show::{call, print, print_answer, print_clauses, print_dag, print_map};
 use crate::words::{Line, find};
-use aig_base::{DagCnf, Lit, LitVvec, Var, VarVMap};
+use aig_base::{DagCnf, Lit, LitVvec, MemoryError, Var, VarVMap};
 use std::alloc::Global;
 use std::io::Print;
 
@@ -75,12 +75,17 @@ fn variable(number: usize) -> Result<Var, Refusal> {
     Ok(Var::new(number))
 }
 
+/// Appends a literal.
+fn append(lits: &mut Vec<Lit>, lit: Lit) -> Result<(), MemoryError> {
+    Ok(lits.push(lit)?)
+}
+
 /// The literals of numbers.
 fn lits(alloc: Global, numbers: &[usize]) -> Result<Vec<Lit>, Refusal> {
     let mut lits = Vec::new(alloc);
     for number in numbers {
         match u32::try_from(*number) {
-            Ok(number) => lits.push(Lit::from(number))?,
+            Ok(number) => append(&mut lits, Lit::from(number))?,
             Err(_) => return Err(Refusal::NotAllowed),
         }
     }

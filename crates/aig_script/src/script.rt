@@ -2,7 +2,7 @@
 
 use aig::Aig;
 use aig_base::MemoryError;
-use std::alloc::{AllocError, AllocFailed, Global};
+use std::alloc::Global;
 use std::io;
 
 /// Why steps end.
@@ -18,18 +18,6 @@ pub(crate) enum Fault {
 
 impl From<MemoryError> for Fault {
     fn from(_error: MemoryError) -> Fault {
-        Fault::Memory
-    }
-}
-
-impl From<AllocError> for Fault {
-    fn from(_error: AllocError) -> Fault {
-        Fault::Memory
-    }
-}
-
-impl<T: Drop> From<AllocFailed<T>> for Fault {
-    fn from(_error: AllocFailed<T>) -> Fault {
         Fault::Memory
     }
 }
@@ -53,18 +41,6 @@ pub(crate) enum Refusal {
 
 impl From<MemoryError> for Refusal {
     fn from(_error: MemoryError) -> Refusal {
-        Refusal::Memory
-    }
-}
-
-impl From<AllocError> for Refusal {
-    fn from(_error: AllocError) -> Refusal {
-        Refusal::Memory
-    }
-}
-
-impl<T: Drop> From<AllocFailed<T>> for Refusal {
-    fn from(_error: AllocFailed<T>) -> Refusal {
         Refusal::Memory
     }
 }

@@ -6,7 +6,7 @@ use crate::script::{Refusal, Script};
 use crate::show::{call, print, print_answer};
 use crate::words::{Line, edge};
 use aig::{Aig, AigEdge, TernarySimulate};
-use aig_base::Lbool;
+use aig_base::{Lbool, MemoryError};
 use std::alloc::Global;
 use std::io::Print;
 
@@ -20,7 +20,7 @@ pub(crate) fn value(letter: u8) -> Lbool {
 }
 
 /// The values that a word spells, after an `=`.
-fn values(alloc: Global, word: &str) -> Result<Vec<Lbool>, Refusal> {
+fn values(alloc: Global, word: &str) -> Result<Vec<Lbool>, MemoryError> {
     let mut values = Vec::new(alloc);
     for letter in word.bytes().skip(1) {
         values.push(value(letter))?;
@@ -48,7 +48,7 @@ fn are_as_long(lists: &[Vec<Lbool>], count: usize) -> bool
 }
 
 /// The values that each of the words spells.
-fn steps(alloc: Global, words: &[&str]) -> Result<Vec<Vec<Lbool>>, Refusal> {
+fn steps(alloc: Global, words: &[&str]) -> Result<Vec<Vec<Lbool>>, MemoryError> {
     let mut steps = Vec::new(alloc);
     for word in words {
         steps.push(values(alloc, word)?)?;
@@ -116,6 +116,11 @@ fn print_values<R: Print>(rt: &R, circuit: &Aig, simulation: &TernarySimulate<'_
     let _ = println!(rt; "");
 }
 
+/// So many values that are true.
+fn ones(alloc: Global, count: usize) -> Result<Vec<Lbool>, MemoryError> {
+    Ok(vec![in alloc; Lbool::TRUE; count]?)
+}
+
 /// Prints the values of all nodes, and those of a further step with true inputs, which tell the state.
 fn print_state<R: Print>(
     rt: &R,
@@ -126,7 +131,7 @@ fn print_state<R: Print>(
 {
     let circuit = &script.circuit;
     print_values(rt, circuit, simulation);
-    let inputs = vec![in script.alloc; Lbool::TRUE; circuit.inputs().len()]?;
+    let inputs = ones(script.alloc, circuit.inputs().len())?;
     step(circuit, simulation, inputs)?;
     print_values(rt, circuit, simulation);
     Ok(())

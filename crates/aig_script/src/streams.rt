@@ -7,7 +7,7 @@ use crate::script::{Refusal, Script};
 use crate::show::{print, print_answer};
 use crate::words::{Line, find};
 use crate::writing::taker_of;
-use aig_base::{FromRead, Parts, Sink, Source, StreamFault, ToWrite};
+use aig_base::{FromRead, MemoryError, Parts, Sink, Source, StreamFault, ToWrite};
 use aig_lexer::{InputBuffer, LexError, delta, ended, header_line, pair};
 use std::alloc::Global;
 use std::fs;
@@ -43,6 +43,16 @@ fn print_pull<R: Print, S: Source>(rt: &R, source: &mut S, buf: &mut [u8]) {
     }
 }
 
+/// Room for so many bytes.
+fn room(alloc: Global, size: usize) -> Result<Vec<u8>, MemoryError> {
+    Ok(vec![in alloc; 0; size]?)
+}
+
+/// Appends bytes.
+fn append(bytes: &mut Vec<u8>, more: &[u8]) -> Result<(), MemoryError> {
+    Ok(bytes.extend_from_slice(more)?)
+}
+
 /// Pulls so often into so much room, and prints the bytes that come.
 fn print_pulls<R: Print, S: Source>(
     rt: &R,
@@ -51,7 +61,7 @@ fn print_pulls<R: Print, S: Source>(
     count: usize,
     size: usize,
 ) -> Result<(), Refusal> {
-    let mut buf = vec![in alloc; 0; size]?;
+    let mut buf = room(alloc, size)?;
     for _ in 0..count {
         print_pull(rt, source, &mut buf);
     }
@@ -104,11 +114,11 @@ fn pulled<S: Source>(
     count: usize,
     size: usize,
 ) -> Result<Vec<u8>, Refusal> {
-    let mut buf = vec![in alloc; 0; size]?;
+    let mut buf = room(alloc, size)?;
     let mut bytes = Vec::new(alloc);
     for _ in 0..count {
         match source.pull(&mut buf) {
-            Ok(n) => bytes.extend_from_slice(&buf[..n])?,
+            Ok(n) => append(&mut bytes, &buf[..n])?,
             Err(_) => return Err(Refusal::NotAllowed),
         }
     }

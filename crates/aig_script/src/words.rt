@@ -3,8 +3,8 @@
 ghost use Rattle.std.specs.Prelude.{All, IsTrue, IfSome};
 ghost use Rattle.aig_circuit.specs.Circuit.{IsInRange};
 
-use crate::script::{Fault, Refusal};
 use aig::{Aig, AigEdge};
+use aig_base::MemoryError;
 use std::alloc::Global;
 
 /// The name of a step, its words, and the numbers that these spell.
@@ -16,7 +16,7 @@ pub(crate) struct Line<'a> {
 }
 
 /// The words of a line.
-pub(crate) fn words(alloc: Global, line: &str) -> Result<Vec<&str>, Fault> {
+pub(crate) fn words(alloc: Global, line: &str) -> Result<Vec<&str>, MemoryError> {
     let mut words = Vec::new(alloc);
     for word in line.split_whitespace() {
         words.push(word)?;
@@ -25,7 +25,7 @@ pub(crate) fn words(alloc: Global, line: &str) -> Result<Vec<&str>, Fault> {
 }
 
 /// The number that each word spells; for one that spells none the greatest, which nothing has.
-pub(crate) fn numbers(alloc: Global, words: &[&str]) -> Result<Vec<usize>, Fault> {
+pub(crate) fn numbers(alloc: Global, words: &[&str]) -> Result<Vec<usize>, MemoryError> {
     let mut numbers = Vec::new(alloc);
     for word in words {
         numbers.push(word.parse::<usize>().unwrap_or(usize::MAX))?;
@@ -69,7 +69,7 @@ pub(crate) fn first_edge(literals: &[usize]) -> Option<AigEdge> {
 }
 
 /// The edges of literals.
-pub(crate) fn edges(alloc: Global, literals: &[usize]) -> Result<Vec<AigEdge>, Refusal> {
+pub(crate) fn edges(alloc: Global, literals: &[usize]) -> Result<Vec<AigEdge>, MemoryError> {
     let mut edges = Vec::new(alloc);
     for literal in literals {
         edges.push(edge(*literal))?;
