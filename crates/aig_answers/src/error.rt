@@ -8,7 +8,6 @@ use aig::ReadError;
 use aig_base::MemoryError;
 use aig_encode::EncodeError;
 use aig_refutation::RefutationError;
-use std::alloc::{AllocError, AllocFailed};
 use thiserror::Error;
 
 /// Why there is no answer.
@@ -57,22 +56,6 @@ impl From<MemoryError> for AnswerError {
     ghost from_gives = { λ _ r. r ≡ errors.Encode encode.Memory };
 
     fn from(_error: MemoryError) -> AnswerError {
-        AnswerError::Encode(EncodeError::Memory)
-    }
-}
-
-impl From<AllocError> for AnswerError {
-    ghost from_gives = { λ _ r. r ≡ errors.Encode encode.Memory };
-
-    fn from(_error: AllocError) -> AnswerError {
-        AnswerError::Encode(EncodeError::Memory)
-    }
-}
-
-impl<T: Drop> From<AllocFailed<T>> for AnswerError {
-    ghost from_gives = { λ _ r. r ≡ errors.Encode encode.Memory };
-
-    fn from(_error: AllocFailed<T>) -> AnswerError {
         AnswerError::Encode(EncodeError::Memory)
     }
 }
