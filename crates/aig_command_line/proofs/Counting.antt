@@ -7,7 +7,7 @@ use Rattle.std.proofs.lemmas.Grind.{common_steps}
 use Rattle.std.specs.Io.KnownBytes.{Consumes}
 use Rattle.std.proofs.lemmas.List.{length-take}
 use Rattle.aig_command_line.specs.Came.{Came, IsPlaceIn}
-use Rattle.aig_command_line.specs.Counts.{IsTally, feeds_in, line_of, place_of}
+use Rattle.aig_command_line.specs.Counts.{IsTally, feeds_in, place_of}
 use Rattle.aig_command_line.specs.declared.tally.Measure.{Measure}
 use Rattle.aig_command_line.specs.declared.tally.Place.{Place}
 use Rattle.aig_command_line.specs.declared.tally.Tally.{Tally}
@@ -18,10 +18,6 @@ front came b =
     let n : length (came ++ b ∷ []) - 1 ≡ length came =
     omega (arith, length-append came (b ∷ [])) in
     rw n (take-append_seam came (b ∷ []))
-
--- the line of a further byte
-pub line_with : (came : List ℕ) (b : ℕ) → line_of (came ++ b ∷ []) ≡ feeds_in came + 1
-line_with came b = rw (front came b) (omega arith)
 
 -- line feeds with a further one
 pub feeds_yes : (came : List ℕ) (b : ℕ) → (b == 10) ≡ true → feeds_in (came ++ b ∷ []) ≡ feeds_in

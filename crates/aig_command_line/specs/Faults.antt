@@ -1,6 +1,6 @@
 -- Serves private clauses alone.
 -- What a refusal is about, and how it is told.
-use Rattle.std.specs.Prelude.{ℕ, List, ◌++◌, Option, Some, None, codes, decimal}
+use Rattle.std.specs.Prelude.{◌≡◌, ℕ, List, ◌++◌, Option, Some, None, codes, decimal}
 use Rattle.std.specs.Fmt.{◌++?◌}
 use Rattle.aig_command_line.specs.declared.fault.Fault.{Fault}
 use Rattle.aig_command_line.specs.declared.fault.Fault.TheVariants.{Alone, In}
@@ -21,6 +21,10 @@ path_of (In path place e) = Some path.now
 abbrev pub place_in : {E : Type 0} → Fault E → Place
 place_in (Alone e) = places.Whole
 place_in (In path place e) = place
+
+-- it is about no file
+abbrev pub IsAlone : {E : Type 0} → E → Fault E → Type 0
+IsAlone e fault = fault ≡ Alone e
 
 -- the text of a place, after that of the path
 abbrev pub place_text : Place → List ℕ

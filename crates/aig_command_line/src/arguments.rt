@@ -1,6 +1,6 @@
 //! What a command takes after its name.
 
-ghost use Rattle.std.specs.Prelude.{◌≡◌, ◌↔◌, ◌<◌, ◌^◌, ◌++◌, ◌∷◌, ℕ, Bool, true, IfNone, IfSome, IsTrue, List, Some, codes, length, map, string_bytes};
+ghost use Rattle.std.specs.Prelude.{◌≡◌, ◌↔◌, ◌<◌, ◌^◌, ◌++◌, ◌∷◌, ℕ, Bool, true, IfNone, IfSome, IsTrue, List, None, Some, codes, length, map, slice_get, string_bytes};
 ghost use Rattle.aig_command_line.specs.Arguments.{AreStep, Arguments, Gives, of_paths, seen};
 ghost use Rattle.aig_command_line.specs.Settings.{AreSettings, IsRawSetting};
 ghost use Rattle.aig_format.specs.Text.{IsNumber};
@@ -61,6 +61,18 @@ pub struct Given<'a> {
     pub distinct: bool,
     /// Whether clauses are optimised: the word `raw` isn't there.
     pub optimize: bool,
+}
+
+/// The path at an index.
+pub fn path_at(paths: &[String], index: usize) -> Option<&str>
+    ensures some { IfSome result
+        (λ path. slice_get (map string_bytes paths.now) index ≡ Some path.now) }
+    ensures none { IfNone result (slice_get (map string_bytes paths.now) index ≡ None) }
+{
+    match paths.get(index) {
+        Some(path) => Some(path.as_str()),
+        None => None,
+    }
 }
 
 /// Whether a word is this one.

@@ -1,4 +1,4 @@
-//! What the programs share: the words of a command line, the files that they open, and how they end.
+//! What the programs share: the words of a command line, the files that they open, lines that they write, and how they end.
 #![tactic(auto)]
 
 mod about;
@@ -9,6 +9,7 @@ mod discarded;
 mod environment;
 mod fault;
 mod files;
+mod line;
 mod number;
 mod output;
 mod reading;
@@ -16,13 +17,14 @@ mod status;
 mod tally;
 
 pub use about::{Question, asked};
-pub use arguments::{Form, Given, Step};
+pub use arguments::{Form, Given, Step, path_at};
 pub use command::{HasForm, find};
 pub use counted::{Counted, Origin};
 pub use discarded::Discarded;
 pub use environment::words;
 pub use fault::Fault;
 pub use files::{OpenError, Opens, Reopens, SystemFiles};
+pub use line::write_text;
 pub use number::steps;
 pub use output::{Flush, FlushedWriter};
 pub use reading::place_in_file;

@@ -2,7 +2,7 @@
 
 ghost use Rattle.std.specs.Prelude.{◌≡◌, ◌≢◌, ⊤, List, Option, Some, codes, ℕ};
 ghost use Rattle.std.specs.Fmt.{◌++?◌};
-ghost use Rattle.aig_command_line.specs.Ending.{IsEnd, ended, status_of};
+ghost use Rattle.aig_command_line.specs.Ending.{IsEnd, IsMapped, ended, status_of};
 
 use std::fmt::Display;
 
@@ -36,6 +36,18 @@ impl<E> Ending<E> {
         match done {
             Ok(()) => Ending::Done,
             Err(fault) => Ending::Refused(fault),
+        }
+    }
+
+    /// The same ending, with what is made of the error of a refusal.
+    pub fn map<D, F: FnOnce(E) -> D>(self, f: F) -> Ending<D>
+        requires { F.IsAlwaysCallable f }
+        ensures { IsMapped (F.post f) self result }
+    {
+        match self {
+            Ending::Done => Ending::Done,
+            Ending::Refused(error) => Ending::Refused(f(error)),
+            Ending::NoCommand => Ending::NoCommand,
         }
     }
 }

@@ -1,9 +1,8 @@
 -- What is printed of files that are open, and flushed.
-use Rattle.std.proofs.Common.{◌≡◌, ℕ, Bool, false, List, [], Option, Result, Ok, Err, refl, sym, subst, ◌∙◌}
+use Rattle.std.proofs.Common.{◌≡◌, ℕ, Bool, false, List, Option, Result, Ok, Err, refl, sym, subst, ◌∙◌}
 use Rattle.std.specs.Prelude.{IfErr, IsTrue}
 use Rattle.std.specs.Io.KnownBytes.{Appends, Keeps}
-use Rattle.std.proofs.lemmas.List.{append-nil}
-use Rattle.aig_command_line.proofs.Kept.{appends_kept}
+use Rattle.aig_command_line.proofs.Kept.{appends_kept, stops_unflushed}
 use Rattle.aig_format.specs.File.{File}
 use Rattle.aig_output.specs.Sinks.{Stops}
 use Rattle.aig_reader.specs.Verdicts.{Accepted, Judges, verdict_by}
@@ -18,26 +17,7 @@ use Rattle.aig_edits.proofs.Reading.{reads_on}
 use Rattle.aig_edit_commands.specs.declared.acting.TheConstants.{LIMIT}
 use Rattle.aig_edit_commands.specs.declared.command.FileCommand.{FileCommand}
 use Rattle.aig_edit_commands.specs.declared.command.FileCommand.TheVariants as files
-use Rattle.aig_edit_commands.specs.Acting.{Prints, PrintsOpen, PrintsPair, Says}
-use Rattle.aig_edit_commands.specs.declared.acting.CommandError.TheVariants as refusals
-
--- a text that was written could not be flushed
-pub said_unflushed : {W : Type 0} (held : W → Option (List ℕ)) (write_failed flushed : W
-    → Bool) (text : List ℕ) (w made flat : W)
-    → Appends (held w) (held made) text → Keeps (held made) (held flat) → IsTrue (write_failed flat)
-    → Says held write_failed flushed text w (Err refusals.Write) flat
-said_unflushed held write_failed flushed text w made flat grows keeps lost = record {
-  ok = tt;
-  sound = tt;
-  done = tt;
-  err = (
-    refl,
-    record {
-      beginning = (text, [], sym (append-nil text), appends_kept (held w) (held made) (held flat) text grows keeps);
-      has_failed = lost;
-    },
-  );
-}
+use Rattle.aig_edit_commands.specs.Acting.{Prints, PrintsOpen, PrintsPair}
 
 module _ {R S W : Type 0} (left : R → Option (List ℕ)) (failed : R → Bool) (left_of : S → Option (List ℕ)) (failed_of : S → Bool) (held : W → Option (List ℕ)) (write_failed flushed : W → Bool) (pairing : Pairing) (r rest : R) (s other : S) (w made flat : W) (keeps : Keeps (held made) (held flat)) where
   -- what was printed of these files is all there
@@ -54,11 +34,7 @@ module _ {R S W : Type 0} (left : R → Option (List ℕ)) (failed : R → Bool)
   stopped f g lost (m, joint, grows, was) = (
     m,
     joint,
-    record {
-      beginning =
-          (_, [], sym (append-nil _), appends_kept (held w) (held made) (held flat) _ grows keeps);
-      has_failed = lost;
-    },
+    stops_unflushed (held w) (held made) (held flat) (write_failed flat) _ grows keeps lost,
   )
 
   -- ---- of what was read
@@ -108,10 +84,7 @@ module _ {R W : Type 0} (left : R → Option (List ℕ)) (failed : R → Bool) (
   -- a text that could not be flushed
   stops : (text : List ℕ) → Appends (held w) (held made) text → IsTrue (write_failed flat)
       → Stops (held w) (held flat) (write_failed flat) text
-  stops text grows lost = record {
-    beginning = (text, [], sym (append-nil text), appends_kept (held w) (held made) (held flat) text grows keeps);
-    has_failed = lost;
-  }
+  stops text grows lost = stops_unflushed (held w) (held made) (held flat) (write_failed flat) text grows keeps lost
 
   print_flushed : (c : FileCommand) (f : File) (u : Unit {0}) → write_failed flat ≡ false
       → Prints held write_failed c w made f (Ok u) → Prints held write_failed c w flat f (Ok u)

@@ -2,16 +2,14 @@
 -- What the program does with its words. Files are read as a trait says: what opening the file at a
 -- path may give, the bytes that are left, and whether a read failed. Of what is written to it says
 -- the bytes held, whether a write failed, and whether all of them are in their place.
-use Rattle.std.specs.Prelude.{◌≡◌, ◌↔◌, ℕ, Bool, false, IsTrue, List, [], ◌∷◌, ◌++◌, Option, Result, Ok, Err, IfErr, OnOk}
-use Rattle.std.specs.Io.KnownBytes.{Appends}
-use Rattle.aig_output.specs.Sinks.{Stops}
+use Rattle.std.specs.Prelude.{◌≡◌, ◌↔◌, ℕ, Bool, IsTrue, List, [], ◌∷◌, ◌++◌, Option, Result, Ok, Err, OnOk}
 use Rattle.aig_command_line.specs.declared.about.Question.{Question}
 use Rattle.aig_command_line.specs.About.{word_of}
 use Rattle.aig_command_line.specs.declared.files.OpenError.{OpenError}
 use Rattle.aig_command_line.specs.declared.files.OpenError.TheVariants as opening
 use Rattle.aig_command_line.specs.declared.status.Ending.{Ending}
 use Rattle.aig_command_line.specs.declared.status.Ending.TheVariants as endings
-use Rattle.aig_command_line.specs.Ending.{ended}
+use Rattle.aig_command_line.specs.Ending.{Says, ended}
 use Rattle.aig_edits.specs.declared.edit_error.EditError.{EditError}
 use Rattle.aig_edits.specs.declared.edit_error.EditError.TheVariants as edit
 use Rattle.aig_edits.specs.declared.error.PairError.{PairError}
@@ -160,15 +158,6 @@ Acts opens left failed held write_failed flushed (commands.Pair pairing) paths w
     → (done : Result Unit PairError) × (result ≡ told refusals.Two done)
     × PrintsFiles opens left failed held write_failed flushed pairing file other w done made
 
--- a text is written and flushed, or a beginning of it is written, and the writer has failed
-pub record Says {W : Type 0} (held : W → Option (List ℕ)) (write_failed flushed : W → Bool)
-    (text : List ℕ) (w : W) (result : Result Unit CommandError) (made : W) : Type 0 where
-  pub ok : OnOk result (Appends (held w) (held made) text)
-  pub sound : OnOk result (write_failed made ≡ false)
-  pub done : OnOk result (IsTrue (flushed made))
-  pub err : IfErr result
-      (λ e. (e ≡ refusals.Write) × Stops (held w) (held made) (write_failed made) text)
-
 -- what the words ask for was done, and how the program ends by it
 pub record Obeys {F W : Type 0} (opens : List ℕ → Result F OpenError → Type 0)
     (left : F → Option (List ℕ)) (failed : F → Bool) (held : W → Option (List ℕ))
@@ -176,7 +165,8 @@ pub record Obeys {F W : Type 0} (opens : List ℕ → Result F OpenError → Typ
     (w : W) (ending : Ending CommandError) (made : W) : Type 0 where
   -- a question of the program is answered by a line
   pub tells : (q : Question) → words ≡ word_of q ∷ [] → (done : Result Unit CommandError)
-      × (ending ≡ ended done) × Says held write_failed flushed (answer_of q ++ 10 ∷ []) w done made
+      × (ending ≡ ended done)
+      × Says held write_failed flushed refusals.Write (answer_of q ++ 10 ∷ []) w done made
   -- other words give no command exactly where it ends so
   pub none : (ending ≡ endings.NoCommand)
       ↔ (((c : Command) (paths : List (List ℕ)) → ¬ IsCall words c paths)

@@ -2,23 +2,22 @@
 
 ghost use Rattle.std.specs.Prelude.{◌≡◌, ◌++◌, ◌∷◌, [], IfOk, IfSome, IsErr, IsNone, length, map, string_bytes};
 ghost use Rattle.aig_command_line.specs.declared.status.Ending.TheVariants as endings;
-ghost use Rattle.aig_output.specs.Sinks.{BuffersOrStops, WritesOrStops};
+ghost use Rattle.aig_command_line.specs.Ending.{Says};
 ghost use Rattle.aig_edits.specs.declared.error.PairError.TheVariants as errors;
 ghost use Rattle.aig_edits.specs.declared.edit_error.EditError.TheVariants as edit_errors;
 ghost use Rattle.aig_edit_commands.specs.declared.acting.CommandError.TheVariants as refusals;
-ghost use Rattle.aig_edit_commands.specs.Acting.{Acts, Obeys, Prints, PrintsBeside, PrintsFile, PrintsFiles, PrintsOpen, PrintsPair, Says, edit_unopened, told, unopened};
+ghost use Rattle.aig_edit_commands.specs.Acting.{Acts, Obeys, Prints, PrintsBeside, PrintsFile, PrintsFiles, PrintsOpen, PrintsPair, edit_unopened, told, unopened};
 ghost use Rattle.aig_edit_commands.specs.Asked.{answer_of};
 ghost use Rattle.aig_edits.specs.Edits.{IsEditOwn, IsEditUnwritten, ReadsFile, edit_verdict};
 ghost use Rattle.aig_edit_commands.specs.Words.{paths_of};
 
 use crate::command::{Command, FileCommand, call};
 use aig_base::{MemoryError, Sink, Source, StreamFault};
-use aig_command_line::{Ending, Flush, HasStatus, OpenError, Opens, Question, asked};
+use aig_command_line::{Ending, Flush, HasStatus, OpenError, Opens, Question, asked, write_text};
 use aig_edits::{
     EditError, PairError, Pairing, print_edit, print_info, print_joint, print_question,
     print_reduction,
 };
-use aig_output::OutputBuffer;
 use aig_reader::ReadError;
 use std::alloc::Global;
 use thiserror::Error;
@@ -261,34 +260,12 @@ fn perform<F: Opens, W: Flush>(
     }
 }
 
-/// Buffers a text and a line feed.
-fn buffer_line<W: Sink>(
-    buffer: &mut OutputBuffer,
-    w: &mut W,
-    text: &[u8],
-) -> Result<(), StreamFault>
-    ensures { let line = text.now ++ 10 ∷ [] in
-        BuffersOrStops W.held W.failed buffer.old w.old result line buffer.new w.new }
-{
-    buffer.write_bytes(w, text)?;
-    buffer.write_bytes(w, b"\n")
-}
-
-/// Writes a text and a line feed.
-fn write_line<W: Sink>(text: &[u8], w: &mut W) -> Result<(), StreamFault>
-    ensures { let line = text.now ++ 10 ∷ [] in
-        WritesOrStops W.held W.failed w.old result line w.new }
-{
-    let mut buffer = OutputBuffer::new();
-    buffer_line(&mut buffer, w, text)?;
-    buffer.flush(w)
-}
-
 /// Writes a line, and flushes it.
 fn say<W: Flush>(text: &str, w: &mut W) -> Result<(), CommandError>
-    ensures { Says W.held W.failed W.flushed (text.now ++ 10 ∷ []) w.old result w.new }
+    ensures { Says W.held W.failed W.flushed refusals.Write (text.now ++ 10 ∷ []) w.old
+        result w.new }
 {
-    write_line(text.as_bytes(), w)?;
+    write_text(w, text.as_bytes())?;
     Ok(w.flush()?)
 }
 

@@ -1,27 +1,17 @@
 //! Which file a refusal is about, and where reading that file stopped.
 
-ghost use Rattle.std.specs.Prelude.{◌≡◌, IfNone, IfOk, IfSome, IsErr, IsNone, None, Some, map, slice_get, string_bytes};
-ghost use Rattle.aig_edit_commands.specs.Explaining.{Explains, IsPlaceOf, IsToldAlone, Tells, TellsOf, word_of};
+ghost use Rattle.std.specs.Prelude.{◌≡◌, IfNone, IfOk, IfSome, IsErr, IsNone, None, Some, map, string_bytes};
+ghost use Rattle.aig_command_line.specs.Ending.{IsMapped};
+ghost use Rattle.aig_command_line.specs.Faults.{IsAlone};
+ghost use Rattle.aig_edit_commands.specs.Explaining.{IsPlaceOf, Tells, TellsOf, word_of};
 
 use crate::about::{Subject, about_error};
 use crate::acting::{CommandError, LIMIT};
 use crate::command::call;
 use aig_base::MemoryError;
-use aig_command_line::{Ending, Fault, Place, Reopens, place_in_file};
+use aig_command_line::{Ending, Fault, Place, Reopens, path_at, place_in_file};
 use aig_reader::ReadError;
 use std::alloc::Global;
-
-/// The path at an index.
-fn path_at(paths: &[String], index: usize) -> Option<&str>
-    ensures some { IfSome result
-        (λ path. slice_get (map string_bytes paths.now) index ≡ Some path.now) }
-    ensures none { IfNone result (slice_get (map string_bytes paths.now) index ≡ None) }
-{
-    match paths.get(index) {
-        Some(path) => Some(path.as_str()),
-        None => None,
-    }
-}
 
 /// The path of what an error is about, if it is about a file.
 fn path_of(paths: &[String], subject: Subject) -> Option<&str>
@@ -90,17 +80,14 @@ pub fn explain<'a, F: Reopens>(
     ending: Ending<CommandError>,
 ) -> Ending<Fault<'a, CommandError>>
     ensures words { IfOk words.now (λ read. IfSome read (λ given.
-        Explains (F.opens files.now) F.File.left (map string_bytes given.items) ending result)) }
+        IsMapped (TellsOf (F.opens files.now) F.File.left (map string_bytes given.items))
+        ending result)) }
     // An error before there are words is about no file.
-    ensures other { IfOk words.now (λ read. IsNone read → IsToldAlone ending result) }
-    ensures memory { IsErr words.now → IsToldAlone ending result }
+    ensures other { IfOk words.now (λ read. IsNone read → IsMapped IsAlone ending result) }
+    ensures memory { IsErr words.now → IsMapped IsAlone ending result }
 {
-    match (ending, words) {
-        (Ending::Done, _) => Ending::Done,
-        (Ending::NoCommand, _) => Ending::NoCommand,
-        (Ending::Refused(error), Ok(Some(words))) => {
-            Ending::Refused(fault_by(alloc, words.as_slice(), files, error))
-        }
-        (Ending::Refused(error), _) => Ending::Refused(Fault::Alone(error)),
+    match words {
+        Ok(Some(words)) => ending.map(|error| fault_by(alloc, words.as_slice(), files, error)),
+        _ => ending.map(|error| Fault::Alone(error)),
     }
 }

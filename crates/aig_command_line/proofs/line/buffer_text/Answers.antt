@@ -1,6 +1,6 @@
 use Rattle.std.proofs.Common.{[], ◌∷◌, rules}
 use Rattle.aig_output.proofs.Putting.{failed_first, then_call}
-use Rattle.aig_edit_commands.proofs.acting.buffer_line.Goals as goal
+use Rattle.aig_command_line.proofs.line.buffer_text.Goals as goal
 
 pub returns-in_err-write_bytes : goal.returns-in_err-write_bytes
 returns-in_err-write_bytes g c =
