@@ -1,9 +1,10 @@
 -- Part of what is promised.
 -- Which gates of a circuit have clauses, which clauses these are, and what they say together.
 -- A variable of the clauses is a node of the circuit, by its number. (Tseitin encoding.)
-use Rattle.std.specs.Prelude.{◌≡◌, ◌≢◌, ℕ, Bool, true, false, not, ◌&&◌, if◌then◌else◌, Some, List, [], ◌∷◌, length, All, slice_get}
+use Rattle.std.specs.Prelude.{◌≡◌, ◌≢◌, ◌≤◌, ◌*◌, ℕ, Bool, true, false, not, ◌&&◌, if◌then◌else◌, Some, List, [], ◌∷◌, length, All, slice_get}
 use Rattle.aig_base.specs.declared.logic.literal.Lit.{Lit}
-use Rattle.aig_base.specs.Clauses.{lit_to, and_clauses, xor_clauses, ite_clauses, Satisfies}
+use Rattle.aig_base.specs.Clauses.{lit_to, and_clauses, xor_clauses, ite_clauses, AreBelow, Satisfies}
+use Rattle.aig_base.specs.Formula.{clauses_in}
 use Rattle.aig_circuit.specs.declared.edge.AigEdge.{AigEdge}
 use Rattle.aig_circuit.specs.declared.node.AigNodeType.TheVariants.{And}
 use Rattle.aig_circuit.specs.declared.node.AigNode.{AigNode}
@@ -13,7 +14,7 @@ use Rattle.aig_circuit.specs.Tree.{node_value, edge_value}
 use Rattle.aig_circuit.specs.Circuit.{Circuit}
 use Rattle.aig_circuit.specs.Properties.{AllProperties}
 use Rattle.aig_circuit.specs.Edges.{ReferTo, initial_edges, nodes_of, roots_of}
-use Rattle.aig_circuit.specs.Reach.{IsReached}
+use Rattle.aig_circuit.specs.Reach.{IsReached, MarksExactly}
 use Rattle.aig_circuit.specs.Runs.{next_edges}
 use Rattle.aig_cnf.specs.declared.form.Form.{Form}
 use Rattle.aig_cnf.specs.declared.form.Form.TheVariants.{AndOf, XorOf, IteOf}
@@ -109,6 +110,15 @@ pub record HasClauses (c : Circuit) (optimize : Bool) (lists : List (List (List 
       → ((form : Form)
       → ¬ (NeedsClauses c.nodes optimize (roots_of c) n × HasForm c.nodes optimize n form))
       → slice_get lists n ≡ Some clauses → clauses ≡ []
+
+-- exactly the nodes that need clauses are marked, and the circuit has so many clauses
+pub record AreNeeded (c : Circuit) (optimize : Bool) (marks : List Bool) (total : ℕ) : Type 0 where
+  pub exactly : MarksExactly c.nodes (NeedsClauses c.nodes optimize (roots_of c)) marks
+  pub lists : List (List (List Lit))
+  pub has_clauses : HasClauses c optimize lists
+  pub below : All (AreBelow (length lists)) lists
+  pub count : total ≡ length (clauses_in lists)
+  pub few : total ≤ 4 * length c.nodes
 
 -- each satisfying assignment gives the edge its value under the assignment's leaf values
 abbrev pub IsFixed : Circuit → List (List (List Lit)) → AigEdge → Type 0

@@ -3,3 +3,5 @@ pub mod Reading
 pub mod Comments
 pub mod Pieces
 mod Examples
+mod Puts
+mod ByMarks

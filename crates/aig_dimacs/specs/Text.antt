@@ -1,10 +1,12 @@
 -- Part of what is promised.
 -- The DIMACS text of clauses: a header line with the counts of variables and of clauses, and a line
 -- for each clause. (DIMACS CNF format.)
-use Rattle.std.specs.Prelude.{ℕ, ◌+◌, ◌^◌, ◌<◌, if◌then◌else◌, List, [], ◌∷◌, ◌++◌, length, codes, decimal}
+use Rattle.std.specs.Prelude.{ℕ, ◌+◌, ◌^◌, ◌<◌, if◌then◌else◌, Bool, Option, Result, List, [], ◌∷◌, ◌++◌, length, codes, decimal}
 use Rattle.std.specs.List.{flat_map}
 use Rattle.aig_base.specs.declared.logic.literal.Lit.{Lit}
 use Rattle.aig_base.specs.Clauses.{AreBelow, is_positive, variable_of}
+use Rattle.aig_base.specs.Formula.{clauses_in}
+use Rattle.aig_output.specs.Sinks.{WritesOrStops}
 
 -- the sign of a literal: none, or a minus where it is inverted
 abbrev pub sign_of : Lit → List ℕ
@@ -32,3 +34,12 @@ pub record IsFormula (variables : ℕ) (clauses : List (List Lit)) : Type 0 wher
   pub few : variables < 2 ^ 64
   pub count : length clauses < 2 ^ 64
   pub below : AreBelow variables clauses
+
+-- the text of the variables' clauses and then further ones is written, or a beginning of it, and
+-- they are a formula
+pub record IsTextWith {W T E : Type 0} (held : W → Option (List ℕ)) (failed : W → Bool) (old : W)
+    (result : Result T E) (lists : List (List (List Lit))) (further : List (List Lit)) (new : W)
+    : Type 0 where
+  pub writes : WritesOrStops held failed old result
+      (dimacs_of (length lists) (clauses_in lists ++ further)) new
+  pub formula : IsFormula (length lists) (clauses_in lists ++ further)

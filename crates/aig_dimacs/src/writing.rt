@@ -11,7 +11,7 @@ use aig_base::{DagCnf, Lit, LitVvec, Sink, StreamFault, Var};
 use aig_output::OutputBuffer;
 
 /// Writes the header line.
-fn write_header<W: Sink>(
+pub(crate) fn write_header<W: Sink>(
     buffer: &mut OutputBuffer,
     w: &mut W,
     variables: usize,
@@ -46,7 +46,7 @@ fn write_literal<W: Sink>(buffer: &mut OutputBuffer, w: &mut W, lit: Lit) -> Res
 }
 
 /// Writes the line of a clause.
-fn write_clause<W: Sink>(
+pub(crate) fn write_clause<W: Sink>(
     buffer: &mut OutputBuffer,
     w: &mut W,
     lits: &[Lit],
@@ -61,7 +61,7 @@ fn write_clause<W: Sink>(
 }
 
 /// Writes the line of each clause of a list.
-fn write_list<W: Sink>(
+pub(crate) fn write_list<W: Sink>(
     buffer: &mut OutputBuffer,
     w: &mut W,
     clauses: &LitVvec,

@@ -1,4 +1,4 @@
-use Rattle.std.proofs.Common.{◌≡◌, ◌≢◌}
+use Rattle.std.proofs.Common.{◌≢◌}
 use Rattle.aig_circuit.specs.Edge.{inverse}
 use Rattle.aig_cnf.specs.Cnf.{by_0_0, by_0_1, by_1_0, by_1_1}
 use Rattle.aig_cnf.proofs.Matching.{fails, none_chosen}
