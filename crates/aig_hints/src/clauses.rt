@@ -126,12 +126,11 @@ fn other_watched(words: &[u32], lit: Lit, kind: Kind) -> Option<Lit>
     if words.len() < HEADER + 2 || !kind.has(words[USED]) {
         return None;
     }
-    let first = Lit::from(words[HEADER]);
-    let second = Lit::from(words[HEADER + 1]);
-    if first == lit {
-        return Some(second);
+    let word = u32::from(lit);
+    if words[HEADER] != word && words[HEADER + 1] != word {
+        return None;
     }
-    if second == lit { Some(first) } else { None }
+    Some(Lit::from(words[HEADER] ^ words[HEADER + 1] ^ word))
 }
 
 /// Looks at the clause whose words come first here, as `Clauses::look` does.

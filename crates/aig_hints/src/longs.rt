@@ -81,6 +81,13 @@ impl Longs {
         }
     }
 
+    /// Takes note that a stale watch of a literal is dropped.
+    fn forget_one(&mut self, lit: Lit) {
+        if let Some(count) = self.stale.get_mut(u32::from(lit) as usize) {
+            *count = count.saturating_sub(1);
+        }
+    }
+
     /// Lets a clause that was removed, or is of another kind now, watch no literal.
     pub(crate) fn end(&mut self, clauses: &mut Clauses, place: u32) {
         self.end_one(clauses.lit(place, 0), clauses);
@@ -113,7 +120,10 @@ impl Longs {
         trail: &mut Trail,
     ) -> Result<Visit, MemoryError> {
         match clauses.look(place, lit, self.kind, trail) {
-            Look::Stale => Ok(Visit::Ends),
+            Look::Stale => {
+                self.forget_one(lit);
+                Ok(Visit::Ends)
+            }
             Look::True(other) => Ok(Visit::Stays(other)),
             Look::Moved { other, next } => {
                 self.watches.push(next, place, other)?;

@@ -83,10 +83,15 @@ impl Trail {
         self.weight(lit) == FALSE
     }
 
-    /// Whether of two literals one is false and the other isn't true.
+    /// Whether of two literals that are there one is false and the other isn't true.
+    #[inline(always)]
     pub(crate) fn is_forced(&self, lits: [Lit; 2]) -> bool {
-        let sum = self.weight(lits[0]) as u32 + self.weight(lits[1]) as u32;
-        sum <= OPEN as u32
+        let first = u32::from(lits[0]) as usize;
+        let second = u32::from(lits[1]) as usize;
+        if first >= self.weights.len() || second >= self.weights.len() {
+            return false;
+        }
+        self.weights[first] as u32 + self.weights[second] as u32 <= OPEN as u32
     }
 
     /// The place of the clause that gave its value to the literal that stands here in the order, or

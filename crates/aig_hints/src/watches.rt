@@ -85,10 +85,12 @@ impl<O: Copy> Watches<O> {
         }
     }
 
-    /// Empties all lists.
+    /// Empties all lists, and frees their memory, which is else that of as many watches as each had
+    /// at most.
     pub(crate) fn clear(&mut self) {
+        let alloc = self.alloc;
         for list in self.lists.iter_mut() {
-            list.clear();
+            *list = Vec::new(alloc);
         }
     }
 
