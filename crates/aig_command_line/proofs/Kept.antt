@@ -15,7 +15,8 @@ appends_kept (Some a) (Some b) None text grows stays = absurd stays
 appends_kept (Some a) (Some b) (Some c) text grows stays = stays ∙ grows
 
 -- a text that was written could not be flushed
-pub stops_unflushed : (a b c : Option (List ℕ)) (failed : Bool) (text : List ℕ) → Appends a b text → Keeps b c
+pub stops_unflushed : (a b c : Option (List ℕ)) (failed : Bool) (text : List ℕ) → Appends a b text
+    → Keeps b c
     → IsTrue failed → Stops a c failed text
 stops_unflushed a b c failed text grows stays lost =
     record { beginning = (text, [], sym (append-nil text), appends_kept a b c text grows stays); has_failed = lost }

@@ -16,7 +16,8 @@ use Rattle.aig_dimacs.specs.Text.{IsFormula}
 use Rattle.aig_dimacs.proofs.Pieces.{IsFormula-from}
 
 -- the clauses of a circuit are those of its nodes by the marks of what needs clauses
-pub by_marks : (c : Circuit) (optimize : Bool) (marks : List Bool) (total : ℕ) (h : AreNeeded c optimize marks total) → AreByMarks c.nodes optimize marks h.lists
+pub by_marks : (c : Circuit) (optimize : Bool) (marks : List Bool) (total : ℕ) (h : AreNeeded c optimize marks total)
+    → AreByMarks c.nodes optimize marks h.lists
 by_marks c optimize marks total h = record {
   count = h.has_clauses.count;
   zero = h.has_clauses.zero;
@@ -30,11 +31,15 @@ by_marks c optimize marks total h = record {
 }
 
 -- a node that is not marked has none
-pub unmarked : (nodes : List AigNode) (optimize : Bool) (n : ℕ) (clauses : List (List Lit)) → AreClausesOf nodes optimize false n clauses → clauses ≡ []
+pub unmarked : (nodes : List AigNode) (optimize : Bool) (n : ℕ) (clauses : List (List Lit))
+    → AreClausesOf nodes optimize false n clauses → clauses ≡ []
 unmarked nodes optimize n clauses are = are.none (λ form p. let is = p.0 in cc)
 
 -- the clauses and further ones are a formula
-pub formula_of : (c : Circuit) (optimize : Bool) (marks : List Bool) (total : ℕ) (further : List (List Lit)) → length c.nodes ≤ 2 ^ 31 → (h : AreNeeded c optimize marks total) → AreBelow (length c.nodes) further → length further < 2 ^ 63 → IsFormula (length h.lists) (clauses_in h.lists ++ further)
+pub formula_of : (c : Circuit) (optimize : Bool) (marks : List Bool) (total : ℕ) (further : List (List Lit))
+    → length c.nodes ≤ 2 ^ 31 → (h : AreNeeded c optimize marks total)
+    → AreBelow (length c.nodes) further → length further < 2 ^ 63
+    → IsFormula (length h.lists) (clauses_in h.lists ++ further)
 formula_of c optimize marks total further few h below short =
     let same = h.has_clauses.count in
     let some : 0 < length h.lists = slice_get_within h.lists 0 _ h.has_clauses.zero in

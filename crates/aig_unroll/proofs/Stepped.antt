@@ -27,7 +27,8 @@ use Rattle.aig_unroll.proofs.Lists.{all_from_zips, zip_weaker}
 use Rattle.aig_unroll.proofs.NextStep.{leaf_cases}
 
 -- lists that are mapped alike, one for one
-zip_of_map : {A B C : Type 0} (f : A → C) (g : B → C) (xs : List A) (ys : List B) → map f xs ≡ map g ys → AllZip (λ x y. f x ≡ g y) xs ys
+zip_of_map : {A B C : Type 0} (f : A → C) (g : B → C) (xs : List A) (ys : List B)
+    → map f xs ≡ map g ys → AllZip (λ x y. f x ≡ g y) xs ys
 zip_of_map f g [] [] e = tt
 zip_of_map f g [] (y ∷ ys) e = cc
 zip_of_map f g (x ∷ xs) [] e = cc
@@ -56,7 +57,8 @@ module _ (from old new : Circuit) (images : List AigEdge) (is_from : IsCircuit f
   image_there : (e : AigEdge) → IsInRange from.nodes e → IsInRange new.nodes (image_in images e)
   image_there e h = copies.there e.node_id h
 
-  images_there : (es : List AigEdge) → All (IsInRange from.nodes) es → All (IsInRange new.nodes) (map (image_in images) es)
+  images_there : (es : List AigEdge) → All (IsInRange from.nodes) es
+      → All (IsInRange new.nodes) (map (image_in images) es)
   images_there es all = All-map (IsInRange new.nodes) (image_in images) es (All-weaker (IsInRange from.nodes) (λ e. IsInRange new.nodes (image_in images e)) image_there es all)
 
   -- old entries and images are in range
@@ -106,7 +108,8 @@ module _ (from old new : Circuit) (images : List AigEdge) (is_from : IsCircuit f
   leaves_apart =
       All-same (λ n. ¬ Contains new.inputs n) (latch_leaves new.latchs) (latch_leaves old.latchs) appends.latchs.leaves (λ k d h has. apart k d h (subst (λ l. Contains l (get_or (latch_leaves old.latchs) k d)) appends.inputs has))
     where
-      apart : (k d : ℕ) → k < length (latch_leaves old.latchs) → Contains (old.inputs ++ added) (get_or (latch_leaves old.latchs) k d) → ⊥
+      apart : (k d : ℕ) → k < length (latch_leaves old.latchs)
+          → Contains (old.inputs ++ added) (get_or (latch_leaves old.latchs) k d) → ⊥
       apart k d h has = elim (Contains-append_cases old.inputs added (get_or (latch_leaves old.latchs) k d) has) [
         | inl early ↦ is_old.apart k d h early
         | inr late ↦ absurd (omega (arith, kind_at-within old.nodes (get_or (latch_leaves old.latchs) k d) Leaf (latch_leaves-leaves old is_old k d h), (All-contains (IsBehind new.nodes copies.grows.sound (length old.nodes)) added (get_or (latch_leaves old.latchs) k d) added_are late).1))
@@ -127,7 +130,8 @@ module _ (from old new : Circuit) (images : List AigEdge) (is_from : IsCircuit f
   -- ---- it has one step more
 
   -- the image of a latch's leaf has the value of the old next edge
-  latch_values : (y : ℕ → Bool) → AllZip (λ n e. edge_value new.nodes y (image_at images n) ≡ edge_value old.nodes y e) (latch_leaves from.latchs) (next_edges old.latchs)
+  latch_values : (y : ℕ → Bool)
+      → AllZip (λ n e. edge_value new.nodes y (image_at images n) ≡ edge_value old.nodes y e) (latch_leaves from.latchs) (next_edges old.latchs)
   latch_values y =
       zip_weaker (λ n e. image_at images n ≡ e) (λ n e. edge_value new.nodes y (image_at images n) ≡ edge_value old.nodes y e) (IsInRange old.nodes) (latch_leaves from.latchs) (next_edges old.latchs)
       (λ n e there same. ap (edge_value new.nodes y) same ∙ edge_value-Grows old.nodes new.nodes is_old.nodes copies.grows y e there)
@@ -135,7 +139,8 @@ module _ (from old new : Circuit) (images : List AigEdge) (is_from : IsCircuit f
       (zip_of_map (image_at images) (λ (e : AigEdge). e) (latch_leaves from.latchs) (next_edges old.latchs) (copies.latches ∙ sym (map-id (next_edges old.latchs))))
 
   -- and that of another leaf the value of its input
-  other_values : (y : ℕ → Bool) → AllZip (λ n input. edge_value new.nodes y (image_at images n) ≡ y input) (other_leaves from) added
+  other_values : (y : ℕ → Bool)
+      → AllZip (λ n input. edge_value new.nodes y (image_at images n) ≡ y input) (other_leaves from) added
   other_values y =
       zip_weaker (λ n input. image_at images n ≡ edge_to input false) (λ n input. edge_value new.nodes y (image_at images n) ≡ y input) (IsBehind new.nodes copies.grows.sound (length old.nodes)) (other_leaves from) added
       (λ n input following same. ap (edge_value new.nodes y) same ∙ node_value-leaf new.nodes y input following.0)
@@ -153,10 +158,12 @@ module _ (from old new : Circuit) (images : List AigEdge) (is_from : IsCircuit f
     ]
 
     -- an edge's image has its value
-    image_value : (e : AigEdge) → IsInRange from.nodes e → edge_value new.nodes y (image_in images e) ≡ edge_value from.nodes x e
+    image_value : (e : AigEdge) → IsInRange from.nodes e
+        → edge_value new.nodes y (image_in images e) ≡ edge_value from.nodes x e
     image_value e h = edge_value-image_in new.nodes y images e ∙ ap (inverted_if e.compl) (copies.value y x (λ n l leaf. leaf_value n leaf) e.node_id h)
 
-    image_values : (es : List AigEdge) → All (IsInRange from.nodes) es → HaveSameValues new.nodes y (map (image_in images) es) from.nodes x es
+    image_values : (es : List AigEdge) → All (IsInRange from.nodes) es
+        → HaveSameValues new.nodes y (map (image_in images) es) from.nodes x es
     image_values [] all = tt
     image_values (e ∷ es) all = (image_value e (all 0 e (omega arith)), image_values es (λ k d h. all (suc k) d (omega arith)))
 
@@ -180,7 +187,8 @@ module _ (from old new : Circuit) (images : List AigEdge) (is_from : IsCircuit f
   }
 
 -- what was made of a circuit is one step more: first its nodes, its inputs and its justice sets, and then its other lists
-pub stepped_in_parts : (from old mid new : Circuit) (images : List AigEdge) → CopiesAll from old.latchs old.nodes mid.nodes images
+pub stepped_in_parts : (from old mid new : Circuit) (images : List AigEdge)
+    → CopiesAll from old.latchs old.nodes mid.nodes images
     → mid.inputs ≡ old.inputs ++ leaves_after (length old.nodes) mid.nodes
     → mid.properties.justice ≡ old.properties.justice ++ map (map (image_in images)) from.properties.justice
     → record mid { properties = record mid.properties { justice = old.properties.justice } } ≡ record old { nodes = mid.nodes; inputs = mid.inputs } → new.nodes ≡ mid.nodes → new.inputs ≡ mid.inputs → HaveNextImages images from.latchs mid.latchs new.latchs

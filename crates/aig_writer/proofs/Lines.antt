@@ -33,7 +33,8 @@ Built-start text ns start left all written blank =
     rw (drop_all left ns all) none
 
 -- one more number, which begins at `at`
-pub Built-turn : (text new : List ℕ) (start at n : ℕ) (ns : List ℕ) → Built text start ns → 0 < at → at ≤ length new → at + length (decimal n) ≡ start - 1
+pub Built-turn : (text new : List ℕ) (start at n : ℕ) (ns : List ℕ) → Built text start ns → 0 < at
+    → at ≤ length new → at + length (decimal n) ≡ start - 1
     → drop at new ≡ decimal n ++ drop (start - 1) text → take at new ≡ take at text → Built new at (n ∷ ns)
 Built-turn text new start at n ns built some within before written same =
     let blanks : take at new ≡ replicate at 32 =
@@ -52,7 +53,8 @@ Built-turn text new start at n ns built some within before written same =
     }
 
 -- a line that is built, up to `end`
-pub Built-line : (text : List ℕ) (start end : ℕ) (ns : List ℕ) → Built text start ns → 0 < length ns → 0 < start → start ≤ end → length text ≡ end + 32
+pub Built-line : (text : List ℕ) (start end : ℕ) (ns : List ℕ) → Built text start ns → 0 < length ns
+    → 0 < start → start ≤ end → length text ≡ end + 32
     → take (end - start) (drop start text) ≡ line_text ns
 Built-line text start end [] built some at within size = absurd (omega arith)
 Built-line text start end (n ∷ ns) built some at within size =
@@ -65,7 +67,8 @@ Built-line text start end (n ∷ ns) built some at within size =
     rw (long, rest) (take-append_seam line built.more)
 
 -- blanks with a line feed for the last of those up to `end`
-pub feed_after : (text : List ℕ) (end : ℕ) → 0 < end → end ≤ length text → drop end text ≡ replicate 32 32
+pub feed_after : (text : List ℕ) (end : ℕ) → 0 < end → end ≤ length text
+    → drop end text ≡ replicate 32 32
     → drop (end - 1) (set text (end - 1) 10) ≡ 10 ∷ replicate 32 32
 feed_after text end some within after =
     let next : end - 1 + 1 ≡ end = omega arith in

@@ -8,7 +8,8 @@ use Rattle.aig_dimacs.specs.Text.{clause_line}
 use Rattle.aig_dimacs.proofs.circuit.write_gates.Goals as goal
 
 -- the line of the clause of variable 0, as that of a list
-zero_line : (lists : List (List (List Lit))) → get_or lists 0 [] ≡ (lit_to 0 false ∷ []) ∷ [] → flat_map clause_line (get_or lists 0 []) ≡ clause_line (lit_to 0 false ∷ [])
+zero_line : (lists : List (List (List Lit))) → get_or lists 0 [] ≡ (lit_to 0 false ∷ []) ∷ []
+    → flat_map clause_line (get_or lists 0 []) ≡ clause_line (lit_to 0 false ∷ [])
 zero_line lists is = ap (flat_map clause_line) is ∙ append-nil (clause_line (lit_to 0 false ∷ []))
 
 pub returns-in_err-write_clause : goal.returns-in_err-write_clause

@@ -9,7 +9,8 @@ use Rattle.aig_reader.proofs.GateLines.{passes_over, is_increasing_no_more, is_i
 use Rattle.aig_reader.proofs.gate_store.GateStore.put.Goals as goal
 
 -- what holds of each table with these gates holds of where they are
-in_table : (P : GateStore → Type 0) (size : ℕ) (gates : List GateLine) (now : GateStore) → AreInTable size gates now
+in_table : (P : GateStore → Type 0) (size : ℕ) (gates : List GateLine) (now : GateStore)
+    → AreInTable size gates now
     → ((table : Table) → HoldsPending size gates table → P (held.Shuffled table)) → P now
 in_table P size gates (held.InOrder rising) none each = absurd none
 in_table P size gates (held.Shuffled table) holds each = each table holds
