@@ -1,9 +1,8 @@
 -- What a command printed on files that were opened, and was flushed.
-use Rattle.std.proofs.Common.{◌≡◌, Bool, false, List, [], ◌∷◌, ℕ, Option, Ok, Err, refl, sym}
+use Rattle.std.proofs.Common.{◌≡◌, Bool, false, List, [], ◌∷◌, ℕ, Option, Ok, Err, refl}
 use Rattle.std.specs.Prelude.{IfErr, IsTrue, Result}
 use Rattle.std.specs.Io.KnownBytes.{Appends, Keeps}
-use Rattle.std.proofs.lemmas.List.{append-nil}
-use Rattle.aig_command_line.proofs.Kept.{appends_kept}
+use Rattle.aig_command_line.proofs.Kept.{appends_kept, stops_unflushed}
 use Rattle.aig_command_line.specs.declared.files.OpenError.{OpenError}
 use Rattle.aig_edits.proofs.Reading.{reads_on}
 use Rattle.aig_edits.specs.Pairs.{ReadsPair}
@@ -17,7 +16,7 @@ use Rattle.aig_checks.specs.declared.command.PairCommand.{PairCommand}
 use Rattle.aig_checks.specs.declared.tool.CheckError.{CheckError}
 use Rattle.aig_checks.specs.declared.tool.CheckError.TheVariants as errors
 use Rattle.aig_checks.specs.declared.tool.TheConstants.{LIMIT}
-use Rattle.aig_checks.specs.Acting.{Acts, RunsFile, RunsProofs, Says}
+use Rattle.aig_checks.specs.Acting.{Acts, RunsFile, RunsProofs}
 use Rattle.aig_checks.specs.Opening.{OnOpening, Opening}
 use Rattle.aig_checks.specs.Pairs.{IsErrorOfPair, RunsPair, TellsOfPair, other_verdict_of}
 use Rattle.aig_checks.specs.Running.{Runs, nothing_fails, nothing_given, verdict_of}
@@ -58,11 +57,8 @@ own_by c failed (Err e) ends = absurd ends
 
 module _ {W : Type 0} (held : W → Option (List ℕ)) (write_failed : W → Bool) (w made flat : W) (keeps : Keeps (held made) (held flat)) where
   -- a text that could not be flushed
-  stops_unflushed : (text : List ℕ) → Appends (held w) (held made) text → IsTrue (write_failed flat) → Stops (held w) (held flat) (write_failed flat) text
-  stops_unflushed text grows lost = record {
-    beginning = (text, [], sym (append-nil text), appends_kept (held w) (held made) (held flat) text grows keeps);
-    has_failed = lost;
-  }
+  stops : (text : List ℕ) → Appends (held w) (held made) text → IsTrue (write_failed flat) → Stops (held w) (held flat) (write_failed flat) text
+  stops text grows lost = stops_unflushed (held w) (held made) (held flat) (write_failed flat) text grows keeps lost
 
   module _ (u : Unit {0}) where
     runs_ended : {R P : Type 0} (left : R → Option (List ℕ)) (failed : R → Bool) (given : P → Option (List ℕ)) (given_failed : P → Bool) (c : FileCommand) (r rest : R) (p used : P) (done : Result Unit CheckError)
@@ -86,7 +82,7 @@ module _ {W : Type 0} (held : W → Option (List ℕ)) (write_failed : W → Boo
           verdict = runs.verdict;
           own = tt;
           ok = tt;
-          stopped = λ is. (answer.0, answer.1, stops_unflushed answer.0 answer.2.0 lost);
+          stopped = λ is. (answer.0, answer.1, stops answer.0 answer.2.0 lost);
           taken = λ is. runs.taken tt;
           kept = λ not. absurd (not refl);
           unread = λ no. absurd no;
@@ -97,7 +93,7 @@ module _ {W : Type 0} (held : W → Option (List ℕ)) (write_failed : W → Boo
     told_ended : (c : PairCommand) (f g : File) (done : Result Unit CheckError) → TellsOfPair held write_failed c LIMIT w made f g (Ok u)
         → EndsBy (write_failed flat) done → TellsOfPair held write_failed c LIMIT w flat f g done
     told_ended c f g (Ok v) told sound = (told.0, told.1, appends_kept (held w) (held made) (held flat) told.0 told.2 keeps, sound)
-    told_ended c f g (Err errors.Write) told lost = (told.0, told.1, stops_unflushed told.0 told.2 lost)
+    told_ended c f g (Err errors.Write) told lost = (told.0, told.1, stops told.0 told.2 lost)
     told_ended c f g (Err e) told never = absurd never
 
     pair_ended : {R S P Q : Type 0} (left : R → Option (List ℕ)) (failed : R → Bool) (left_of : S → Option (List ℕ)) (failed_of : S → Bool) (base_failed : P → Bool) (step_failed : Q → Bool) (c : PairCommand) (r rest : R) (s other : S) (p used : P) (q spent : Q) (done : Result Unit CheckError)
@@ -143,13 +139,3 @@ module _ {F W : Type 0} (opens : List ℕ → Result F OpenError → Type 0) (le
       (λ r. opening_on _ _ _ _ (λ s so. (so.0, so.1, proofs_ended c further r so.0 s so.1 so.2)) (λ e no. let is = no.0 in cc) opens beside)
       (λ e no. let is = no.0 in cc) opens path acts
   acts_ended c paths further acts = absurd acts
-
--- a text that was written could not be flushed
-pub said_unflushed : {W : Type 0} (held : W → Option (List ℕ)) (write_failed flushed : W → Bool) (text : List ℕ) (w made flat : W) → Appends (held w) (held made) text
-    → Keeps (held made) (held flat) → IsTrue (write_failed flat) → Says held write_failed flushed text w (Err errors.Write) flat
-said_unflushed held write_failed flushed text w made flat grows keeps has_failed = record {
-  ok = tt;
-  sound = tt;
-  done = tt;
-  err = (refl, stops_unflushed held write_failed w made flat keeps text grows has_failed);
-}

@@ -2,14 +2,12 @@
 -- What the program does with its words. Files are opened as a trait says; of a file that is read it
 -- says the bytes that are left and whether a read failed, and of what is written to the bytes held,
 -- whether a write failed, and whether all of them are in their place.
-use Rattle.std.specs.Prelude.{◌≡◌, ◌↔◌, ℕ, Bool, false, IsTrue, List, [], ◌∷◌, ◌++◌, Option, Result, Err, IfErr, OnOk}
-use Rattle.std.specs.Io.KnownBytes.{Appends}
-use Rattle.aig_output.specs.Sinks.{Stops}
+use Rattle.std.specs.Prelude.{◌≡◌, ◌↔◌, ℕ, Bool, IsTrue, List, [], ◌∷◌, ◌++◌, Option, Result, Err, OnOk}
 use Rattle.aig_command_line.specs.declared.about.Question.{Question}
 use Rattle.aig_command_line.specs.About.{word_of}
 use Rattle.aig_command_line.specs.declared.status.Ending.{Ending}
 use Rattle.aig_command_line.specs.declared.status.Ending.TheVariants as endings
-use Rattle.aig_command_line.specs.Ending.{ended}
+use Rattle.aig_command_line.specs.Ending.{Says, ended}
 use Rattle.aig_command_line.specs.declared.files.OpenError.{OpenError}
 use Rattle.aig_checks.specs.declared.command.Command.{Command}
 use Rattle.aig_checks.specs.declared.command.Command.TheVariants as commands
@@ -86,15 +84,6 @@ Acts {F} opens left failed held write_failed (commands.Pair c) (path ∷ beside 
     (λ e. (result ≡ Err e) × (made ≡ w))
 Acts opens left failed held write_failed c paths further w result made = ⊥
 
--- a text is written and flushed, or a beginning of it is written, and the writer has failed
-pub record Says {W : Type 0} (held : W → Option (List ℕ)) (write_failed flushed : W → Bool)
-    (text : List ℕ) (w : W) (result : Result Unit CheckError) (made : W) : Type 0 where
-  pub ok : OnOk result (Appends (held w) (held made) text)
-  pub sound : OnOk result (write_failed made ≡ false)
-  pub done : OnOk result (IsTrue (flushed made))
-  pub err : IfErr result
-      (λ e. (e ≡ errors.Write) × Stops (held w) (held made) (write_failed made) text)
-
 -- what the words ask for was done, and how the program ends by it
 pub record Obeys {F W : Type 0} (opens : List ℕ → Result F OpenError → Type 0)
     (left : F → Option (List ℕ)) (failed : F → Bool) (held : W → Option (List ℕ))
@@ -102,7 +91,8 @@ pub record Obeys {F W : Type 0} (opens : List ℕ → Result F OpenError → Typ
     (w : W) (ending : Ending CheckError) (made : W) : Type 0 where
   -- a question of the program is answered by a line
   pub tells : (q : Question) → words ≡ word_of q ∷ [] → (done : Result Unit CheckError)
-      × (ending ≡ ended done) × Says held write_failed flushed (answer_of q ++ 10 ∷ []) w done made
+      × (ending ≡ ended done)
+      × Says held write_failed flushed errors.Write (answer_of q ++ 10 ∷ []) w done made
   -- other words give no command exactly where it ends so
   pub none : (ending ≡ endings.NoCommand) ↔ (((c : Command) → ¬ Give words c)
       × ((q : Question) → ¬ (words ≡ word_of q ∷ [])))

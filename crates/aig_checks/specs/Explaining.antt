@@ -6,11 +6,8 @@ use Rattle.aig_command_line.specs.Came.{IsPlaceIn}
 use Rattle.aig_command_line.specs.Faults.{error_of, path_of, place_in}
 use Rattle.aig_command_line.specs.Places.{IsPlaced}
 use Rattle.aig_command_line.specs.declared.fault.Fault.{Fault}
-use Rattle.aig_command_line.specs.declared.fault.Fault.TheVariants.{Alone}
 use Rattle.aig_command_line.specs.declared.files.OpenError.{OpenError}
 use Rattle.aig_command_line.specs.declared.files.OpenError.TheVariants as opening
-use Rattle.aig_command_line.specs.declared.status.Ending.{Ending}
-use Rattle.aig_command_line.specs.declared.status.Ending.TheVariants as endings
 use Rattle.aig_command_line.specs.declared.tally.Measure.{Measure}
 use Rattle.aig_command_line.specs.declared.tally.Place.{Place}
 use Rattle.aig_command_line.specs.declared.tally.Place.TheVariants.{Whole}
@@ -133,19 +130,3 @@ pub record TellsOf {F : Type 0} (opens : List ℕ → Result F OpenError → Typ
   pub error : error_of fault ≡ e
   pub told : (c : Command) (paths further : List (List ℕ)) → IsCall words c paths further
       → Tells opens left c paths further e fault
-
--- each ending stays, and of a refusal it is told what it is about
-abbrev pub Explains : {F : Type 0} → (List ℕ → Result F OpenError → Type 0)
-    → (F → Option (List ℕ)) → List (List ℕ) → Ending CheckError → Ending (Fault CheckError)
-    → Type 0
-Explains opens left words endings.Done told = told ≡ endings.Done
-Explains opens left words endings.NoCommand told = told ≡ endings.NoCommand
-Explains opens left words (endings.Refused e) told =
-    (fault : Fault CheckError) × (told ≡ endings.Refused fault)
-    × TellsOf opens left words e fault
-
--- each ending stays, and a refusal is about no file
-abbrev pub IsToldAlone : Ending CheckError → Ending (Fault CheckError) → Type 0
-IsToldAlone endings.Done told = told ≡ endings.Done
-IsToldAlone endings.NoCommand told = told ≡ endings.NoCommand
-IsToldAlone (endings.Refused e) told = told ≡ endings.Refused (Alone e)

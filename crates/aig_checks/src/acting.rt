@@ -2,7 +2,8 @@
 
 ghost use Rattle.std.specs.Prelude.{◌≡◌, ◌<◌, ◌^◌, ◌++◌, ◌∷◌, [], IfOk, IfSome, IsErr, IsNone, IsTrue, OnOk, length, map, string_bytes};
 ghost use Rattle.aig_command_line.specs.declared.status.Ending.TheVariants as endings;
-ghost use Rattle.aig_checks.specs.Acting.{Acts, Obeys, RunsFile, RunsProofs, Says};
+ghost use Rattle.aig_command_line.specs.Ending.{Says};
+ghost use Rattle.aig_checks.specs.Acting.{Acts, Obeys, RunsFile, RunsProofs};
 ghost use Rattle.aig_checks.specs.Asked.{answer_of};
 ghost use Rattle.aig_checks.specs.Opening.{unopened};
 ghost use Rattle.aig_checks.specs.Running.{Runs};
@@ -13,10 +14,10 @@ use crate::command::{Call, Command, FileCommand, PairCommand, call_of};
 use crate::pairs::{print_certified, print_equal, print_obligations};
 use crate::tool::{
     CheckError, LIMIT, print_clauses, print_inductive, print_refuted, print_run, print_window,
-    print_witness, write_text,
+    print_witness,
 };
 use aig_base::{MemoryError, Sink, Source};
-use aig_command_line::{Ending, Flush, OpenError, Opens, Question, asked};
+use aig_command_line::{Ending, Flush, OpenError, Opens, Question, asked, write_text};
 use std::alloc::Global;
 
 /// How the program is used.
@@ -261,7 +262,8 @@ fn print<F: Opens, W: Flush>(
 
 /// Writes a line, and flushes it.
 fn say<W: Flush>(text: &str, w: &mut W) -> Result<(), CheckError>
-    ensures { Says W.held W.failed W.flushed (text.now ++ 10 ∷ []) w.old result w.new }
+    ensures { Says W.held W.failed W.flushed CheckError.Write (text.now ++ 10 ∷ []) w.old
+        result w.new }
 {
     write_text(w, text.as_bytes())?;
     Ok(w.flush()?)

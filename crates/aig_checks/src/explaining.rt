@@ -1,8 +1,10 @@
 //! Which file a refusal is about, and where reading that file stopped.
 
-ghost use Rattle.std.specs.Prelude.{◌≡◌, ◌<◌, ◌^◌, ◌++◌, Contains, Err, IfNone, IfOk, IfSome, IsErr, IsNone, None, Some, length, map, slice_get, string_bytes};
+ghost use Rattle.std.specs.Prelude.{◌≡◌, ◌<◌, ◌^◌, ◌++◌, Contains, Err, IfNone, IfOk, IfSome, IsErr, IsNone, None, Some, length, map, string_bytes};
+ghost use Rattle.aig_command_line.specs.Ending.{IsMapped};
+ghost use Rattle.aig_command_line.specs.Faults.{IsAlone};
 ghost use Rattle.aig_command_line.specs.declared.files.OpenError.TheVariants as opening;
-ghost use Rattle.aig_checks.specs.Explaining.{Explains, IsPathOf, IsPlaceOf, IsRun, IsToldAlone, Tells, TellsOf, word_of};
+ghost use Rattle.aig_checks.specs.Explaining.{IsPathOf, IsPlaceOf, IsRun, Tells, TellsOf, word_of};
 ghost use Rattle.aig_checks.specs.Words.{beside_of, paths_of, step_of};
 
 use crate::about::{About, Search, Subject, about_error};
@@ -10,7 +12,7 @@ use crate::again::place_by_run;
 use crate::command::{Call, call_of};
 use crate::tool::{CheckError, LIMIT};
 use aig_base::MemoryError;
-use aig_command_line::{Ending, Fault, Place, Reopens, place_in_file};
+use aig_command_line::{Ending, Fault, Place, Reopens, path_at, place_in_file};
 use std::alloc::Global;
 
 /// The first of these paths at which no file is opened.
@@ -36,18 +38,6 @@ fn unopened<'a, F: Reopens>(files: &F, call: &Call<'a>) -> Option<&'a str>
     match first_unopened(files, call.paths) {
         Some(path) => Some(path),
         None => first_unopened(files, call.further),
-    }
-}
-
-/// The path at an index.
-fn path_at(paths: &[String], index: usize) -> Option<&str>
-    ensures some { IfSome result
-        (λ path. slice_get (map string_bytes paths.now) index ≡ Some path.now) }
-    ensures none { IfNone result (slice_get (map string_bytes paths.now) index ≡ None) }
-{
-    match paths.get(index) {
-        Some(path) => Some(path.as_str()),
-        None => None,
     }
 }
 
@@ -141,17 +131,14 @@ pub fn explain<'a, F: Reopens>(
     ending: Ending<CheckError>,
 ) -> Ending<Fault<'a, CheckError>>
     ensures words { IfOk words.now (λ read. IfSome read (λ given.
-        Explains (F.opens files.now) F.File.left (map string_bytes given.items) ending result)) }
+        IsMapped (TellsOf (F.opens files.now) F.File.left (map string_bytes given.items))
+        ending result)) }
     // An error before there are words is about no file.
-    ensures other { IfOk words.now (λ read. IsNone read → IsToldAlone ending result) }
-    ensures memory { IsErr words.now → IsToldAlone ending result }
+    ensures other { IfOk words.now (λ read. IsNone read → IsMapped IsAlone ending result) }
+    ensures memory { IsErr words.now → IsMapped IsAlone ending result }
 {
-    match (ending, words) {
-        (Ending::Done, _) => Ending::Done,
-        (Ending::NoCommand, _) => Ending::NoCommand,
-        (Ending::Refused(error), Ok(Some(words))) => {
-            Ending::Refused(fault_by(alloc, words.as_slice(), files, error))
-        }
-        (Ending::Refused(error), _) => Ending::Refused(Fault::Alone(error)),
+    match words {
+        Ok(Some(words)) => ending.map(|error| fault_by(alloc, words.as_slice(), files, error)),
+        _ => ending.map(|error| Fault::Alone(error)),
     }
 }

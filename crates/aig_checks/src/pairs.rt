@@ -7,9 +7,10 @@ ghost use Rattle.aig_checks.specs.Pairs.{RunsPair, part_text};
 ghost use Rattle.aig_checks.specs.Running.{nothing_fails};
 
 use crate::command::PairCommand;
-use crate::tool::{CheckError, LIMIT, tell_formula, write_line, write_text};
+use crate::tool::{CheckError, LIMIT, tell_formula, write_line};
 use aig_base::{DagCnf, LitVvec, Sink, Source, StreamFault};
 use aig_certificates::{Obligations, check_certified, check_equal, obligations_of};
+use aig_command_line::write_text;
 use aig_dimacs::write_dimacs;
 use std::alloc::Global;
 

@@ -1,11 +1,11 @@
 use Rattle.std.proofs.Common.{◌≡◌, [], ◌∷◌, ◌++◌, map, refl, subst, sym, ◌∙◌}
 use Rattle.std.specs.Prelude.{Result, string_bytes}
 use Rattle.std.proofs.lemmas.Option.{same_Some}
-use Rattle.aig_command_line.specs.Ending.{ended}
+use Rattle.aig_command_line.specs.Ending.{Says, ended}
 use Rattle.aig_checks.specs.declared.tool.CheckError.{CheckError}
-use Rattle.aig_checks.specs.Acting.{Says}
 use Rattle.aig_checks.specs.Asked.{answer_of}
 use Rattle.aig_checks.proofs.Calling.{never_none, no_command, one_call}
+use Rattle.aig_checks.specs.declared.tool.CheckError.TheVariants as errors
 use Rattle.aig_checks.proofs.acting.obey.Goals as goal
 
 pub returns-in-Some : goal.returns-in-Some
@@ -14,7 +14,7 @@ returns-in-Some g c =
     let is = (c.asked.ensures c.in-Some.question).0 c.in-Some.is in
     record {
       tells = λ q are.
-          subst (λ x. (done : Result (Unit {0}) CheckError) × (c.of.result ≡ ended done) × Says g.W.Sink.held g.W.Sink.failed g.W.Flush.flushed (answer_of x ++ 10 ∷ []) c.args.w.now done c.say.new.w)
+          subst (λ x. (done : Result (Unit {0}) CheckError) × (c.of.result ≡ ended done) × Says g.W.Sink.held g.W.Sink.failed g.W.Flush.flushed errors.Write (answer_of x ++ 10 ∷ []) c.args.w.now done c.say.new.w)
           (same_Some _ _ (sym c.in-Some.is ∙ (c.asked.ensures q).1 are)) (c.say.result, c.of.ensures, rw c.answer.ensures at c.say.ensures);
       none = (λ e. absurd (never_none c.say.result (sym c.of.ensures ∙ e)), λ no. absurd (no.1 c.in-Some.question is));
       kept = λ e. absurd (never_none c.say.result (sym c.of.ensures ∙ e));
