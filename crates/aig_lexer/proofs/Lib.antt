@@ -9,4 +9,5 @@ pub mod Deltas
 pub mod KindWord
 pub mod HeaderNumbers
 pub mod Ending
+pub mod SignedNumbers
 mod Examples

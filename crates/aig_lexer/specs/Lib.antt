@@ -3,3 +3,4 @@ pub mod Takes
 pub mod Faults
 pub mod Words
 pub mod Header
+pub mod SignedNumbers

@@ -68,7 +68,7 @@ fn digits_in(bytes: &[u8], first: u64) -> Option<(u32, u8, usize)>
 /// Reads a number at the front of `bytes`, where `digits_in` finds its end: its value, the byte that ends it, and how many
 /// bytes it takes after the first.
 #[inline(always)]
-fn number_in(bytes: &[u8]) -> Option<(u32, u8, usize)>
+pub(crate) fn number_in(bytes: &[u8]) -> Option<(u32, u8, usize)>
     ensures within { IfSome result (λ x. x.2 < length bytes.now) }
     ensures reads { IfSome result (λ x. (rest : List ℕ)
         → parse_number (take (x.2 + 1) bytes.now ++ rest) ≡ Some ((x.0, x.1), rest)) }

@@ -6,6 +6,7 @@ mod error;
 mod header;
 mod lexer;
 mod list;
+mod signed;
 
 pub use aig_format::FileKind;
 pub use buffer::InputBuffer;
@@ -13,3 +14,4 @@ pub use error::{LexError, LineError};
 pub use header::{Header, header_line};
 pub use lexer::{delta, ended, next_line, number_from, pair};
 pub use list::append;
+pub use signed::{Signed, signed_in};

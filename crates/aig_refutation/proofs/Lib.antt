@@ -11,6 +11,7 @@ mod Texts
 mod Parts
 mod LineParts
 mod ReadWords
+mod NearWords
 mod Lines
 mod LineForms
 mod NextSteps

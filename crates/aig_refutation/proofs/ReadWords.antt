@@ -79,7 +79,7 @@ module _ (start now after : Feed) (first value : ℕ) where
 -- ---- numbers
 
 -- a number was read to its end
-signed_ok : (positive : Bool) (value : ℕ) (x : Result ℕ RefutationError) → x ≡ Ok value
+pub signed_ok : (positive : Bool) (value : ℕ) (x : Result ℕ RefutationError) → x ≡ Ok value
     → (signed positive x >>= λ w. Ok (held_word w)) ≡ Ok (words.Number (record {
       value = value;
       positive = positive;
@@ -106,8 +106,8 @@ number_ends before after digit value positive o end now none given is =
       left_end now o rest at_none ∙ sym h.1,
     ))
 
-signed_err : (positive : Bool) (x : Result ℕ RefutationError) (e : RefutationError) → x ≡ Err e →
-    signed positive x ≡ Err e
+pub signed_err : (positive : Bool) (x : Result ℕ RefutationError) (e : RefutationError)
+    → x ≡ Err e → signed positive x ≡ Err e
 signed_err positive x e is = ap (signed positive) is
 
 pub number_stops : (before after : Feed) (digit value : ℕ) (positive : Bool) (o : Option ℕ) (end

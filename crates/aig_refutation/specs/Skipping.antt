@@ -1,13 +1,15 @@
 -- Serves private clauses alone.
 -- Bytes that are read before a word, and in one.
-use Rattle.std.specs.Prelude.{◌≡◌, ℕ, Bool, true, false, IfSome, List, [], ◌∷◌, Option, Result, Ok, Err}
+use Rattle.std.specs.Prelude.{◌≡◌, ◌<◌, ◌≤◌, ℕ, Bool, true, false, IfSome, List, [], ◌∷◌, ◌++◌, length, take, Option, Some, None, Result, Ok, Err}
+use Rattle.aig_lexer.specs.declared.signed.Signed.{Signed}
+use Rattle.aig_lexer.specs.SignedNumbers.{parse_signed}
 use Rattle.aig_lexer.specs.Takes.{Feed}
 use Rattle.aig_format.specs.Parse.{is_digit}
 use Rattle.aig_refutation.specs.declared.error.RefutationError.{RefutationError}
 use Rattle.aig_refutation.specs.declared.error.RefutationError.TheVariants as errors
 use Rattle.aig_refutation.specs.Proofs.{ended}
 use Rattle.aig_refutation.specs.Text.{◌>>=◌, digits_after, is_blank, lines_after, lines_of, number_in}
-use Rattle.aig_refutation.specs.Words.{Leaves, Says, Tells, front, left_after}
+use Rattle.aig_refutation.specs.Words.{Leaves, Says, Tells, Text, front, left_after}
 
 -- the next byte that isn't blank, if there is one
 abbrev pub SkipsBlanks : Feed → Feed → Result (Option ℕ) RefutationError → Type 0
@@ -34,3 +36,11 @@ GivesDigits first before after (Err e) =
 -- nothing more stands in a line
 abbrev pub end_line : Bool → List (List ℕ) → Result (Unit {0} × List (List ℕ)) RefutationError
 end_line is_last words = ended words >>= λ end. Ok (tt, [])
+
+-- a number is next in a line that goes on, and so many of the bytes that are held are read as it
+pub record IsNear (text : Text) (x : Signed) : Type 0 where
+  pub goes_on : text.end ≡ None
+  pub some : 0 < x.count
+  pub within : x.count ≤ length text.held
+  pub reads : (rest : List ℕ) → parse_signed (take x.count text.held ++ rest)
+      ≡ Some ((x.positive, (x.value, x.end)), rest)

@@ -1,7 +1,7 @@
 //! The bytes of a proof, the first of which can be looked at before one is taken.
 
 ghost use Rattle.std.specs.List.{list_any};
-ghost use Rattle.std.specs.Prelude.{◌≡◌, ◌<◌, ◌≤◌, ◌==◌, [], length, take, true, IfOk, OnErr};
+ghost use Rattle.std.specs.Prelude.{◌≡◌, ◌<◌, ◌≤◌, ◌==◌, [], drop, length, take, true, IfOk, OnErr};
 ghost use Rattle.std.specs.Io.KnownBytes.{Consumes, IsAtEnd};
 ghost use Rattle.aig_lexer.specs.Bytes.{Fills, Pops};
 ghost use Rattle.aig_lexer.specs.Takes.{StepsOrFails, feed};
@@ -103,6 +103,15 @@ impl ProofBuffer {
         let byte = self.bytes[self.at];
         self.at += 1;
         Some(byte)
+    }
+
+    /// Takes the first `count` bytes. Requires that there are so many in the buffer.
+    #[inline(always)]
+    pub(crate) fn consume(&mut self, count: usize)
+        requires { count ≤ length self.old }
+        ensures { self.new ≡ drop count self.old }
+    {
+        self.at += count;
     }
 
     /// Pulls the next bytes of the source, where no byte is left. At its end there is none after that.

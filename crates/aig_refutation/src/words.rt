@@ -6,13 +6,14 @@
 
 ghost use Rattle.std.specs.Prelude.{◌≡◌, ◌+◌, ◌<◌, ◌≤◌, ◌^◌, ◌∷◌, [], None, Some, IfOk, IfSome, IsErrOf, IsTrue, OnOk, true};
 ghost use Rattle.aig_lexer.specs.Takes.{feed};
-ghost use Rattle.aig_refutation.specs.Skipping.{EndsLine, GivesDigits, SkipsBlanks, end_line};
+ghost use Rattle.aig_refutation.specs.Skipping.{EndsLine, GivesDigits, IsNear, SkipsBlanks, end_line};
 ghost use Rattle.aig_refutation.specs.Text.{fault, number_in, signed, word_in};
 ghost use Rattle.aig_refutation.specs.Words.{Answers, ClosesAt, Gives, GivesFirst, GivesWord, IsAfter, IsClosed, IsWord, end_after, fault_of, is_last, next_in, next_number, place, rest, said_number};
 
 use crate::buffer::ProofBuffer;
 use crate::error::RefutationError;
 use aig_base::Source;
+use aig_lexer::{Signed, signed_in};
 use std::marker::Model;
 
 /// A number, which may have a minus in front.
@@ -231,8 +232,9 @@ impl Words {
         Word::End(end)
     }
 
-    /// The next word of the line.
-    pub(crate) fn next<R: Source>(&mut self, r: &mut R) -> Result<Word, RefutationError>
+    /// The next word of the line, byte by byte.
+    #[inline(never)]
+    fn next_by_bytes<R: Source>(&mut self, r: &mut R) -> Result<Word, RefutationError>
         ensures stream { IsErrOf result RefutationError.Stream → R.failed r.new ≡ true }
         ensures fewer { IfOk result (λ word.
             IsAfter (rest R.pulls self.old r.old) word (rest R.pulls self.new r.new)) }
@@ -248,6 +250,38 @@ impl Words {
             Some(byte) => self.read_word(r, byte),
             None => Ok(self.end_line(End::Stream)),
         }
+    }
+
+    /// The number that is next in a line that goes on, where it lies among the bytes that are held.
+    #[inline(always)]
+    fn near_number(&self) -> Option<Signed>
+        ensures { IfSome result (IsNear self.now) }
+    {
+        match self.end {
+            None => signed_in(self.buffer.window()),
+            Some(_) => None,
+        }
+    }
+
+    /// The next word of the line.
+    #[inline(always)]
+    pub(crate) fn next<R: Source>(&mut self, r: &mut R) -> Result<Word, RefutationError>
+        ensures stream { IsErrOf result RefutationError.Stream → R.failed r.new ≡ true }
+        ensures fewer { IfOk result (λ word.
+            IsAfter (rest R.pulls self.old r.old) word (rest R.pulls self.new r.new)) }
+        ensures word { Gives (λ word. word) next_in (place R.left R.failed R.pulls self.old r.old)
+            (place R.left R.failed R.pulls self.new r.new) result }
+        ensures closed { IfOk result (λ word. ClosesAt word self.new.end) }
+    {
+        let Some(found) = self.near_number() else {
+            return self.next_by_bytes(r);
+        };
+        self.buffer.consume(found.count);
+        self.end_word(Some(found.end))?;
+        Ok(Word::Number(Number {
+            value: found.value,
+            positive: found.positive,
+        }))
     }
 
     /// The next word of the line, which is a number.
