@@ -15,6 +15,7 @@ ghost use Rattle.aig_refutation.specs.Words.{Answers};
 
 use crate::buffer::ProofBuffer;
 use crate::error::RefutationError;
+use crate::list::push;
 use crate::step::Step;
 use aig_base::{Lit, Source, Var};
 
@@ -113,7 +114,7 @@ fn read_literals<R: Source>(
         if code == 0 {
             return Ok(());
         }
-        step.clause.push(literal(code, variables)?)?;
+        push(&mut step.clause, literal(code, variables)?)?;
     }
 }
 

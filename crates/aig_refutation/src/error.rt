@@ -4,7 +4,6 @@ ghost use Rattle.std.specs.Prelude.{◌≡◌};
 ghost use Rattle.aig_refutation.specs.declared.error.RefutationError.TheVariants as errors;
 
 use aig_base::{MemoryError, StreamFault};
-use std::alloc::AllocFailed;
 use thiserror::Error;
 
 /// Why a proof doesn't show that clauses can't be satisfied.
@@ -61,14 +60,6 @@ impl From<MemoryError> for RefutationError {
     ghost from_gives = { λ _ r. r ≡ errors.Memory };
 
     fn from(_error: MemoryError) -> RefutationError {
-        RefutationError::Memory
-    }
-}
-
-impl<T: Drop> From<AllocFailed<T>> for RefutationError {
-    ghost from_gives = { λ _ r. r ≡ errors.Memory };
-
-    fn from(_error: AllocFailed<T>) -> RefutationError {
         RefutationError::Memory
     }
 }

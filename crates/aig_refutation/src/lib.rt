@@ -9,6 +9,7 @@ mod closure;
 mod compare;
 mod error;
 mod laws;
+mod list;
 mod marks;
 mod numbered;
 mod propagation;

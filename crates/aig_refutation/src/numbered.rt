@@ -7,6 +7,7 @@ ghost use Rattle.aig_refutation.specs.Checking.{Live, deleted, numbered_clause};
 ghost use Rattle.aig_refutation.specs.Tables.{Holds, IsInRow, IsMoved, IsNumbering, IsTable, Moves, OnlyMemory, SaysSame, entry_at, place_in};
 
 use crate::error::RefutationError;
+use crate::list::push;
 use aig_base::{Lit, LitVvec, MemoryError};
 use std::alloc::Global;
 use std::marker::Model;
@@ -172,7 +173,7 @@ impl Numbered {
             return Err(RefutationError::Memory);
         }
         let place = (self.clauses.len() + 1) as u32;
-        self.numbers.push(number)?;
+        push(&mut self.numbers, number)?;
         put_entry(&mut self.places, number, place)?;
         self.clauses.push(clause)?;
         self.added = self.added.saturating_add(1);

@@ -8,6 +8,7 @@ ghost use Rattle.aig_refutation.specs.Reading.{GivesStep, reads_added, reads_aft
 ghost use Rattle.aig_refutation.specs.Words.{Answers, Gives, IsClosed, Tries, is_last, place, rest, said_number};
 
 use crate::error::RefutationError;
+use crate::list::push;
 use crate::words::{End, Number, Word, Words};
 use aig_base::{Lit, Source, Var};
 use std::alloc::Global;
@@ -76,7 +77,7 @@ fn read_clause<R: Source>(
 {
     let mut number = first;
     while number.value != 0 {
-        clause.push(literal(number, variables)?)?;
+        push(clause, literal(number, variables)?)?;
         number = words.number(r)?;
     }
     Ok(())
@@ -105,7 +106,7 @@ fn read_numbers<R: Source>(
         if !number.positive {
             return Err(negative);
         }
-        numbers.push(number.value)?;
+        push(numbers, number.value)?;
         number = words.number(r)?;
     }
     words.finish(r)
@@ -288,7 +289,7 @@ impl Step {
         if self.is_numbered {
             return Err(end.fault());
         }
-        self.clause.push(literal(first, variables)?)?;
+        push(&mut self.clause, literal(first, variables)?)?;
         Ok(())
     }
 }

@@ -56,7 +56,7 @@ loop-code-preserved g c =
     let step = plain_by c.loop-code.step in
     let variables = c.args.variables in
     let lit = c.in_ok-literal.field-0 in
-    let clause = c.push.new.self.items in
+    let clause = c.push.new.list.items in
     let pushed : clause ≡ c.loop-code.step.clause.items ++ lit ∷ [] = c.in_ok-push.ensures.items in
     record {
       goes = literals_more variables first step before mid c.loop-code.invariant.goes after

@@ -69,7 +69,7 @@ loop-number-preserved g c =
     let m = said_number c.in_ok-number.number in
     let lits = c.loop-number.clause.items in
     let s = reads_clause c.args.variables n lits in
-    let t = reads_clause c.args.variables m c.push.new.self.items in
+    let t = reads_clause c.args.variables m c.push.new.list.items in
     let more : is_zero n ≡ false = ne_eqb c.loop-number.number.value 0 c.loop-number-test.true in
     record {
       fewer = let less = c.in_ok-number.ensures.fewer in omega (
@@ -85,7 +85,7 @@ loop-number-preserved g c =
           ∙ ap (λ (items : List Lit). reads_clause c.args.variables m items last rest) (sym
           c.in_ok-push.ensures.items)));
       inside = λ before.
-          inside_more c.args.variables lits c.in_ok-literal.field-0 c.push.new.self.items
+          inside_more c.args.variables lits c.in_ok-literal.field-0 c.push.new.list.items
           (c.loop-number.invariant.inside before) c.in_ok-literal.ensures.inside
           c.in_ok-push.ensures.items;
     }

@@ -71,7 +71,7 @@ loop-number-preserved g c =
     let more : is_zero n ≡ false = ne_eqb c.loop-number.number.value 0 c.loop-number-test.true in
     let after = at c.number.new.self c.number.new.r in
     let m = said_number c.in_ok-number.number in
-    let t = reads_numbers negative m c.push.new.self.items in
+    let t = reads_numbers negative m c.push.new.list.items in
     record {
       fewer = let less = c.in_ok-number.ensures.fewer in omega (
         arith,

@@ -18,7 +18,7 @@ returns-clause-moves c live said h same =
     } in
     let new : Table = record {
       clauses = c.push-2.new.self;
-      numbers = c.push.new.self.items;
+      numbers = c.push.new.list.items;
       places
           = c.put_entry.new.places.items;
       added = c.saturating_add-self-inside.result;
