@@ -210,8 +210,8 @@ impl Numbered {
         Ok(())
     }
 
-    /// Frees the memory of deleted clauses, where most literals are of those. Each clause that is
-    /// left was there.
+    /// Frees the memory of deleted clauses, where these have more than a quarter as many literals as
+    /// the others. Each clause that is left was there.
     pub(crate) fn reclaim(&mut self) -> Result<(), RefutationError>
         ensures kept { OnOk result (All (Contains self.old.clauses) self.new.clauses) }
         ensures err { OnErr result (self.new.clauses ≡ self.old.clauses) }
@@ -219,7 +219,7 @@ impl Numbered {
         ensures memory { OnlyMemory result }
         ensures no_stream { IsErrOf result RefutationError.Stream → ⊥ }
     {
-        if self.deleted <= self.live {
+        if self.deleted <= self.live / 4 {
             return Ok(());
         }
         Ok(self.compact()?)
