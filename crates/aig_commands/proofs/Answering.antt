@@ -35,7 +35,11 @@ pub is_text : (lists : List (List (List Lit))) (further : List (List Lit))
     → IsFormula (length lists) (clauses_in lists ++ further)
     → IsTextOf lists further (dimacs_of (length lists) (clauses_in lists ++ further))
 is_text lists further formula =
-    record { exact = refl; again = parse_formula-dimacs_of (length lists) (clauses_in lists ++ further) formula }
+    record {
+      exact = refl;
+      again = parse_formula-dimacs_of (length lists)
+          (clauses_in lists ++ further) formula;
+    }
 
 module _ (c : Command) (limit : ℕ) (old new : Option (List ℕ)) (Holds : List ℕ → Type 0) where
   pub circuit_answers : (circuit : Circuit) → steps_of c ≡ None
@@ -53,14 +57,21 @@ module _ (c : Command) (limit : ℕ) (old new : Option (List ℕ)) (Holds : List
     h,
   )
 
-  pub clauses_answer : {X : Type 0} {Means : File → X → Type 0} {x : X} (k : ℕ) (text : List ℕ) → steps_of c ≡ Some k → IsReadAs (λ bytes f. Accepts bytes limit f × (unrolled_size (circuit_of f) k ≤ limit)) Means old new x
+  pub clauses_answer : {X : Type 0} {Means : File → X → Type 0} {x : X} (k : ℕ) (text : List ℕ)
+      → steps_of c ≡ Some k
+      → IsReadAs (λ bytes f. Accepts bytes limit f × (unrolled_size (circuit_of f) k ≤ limit)) Means
+      old new x
       → ((f : File) → Means f x → Answers c f text) → Holds text → AnswersFile c limit old new Holds
   clauses_answer k text some read means h = (
     text,
     record {
       file = read.file;
       bytes = read.bytes;
-      holds = (read.holds.0, ap (λ steps. file_verdict steps limit read.file) some ∙ encoded_verdict-within limit k read.file read.holds.1);
+      holds = (
+        read.holds.0,
+        ap (λ steps. file_verdict steps limit read.file) some ∙
+            encoded_verdict-within limit k read.file read.holds.1,
+      );
       means = means read.file read.means;
       taken = read.taken;
     },

@@ -28,14 +28,16 @@ each = apart.each name_of form_of ALL refl among
 pub one_call : (words : List (List ℕ)) (c d : Command) (p q : List (List ℕ)) → IsCall words c p
     → IsCall words d q → (c ≡ d) × (p ≡ q)
 one_call words c d p q g h =
-    let same = apart.one_fits name_of form_of ALL refl among words g.action h.action g.arguments h.arguments g.gives h.gives in (
+    let same = apart.one_fits name_of form_of ALL refl among words g.action h.action g.arguments
+    h.arguments g.gives h.gives in (
       g.command ∙ ap (λ a. command_of a g.arguments.step g.arguments.optimize) same.0
           ∙ ap (λ (x : Arguments). command_of h.action x.step x.optimize) same.1 ∙ sym h.command,
       g.on ∙ ap (λ (x : Arguments). x.paths) same.1 ∙ sym h.on,
     )
 
 -- so what they give is told exactly
-pub gives_exactly : (words : List (List ℕ)) (c : Command) (paths : List (List ℕ)) → IsCall words c paths
+pub gives_exactly : (words : List (List ℕ)) (c : Command) (paths : List (List ℕ))
+    → IsCall words c paths
     → (d : Command) → (Some c ≡ Some d) ↔ Give words d
 gives_exactly words c paths g d = (
   λ is. (paths, subst (λ e. IsCall words e paths) (same_Some _ _ is) g),

@@ -22,7 +22,8 @@ use Rattle.aig_commands.specs.Words.{Give, command_of, form_of, name_of}
 
 -- ---- words
 
-two_paths : (a : Action) (k : ℕ) (o : Bool) → commands.Binary ≡ command_of a k o → (form_of a).paths ≡ 2
+two_paths : (a : Action) (k : ℕ) (o : Bool) → commands.Binary ≡ command_of a k o
+    → (form_of a).paths ≡ 2
 two_paths actions.Binary k o is = refl
 two_paths a k o is = cc
 
@@ -33,11 +34,13 @@ no_binary_without_out file give =
     let x = call.arguments in
     let two = two_paths call.action x.step x.optimize call.command in
     let count = ap length call.gives.spelled in
-    let parts = length-append x.paths (call.gives.steps ++ (x.further ++ setting_words x.distinct x.optimize)) in
+    let parts = length-append x.paths
+    (call.gives.steps ++ (x.further ++ setting_words x.distinct x.optimize)) in
     let paths = call.gives.paths in
     omega (arith, two, count, parts, paths)
 
-is_cnf : (a : Action) (k m : ℕ) (o : Bool) → commands.Cnf m true ≡ command_of a k o → (a ≡ actions.Cnf) × (o ≡ true)
+is_cnf : (a : Action) (k m : ℕ) (o : Bool) → commands.Cnf m true ≡ command_of a k o
+    → (a ≡ actions.Cnf) × (o ≡ true)
 is_cnf actions.Cnf k m o is = let same : true ≡ o = cc in (refl, sym same)
 is_cnf a k m o is = cc
 
@@ -46,7 +49,8 @@ no_settings false true distinct is = refl
 no_settings true true distinct is = let not = distinct refl in cc
 no_settings d false distinct is = cc
 
-no_raw : (file steps : List ℕ) (x : Arguments) → x.optimize ≡ true → ¬ Gives (codes "cnf") (form_of actions.Cnf) (codes "cnf" ∷ file ∷ steps ∷ codes "raw" ∷ []) x
+no_raw : (file steps : List ℕ) (x : Arguments) → x.optimize ≡ true
+    → ¬ Gives (codes "cnf") (form_of actions.Cnf) (codes "cnf" ∷ file ∷ steps ∷ codes "raw" ∷ []) x
 no_raw file steps x is g =
     let settings = setting_words x.distinct x.optimize in
     let count = ap length g.spelled in
@@ -63,7 +67,9 @@ no_optimized_raw : (file steps : List ℕ) (k : ℕ)
 no_optimized_raw file steps k give =
     let call = give.1 in
     let is = is_cnf call.action call.arguments.step k call.arguments.optimize call.command in
-    no_raw file steps call.arguments is.1 (subst (λ a. Gives (name_of a) (form_of a) (codes "cnf" ∷ file ∷ steps ∷ codes "raw" ∷ []) call.arguments) is.0 call.gives)
+    no_raw file steps call.arguments is.1
+    (subst (λ a. Gives (name_of a) (form_of a) (codes "cnf" ∷ file ∷ steps ∷ codes "raw" ∷ [])
+    call.arguments) is.0 call.gives)
 
 -- ---- texts
 

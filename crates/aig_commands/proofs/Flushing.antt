@@ -12,7 +12,9 @@ use Rattle.aig_commands.specs.declared.tool.TheConstants.{LIMIT}
 use Rattle.aig_commands.specs.Acting.{PrintsOn, RunsOn, RunsOpened}
 use Rattle.aig_commands.specs.Running.{Runs}
 
-module _ {F W : Type 0} (opens : List ℕ → Result F OpenError → Type 0) (left : F → Option (List ℕ)) (read_failed : F → Bool) (held : W → Option (List ℕ)) (write_failed flushed : W → Bool) (c : Command) where
+module _ {F W : Type 0} (opens : List ℕ → Result F OpenError → Type 0) (left : F → Option (List ℕ))
+    (read_failed : F → Bool) (held : W → Option (List ℕ)) (write_failed flushed : W → Bool)
+    (c : Command) where
   -- what was printed is flushed
   runs_flushed : (u : Unit {0}) (file rest : F) (w made flat : W)
       → Runs left read_failed held write_failed c LIMIT file w (Ok u) rest made
@@ -23,7 +25,11 @@ module _ {F W : Type 0} (opens : List ℕ → Result F OpenError → Type 0) (le
       record {
         verdict = runs.verdict;
         own = tt;
-        ok = (answer.0, answer.1, (appends_kept (held w) (held made) (held flat) answer.0 answer.2.0 keeps, sound));
+        ok = (
+          answer.0,
+          answer.1,
+          (appends_kept (held w) (held made) (held flat) answer.0 answer.2.0 keeps, sound),
+        );
         stopped = λ is. cc;
         kept = tt;
       }
@@ -32,7 +38,8 @@ module _ {F W : Type 0} (opens : List ℕ → Result F OpenError → Type 0) (le
   runs_unflushed : (u : Unit {0}) (file rest : F) (w made flat : W)
       → Runs left read_failed held write_failed c LIMIT file w (Ok u) rest made
       → Keeps (held made) (held flat) → IsTrue (write_failed flat)
-      → Runs left read_failed held write_failed c LIMIT file w (Err (errors.Write write.Stream)) rest flat
+      → Runs left read_failed held write_failed c LIMIT file w (Err (errors.Write write.Stream))
+      rest flat
   runs_unflushed u file rest w made flat runs keeps failed =
       let answer = runs.ok in
       record {
@@ -43,7 +50,13 @@ module _ {F W : Type 0} (opens : List ℕ → Result F OpenError → Type 0) (le
           answer.0,
           answer.1,
           record {
-            beginning = (answer.0, [], sym (append-nil answer.0), appends_kept (held w) (held made) (held flat) answer.0 answer.2.0 keeps);
+            beginning = (
+              answer.0,
+              [],
+              sym (append-nil answer.0),
+              appends_kept (held w) (held made)
+                  (held flat) answer.0 answer.2.0 keeps,
+            );
             has_failed = failed;
           },
         );
@@ -56,14 +69,17 @@ module _ {F W : Type 0} (opens : List ℕ → Result F OpenError → Type 0) (le
       → RunsOpened left read_failed held write_failed c file w (Ok u) made
       → Keeps (held made) (held flat) → write_failed flat ≡ false
       → RunsOpened left read_failed held write_failed c file w (Ok u) flat
-  opened_flushed u (Ok file) w made flat runs keeps sound = (runs.0, runs_flushed u file runs.0 w made flat runs.1 keeps sound)
+  opened_flushed u (Ok file) w made flat runs keeps sound =
+      (runs.0, runs_flushed u file runs.0 w made flat runs.1 keeps sound)
   opened_flushed u (Err e) w made flat runs keeps sound = cc
 
   opened_unflushed : (u : Unit {0}) (file : Result F OpenError) (w made flat : W)
       → RunsOpened left read_failed held write_failed c file w (Ok u) made
       → Keeps (held made) (held flat) → IsTrue (write_failed flat)
-      → RunsOpened left read_failed held write_failed c file w (Err (errors.Write write.Stream)) flat
-  opened_unflushed u (Ok file) w made flat runs keeps failed = (runs.0, runs_unflushed u file runs.0 w made flat runs.1 keeps failed)
+      → RunsOpened left read_failed held write_failed c file w (Err (errors.Write write.Stream))
+      flat
+  opened_unflushed u (Ok file) w made flat runs keeps failed =
+      (runs.0, runs_unflushed u file runs.0 w made flat runs.1 keeps failed)
   opened_unflushed u (Err e) w made flat runs keeps failed = cc
 
   -- ---- of the file at a path
@@ -73,11 +89,28 @@ module _ {F W : Type 0} (opens : List ℕ → Result F OpenError → Type 0) (le
       → Keeps (held made) (held flat) → write_failed flat ≡ false → IsTrue (flushed flat)
       → PrintsOn opens left read_failed held write_failed flushed c path w (Ok u) flat
   print_flushed path u w made flat run keeps sound done =
-      record { runs = record { file = run.file; opened = run.opened; runs = opened_flushed u run.file w made flat run.runs keeps sound }; done = done }
+      record {
+        runs = record {
+          file = run.file;
+          opened = run.opened;
+          runs = opened_flushed u
+              run.file w made flat run.runs keeps sound;
+        };
+        done = done;
+      }
 
   pub print_unflushed : (path : List ℕ) (u : Unit {0}) (w made flat : W)
       → RunsOn opens left read_failed held write_failed c path w (Ok u) made
       → Keeps (held made) (held flat) → IsTrue (write_failed flat)
-      → PrintsOn opens left read_failed held write_failed flushed c path w (Err (errors.Write write.Stream)) flat
+      → PrintsOn opens left read_failed held write_failed flushed c path w
+      (Err (errors.Write write.Stream)) flat
   print_unflushed path u w made flat run keeps failed =
-      record { runs = record { file = run.file; opened = run.opened; runs = opened_unflushed u run.file w made flat run.runs keeps failed }; done = tt }
+      record {
+        runs = record {
+          file = run.file;
+          opened = run.opened;
+          runs = opened_unflushed u
+              run.file w made flat run.runs keeps failed;
+        };
+        done = tt;
+      }

@@ -4,3 +4,5 @@ pub mod Calling
 pub mod Flushing
 pub mod Outcomes
 mod Examples
+mod Unrolling
+mod Printed

@@ -32,13 +32,16 @@ is_error T E e x is = cc
 not_stream : (e : ToolError) → verdict_of e ≡ Short → e ≢ errors.Write write.Stream
 not_stream e short is = let taken : Short ≡ Accepted = sym short ∙ ap verdict_of is in cc
 
-module _ {R W : Type 0} (left : R → Option (List ℕ)) (read_failed : R → Bool) (held : W → Option (List ℕ)) (write_failed : W → Bool) (c : Command) (limit : ℕ) (r : R) (w : W) (rest : R) where
+module _ {R W : Type 0} (left : R → Option (List ℕ)) (read_failed : R → Bool)
+    (held : W → Option (List ℕ)) (write_failed : W → Bool) (c : Command) (limit : ℕ) (r : R) (w : W)
+    (rest : R) where
   -- what is said of the bytes, by a verdict on each file
   abbrev pub Said : (File → Verdict) → Verdict → Type 0
   Said of = Judges of limit (left r) (left rest) (read_failed rest)
 
   -- what is said where there are so many further steps
-  said_by : (steps : Option ℕ) (v : Verdict) → steps_of c ≡ steps → Said (file_verdict steps limit) v
+  said_by : (steps : Option ℕ) (v : Verdict) → steps_of c ≡ steps
+      → Said (file_verdict steps limit) v
       → Said (file_verdict (steps_of c) limit) v
   said_by steps v are said = subst (λ steps. Said (file_verdict steps limit) v) (sym are) said
 
@@ -57,24 +60,38 @@ module _ {R W : Type 0} (left : R → Option (List ℕ)) (read_failed : R → Bo
   pub not_read : (e : ReadError) → steps_of c ≡ None → Said (λ f. Accepted) (reading.verdict_of e)
       → e ≢ read.Open
       → Runs left read_failed held write_failed c limit r w (Err (errors.Read e)) rest w
-  not_read e none said opened = refused (errors.Read e) w (said_by None _ none said) (none, opened) (λ is. cc) refl
+  not_read e none said opened = refused (errors.Read e) w (said_by None _ none said) (none, opened)
+      (λ is. cc) refl
 
   pub not_encoded : (k : ℕ) (e : EncodeError) → steps_of c ≡ Some k
       → Said (encoded_verdict limit k) (encoding.verdict_of e) → e ≢ encode.Read read.Open
       → Runs left read_failed held write_failed c limit r w (Err (errors.Encode e)) rest w
-  not_encoded k e some said opened = refused (errors.Encode e) w (said_by (Some k) _ some said) (λ none. let is = some in cc, opened) (λ is. cc) refl
+  not_encoded k e some said opened = refused (errors.Encode e) w (said_by (Some k) _ some said)
+      (λ none. let is = some in cc, opened) (λ is. cc) refl
 
   module _ (made : W) where
     -- the answer was written
     answered : (u : Unit {0}) → Said (file_verdict (steps_of c) limit) Accepted
-        → AnswersFile c limit (left r) (left rest) (λ text. Appends (held w) (held made) text × (write_failed made ≡ false))
+        → AnswersFile c limit (left r) (left rest)
+        (λ text. Appends (held w) (held made) text × (write_failed made ≡ false))
         → Runs left read_failed held write_failed c limit r w (Ok u) rest made
-    answered u said answers = record { verdict = said; own = tt; ok = answers; stopped = λ is. absurd cc; kept = tt }
+    answered u said answers =
+        record { verdict = said; own = tt; ok = answers; stopped = λ is. absurd cc; kept = tt }
 
     -- the writer failed after a beginning of it
-    stopped : Said (file_verdict (steps_of c) limit) Accepted → AnswersFile c limit (left r) (left rest) (Stops (held w) (held made) (write_failed made))
-        → Runs left read_failed held write_failed c limit r w (Err (errors.Write write.Stream)) rest made
-    stopped said answers = record { verdict = said; own = tt; ok = tt; stopped = λ is. answers; kept = λ not. absurd (not refl) }
+    stopped : Said (file_verdict (steps_of c) limit) Accepted
+        → AnswersFile c limit (left r) (left rest) (Stops (held w) (held made) (write_failed made))
+        → Runs left read_failed held write_failed c limit r w (Err (errors.Write write.Stream)) rest
+        made
+    stopped said answers =
+        record {
+          verdict = said;
+          own = tt;
+          ok = tt;
+          stopped = λ is. answers;
+          kept = λ not. absurd
+              (not refl);
+        }
 
     -- clauses were written, or a beginning of them
     pub clauses_end : (k : ℕ) (result : Result (Unit {0}) ToolError) (text : List ℕ)
@@ -83,8 +100,10 @@ module _ {R W : Type 0} (left : R → Option (List ℕ)) (read_failed : R → Bo
         → WritesOrStops held write_failed w result text made
         → IfErr result (λ e. e ≡ errors.Write write.Stream)
         → Runs left read_failed held write_failed c limit r w result rest made
-    clauses_end k (Ok u) text some said answers writes fault = answered u (said_by (Some k) Accepted some said) (answers _ (writes.ok, writes.sound))
-    clauses_end k (Err e) text some said answers writes fault = rw fault (stopped (said_by (Some k) Accepted some said) (answers _ writes.err))
+    clauses_end k (Ok u) text some said answers writes fault = answered u
+        (said_by (Some k) Accepted some said) (answers _ (writes.ok, writes.sound))
+    clauses_end k (Err e) text some said answers writes fault = rw fault
+        (stopped (said_by (Some k) Accepted some said) (answers _ writes.err))
 
     -- the bytes of a file's circuit were written, or a beginning of them, or memory ran out
     pub circuit_end : (circuit : Circuit) (result : Result (Unit {0}) ToolError) → steps_of c ≡ None
@@ -92,8 +111,14 @@ module _ {R W : Type 0} (left : R → Option (List ℕ)) (read_failed : R → Bo
         → IsReadAs (λ bytes. Accepts bytes limit) IsFileCircuit (left r) (left rest) circuit
         → Prints held write_failed c (bytes_of c circuit) w result made
         → Runs left read_failed held write_failed c limit r w result rest made
-    circuit_end circuit (Ok u) none said read prints = answered u (said_by None Accepted none said) (circuit_answers c limit (left r) (left rest) _ circuit none read prints)
+    circuit_end circuit (Ok u) none said read prints = answered u (said_by None Accepted none said)
+        (circuit_answers c limit (left r) (left rest) _ circuit none read prints)
     circuit_end circuit (Err e) none said read prints = elim prints [
-      | inl stop ↦ rw stop.0 (stopped (said_by None Accepted none said) (circuit_answers c limit (left r) (left rest) _ circuit none read stop.1))
-      | inr short ↦ refused e made (subst (Said (file_verdict (steps_of c) limit)) (sym short.0) (short_of _ limit _ _ _ (said_by None Accepted none said))) short.1 (not_stream e short.0) short.2
+      | inl stop ↦ rw stop.0
+          (stopped (said_by None Accepted none said)
+          (circuit_answers c limit (left r) (left rest) _ circuit none read stop.1))
+      | inr short ↦ refused e made
+          (subst (Said (file_verdict (steps_of c) limit)) (sym short.0)
+          (short_of _ limit _ _ _ (said_by None Accepted none said))) short.1 (not_stream e short.0)
+          short.2
     ]

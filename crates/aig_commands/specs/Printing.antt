@@ -1,8 +1,12 @@
 -- Serves private clauses alone.
 -- What is printed of a circuit: the bytes, a beginning of them, or nothing.
-use Rattle.std.specs.Prelude.{◌≡◌, ◌⊎◌, ℕ, Bool, false, List, Option, Result, Ok, Err}
+use Rattle.std.specs.Prelude.{◌≡◌, ◌⊎◌, ℕ, Bool, false, List, Option, Result, Ok, Err, IfErr, IsErrOf}
 use Rattle.std.specs.Io.KnownBytes.{Appends}
+use Rattle.aig_base.specs.declared.logic.literal.Lit.{Lit}
 use Rattle.aig_circuit.specs.Circuit.{Circuit}
+use Rattle.aig_cnf.specs.Cnf.{HasClauses}
+use Rattle.aig_dimacs.specs.Text.{IsTextWith}
+use Rattle.aig_encode.specs.declared.error.EncodeError.TheVariants as encode
 use Rattle.aig_format.specs.Circuit.{binary_of, text_of}
 use Rattle.aig_output.specs.Sinks.{Stops}
 use Rattle.aig_strash.specs.Strash.{strashed}
@@ -29,3 +33,13 @@ Prints held failed c bytes w (Ok done) made =
 Prints held failed c bytes w (Err e) made =
     ((e ≡ errors.Write write.Stream) × Stops (held w) (held made) (failed made) bytes)
     ⊎ ((verdict_of e ≡ Short) × IsErrorOf c e × (made ≡ w))
+
+-- Memory runs out before anything is written, or the text of the circuit's clauses and further ones
+-- is, or a beginning of it.
+abbrev pub PrintsClauses : {W : Type 0} → (W → Option (List ℕ)) → (W → Bool) → Circuit → Bool
+    → List (List Lit) → W → Result Unit ToolError → W → Type 0
+PrintsClauses held failed c optimize further w result made =
+    (IsErrOf result (errors.Encode encode.Memory) × (made ≡ w))
+    ⊎ (IfErr result (λ e. e ≡ errors.Write write.Stream)
+    × (lists : List (List (List Lit))) × HasClauses c optimize lists
+    × IsTextWith held failed w result lists further made)

@@ -2,6 +2,7 @@
 #![tactic(auto)]
 
 mod acting;
+mod clauses;
 mod command;
 mod tool;
 

@@ -1,22 +1,18 @@
 //! What the commands do with the bytes of a file.
 
-ghost use Rattle.std.specs.Prelude.{◌≡◌, ◌++◌, IfErr, None, length};
-ghost use Rattle.aig_base.specs.Clauses.{AreBelow};
-ghost use Rattle.aig_base.specs.Formula.{clauses_in};
-ghost use Rattle.aig_dimacs.specs.Text.{IsFormula, dimacs_of};
+ghost use Rattle.std.specs.Prelude.{◌≡◌, None};
 ghost use Rattle.aig_format.specs.Writable.{IsWritable};
-ghost use Rattle.aig_output.specs.Sinks.{WritesOrStops};
 ghost use Rattle.aig.specs.declared.aiger.WriteError.TheVariants as write;
 ghost use Rattle.aig_commands.specs.declared.tool.ToolError.TheVariants as errors;
 ghost use Rattle.aig_commands.specs.Printing.{Prints, bytes_of};
 ghost use Rattle.aig_commands.specs.Running.{Runs, steps_of};
 
+use crate::clauses::{print_clauses, query_clauses, read_unrolled};
 use crate::command::Command;
 use aig::{Aig, ReadError, WriteError};
-use aig_base::{DagCnf, LitVvec, MemoryError, Sink, Source, StreamFault};
+use aig_base::{LitVvec, MemoryError, Sink, Source, StreamFault};
 use aig_command_line::HasStatus;
-use aig_dimacs::write_dimacs;
-use aig_encode::{EncodeError, encode, query};
+use aig_encode::EncodeError;
 use std::alloc::Global;
 use thiserror::Error;
 
@@ -116,18 +112,6 @@ fn print_file<R: Source, W: Sink>(
     print_circuit(&circuit, c, w)
 }
 
-/// Prints clauses, with further ones after them.
-fn print_dimacs<W: Sink>(w: &mut W, clauses: &DagCnf, further: &LitVvec) -> Result<(), ToolError>
-    requires { AreBelow (length clauses.now) further.now }
-    ensures writes { let text = dimacs_of (length clauses.now)
-        (clauses_in clauses.now ++ further.now) in
-        WritesOrStops W.held W.failed w.old result text w.new }
-    ensures formula { IsFormula (length clauses.now) (clauses_in clauses.now ++ further.now) }
-    ensures fault { IfErr result (λ e. e ≡ errors.Write write.Stream) }
-{
-    Ok(write_dimacs(w, clauses, further)?)
-}
-
 /// Prints the clauses of a file's circuit that is unrolled by `k` steps.
 fn print_cnf<R: Source, W: Sink>(
     alloc: Global,
@@ -139,9 +123,9 @@ fn print_cnf<R: Source, W: Sink>(
     ensures { let command = Command.Cnf k optimize in
         Runs R.left R.failed W.held W.failed command LIMIT r.old w.old result r.new w.new }
 {
-    let encoded = encode(alloc, r, LIMIT, k, optimize)?;
+    let read = read_unrolled(alloc, r, LIMIT, k)?;
     let further = LitVvec::new(alloc);
-    print_dimacs(w, &encoded.clauses, &further)
+    print_clauses(alloc, w, &read.circuit, optimize, &further)
 }
 
 /// Prints clauses that ask for a run to a bad state after `k` steps.
@@ -155,8 +139,9 @@ fn print_query<R: Source, W: Sink>(
     ensures { let command = Command.Query k optimize in
         Runs R.left R.failed W.held W.failed command LIMIT r.old w.old result r.new w.new }
 {
-    let asked = query(alloc, r, LIMIT, k, optimize)?;
-    print_dimacs(w, &asked.encoded.clauses, &asked.extra)
+    let read = read_unrolled(alloc, r, LIMIT, k)?;
+    let further = query_clauses(alloc, &read.circuit, read.last_bads)?;
+    print_clauses(alloc, w, &read.circuit, optimize, &further)
 }
 
 /// Reads FILE's bytes from `r`, and writes to `w` what the command prints, or for `Binary` what it puts into OUT.

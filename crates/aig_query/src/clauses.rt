@@ -25,8 +25,9 @@ fn push_value(extra: &mut LitVvec, node: usize, edge: AigEdge) -> Result<(), Mem
     extra.push(&[var.lit(), other.to_lit()])
 }
 
-/// Appends for each latch with an initial edge the clauses that its leaf has that edge's value.
-fn push_starts(extra: &mut LitVvec, latchs: &[AigLatch]) -> Result<(), MemoryError>
+/// Appends for each latch with an initial edge the clauses that its leaf has that edge's value, in order. The one error is refused
+/// memory, and then a beginning may have been appended. Requires that each node's number is below 2^31.
+pub fn push_starts(extra: &mut LitVvec, latchs: &[AigLatch]) -> Result<(), MemoryError>
     requires { All (λ latch. (latch.input < 2 ^ 31)
         × IfSome latch.init (λ e. e.node_id < 2 ^ 31)) latchs.now }
     ensures { OnOk result (extra.new ≡ extra.old ++ flat_map start_clauses latchs.now) }

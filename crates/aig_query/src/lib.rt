@@ -3,4 +3,4 @@
 
 mod clauses;
 
-pub use clauses::{push_any, push_units, query_clauses};
+pub use clauses::{push_any, push_starts, push_units, query_clauses};

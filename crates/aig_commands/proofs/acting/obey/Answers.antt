@@ -9,9 +9,14 @@ returns-in-Some g c =
     let paths = map string_bytes c.in-Some.paths.now in
     let call = c.in-Some.ensures.some in
     record {
-      none = (λ is. absurd (never_none c.perform.result (sym c.of.ensures ∙ is)), λ no. absurd (no c.in-Some.command (paths, call)));
+      none = (
+        λ is. absurd (never_none c.perform.result (sym c.of.ensures ∙ is)),
+        λ no. absurd
+            (no c.in-Some.command (paths, call)),
+      );
       kept = λ is. absurd (never_none c.perform.result (sym c.of.ensures ∙ is));
-      acts = λ d others h. let same = one_call words d c.in-Some.command others paths h call in rw (same.0, same.1) (c.perform.result, c.of.ensures, c.perform.ensures);
+      acts = λ d others h. let same = one_call words d c.in-Some.command others paths h
+          call in rw (same.0, same.1) (c.perform.result, c.of.ensures, c.perform.ensures);
     }
 
 pub returns-in-None : goal.returns-in-None

@@ -8,4 +8,8 @@ use Rattle.aig_commands.proofs.command.call.Goals as goal
 pub returns-in_err-action-clause-none : goal.returns-in_err-action-clause-none
 returns-in_err-action-clause-none c =
     let none = c.in_err-action.ensures.none in
-    rw c.from_residual.ensures (λ d paths g. each (λ a. (x : Arguments) → ¬ Gives (name_of a) (form_of a) (map string_bytes c.args.words.now) x) none g.action g.arguments g.gives)
+    rw c.from_residual.ensures
+    (λ d paths g. each
+    (λ a. (x : Arguments)
+    → ¬ Gives (name_of a) (form_of a) (map string_bytes c.args.words.now) x) none g.action
+    g.arguments g.gives)

@@ -9,9 +9,13 @@ returns-in_err-circuit g c =
     let p = err_from_is_err_and c.from_residual.result c.from_residual.ensures.1 in
     let told = c.in_err-circuit.ensures in
     let e = c.in_err-circuit.field-0.0 in
-    rw (p.1, p.2) (not_read g.R.Source.left g.R.Source.failed g.W.Sink.held g.W.Sink.failed c.args.c _ c.args.r.now c.args.w.now _ e c.requires told.verdict (λ is. told.never_open (err_of e read.Open is)))
+    rw (p.1, p.2) (not_read g.R.Source.left g.R.Source.failed g.W.Sink.held g.W.Sink.failed c.args.c
+    _ c.args.r.now c.args.w.now _ e c.requires told.verdict
+    (λ is. told.never_open (err_of e read.Open is)))
 
 pub returns : goal.returns
 returns g c =
     let read = c.in_ok-circuit.ensures in
-    circuit_end g.R.Source.left g.R.Source.failed g.W.Sink.held g.W.Sink.failed c.args.c _ c.args.r.now c.args.w.now _ _ c.in_ok-circuit.circuit c.print_circuit.result c.requires read.verdict read.circuit c.print_circuit.ensures
+    circuit_end g.R.Source.left g.R.Source.failed g.W.Sink.held g.W.Sink.failed c.args.c _
+    c.args.r.now c.args.w.now _ _ c.in_ok-circuit.circuit c.print_circuit.result c.requires
+    read.verdict read.circuit c.print_circuit.ensures

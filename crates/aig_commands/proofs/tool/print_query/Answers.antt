@@ -1,23 +1,54 @@
 use Rattle.std.proofs.Common.{refl}
 use Rattle.std.proofs.lemmas.Result.{err_from_is_err_and}
+use Rattle.aig_reader.proofs.Verdicts.{short_of}
 use Rattle.aig_reader.specs.declared.error.ReadError.TheVariants as read
 use Rattle.aig_encode.specs.declared.error.EncodeError.TheVariants as encode
 use Rattle.aig_commands.specs.declared.command.Command.TheVariants as commands
-use Rattle.aig_commands.proofs.Answering.{clauses_answer, is_text}
-use Rattle.aig_commands.proofs.Outcomes.{clauses_end, not_encoded}
+use Rattle.aig_commands.proofs.Printed.{printed, query_answers, place_within, query_exact, query_is_below}
+use Rattle.aig_commands.proofs.Outcomes.{not_encoded}
 use Rattle.aig_commands.proofs.Running.{err_of}
 use Rattle.aig_commands.proofs.tool.print_query.Goals as goal
 
-pub returns-in_err-asked : goal.returns-in_err-asked
-returns-in_err-asked g c =
+pub returns-in_err-read : goal.returns-in_err-read
+returns-in_err-read g c =
     let p = err_from_is_err_and c.from_residual.result c.from_residual.ensures.1 in
-    let told = c.in_err-asked.ensures in
-    let e = c.in_err-asked.field-0.0 in
-    rw (p.1, p.2) (not_encoded g.R.Source.left g.R.Source.failed g.W.Sink.held g.W.Sink.failed (commands.Query c.args.k c.args.optimize) _ c.args.r.now c.args.w.now _ c.args.k e refl told.verdict (λ is. told.never_open (err_of e (encode.Read read.Open) is)))
+    let told = c.in_err-read.ensures in
+    let e = c.in_err-read.field-0.0 in
+    rw (p.1, p.2) (not_encoded g.R.Source.left g.R.Source.failed g.W.Sink.held g.W.Sink.failed
+    (commands.Query c.args.k c.args.optimize) _ c.args.r.now c.args.w.now _ c.args.k e refl
+    told.verdict (λ is. told.never_open (err_of e (encode.Read read.Open) is)))
+
+pub returns-in_err-further : goal.returns-in_err-further
+returns-in_err-further g c =
+    let p = err_from_is_err_and c.from_residual-in_err-further.result
+    c.from_residual-in_err-further.ensures.1 in
+    rw (p.1, p.2, c.in_err-further.ensures.memory)
+    (not_encoded g.R.Source.left g.R.Source.failed g.W.Sink.held g.W.Sink.failed
+    (commands.Query c.args.k c.args.optimize) _ c.args.r.now c.args.w.now _ c.args.k
+    encode.Memory refl (short_of _ 16777216 _ _ _ c.in_ok-read.ensures.verdict) (λ is. cc))
+
+pub query_clauses-requires-clause-place : goal.query_clauses-requires-clause-place
+query_clauses-requires-clause-place g c =
+    let u = c.in_ok-read.read in
+    place_within c.in_ok-read.ensures.answer.file 16777216 c.args.k u
+    c.in_ok-read.ensures.answer.means
+
+pub print_clauses-requires-clause-below : goal.print_clauses-requires-clause-below
+print_clauses-requires-clause-below g c =
+    let u = c.in_ok-read.read in
+    let f = c.in_ok-read.ensures.answer.file in
+    let is = c.in_ok-read.ensures.answer.means in
+    query_is_below f 16777216 c.args.k u c.in_ok-further.further is
+    (query_exact f 16777216 c.args.k u c.in_ok-further.further is c.in_ok-further.ensures.exact)
 
 pub returns : goal.returns
 returns g c =
-    let read = c.in_ok-asked.ensures in
-    let told = c.print_dimacs.ensures in
-    clauses_end g.R.Source.left g.R.Source.failed g.W.Sink.held g.W.Sink.failed (commands.Query c.args.k c.args.optimize) _ c.args.r.now c.args.w.now _ _ c.args.k c.print_dimacs.result _ refl read.verdict
-    (λ Holds. clauses_answer (commands.Query c.args.k c.args.optimize) _ _ _ Holds c.args.k _ refl read.answer (λ f means. (c.in_ok-asked.asked, means, is_text c.in_ok-asked.asked.encoded.clauses c.in_ok-asked.asked.extra told.formula))) told.writes told.fault
+    let read = c.in_ok-read.ensures in
+    let u = c.in_ok-read.read in
+    let further = c.in_ok-further.further in
+    printed g.R.Source.left g.R.Source.failed g.W.Sink.held g.W.Sink.failed
+    (commands.Query c.args.k c.args.optimize) 16777216 c.args.r.now c.args.w.now _ _ c.args.k
+    c.args.optimize u further _ refl read.verdict read.answer
+    (λ f lists is has formula. query_answers f 16777216 c.args.k c.args.optimize u lists is has
+    further (query_exact f 16777216 c.args.k u further is c.in_ok-further.ensures.exact)
+    formula) c.print_clauses.ensures

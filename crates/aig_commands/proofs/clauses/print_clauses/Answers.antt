@@ -1,0 +1,21 @@
+use Rattle.std.proofs.Common.{inl, inr, refl, subst}
+use Rattle.std.proofs.lemmas.Result.{err_from_is_err_and}
+use Rattle.aig_circuit.specs.Circuit.{Circuit}
+use Rattle.aig_cnf.specs.Cnf.{HasClauses}
+use Rattle.aig_commands.proofs.clauses.print_clauses.Goals as goal
+
+pub returns-in_err-needed : goal.returns-in_err-needed
+returns-in_err-needed g c =
+    let p = err_from_is_err_and c.from_residual.result c.from_residual.ensures.1 in
+    rw (p.1, p.2, c.in_err-needed.ensures.memory) (inl (refl, refl))
+
+pub returns : goal.returns
+returns g c =
+    let told = c.print_text.ensures in
+    inr (
+      told.fault,
+      told.text.0,
+      subst (λ (x : Circuit). HasClauses x c.args.optimize told.text.0)
+          c.new-view.ensures told.text.1,
+      told.text.2,
+    )
