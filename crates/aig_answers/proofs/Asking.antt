@@ -20,7 +20,9 @@ use Rattle.aig_runs.specs.declared.window.Window.TheVariants.{Plain, Distinct}
 use Rattle.aig_runs.specs.WindowClauses.{AsksWindow, count_free, induction_clauses, pair_clauses, state_at, state_edges, states_clauses, watched}
 
 -- the leaf of one latch more is an output
-pub watch_step : (old now made : Circuit) (i : ℕ) (latchs : List AigLatch) (leaf : ℕ) (e : AigEdge) (d : AigLatch) → leaf ≡ (get_or latchs i d).input → latchs ≡ now.latchs → e ≡ edge_to leaf false → i < length old.latchs
+pub watch_step : (old now made : Circuit) (i : ℕ) (latchs : List AigLatch) (leaf : ℕ) (e : AigEdge) (d : AigLatch)
+    → leaf ≡ (get_or latchs i d).input → latchs ≡ now.latchs → e ≡ edge_to leaf false
+    → i < length old.latchs
     → now ≡ record old { properties = record old.properties { outputs = take i (state_edges old) } } → made ≡ record now { properties = record now.properties { outputs = now.properties.outputs ++ e ∷ [] } } → made ≡ record old { properties = record old.properties { outputs = take (i + 1) (state_edges old) } }
 watch_step old now made i latchs leaf e d of same is low before step =
     let these : latchs ≡ old.latchs = same ∙ ap (λ (c : Circuit). c.latchs) before in
@@ -58,15 +60,7 @@ pub same_room : (form : Window) (c : Circuit) (k : ℕ)
 same_room Plain c k = refl
 same_room Distinct c k = refl
 
--- the unrolled circuit has the bad edges of all steps
-pub bads_count : (c u : Circuit) (k : ℕ) → UnrollsTo c k u
-    → length u.properties.bads ≡ (k + 1) * length c.properties.bads
-bads_count c u k unrolls =
-    let y : ℕ → Bool = λ n. false in
-    let r = unrolls.run_of y in
-    (unrolls.same y r.0 r.1 r.2).properties.bads.count
-
--- and the states
+-- the unrolled circuit has the states of all steps
 pub states_count : (form : Window) (c u : Circuit) (k : ℕ) → UnrollsTo (watched form c) k u
     → form ≡ Distinct → length u.properties.outputs ≡ (k + 1) * length (watched form c).latchs
 states_count Plain c u k unrolls is = cc
@@ -78,7 +72,8 @@ states_count Distinct c u k unrolls is =
 
 module _ (c : Circuit) (k : ℕ) (optimize : Bool) (u : Circuit) (clauses : List (List (List Lit))) (lists : List (List (List Lit))) (further : List (List Lit)) (is : IsCircuit u) (has : HasClauses u optimize clauses)
     (fixes : FixesRoots u clauses) (satisfied : NodeValuesSatisfy u clauses) (relations : AreRelations clauses) where
-  pub asks : (form : Window) → UnrollsTo (watched form c) (k + 1) u → lists ≡ clauses ++ replicate (count_free form (watched form c) k) []
+  pub asks : (form : Window) → UnrollsTo (watched form c) (k + 1) u
+      → lists ≡ clauses ++ replicate (count_free form (watched form c) k) []
       → further ≡ induction_clauses (watched form c) k u ++ states_clauses form (length clauses) (watched form c) k u → AsksWindow form c k optimize lists further
   asks Plain steps exact also =
       record { unrolled = u; clauses = clauses; is_circuit = is; steps = steps; has_clauses = has; fixes = fixes; satisfied = satisfied; relations = relations; exact = exact; further_exact = also }

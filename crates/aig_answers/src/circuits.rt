@@ -12,9 +12,8 @@ use crate::refuting::refute;
 use aig::Aig;
 use aig_base::{DagCnf, LitVvec, MemoryError, Source};
 use aig_encode::EncodeError;
-use aig_query::query_clauses;
 use aig_refutation::RefutationError;
-use aig_runs::{circuit_queries_ask, refuted_circuit_queries_have_no_witness};
+use aig_runs::{circuit_queries_ask, query_clauses, refuted_circuit_queries_have_no_witness};
 use std::alloc::Global;
 
 /// The clauses that ask for a bad state of a circuit at a step.
@@ -41,7 +40,14 @@ pub(crate) fn make_query(
     circuit_queries_ask();
     let unrolled = circuit.unroll_to(k)?;
     let clauses = unrolled.cnf(optimize)?;
-    let further = query_clauses(alloc, circuit, k, &unrolled)?;
+    let bads = unrolled.bads();
+    let first = k * circuit.bads().len();
+    let further = query_clauses(
+        alloc,
+        circuit.latchs(),
+        unrolled.constraints(),
+        &bads[first..],
+    )?;
     Ok(CircuitQuery {
         unrolled,
         clauses,

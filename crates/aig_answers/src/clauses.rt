@@ -8,7 +8,7 @@ ghost use Rattle.aig_runs.specs.Queries.{unit_clauses};
 
 use aig::{Aig, AigEdge};
 use aig_base::{LitVvec, MemoryError};
-use aig_query::{push_any, push_units};
+use aig_runs::{push_any, push_units};
 use std::alloc::Global;
 
 /// Appends for each edge the clause that it is false.

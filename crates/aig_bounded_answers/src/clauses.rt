@@ -19,9 +19,8 @@ use aig_base::{DagCnf, LitVvec, MemoryError, Source};
 use aig_bounded::{BoundedError, Question};
 use aig_circuit::{CircuitLists, CircuitView};
 use aig_cnf::encode;
-use aig_query::push_units;
 use aig_reader::read;
-use aig_runs::Window;
+use aig_runs::{Window, push_units};
 use std::alloc::Global;
 
 /// The clauses of a bounded check.

@@ -24,12 +24,14 @@ use Rattle.aig_checks.specs.Running.{Runs, nothing_fails, nothing_given, verdict
 -- ---- files that are opened
 
 module _ {F : Type 0} (Holds Also : F → Type 0) (Fails AlsoFails : CheckError → Type 0) (on : (f : F) → Holds f → Also f) (off : (e : CheckError) → Fails e → AlsoFails e) where
-  leads_on : (file : Result F OpenError) → OnOpening Holds Fails file → OnOpening Also AlsoFails file
+  leads_on : (file : Result F OpenError) → OnOpening Holds Fails file
+      → OnOpening Also AlsoFails file
   leads_on (Ok f) leads = on f leads
   leads_on (Err e) leads = off _ leads
 
   -- what holds of a file that was opened, or of the error, may be another thing that follows
-  opening_on : (opens : List ℕ → Result F OpenError → Type 0) (path : List ℕ) → Opening opens path Holds Fails → Opening opens path Also AlsoFails
+  opening_on : (opens : List ℕ → Result F OpenError → Type 0) (path : List ℕ)
+      → Opening opens path Holds Fails → Opening opens path Also AlsoFails
   opening_on opens path o = record { file = o.file; opened = o.opened; leads = leads_on o.file o.leads }
 
 -- ---- the flush after an answer
@@ -40,24 +42,28 @@ EndsBy failed (Ok u) = failed ≡ false
 EndsBy failed (Err errors.Write) = IsTrue failed
 EndsBy failed (Err e) = ⊥
 
-accepted_by : (failed : Bool) (done : Result Unit CheckError) → EndsBy failed done → verdict_by verdict_of done ≡ Accepted
+accepted_by : (failed : Bool) (done : Result Unit CheckError) → EndsBy failed done
+    → verdict_by verdict_of done ≡ Accepted
 accepted_by failed (Ok u) ends = refl
 accepted_by failed (Err errors.Write) ends = refl
 accepted_by failed (Err e) ends = absurd ends
 
-other_accepted_by : (failed : Bool) (done : Result Unit CheckError) → EndsBy failed done → verdict_by other_verdict_of done ≡ Accepted
+other_accepted_by : (failed : Bool) (done : Result Unit CheckError) → EndsBy failed done
+    → verdict_by other_verdict_of done ≡ Accepted
 other_accepted_by failed (Ok u) ends = refl
 other_accepted_by failed (Err errors.Write) ends = refl
 other_accepted_by failed (Err e) ends = absurd ends
 
-own_by : (c : PairCommand) (failed : Bool) (done : Result Unit CheckError) → EndsBy failed done → IfErr done (IsErrorOfPair c)
+own_by : (c : PairCommand) (failed : Bool) (done : Result Unit CheckError) → EndsBy failed done
+    → IfErr done (IsErrorOfPair c)
 own_by c failed (Ok u) ends = tt
 own_by c failed (Err errors.Write) ends = tt
 own_by c failed (Err e) ends = absurd ends
 
 module _ {W : Type 0} (held : W → Option (List ℕ)) (write_failed : W → Bool) (w made flat : W) (keeps : Keeps (held made) (held flat)) where
   -- a text that could not be flushed
-  stops : (text : List ℕ) → Appends (held w) (held made) text → IsTrue (write_failed flat) → Stops (held w) (held flat) (write_failed flat) text
+  stops : (text : List ℕ) → Appends (held w) (held made) text → IsTrue (write_failed flat)
+      → Stops (held w) (held flat) (write_failed flat) text
   stops text grows lost = stops_unflushed (held w) (held made) (held flat) (write_failed flat) text grows keeps lost
 
   module _ (u : Unit {0}) where
@@ -90,7 +96,8 @@ module _ {W : Type 0} (held : W → Option (List ℕ)) (write_failed : W → Boo
         }
     runs_ended left failed given given_failed c r rest p used (Err e) runs never = absurd never
 
-    told_ended : (c : PairCommand) (f g : File) (done : Result Unit CheckError) → TellsOfPair held write_failed c LIMIT w made f g (Ok u)
+    told_ended : (c : PairCommand) (f g : File) (done : Result Unit CheckError)
+        → TellsOfPair held write_failed c LIMIT w made f g (Ok u)
         → EndsBy (write_failed flat) done → TellsOfPair held write_failed c LIMIT w flat f g done
     told_ended c f g (Ok v) told sound = (told.0, told.1, appends_kept (held w) (held made) (held flat) told.0 told.2 keeps, sound)
     told_ended c f g (Err errors.Write) told lost = (told.0, told.1, stops told.0 told.2 lost)
@@ -113,13 +120,15 @@ module _ {W : Type 0} (held : W → Option (List ℕ)) (write_failed : W → Boo
         end (Err e) never reads = absurd never
 
 module _ {F W : Type 0} (opens : List ℕ → Result F OpenError → Type 0) (left : F → Option (List ℕ)) (failed : F → Bool) (held : W → Option (List ℕ)) (write_failed : W → Bool) (w made flat : W) (keeps : Keeps (held made) (held flat)) (u : Unit {0}) (done : Result Unit CheckError) (ends : EndsBy (write_failed flat) done) where
-  file_ended : (c : FileCommand) (further : List (List ℕ)) (r rest : F) → RunsFile opens left failed left failed held write_failed c further r w (Ok u) rest made
+  file_ended : (c : FileCommand) (further : List (List ℕ)) (r rest : F)
+      → RunsFile opens left failed left failed held write_failed c further r w (Ok u) rest made
       → RunsFile opens left failed left failed held write_failed c further r w done rest flat
   file_ended c [] r rest runs = runs_ended held write_failed w made flat keeps u left failed nothing_given nothing_fails c r rest tt tt done runs ends
   file_ended c (path ∷ more) r rest runs =
       opening_on _ _ _ _ (λ p so. (so.0, runs_ended held write_failed w made flat keeps u left failed left failed c r rest p so.0 done so.1 ends)) (λ e no. let is = no.0 in cc) opens path runs
 
-  proofs_ended : (c : PairCommand) (further : List (List ℕ)) (r rest s other : F) → RunsProofs opens left failed left failed failed held write_failed c further r s w (Ok u) rest other made
+  proofs_ended : (c : PairCommand) (further : List (List ℕ)) (r rest s other : F)
+      → RunsProofs opens left failed left failed failed held write_failed c further r s w (Ok u) rest other made
       → RunsProofs opens left failed left failed failed held write_failed c further r s w done rest other flat
   proofs_ended c [] r rest s other runs = pair_ended held write_failed w made flat keeps u left failed left failed nothing_fails nothing_fails c r rest s other tt tt tt tt done runs ends
   proofs_ended c (proof ∷ []) r rest s other runs =
@@ -130,7 +139,8 @@ module _ {F W : Type 0} (opens : List ℕ → Result F OpenError → Type 0) (le
       (λ e no. let is = no.0 in cc) opens base runs
 
   -- a command that was run, and what it printed flushed
-  pub acts_ended : (c : Command) (paths further : List (List ℕ)) → Acts opens left failed held write_failed c paths further w (Ok u) made
+  pub acts_ended : (c : Command) (paths further : List (List ℕ))
+      → Acts opens left failed held write_failed c paths further w (Ok u) made
       → Acts opens left failed held write_failed c paths further w done flat
   acts_ended (commands.File c) (path ∷ []) further acts =
       opening_on _ _ _ _ (λ r so. (so.0, file_ended c further r so.0 so.1)) (λ e no. let is = no.0 in cc) opens path acts

@@ -1,6 +1,6 @@
--- The places of leaves are nodes of the unrolled circuit, which has the bad edges of all steps; and
--- the inputs of a question are variables.
-use Rattle.std.proofs.Common.{◌≡◌, ℕ, zero, suc, ◌+◌, ◌*◌, ◌^◌, ◌<◌, ◌≤◌, Bool, false, length, arith}
+-- The places of leaves are nodes of the unrolled circuit; and the inputs of a question are
+-- variables.
+use Rattle.std.proofs.Common.{ℕ, zero, suc, ◌^◌, ◌<◌, ◌≤◌, Bool, length, arith}
 use Rattle.aig_circuit.specs.declared.node.AigNodeType.TheVariants.{False, Leaf}
 use Rattle.aig_circuit.specs.Circuit.{Circuit, IsCircuit, IsLeaf}
 use Rattle.aig_circuit.proofs.Trees.{kind_at-within}
@@ -21,14 +21,9 @@ module _ (c u : Circuit) (k : ℕ) (steps : UnrollsTo c k u) where
   place_below is zero n leaf = leaf_below n leaf
   place_below is (suc t) n leaf = get_below u.inputs _ (length u.nodes) (λ i d h. kind_at-within u.nodes _ Leaf (is.inputs i d h)) (kind_at-within u.nodes 0 False is.nodes.false_first)
 
-  pub bads_count : length u.properties.bads ≡ (k + 1) * length c.properties.bads
-  bads_count =
-      let y : ℕ → Bool = λ n. false in
-      let r = steps.run_of y in
-      (steps.same y r.0 r.1 r.2).properties.bads.count
-
 -- the inputs of a file's question are variables
-pub inputs_few : (f : File) (k : ℕ) (optimize : Bool) (made : BoundedClauses) → AsksBounded f k optimize made → length made.clauses ≤ 2 ^ 31
+pub inputs_few : (f : File) (k : ℕ) (optimize : Bool) (made : BoundedClauses)
+    → AsksBounded f k optimize made → length made.clauses ≤ 2 ^ 31
     → All (λ n. n < 2 ^ 31) made.question.circuit.inputs.items
 inputs_few f k optimize made asks few i d low =
     let within = kind_at-within (lists_circuit made.question.circuit).nodes _ Leaf (asks.asks.circuit.inputs i d low) in

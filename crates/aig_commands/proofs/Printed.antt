@@ -1,10 +1,10 @@
 -- What a command that makes clauses does, once a file is read and unrolled.
-use Rattle.std.proofs.Common.{◌≡◌, ℕ, suc, ◌+◌, ◌*◌, ◌≤◌, ◌++◌, ◌∷◌, [], Bool, false, Option, None, Some, Result, Ok, Err, List, drop, get_or, length, map, refl, sym, ap, ap₂, subst, ◌∙◌, arith, inl, inr}
+use Rattle.std.proofs.Common.{◌≡◌, ℕ, suc, ◌≤◌, ◌++◌, ◌∷◌, [], Bool, false, Option, None, Some, Result, List, drop, get_or, length, map, refl, sym, ap, ap₂, subst, ◌∙◌, arith, inl, inr}
 use Rattle.std.specs.List.{flat_map}
 use Rattle.aig_base.specs.declared.logic.literal.Lit.{Lit}
 use Rattle.aig_base.specs.Clauses.{AreBelow}
 use Rattle.aig_base.specs.Formula.{clauses_in}
-use Rattle.aig_circuit.specs.Circuit.{Circuit, latch_leaves}
+use Rattle.aig_circuit.specs.Circuit.{latch_leaves}
 use Rattle.aig_circuit.specs.declared.edge.AigEdge.{AigEdge}
 use Rattle.aig_circuit.specs.declared.node.AigLatch.{AigLatch}
 use Rattle.aig_circuit.specs.Edge.{lit_of}
@@ -19,7 +19,7 @@ use Rattle.aig_format.specs.Fits.{Accepts}
 use Rattle.aig_reader.specs.Reading.{IsReadAs}
 use Rattle.aig_reader.specs.Verdicts.{Accepted, Judges}
 use Rattle.aig_reader.proofs.Verdicts.{short_of}
-use Rattle.aig_query.proofs.Below.{query_below}
+use Rattle.aig_runs.proofs.Below.{query_below}
 use Rattle.aig_runs.specs.Encodes.{Encodes}
 use Rattle.aig_runs.specs.Queries.{IsQueryOf, query_clauses, start_clauses, unit_clauses}
 use Rattle.aig_runs.proofs.FileRuns.{files_are_encoded}
@@ -32,7 +32,6 @@ use Rattle.aig_commands.specs.declared.clauses.Unrolled.{Unrolled}
 use Rattle.aig_commands.specs.declared.command.Command.{Command}
 use Rattle.aig_commands.specs.declared.command.Command.TheVariants as commands
 use Rattle.aig_commands.specs.declared.tool.ToolError.{ToolError}
-use Rattle.aig_commands.specs.declared.tool.ToolError.TheVariants as errors
 use Rattle.aig_commands.specs.Printing.{PrintsClauses}
 use Rattle.aig_commands.specs.Running.{Answers, Runs, steps_of}
 use Rattle.aig_commands.specs.Unrolled.{IsUnrolledOf}

@@ -2,7 +2,7 @@
 -- What the program does with its words. Files are read as a trait says: the bytes at a path where
 -- they are known, the bytes that are left, and whether a read failed. Of what is written to it says
 -- the bytes held, whether a write failed, and whether all of them are in their place.
-use Rattle.std.specs.Prelude.{◌≡◌, ◌≢◌, ◌⊎◌, ◌↔◌, ℕ, Bool, IsTrue, List, ◌∷◌, Option, None, Some, IfSome, Result, Ok, Err, IfErr, IsOk, OnOk, if◌then◌else◌}
+use Rattle.std.specs.Prelude.{◌≡◌, ◌≢◌, ◌↔◌, ℕ, Bool, IsTrue, List, ◌∷◌, Option, None, Some, Result, Ok, Err, IfErr, IsOk, OnOk, if◌then◌else◌}
 use Rattle.aig_command_line.specs.declared.status.Ending.{Ending}
 use Rattle.aig_command_line.specs.declared.status.Ending.TheVariants as endings
 use Rattle.aig_command_line.specs.Ending.{ended}

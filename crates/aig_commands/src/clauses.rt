@@ -1,12 +1,10 @@
 //! The clauses of a file's circuit, printed from the circuit itself.
 
-ghost use Rattle.std.specs.Prelude.{◌≡◌, ◌≤◌, ◌↔◌, ◌^◌, ◌++◌, ◌∷◌, [], IfErr, IfOk, IsErrOf, IsTrue, List, drop, length, map};
-ghost use Rattle.std.specs.List.{flat_map};
+ghost use Rattle.std.specs.Prelude.{◌≡◌, ◌≤◌, ◌↔◌, ◌^◌, IfErr, IfOk, IsErrOf, IsTrue, List, drop, length};
 ghost use Rattle.aig.specs.declared.aiger.WriteError.TheVariants as write;
 ghost use Rattle.aig_base.specs.declared.logic.literal.Lit.{Lit};
 ghost use Rattle.aig_base.specs.Clauses.{AreBelow};
 ghost use Rattle.aig_circuit.specs.Circuit.{IsCircuit};
-ghost use Rattle.aig_circuit.specs.Edge.{lit_of};
 ghost use Rattle.aig_circuit.specs.View.{lists_circuit};
 ghost use Rattle.aig_cnf.specs.Cnf.{AreNeeded, HasClauses};
 ghost use Rattle.aig_commands.specs.declared.tool.ToolError.TheVariants as errors;
@@ -19,7 +17,7 @@ ghost use Rattle.aig_format.specs.Circuit.{circuit_of};
 ghost use Rattle.aig_format.specs.Fits.{Accepts};
 ghost use Rattle.aig_reader.specs.Reading.{IsReadAs};
 ghost use Rattle.aig_reader.specs.Verdicts.{Judges, verdict_by};
-ghost use Rattle.aig_runs.specs.Queries.{start_clauses, unit_clauses};
+ghost use Rattle.aig_runs.specs.Queries.{asking_clauses};
 ghost use Rattle.aig_unroll.specs.Places.{unrolled_size};
 
 use crate::tool::ToolError;
@@ -29,7 +27,6 @@ use aig_circuit::{CircuitLists, CircuitView};
 use aig_cnf::{NeededGates, find_needed};
 use aig_dimacs::write_circuit;
 use aig_encode::EncodeError;
-use aig_query::{push_any, push_starts, push_units};
 use std::alloc::Global;
 
 /// A circuit with its further steps.
@@ -115,19 +112,19 @@ pub(crate) fn query_clauses(
     requires circuit { IsCircuit (lists_circuit circuit.now) }
     requires few { length circuit.now.nodes.items ≤ 2 ^ 31 }
     requires place { last_bads ≤ length circuit.now.properties.bads.items }
-    ensures exact { IfOk result (λ further. further
-        ≡ flat_map start_clauses circuit.now.latchs.items
-        ++ unit_clauses circuit.now.properties.constraints.items
-        ++ map lit_of (drop last_bads circuit.now.properties.bads.items) ∷ []) }
+    ensures exact { IfOk result (λ further. further ≡ asking_clauses circuit.now.latchs.items
+        circuit.now.properties.constraints.items
+        (drop last_bads circuit.now.properties.bads.items)) }
     ensures memory { IfErr result (λ e. e ≡ encode.Memory) }
 {
     let view = CircuitView::new(circuit);
     let bads = view.bads();
-    let mut further = LitVvec::new(alloc);
-    push_starts(&mut further, view.latchs())?;
-    push_units(&mut further, view.constraints())?;
-    push_any(alloc, &mut further, &bads[last_bads..])?;
-    Ok(further)
+    Ok(aig_runs::query_clauses(
+        alloc,
+        view.latchs(),
+        view.constraints(),
+        &bads[last_bads..],
+    )?)
 }
 
 /// Finds which gates need clauses.

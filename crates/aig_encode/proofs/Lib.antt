@@ -1,3 +1,4 @@
 pub mod Verdicts
+pub mod Bads
 mod Promised
 mod Refuted

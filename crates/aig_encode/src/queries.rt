@@ -1,21 +1,45 @@
 //! From bytes to the clauses of a query.
 
-ghost use Rattle.std.specs.Prelude.{◌^◌, ◌≤◌, IfOk, IsErrOf, length};
+ghost use Rattle.std.specs.Prelude.{◌≡◌, ◌^◌, ◌≤◌, IfOk, IsErrOf, length};
 ghost use Rattle.aig_base.specs.Clauses.{AreBelow};
 ghost use Rattle.aig_format.specs.Circuit.{circuit_of};
 ghost use Rattle.aig_format.specs.Fits.{Accepts};
 ghost use Rattle.aig_reader.specs.Reading.{IsReadAs};
 ghost use Rattle.aig_reader.specs.Verdicts.{Judges, verdict_by};
+ghost use Rattle.aig_runs.specs.Queries.{query_clauses};
 ghost use Rattle.aig_unroll.specs.Places.{unrolled_size};
+ghost use Rattle.aig_unroll.specs.Unroll.{UnrollsTo};
 ghost use Rattle.aig_encode.specs.Encoding.{IsQuery, encoded_verdict, verdict_of};
 
 use crate::encoding::encode;
 use crate::error::EncodeError;
 use crate::query_clauses::Query;
-use aig::ReadError;
-use aig_base::Source;
-use aig_query::query_clauses;
+use aig::{Aig, ReadError};
+use aig_base::{LitVvec, MemoryError, Source};
+use aig_runs::query_clauses;
 use std::alloc::Global;
+
+/// The query clauses of a circuit for step `k`.
+fn clauses_of(
+    alloc: Global,
+    circuit: &Aig,
+    k: usize,
+    unrolled: &Aig,
+) -> Result<LitVvec, MemoryError>
+    requires few { length unrolled.now.nodes ≤ 2 ^ 31 }
+    requires steps { UnrollsTo circuit.now k unrolled.now }
+    ensures exact { IfOk result (λ extra. extra ≡ query_clauses circuit.now k unrolled.now) }
+    ensures below { IfOk result (AreBelow (length unrolled.now.nodes)) }
+{
+    let bads = unrolled.bads();
+    let first = k * circuit.bads().len();
+    query_clauses(
+        alloc,
+        circuit.latchs(),
+        unrolled.constraints(),
+        &bads[first..],
+    )
+}
 
 /// Returns what `encode` returns, and query clauses that ask for a run to a bad state at step `k`.
 ///
@@ -73,6 +97,6 @@ pub fn query<R: Source>(
     ensures never_open { IsErrOf result (EncodeError.Read ReadError.Open) → ⊥ }
 {
     let encoded = encode(alloc, r, limit, k, optimize)?;
-    let extra = query_clauses(alloc, &encoded.circuit, k, &encoded.unrolled)?;
+    let extra = clauses_of(alloc, &encoded.circuit, k, &encoded.unrolled)?;
     Ok(Query { encoded, extra })
 }

@@ -1,7 +1,7 @@
 -- Part of what is promised.
 -- What a query asks: a run from an initial state on which every constraint holds and, at the last
 -- step, some bad literal. (AIGER 1.9, "Properties"; bounded model checking.)
-use Rattle.std.specs.Prelude.{◌≡◌, ℕ, ◌*◌, ◌==◌, ◌≤◌, ◌↔◌, if◌then◌else◌, Bool, true, false, Option, Some, None, IsTrue, List, [], ◌∷◌, ◌++◌, length, map, drop}
+use Rattle.std.specs.Prelude.{◌≡◌, ℕ, ◌*◌, ◌==◌, ◌<◌, ◌≤◌, ◌↔◌, if◌then◌else◌, Bool, true, false, Option, Some, None, IfSome, IsTrue, List, [], ◌∷◌, ◌++◌, length, map, drop}
 use Rattle.std.specs.List.{AllByRecursion, flat_map, list_any}
 use Rattle.aig_base.specs.declared.logic.literal.Lit.{Lit}
 use Rattle.aig_base.specs.Clauses.{Satisfies, are_true, lit_to}
@@ -46,12 +46,20 @@ unit_clauses es = map (λ e. lit_of e ∷ []) es
 abbrev pub last_bads : Circuit → ℕ → Circuit → List AigEdge
 last_bads c k unrolled = drop (k * length c.properties.bads) unrolled.properties.bads
 
+-- the clauses of initial edges, of constraints, and one of bad edges
+abbrev pub asking_clauses : List AigLatch → List AigEdge → List AigEdge → List (List Lit)
+asking_clauses latchs constraints bads =
+    flat_map start_clauses latchs ++ unit_clauses constraints ++ map lit_of bads ∷ []
+
 -- the query clauses, in order: initial values, each constraint at each step, and one clause of the
 -- bad edges of step k
 abbrev pub query_clauses : Circuit → ℕ → Circuit → List (List Lit)
 query_clauses c k unrolled =
-    flat_map start_clauses c.latchs ++ unit_clauses unrolled.properties.constraints
-    ++ map lit_of (last_bads c k unrolled) ∷ []
+    asking_clauses c.latchs unrolled.properties.constraints (last_bads c k unrolled)
+
+-- the numbers of the latch's leaf and of its initial edge are below n
+abbrev pub IsThere : ℕ → AigLatch → Type 0
+IsThere n latch = (latch.input < n) × IfSome latch.init (λ e. e.node_id < n)
 
 -- ---- what they say
 

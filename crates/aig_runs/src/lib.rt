@@ -1,13 +1,15 @@
-//! What the clauses of an unrolled circuit say of runs, what query clauses ask for, and answers about a file's machine that rest on
+//! What the clauses of an unrolled circuit say of runs, query clauses and what they ask for, and answers about a file's machine that rest on
 //! proofs which are checked.
 #![tactic(auto)]
 
 mod circuits;
+mod clauses;
 mod laws;
 mod safety;
 mod window;
 
 pub use circuits::{refuted_circuit_queries_have_no_witness, safe_circuits_are_safe_machines};
+pub use clauses::{push_any, push_units, query_clauses};
 pub use laws::{
     circuit_queries_ask, circuit_witnesses_are_file_witnesses, clauses_are_circuit_runs,
     clauses_are_file_runs, queries_ask, refuted_queries_are_safe,

@@ -1,5 +1,5 @@
 -- How the line of an answer is read.
-use Rattle.std.proofs.Common.{◌≡◌, ◌≢◌, ℕ, ◌+◌, ◌≤◌, ◌<◌, Bool, true, false, cond, List, [], ◌∷◌, ◌++◌, length, length-append, take, Option, Some, None, Result, Ok, Err, refl, sym, ap, subst, ◌∙◌, add-one, arith}
+use Rattle.std.proofs.Common.{◌≡◌, ◌≢◌, ℕ, ◌+◌, ◌≤◌, ◌<◌, Bool, true, false, cond, List, [], ◌∷◌, ◌++◌, length, length-append, take, Option, Some, None, Ok, Err, refl, sym, ap, subst, ◌∙◌, add-one, arith}
 use Rattle.std.specs.Prelude.{◌==◌, codes}
 use Rattle.std.specs.Str.{bytes_eq}
 use Rattle.std.proofs.Math.ListN.{set}
@@ -12,10 +12,10 @@ use Rattle.aig_solutions.specs.declared.error.SolutionError.{SolutionError}
 use Rattle.aig_solutions.specs.declared.error.SolutionError.TheVariants as errors
 use Rattle.aig_solutions.specs.declared.words.End.{End}
 use Rattle.aig_solutions.specs.declared.words.End.TheVariants.{Blank, Line, Stream}
-use Rattle.aig_solutions.specs.Lines.{EndsAnswer, FindsName, GivesName, IsLeft, IsNoMore, Leaves, Says, TakesAnswer, end_of}
+use Rattle.aig_solutions.specs.Lines.{EndsAnswer, FindsName, GivesName, IsLeft, IsNoMore, Leaves, TakesAnswer, end_of}
 use Rattle.aig_solutions.specs.Reading.{is_blank, lines_after, lines_of, take_answer, take_name, words_from}
-use Rattle.aig_solutions.proofs.Leaving.{leaves_byte, leaves_call, leaves_end, leaves_same, leaves_start, says_byte, says_call, says_end, says_now}
-use Rattle.aig_solutions.proofs.SignedWords.{IsRead, error_call, error_tells, read_is}
+use Rattle.aig_solutions.proofs.Leaving.{leaves_byte, leaves_call, leaves_end, leaves_same, leaves_start, says_byte, says_end, says_now}
+use Rattle.aig_solutions.proofs.SignedWords.{error_call}
 use Rattle.aig_solutions.proofs.Texts.{end_of-byte, lines_none, lines_on, words_end, words_grow, words_none, words_on}
 
 -- the line that the bytes of an answer begin, after its first byte
@@ -308,20 +308,6 @@ other_text name text short long = by (bytes_eq name text) refl
         absurd (omega arith)
     by false is = is
 
-read_by : (t u v : Bool) (e : SolutionError) → ◌≡◌ {A = Result (Unit {0}) SolutionError}
-    (cond t (Ok tt) (cond u (Err errors.Unsatisfiable) (cond v (Err errors.Unknown)
-    (Err errors.Answer)))) (Err e) → IsRead e
-read_by true u v e is = absurd cc
-read_by false true v e is = read_is errors.Unsatisfiable e tt is
-read_by false false true e is = read_is errors.Unknown e tt is
-read_by false false false e is = read_is errors.Answer e tt is
-
-no_more : (e : End) (before after : Feed) → e ≢ Stream → IsNoMore e before after
-    → after.most ≤ before.most
-no_more Blank before after ne h = h
-no_more Line before after ne h = h
-no_more Stream before after ne h = absurd (ne refl)
-
 -- a name that is longer than all
 pub long_name : (name : List ℕ) → 16 < length name → take_name name ≡ Err errors.Answer
 long_name name long = rw (
@@ -383,46 +369,3 @@ module _ (before gap : Feed) (b : ℕ) (found : FindsName before gap (Ok b)) (mi
           → words ≢ [])) (λ bytes. take_answer (answer_words bytes) ≡ Err error) named
           (λ bytes rest x wrong. ap take_answer x.1 ∙ more_answer name x.0
           (wrong.1 x.0 (lines_after bytes) x.2) ∙ ap (λ e. Err e) (sym wrong.0)) h
-
-      -- where nothing else stands in the line
-      alone : (t : Bool) → EndsAnswer e mid after (Ok t)
-          → Says mid (λ bytes. (words : List (List ℕ)) (lines : List (List (List ℕ)))
-          → IsLeft e words lines bytes → words ≡ [])
-      alone true h bytes known words lines left = let r = h.2 bytes known in
-          (r.2 words lines left).0
-      alone false h bytes known words lines left = (h bytes known words lines left).0
-
-      answer_is : (t : Bool) → EndsAnswer e mid after (Ok t)
-          → Says before (λ bytes. take_answer (answer_words bytes) ≡ take_name name)
-      answer_is t h = says_call before mid after Named named (λ bytes. (words : List (List ℕ))
-          (lines : List (List (List ℕ))) → IsLeft e words lines bytes → words ≡ [])
-          (λ bytes. take_answer (answer_words bytes) ≡ take_name name) (alone t h)
-          (λ bytes mid x none. ap take_answer (x.1 ∙ ap (λ words. (115 ∷ []) ∷ name ∷ words)
-          (none x.0 (lines_after bytes) x.2)))
-
-      pub answer_refused : (t : Bool) (error : SolutionError) → EndsAnswer e mid after (Ok t)
-          → take_name name ≡ Err error → TakesAnswer before after (Err error)
-      answer_refused t error h is = error_tells before after error
-          (λ bytes. take_answer (answer_words bytes) ≡ Err error)
-          (read_by (bytes_eq name (codes "SATISFIABLE")) (bytes_eq name (codes "UNSATISFIABLE"))
-          (bytes_eq name (codes "UNKNOWN")) error is) (λ bytes known. answer_is t h bytes known
-          ∙ is)
-
-      pub answer_taken : (t : Bool) → EndsAnswer e mid after (Ok t) → take_name name ≡ Ok tt
-          → TakesAnswer before after (Ok t)
-      answer_taken true h is = (
-        (let low = found.0 in let mid_low = no_more e gap mid h.0 given.1 in let last = h.1 in
-            omega arith),
-        leaves_call before mid after Named named (λ bytes rest. (words : List (List ℕ))
-            (lines : List (List (List ℕ))) → IsLeft e words lines bytes → (words ≡ [])
-            × (lines ≡ lines_of rest)) (λ bytes rest. (take_answer (answer_words bytes) ≡ Ok tt)
-            × (lines_after bytes ≡ lines_of rest)) h.2
-            (λ bytes mid rest x ends. let s = ends x.0 (lines_after bytes) x.2 in
-            (ap take_answer (x.1 ∙ ap (λ words. (115 ∷ []) ∷ name ∷ words) s.0) ∙ is, s.1)),
-      )
-      answer_taken false h is = says_call before mid after Named named
-          (λ bytes. (words : List (List ℕ)) (lines : List (List (List ℕ)))
-          → IsLeft e words lines bytes → (words ≡ []) × (lines ≡ []))
-          (λ bytes. (take_answer (answer_words bytes) ≡ Ok tt) × (lines_after bytes ≡ [])) h
-          (λ bytes mid x ends. let s = ends x.0 (lines_after bytes) x.2 in
-          (ap take_answer (x.1 ∙ ap (λ words. (115 ∷ []) ∷ name ∷ words) s.0) ∙ is, s.1))

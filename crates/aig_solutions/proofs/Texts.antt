@@ -163,14 +163,6 @@ unfolding lines_past lines_after words_from
 past_none = refl
 
 module _ (b : ℕ) (bs : List ℕ) where
-  pub comment_ends : b ≡ 10 → past_from true (b ∷ bs) ≡ past_from false bs
-  unfolding lines_after
-  comment_ends is = subst (λ k. past_from true (k ∷ bs) ≡ past_from false bs) (sym is) refl
-
-  pub comment_goes : b ≢ 10 → past_from true (b ∷ bs) ≡ past_from true bs
-  unfolding lines_after
-  comment_goes ne = rw (ne_eqb b 10 ne) refl
-
   word_begins : end_of b ≡ None → past_from false (b ∷ bs) ≡ lines_past
       (words_from (b ∷ []) bs ∷ lines_after bs)
   word_begins is = ap (λ words. lines_past (words ∷ lines_after (b ∷ bs))) (words_on b bs [] is)

@@ -9,9 +9,9 @@ use Rattle.aig_solutions.specs.declared.values.Reached.{Reached}
 use Rattle.aig_solutions.specs.declared.values.Reached.TheVariants as reached
 use Rattle.aig_solutions.specs.declared.words.End.{End}
 use Rattle.aig_solutions.specs.declared.words.End.TheVariants.{Blank, Line, Stream}
-use Rattle.aig_solutions.specs.Lines.{AnswersLast, IsNoMoreValues, Leaves, TakesValueLine, TakesValues, end_of, reached_by, reached_from, said_from, values_from, words_said}
-use Rattle.aig_solutions.specs.Reading.{◌>>=◌, finished, last_answer, lines_after, lines_of, solution_from, words_from, wrong_end}
-use Rattle.aig_solutions.proofs.Leaving.{leaves_byte, leaves_call, leaves_end, leaves_same, leaves_start, says_call, says_now}
+use Rattle.aig_solutions.specs.Lines.{IsNoMoreValues, Leaves, TakesValueLine, TakesValues, end_of, reached_by, reached_from, said_from, values_from, words_said}
+use Rattle.aig_solutions.specs.Reading.{lines_after, lines_of, solution_from, words_from, wrong_end}
+use Rattle.aig_solutions.proofs.Leaving.{leaves_byte, leaves_call, leaves_end, leaves_same, leaves_start, says_now}
 use Rattle.aig_solutions.proofs.Literals.{values_left}
 use Rattle.aig_solutions.proofs.SignedWords.{IsRead, error-weaker, error_call, error_tells}
 use Rattle.aig_solutions.proofs.Texts.{lines_none, lines_on, words_end, words_grow, words_none, words_on}
@@ -105,7 +105,8 @@ module _ (start now : Feed) (old values : List Lbool) (so_far : ValuesTaken star
           is (λ bytes h answered. h answered ∙ none answered),
     )
       where
-        none : (answered : Bool) → words_said [] answered values [] ≡ solution_from answered values []
+        none : (answered : Bool)
+            → words_said [] answered values [] ≡ solution_from answered values []
         none answered = ap (λ words. values_from answered values words (lines_after []))
             (words_none []) ∙ ap (λ lines. values_from answered values [] lines) lines_none
             ∙ values_left Stream answered values [] [] [] (refl, refl, refl)
@@ -143,11 +144,8 @@ module _ (start now : Feed) (old values : List Lbool) (so_far : ValuesTaken star
       fewer reached.Line h = let came = steps_byte now mid o step b is in
           omega (arith, so_far.0, came.fewer)
 
-      pub values_stop : (x : Reached) → TakesValues (from_byte b) mid after values (Ok x) new
-          → TakesValues (words_said []) start after old (Ok x) new
-      values_stop x h = (fewer x h.0, joined x h)
-
-      pub values_error : (e : SolutionError) → TakesValues (from_byte b) mid after values (Err e) new
+      pub values_error : (e : SolutionError)
+          → TakesValues (from_byte b) mid after values (Err e) new
           → TakesValues (words_said []) start after old (Err e) new
       values_error e h = error_call start mid after (λ bytes rest. (answered : Bool)
           → words_said [] answered old bytes ≡ from_byte b answered values rest) e
@@ -277,35 +275,6 @@ module _ (answered : Bool) (before mid : Feed) (old new : List Lbool) where
       (λ bytes known. let r = h.1 bytes known in r.2 answered ∙ solution_none answered new
       ∙ ap (λ e. Err e) (sym is))
 
-  pub line_zero : answered ≡ true → TakesValues (said_from (118 ∷ [])) before mid old
-      (Ok reached.Zero) new → TakesValueLine answered before mid old (Ok true) new
-  line_zero is h bytes known = let r = h.1 bytes known in r.2 answered
-      ∙ ap (λ a. finished a new (lines_of r.0)) is
-
-  module _ (is : answered ≡ false) (h : TakesValues (said_from (118 ∷ [])) before mid old
-      (Ok reached.Zero) new) where
-    abbrev Last : List ℕ → List ℕ → Type 0
-    Last bytes rest = said_from (118 ∷ []) answered old bytes ≡
-        (last_answer (lines_of rest) >>= λ said. Ok new)
-
-    last_left : Leaves before mid Last
-    last_left = leaves_same before mid (λ bytes rest. (answered : Bool)
-        → said_from (118 ∷ []) answered old bytes ≡ finished answered new (lines_of rest)) h.1 Last
-        (λ bytes rest said. said answered ∙ ap (λ a. finished a new (lines_of rest)) is)
-
-    pub line_last : (after : Feed) → AnswersLast mid after (Ok tt)
-        → TakesValueLine answered before after old (Ok true) new
-    line_last after k = says_call before mid after Last last_left
-        (λ bytes. last_answer (lines_of bytes) ≡ Ok tt) (λ bytes. said_from (118 ∷ []) answered old
-        bytes ≡ Ok new) k (λ bytes mid first last. first ∙ ap (λ r. r >>= λ said. Ok new) last)
-
-    pub line_last_wrong : (after : Feed) (e : SolutionError) → AnswersLast mid after (Err e)
-        → TakesValueLine answered before after old (Err e) new
-    line_last_wrong after e k = error_call before mid after Last e
-        (λ bytes. last_answer (lines_of bytes) ≡ Err e) (λ bytes. said_from (118 ∷ []) answered old
-        bytes ≡ Err e) last_left (λ bytes mid first last. first
-        ∙ ap (λ r. r >>= λ said. Ok new) last) k
-
   pub line_more : (x : Reached) → x ≢ reached.Word → x ≢ reached.Zero → x ≢ reached.Stream
       → TakesValues (said_from (118 ∷ [])) before mid old (Ok x) new
       → TakesValueLine answered before mid old (Ok false) new
@@ -319,9 +288,3 @@ module _ (answered : Bool) (before mid : Feed) (old new : List Lbool) where
         (λ bytes rest. said_from (118 ∷ []) answered old bytes ≡ solution_from answered new
         (lines_of rest)) (λ bytes rest said. said answered),
   )
-
-  pub line_error : (e : SolutionError) → TakesValues (said_from (118 ∷ [])) before mid old
-      (Err e) new → TakesValueLine answered before mid old (Err e) new
-  line_error e h = error-weaker before mid e (λ bytes. (answered : Bool)
-      → said_from (118 ∷ []) answered old bytes ≡ Err e) (λ bytes. said_from (118 ∷ []) answered old
-      bytes ≡ Err e) (λ bytes said. said answered) h

@@ -2,7 +2,7 @@ mod Spelled
 pub mod Going
 mod Pieces
 mod Examples
-mod Simulated
+pub mod Simulated
 mod Zips
 pub mod Started
 mod ShownRuns

@@ -3,7 +3,8 @@ use Rattle.aig_base.specs.Clauses.{AreRelations}
 use Rattle.aig_circuit.specs.Circuit.{Circuit}
 use Rattle.aig_unroll.specs.Unroll.{UnrollsTo}
 use Rattle.aig_runs.specs.WindowClauses.{count_free, induction_clauses, states_clauses}
-use Rattle.aig_answers.proofs.Asking.{asks, bads_count, states_count}
+use Rattle.aig_answers.proofs.Asking.{asks, states_count}
+use Rattle.aig_runs.proofs.Below.{bads_count}
 use Rattle.aig_answers.proofs.windows.clauses_of.Goals as goal
 
 pub window_clauses-requires-clause-bads : goal.window_clauses-requires-clause-bads

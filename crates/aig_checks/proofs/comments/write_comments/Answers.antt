@@ -1,6 +1,6 @@
 use Rattle.std.proofs.Common.{rules}
 use Rattle.aig_output.proofs.Putting.{failed_put, written_through}
-use Rattle.aig_checks.proofs.Placing.{bads_count}
+use Rattle.aig_runs.proofs.Below.{bads_count}
 use Rattle.aig_checks.proofs.comments.write_comments.Goals as goal
 
 pub buffer_comments-requires-clause-bads : goal.buffer_comments-requires-clause-bads

@@ -3,19 +3,20 @@ use Rattle.std.proofs.lemmas.Grind.{common_steps}
 use Rattle.std.proofs.lemmas.List.Elements.{All-drop, All-same, All-take}
 use Rattle.aig_circuit.specs.declared.edge.AigEdge.{AigEdge}
 use Rattle.aig_circuit.specs.Circuit.{Circuit}
-use Rattle.aig_query.proofs.Below.{IsThere, edges_there, latchs_there}
+use Rattle.aig_runs.specs.Queries.{IsThere}
+use Rattle.aig_runs.proofs.Below.{edges_there, latchs_there}
 use Rattle.aig_commands.proofs.clauses.query_clauses.Goals as goal
 
-pub push_starts-requires : goal.push_starts-requires
-push_starts-requires c =
+pub query_clauses-requires-clause-latchs : goal.query_clauses-requires-clause-latchs
+query_clauses-requires-clause-latchs c =
     let view = c.new-view.result in
     let few = subst (λ (x : Circuit). length x.nodes ≤ 2 ^ 31) (sym c.new-view.ensures)
     c.requires.few in
     All-same (IsThere (2 ^ 31)) c.latchs.result.now view.latchs c.latchs.ensures.value
     (latchs_there view c.latchs.ensures.circuit (2 ^ 31) few)
 
-pub push_units-requires : goal.push_units-requires
-push_units-requires c =
+pub query_clauses-requires-clause-constraints : goal.query_clauses-requires-clause-constraints
+query_clauses-requires-clause-constraints c =
     let view = c.new-view.result in
     let few = subst (λ (x : Circuit). length x.nodes ≤ 2 ^ 31) (sym c.new-view.ensures)
     c.requires.few in
@@ -24,8 +25,8 @@ push_units-requires c =
     (edges_there view.nodes (2 ^ 31) few view.properties.constraints
     c.constraints.ensures.circuit.properties.constraints)
 
-pub push_any-requires : goal.push_any-requires
-push_any-requires c =
+pub query_clauses-requires-clause-bads : goal.query_clauses-requires-clause-bads
+query_clauses-requires-clause-bads c =
     let Few = λ (e : AigEdge). e.node_id < 2 ^ 31 in
     let view = c.new-view.result in
     let few = subst (λ (x : Circuit). length x.nodes ≤ 2 ^ 31) (sym c.new-view.ensures)

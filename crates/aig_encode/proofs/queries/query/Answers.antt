@@ -1,4 +1,4 @@
-use Rattle.std.proofs.Common.{◌≡◌, ◌≤◌, ℕ, Bool, false, List, sym, subst}
+use Rattle.std.proofs.Common.{◌≡◌, ◌≤◌, ℕ, Bool, List, sym, subst}
 use Rattle.std.proofs.lemmas.Result.{err_from_is_err_and}
 use Rattle.aig_base.specs.Clauses.{AreBelow}
 use Rattle.aig_format.specs.Circuit.{circuit_of}
@@ -14,23 +14,18 @@ use Rattle.aig_reader.proofs.Verdicts.{short_of}
 use Rattle.aig_encode.proofs.queries.query.Goals as goal
 
 -- an encoded file with the query clauses is a query
-asked : (f : File) (limit k : ℕ) (optimize : Bool) (bytes : List ℕ) (q : Query) → q.extra ≡ query_clauses q.encoded.circuit k q.encoded.unrolled → Accepts bytes limit f × (unrolled_size (circuit_of f) k ≤ limit) → Encodes f k optimize q.encoded.circuit q.encoded.unrolled q.encoded.clauses → IsQuery k optimize f q
+asked : (f : File) (limit k : ℕ) (optimize : Bool) (bytes : List ℕ) (q : Query)
+    → q.extra ≡ query_clauses q.encoded.circuit k q.encoded.unrolled
+    → Accepts bytes limit f × (unrolled_size (circuit_of f) k ≤ limit)
+    → Encodes f k optimize q.encoded.circuit q.encoded.unrolled q.encoded.clauses
+    → IsQuery k optimize f q
 asked f limit k optimize bytes q exact within encodes =
     let e = q.encoded in
     let asks = queries_ask f limit k optimize e.circuit e.unrolled e.clauses within.0.1 encodes in
     (encodes, subst (IsQueryOf f k e.circuit e.unrolled e.clauses) (sym exact) asks)
 
--- the unrolled circuit has the bad edges of k + 1 steps
-pub query_clauses-requires-clause-bads : goal.query_clauses-requires-clause-bads
-query_clauses-requires-clause-bads g c =
-    let steps = c.in_ok-encoded.ensures.answer.means.steps in
-    let y : ℕ → Bool = λ n. false in
-    let r = steps.run_of y in
-    (steps.same y r.0 r.1 r.2).properties.bads.count
-
--- its nodes stay
-pub query_clauses-requires-clause-longer : goal.query_clauses-requires-clause-longer
-query_clauses-requires-clause-longer g c = c.in_ok-encoded.ensures.answer.means.steps.keeps.nodes.longer
+pub clauses_of-requires-clause-steps : goal.clauses_of-requires-clause-steps
+clauses_of-requires-clause-steps g c = c.in_ok-encoded.ensures.answer.means.steps
 
 -- a variable is a node
 pub returns-clause-below : goal.returns-clause-below

@@ -4,7 +4,7 @@ use Rattle.std.specs.Prelude.{OnOk}
 use Rattle.aig_base.specs.declared.logic.literal.Lit.{Lit}
 use Rattle.std.proofs.Common.{List}
 use Rattle.aig_circuit.specs.Edge.{lit_of}
-use Rattle.aig_query.proofs.clauses.push_any.Goals as goal
+use Rattle.aig_runs.proofs.clauses.push_any.Goals as goal
 
 pub to_lit-requires : goal.to_lit-requires
 to_lit-requires c = c.requires c.loop-edge.edge-index _ c.loop-edge-test.true

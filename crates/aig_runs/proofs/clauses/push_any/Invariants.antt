@@ -1,6 +1,6 @@
 use Rattle.std.proofs.Common.{◌≡◌, ◌+◌, ◌≤◌, length, map, take, vec_capacity, vec_len}
 use Rattle.aig_circuit.specs.Edge.{lit_of}
-use Rattle.aig_query.proofs.clauses.push_any.Given as goal
+use Rattle.aig_runs.proofs.clauses.push_any.Given as goal
 
 abbrev pub invariant-loop-edge : goal.invariant-loop-edge
 invariant-loop-edge l =
