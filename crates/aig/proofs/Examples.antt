@@ -1,6 +1,5 @@
 -- Wrong verdicts, gates and lists of small circuits, of which the definitions are false.
-use Rattle.std.proofs.Common.{◌≡◌, ◌≢◌, ℕ, zero, suc, false, None, Some, Option, Ok, Err, List, [], ◌∷◌, refl, ap, arith}
-use Rattle.std.specs.Prelude.{Contains, option_map, slice_get, slice_index_or, slice_set}
+use Rattle.aig_base.proofs.Words.{◌≡◌, ◌≢◌, ℕ, zero, suc, false, None, Some, Option, Ok, Err, List, [], ◌∷◌, refl, ap, arith, Contains, option_map, slice_get, slice_index_or, slice_set}
 use Rattle.aig_circuit.specs.declared.edge.AigEdge.{AigEdge}
 use Rattle.aig_circuit.specs.declared.node.AigNodeType.{AigNodeType}
 use Rattle.aig_circuit.specs.declared.node.AigNodeType.TheVariants.{False, Leaf, And}
@@ -8,9 +7,7 @@ use Rattle.aig_circuit.specs.declared.node.AigNode.{AigNode}
 use Rattle.aig_circuit.specs.declared.node.AigLatch.{AigLatch}
 use Rattle.aig_circuit.specs.declared.prop_list.PropList.TheVariants.{Bads}
 use Rattle.aig_circuit.specs.Circuit.{BeginsWith, Circuit, IsFree, IsLeaf, only_false}
-use Rattle.aig_circuit.specs.Edge.{edge_to}
-use Rattle.aig_circuit.specs.PropLists.{edges_of, with_edges}
-use Rattle.aig_circuit.specs.Properties.{no_properties}
+use Rattle.aig_circuit.proofs.Words.{edge_to, edges_of, with_edges, no_properties}
 use Rattle.aig.specs.declared.aiger.WriteError.TheVariants as errors
 use Rattle.aig.specs.Gates.{IsGateOf}
 use Rattle.aig.specs.Writing.{IsVerdictOf}

@@ -1,14 +1,11 @@
 -- The gates of a circuit, one after another.
-use Rattle.std.proofs.Common.{ap, refl, subst, sym}
+use Rattle.aig_base.proofs.Words.{ap, refl, subst, sym, All-filter, filter_passes, slice_get-get_or}
 use Rattle.std.specs.Prelude.{◌≡◌, true, Some, List, All, slice_get, slice_index_or}
-use Rattle.std.proofs.lemmas.List.Elements.{All-filter, filter_passes}
-use Rattle.std.proofs.lemmas.Option.{slice_get-get_or}
 use Rattle.aig_circuit.specs.declared.edge.AigEdge.{AigEdge}
 use Rattle.aig_circuit.specs.declared.node.AigNodeType.{AigNodeType}
 use Rattle.aig_circuit.specs.declared.node.AigNodeType.TheVariants.{And, False, Leaf}
 use Rattle.aig_circuit.specs.declared.node.AigNode.{AigNode}
-use Rattle.aig_circuit.specs.Node.{FitsBelow, gates_of, is_gate}
-use Rattle.aig_circuit.specs.Circuit.{AreNodes}
+use Rattle.aig_circuit.proofs.Words.{FitsBelow, gates_of, is_gate, AreNodes}
 use Rattle.aig.specs.Gates.{IsGateOf}
 
 -- the node stands at its number

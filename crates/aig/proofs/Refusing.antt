@@ -1,13 +1,9 @@
 -- Facts on lists that a refusal tells, or that its absence does.
-use Rattle.std.proofs.Common.{◌≡◌, ◌↔◌, ℕ, ◌<◌, Bool, false, None, List, [], ◌∷◌, ◌++◌, length, map, get_or, sym, ap, subst, ◌∙◌, inl, inr, ◌⊎◌, Vec, Global}
+use Rattle.aig_base.proofs.Words.{◌≡◌, ◌↔◌, ℕ, ◌<◌, Bool, false, None, List, [], ◌∷◌, ◌++◌, length, map, get_or, sym, ap, subst, ◌∙◌, inl, inr, ◌⊎◌, Vec, Global, false≢true, get_or-map, length-map, All-map, Contains-get_or, Contains-append_left, Contains-append_right, Contains-append_cases}
 use Rattle.std.specs.Prelude.{IsTrue, All, Any, Contains}
-use Rattle.std.proofs.lemmas.Bool.{false≢true}
-use Rattle.std.proofs.lemmas.List.{get_or-map, length-map}
-use Rattle.std.proofs.lemmas.List.Elements.{All-map, Contains-get_or, Contains-append_left, Contains-append_right, Contains-append_cases}
 use Rattle.aig_circuit.specs.declared.edge.AigEdge.{AigEdge}
 use Rattle.aig_circuit.specs.declared.node.AigLatch.{AigLatch}
-use Rattle.aig_circuit.specs.Edge.{edge_to}
-use Rattle.aig_circuit.specs.Circuit.{Circuit, latch_leaves}
+use Rattle.aig_circuit.proofs.Words.{edge_to, Circuit, latch_leaves}
 use Rattle.aig_format.specs.Writable.{list_lengths}
 use Rattle.aig_circuit.proofs.Lists.{All-from_no_Any}
 

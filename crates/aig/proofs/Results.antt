@@ -1,6 +1,5 @@
 -- Facts on results.
-use Rattle.std.proofs.Common.{Result, Ok, Err}
-use Rattle.std.specs.Prelude.{IfOk, IfErr}
+use Rattle.aig_base.proofs.Words.{Result, Ok, Err, IfOk, IfErr}
 
 -- both of two facts on the value
 pub IfOk_both : {T E : Type 0} (r : Result T E) (P Q : T → Type 0) → IfOk r P → IfOk r Q → IfOk r (λ x. P x × Q x)

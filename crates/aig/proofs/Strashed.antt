@@ -1,19 +1,11 @@
 -- A circuit that has a written form has one when it is strashed.
-use Rattle.std.proofs.Common.{◌≡◌, ℕ, ◌<◌, ◌^◌, Option, Some, None, List, ◌++◌, length, map, refl, sym, ap, subst, ◌∙◌, inl, inr, arith}
-use Rattle.std.specs.Prelude.{All, Contains, IfSome, IsSomeAnd, option_map}
-use Rattle.std.proofs.lemmas.List.{length-map}
-use Rattle.std.proofs.lemmas.List.Sums.{count_by-le-length, length-filter}
-use Rattle.std.proofs.lemmas.Option.{same_Some}
-use Rattle.std.proofs.lemmas.List.Elements.{All-contains, All-map, All-weaker, Contains-get_or}
+use Rattle.aig_base.proofs.Words.{◌≡◌, ℕ, ◌<◌, ◌^◌, Option, Some, None, List, ◌++◌, length, map, refl, sym, ap, subst, ◌∙◌, inl, inr, arith, All, Contains, IfSome, IsSomeAnd, option_map, length-map, count_by-le-length, length-filter, same_Some, All-contains, All-map, All-weaker, Contains-get_or}
 use Rattle.aig_circuit.specs.declared.edge.AigEdge.{AigEdge}
 use Rattle.aig_circuit.specs.declared.node.AigNodeType.{AigNodeType}
 use Rattle.aig_circuit.specs.declared.node.AigNodeType.TheVariants.{And, False, Leaf}
 use Rattle.aig_circuit.specs.declared.node.AigLatch.{AigLatch}
 use Rattle.aig_circuit.specs.declared.node.AigNode.{AigNode}
-use Rattle.aig_circuit.specs.Node.{kind_at}
-use Rattle.aig_circuit.specs.Circuit.{Circuit, IsCircuit, IsLeaf, latch_leaves}
-use Rattle.aig_circuit.specs.Edges.{HasConstantInit}
-use Rattle.aig_circuit.specs.Renumber.{renumbered_edge, renumbered_kind, renumbered_latch}
+use Rattle.aig_circuit.proofs.Words.{kind_at, Circuit, IsCircuit, IsLeaf, latch_leaves, HasConstantInit, renumbered_edge, renumbered_kind, renumbered_latch}
 use Rattle.aig_circuit.proofs.Building.{and_of-cases}
 use Rattle.aig_circuit.proofs.Circuits.{AreLeaves-of_circuit}
 use Rattle.aig_circuit.proofs.Trees.{kind_at-within}

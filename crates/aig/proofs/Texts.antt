@@ -1,16 +1,12 @@
 -- The names of a circuit are text.
 use Rattle.std.proofs.Common.{◌≡◌, ℕ, Option, Some, None, List, String, Global, nat_eq, refl, subst, ◌∙◌}
-use Rattle.std.proofs.lemmas.Cmp.{nat_cmp_total}
+use Rattle.aig_base.proofs.Words.{nat_cmp_total, IfSome, IsUtf8, option_map, string_bytes, FinMap, entries, get, get-entries, get-from_entries, lookup}
 use Rattle.std.proofs.lemmas.Map.Lookups.{map_keys}
-use Rattle.std.specs.Prelude.{IfSome, IsUtf8, option_map, string_bytes}
 use Rattle.std.specs.Ordering.{nat_cmp}
-use Rattle.std.specs.FinMap.{FinMap, entries, get, get-entries, get-from_entries}
 use Rattle.std.specs.FinMap.Entries.{find}
-use Rattle.std.specs.Map.{lookup}
 use Rattle.std.proofs.lemmas.Str.{IsUtf8-string_bytes}
-use Rattle.aig_circuit.specs.View.{names_of}
+use Rattle.aig_circuit.proofs.Words.{names_of, renumbered_names}
 use Rattle.aig_format.specs.Writable.{AreTexts}
-use Rattle.aig_circuit.specs.Renumber.{renumbered_names}
 use Rattle.aig_circuit.proofs.Names.{get_names}
 use Rattle.aig_renumber.proofs.Names.{found_back}
 

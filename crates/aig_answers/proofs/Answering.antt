@@ -1,12 +1,9 @@
 -- The query and the window of the file that was read.
-use Rattle.std.proofs.Common.{◌≡◌, ◌≢◌, ℕ, ◌+◌, ◌≤◌, Bool, Option, Result, Ok, Err, List, [], sym, subst}
-use Rattle.std.specs.Prelude.{IfOk}
+use Rattle.aig_base.proofs.Words.{◌≡◌, ◌≢◌, ℕ, ◌+◌, ◌≤◌, Bool, Option, Result, Ok, Err, List, [], sym, subst, IfOk}
 use Rattle.aig_base.specs.declared.logic.literal.Lit.{Lit}
 use Rattle.aig_circuit.specs.Circuit.{Circuit}
 use Rattle.aig_cnf.specs.Cnf.{FixesRoots, HasClauses, NodeValuesSatisfy}
-use Rattle.aig_format.specs.Circuit.{circuit_of}
-use Rattle.aig_format.specs.File.{File}
-use Rattle.aig_format.specs.Fits.{Accepts, Fits}
+use Rattle.aig_format.proofs.Words.{circuit_of, File, Accepts, Fits}
 use Rattle.aig_reader.specs.Reading.{IsReadAs}
 use Rattle.aig_reader.specs.Verdicts.{Accepted, verdict_by}
 use Rattle.aig.specs.Reading.{IsFileCircuit}

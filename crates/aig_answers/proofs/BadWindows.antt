@@ -1,14 +1,9 @@
 -- The clauses of a window can be satisfied exactly where there is one with a bad literal at its
 -- end.
-use Rattle.std.proofs.Common.{◌↔◌, ℕ, ◌+◌, Bool, List, ◌++◌, IsTrue, sym, ◌∙◌}
-use Rattle.std.specs.List.{list_any}
-use Rattle.std.proofs.lemmas.Bool.{false≢true, true_from_ne_false}
+use Rattle.aig_base.proofs.Words.{◌↔◌, ℕ, ◌+◌, Bool, List, ◌++◌, IsTrue, sym, ◌∙◌, list_any, false≢true, true_from_ne_false}
 use Rattle.aig_base.specs.declared.logic.literal.Lit.{Lit}
 use Rattle.aig_base.specs.Formula.{IsSatisfiable, clauses_in}
-use Rattle.aig_format.specs.Circuit.{circuit_of}
-use Rattle.aig_format.specs.File.{File}
-use Rattle.aig_format.specs.Fits.{Fits}
-use Rattle.aig_format.specs.Machine.{value_of_literal}
+use Rattle.aig_format.proofs.Words.{circuit_of, File, Fits, value_of_literal}
 use Rattle.aig_runs.specs.Induction.{IsKInductive}
 use Rattle.aig_runs.specs.Safety.{IsGood}
 use Rattle.aig_runs.specs.WindowClauses.{AsksWindow}

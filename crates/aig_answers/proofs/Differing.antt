@@ -1,7 +1,5 @@
 -- States differ under an assignment that satisfies the clauses that tell them apart.
-use Rattle.std.proofs.Common.{◌≡◌, ℕ, zero, suc, ◌+◌, ◌*◌, ◌<◌, Bool, true, false, not, ◌||◌, inl, inr, List, [], ◌∷◌, length, IsTrue, refl, sym, ap, subst, ◌∙◌, arith}
-use Rattle.std.specs.List.{AllByRecursion, AllZip}
-use Rattle.std.proofs.lemmas.Bool.{cases_lt, false≢true}
+use Rattle.aig_base.proofs.Words.{◌≡◌, ℕ, zero, suc, ◌+◌, ◌*◌, ◌<◌, Bool, true, false, not, ◌||◌, inl, inr, List, [], ◌∷◌, length, IsTrue, refl, sym, ap, subst, ◌∙◌, arith, AllByRecursion, AllZip, cases_lt, false≢true}
 use Rattle.aig_base.specs.Clauses.{is_true_clause}
 use Rattle.aig_base.proofs.Literals.{literal_value-lit_to}
 use Rattle.aig_circuit.specs.declared.edge.AigEdge.{AigEdge}

@@ -1,19 +1,12 @@
 -- Wrong answers, of which the definitions are false: of another step, of a window for which there is
 -- no room, and of a file that asks nothing.
-use Rattle.std.proofs.Common.{◌≡◌, ℕ, zero, suc, ◌+◌, ◌*◌, Bool, true, false, ◌&&◌, ◌||◌, None, Some, List, [], ◌∷◌, refl, sym, arith}
-use Rattle.std.specs.Prelude.{◌==◌}
-use Rattle.std.proofs.lemmas.Bool.{false≢true}
+use Rattle.aig_base.proofs.Words.{◌≡◌, ℕ, zero, suc, ◌+◌, ◌*◌, Bool, true, false, ◌&&◌, ◌||◌, None, Some, List, [], ◌∷◌, refl, sym, arith, ◌==◌, false≢true}
 use Rattle.aig_circuit.specs.declared.node.AigNodeType.TheVariants.{False, Leaf}
 use Rattle.aig_circuit.specs.declared.node.AigLatch.{AigLatch}
-use Rattle.aig_circuit.specs.Circuit.{Circuit, only_false}
-use Rattle.aig_circuit.specs.Edge.{edge_to}
-use Rattle.aig_circuit.specs.Properties.{no_properties}
-use Rattle.aig_circuit.specs.Runs.{IsRun, IsInitial}
+use Rattle.aig_circuit.proofs.Words.{Circuit, only_false, edge_to, no_properties, IsRun, IsInitial}
 use Rattle.aig_circuit.specs.Tree.{node_value, tree_of}
 use Rattle.aig_format.specs.declared.FileKind.TheVariants.{Text}
-use Rattle.aig_format.specs.File.{File}
-use Rattle.aig_format.specs.Fits.{Accepts}
-use Rattle.aig_format.specs.Circuit.{circuit_of}
+use Rattle.aig_format.proofs.Words.{File, Accepts, circuit_of}
 use Rattle.aig_format.specs.Numbering.{node_of_variable, variables_in_order}
 use Rattle.aig_reader.specs.Verdicts.{Accepted, Crowded, IsSaidOf, IsVerdictOn, NoBads, Short}
 use Rattle.aig_runs.specs.Safety.{IsCircuitSafeAt}

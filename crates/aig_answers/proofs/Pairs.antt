@@ -1,7 +1,7 @@
 -- How many pairs there are.
 use Rattle.std.proofs.Common.{◌≡◌, ◌≢◌, List, length, sym, ℕ, zero, suc, ◌+◌, ◌-◌, ◌*◌, ◌/◌, ◌%◌, ◌<◌, ◌≤◌, refl, ap, subst, ◌∙◌, inl, inr, arith, mul_assoc, mul_comm}
 use Rattle.std.proofs.Math.Nat.{add-mul, le-div_iff_mul-le, mul-le-mul_right, mul-suc, suc-mul}
-use Rattle.std.proofs.lemmas.Bool.{cases_lt}
+use Rattle.aig_base.proofs.Words.{cases_lt}
 use Rattle.aig_circuit.specs.declared.edge.AigEdge.{AigEdge}
 use Rattle.aig_circuit.specs.declared.node.AigLatch.{AigLatch}
 use Rattle.aig_circuit.specs.Circuit.{Circuit}

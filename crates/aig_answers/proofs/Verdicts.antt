@@ -1,13 +1,8 @@
 -- What is said of a circuit, and of the file that it is of.
-use Rattle.std.proofs.Common.{◌≡◌, ◌≢◌, ℕ, ◌+◌, ◌≤◌, Bool, true, false, Option, List, [], length, map, Result, Ok, Err, refl, sym, ap, subst, ◌∙◌}
-use Rattle.std.specs.Prelude.{◌==◌, nat_lt, if◌then◌else◌, IfErr}
-use Rattle.std.proofs.lemmas.List.{length-map}
-use Rattle.std.proofs.lemmas.Bool.{eqb-false, ltb-false}
+use Rattle.aig_base.proofs.Words.{◌≡◌, ◌≢◌, ℕ, ◌+◌, ◌≤◌, Bool, true, false, Option, List, [], length, map, Result, Ok, Err, refl, sym, ap, subst, ◌∙◌, ◌==◌, nat_lt, if◌then◌else◌, IfErr, length-map, eqb-false, ltb-false}
 use Rattle.std.proofs.lemmas.Result.{IfErr-weaker}
 use Rattle.aig_circuit.specs.Circuit.{Circuit}
-use Rattle.aig_format.specs.Circuit.{circuit_of, edge_of}
-use Rattle.aig_format.specs.File.{File}
-use Rattle.aig_format.specs.Fits.{Accepts}
+use Rattle.aig_format.proofs.Words.{circuit_of, edge_of, File, Accepts}
 use Rattle.aig_reader.specs.declared.error.ReadError.{ReadError}
 use Rattle.aig_reader.specs.Reading.{IsReadAs}
 use Rattle.aig_reader.specs.Verdicts as reading

@@ -1,30 +1,16 @@
 -- An assignment that satisfies the clauses of a window is a window with a bad literal at its end.
-use Rattle.std.proofs.Common.{◌≡◌, ℕ, zero, suc, ◌+◌, ◌*◌, ◌/◌, ◌<◌, ◌≤◌, Bool, true, false, not, List, [], ◌∷◌, ◌++◌, length, map, take, drop, IsTrue, Some, refl, sym, ap, subst, ◌∙◌, arith}
+use Rattle.aig_base.proofs.Words.{◌≡◌, ℕ, zero, suc, ◌+◌, ◌*◌, ◌/◌, ◌<◌, ◌≤◌, Bool, true, false, not, List, [], ◌∷◌, ◌++◌, length, map, take, drop, IsTrue, Some, refl, sym, ap, subst, ◌∙◌, arith, AllByRecursion, AllZip, list_any, mul-le-mul_right, and_parts, false≢true, length-map, All-cons, All-nil, list_all-append, same_Some, slice_get_within, map-map}
 use Rattle.std.specs.Prelude.{replicate, slice_get}
-use Rattle.std.specs.List.{AllByRecursion, AllZip, list_any}
-use Rattle.std.proofs.Math.Nat.{mul-le-mul_right}
-use Rattle.std.proofs.lemmas.Bool.{and_parts, false≢true}
-use Rattle.std.proofs.lemmas.List.{length-map}
-use Rattle.std.proofs.lemmas.List.Elements.{All-cons, All-nil}
-use Rattle.std.proofs.lemmas.List.Folds.{list_all-append}
-use Rattle.std.proofs.lemmas.Option.{same_Some, slice_get_within}
-use Rattle.std.proofs.lemmas.Simd.{map-map}
 use Rattle.aig_base.specs.declared.logic.literal.Lit.{Lit}
 use Rattle.aig_base.specs.Clauses.{Satisfies, are_true, is_true_clause}
 use Rattle.aig_base.specs.Formula.{IsSatisfiable, clauses_in}
 use Rattle.aig_circuit.specs.declared.edge.AigEdge.{AigEdge}
 use Rattle.aig_circuit.specs.declared.node.AigLatch.{AigLatch}
-use Rattle.aig_circuit.specs.Circuit.{Circuit}
-use Rattle.aig_circuit.specs.Edge.{edge_to, inverse, lit_of}
-use Rattle.aig_circuit.specs.Tree.{edge_value}
+use Rattle.aig_circuit.proofs.Words.{Circuit, edge_to, inverse, lit_of, edge_value}
 use Rattle.aig_circuit.proofs.Lists.{AllZip-map}
 use Rattle.aig_cnf.specs.Cnf.{FixesRoots, edge_in}
 use Rattle.aig_cnf.proofs.Forms.{edge_in-inverse}
-use Rattle.aig_format.specs.Circuit.{circuit_of, edge_of, latch_of}
-use Rattle.aig_format.specs.File.{File, LatchLine}
-use Rattle.aig_format.specs.Fits.{Fits}
-use Rattle.aig_format.specs.Machine.{IsMachineRun, value_of_literal}
-use Rattle.aig_format.specs.Numbering.{node_of_variable}
+use Rattle.aig_format.proofs.Words.{circuit_of, edge_of, latch_of, File, LatchLine, Fits, IsMachineRun, value_of_literal, node_of_variable}
 use Rattle.aig_format.proofs.Entries.{rec_append}
 use Rattle.aig_format_laws.specs.Nodes.{values_over}
 use Rattle.aig_format_laws.proofs.Joining.{back_run, edge_is}

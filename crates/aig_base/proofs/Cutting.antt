@@ -1,7 +1,7 @@
 use Rattle.std.proofs.Common.{◌≡◌, ℕ, zero, suc, ◌+◌, ◌-◌, ◌<◌, ◌≤◌, Some, List, [], ◌∷◌, ◌++◌, length, map, get_or, take, drop, slice_get, slice_range, refl, sym, ap, subst, ◌∙◌, arith, length-append, length-drop}
 use Rattle.std.proofs.Math.ListN.{set, length-set}
 use Rattle.std.proofs.lemmas.List.{take-append-le, drop-append-le, drop_at, drop-drop, drop-take, take_all, take-take, take_more, take_more_set, get_or-take, length-take-le}
-use Rattle.std.proofs.lemmas.Option.{slice_get_within, get_or_from_slice_get}
+use Rattle.aig_base.proofs.Words.{slice_get_within, get_or_from_slice_get}
 use Rattle.aig_base.specs.Cut.{cut_at, start_of, AreEnds, IsCut}
 
 pub length-cut_at : {X : Type 0} (from : ℕ) (ends : List ℕ) (items : List X) → length (cut_at from ends items) ≡ length ends

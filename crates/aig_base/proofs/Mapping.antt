@@ -1,13 +1,9 @@
 -- Entries of a table as a finite map.
 use Rattle.std.proofs.Common.{◌≡◌, ℕ, ◌+◌, false, cond, Some, None, List, [], ◌∷◌, length, nat_cmp, nat_eq, refl, sym, ap, ◌∙◌, arith}
-use Rattle.std.specs.Prelude.{is_some}
-use Rattle.std.specs.Ordering.{eq_by_cmp}
-use Rattle.std.specs.List.{AllByRecursion, IsDistinct}
+use Rattle.aig_base.proofs.Words.{is_some, eq_by_cmp, AllByRecursion, IsDistinct, nat_cmp_total, nat_tests}
 use Rattle.std.specs.Map.{lookup, keys_of}
 use Rattle.std.specs.FinMap.{from_entries, insert, get, len, find, contains_key, get-from_entries, get-insert, len-empty, len-insert, same_map, nat_cmp-IsAntisymmetric}
-use Rattle.std.proofs.lemmas.Cmp.{nat_cmp_total}
 use Rattle.std.proofs.lemmas.Map.Keys.{IsDistinct-head, IsDistinct-tail}
-use Rattle.std.proofs.lemmas.Bool.Decides.{nat_tests}
 
 -- the order's test is that of equality
 pub same_test : (q k : ℕ) → eq_by_cmp nat_cmp q k ≡ nat_eq q k

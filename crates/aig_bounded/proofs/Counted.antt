@@ -1,13 +1,10 @@
 -- How many nodes are added.
-use Rattle.std.proofs.Common.{◌≡◌, ◌≢◌, ℕ, zero, suc, ◌+◌, ◌*◌, ◌<◌, ◌≤◌, List, length, Some, Ok, Err, Result, sym, ap, ◌∙◌, add-one, arith}
-use Rattle.std.specs.Prelude.{IsErrOf, min}
+use Rattle.aig_base.proofs.Words.{◌≡◌, ◌≢◌, ℕ, zero, suc, ◌+◌, ◌*◌, ◌<◌, ◌≤◌, List, length, Some, Ok, Err, Result, sym, ap, ◌∙◌, add-one, arith, IsErrOf, min, same_Some}
 use Rattle.std.proofs.Math.Nat.{min-eq_right, mul-le-mul_right, suc-mul}
-use Rattle.std.proofs.lemmas.Option.{same_Some}
 use Rattle.aig_circuit.specs.declared.node.AigNode.{AigNode}
 use Rattle.aig_circuit.specs.declared.node.AigNodeType.{AigNodeType}
 use Rattle.aig_circuit.specs.declared.node.AigNodeType.TheVariants.{False}
-use Rattle.aig_circuit.specs.Circuit.{AreNodes, Circuit, IsCircuit}
-use Rattle.aig_circuit.specs.Node.{kind_at}
+use Rattle.aig_circuit.proofs.Words.{AreNodes, Circuit, IsCircuit, kind_at}
 use Rattle.aig_circuit.proofs.Trees.{kind_at-within}
 use Rattle.aig_bounded.specs.declared.error.BoundedError.{BoundedError}
 use Rattle.aig_bounded.specs.declared.error.BoundedError.TheVariants.{TooLarge}

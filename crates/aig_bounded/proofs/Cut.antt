@@ -1,19 +1,9 @@
 -- A question that is cut to what its output reaches.
-use Rattle.std.proofs.Common.{◌≡◌, ◌≢◌, ℕ, zero, suc, ◌+◌, ◌<◌, ◌≤◌, Bool, true, false, cond, eqb, IsTrue, List, [], ◌∷◌, length, map, get_or, refl, sym, ap, subst, ◌∙◌, inl, inr, arith}
-use Rattle.std.specs.Prelude.{All, AllPairs, Contains, filter, is_some}
+use Rattle.aig_base.proofs.Words.{◌≡◌, ◌≢◌, ℕ, zero, suc, ◌+◌, ◌<◌, ◌≤◌, Bool, true, false, cond, eqb, IsTrue, List, [], ◌∷◌, length, map, get_or, refl, sym, ap, subst, ◌∙◌, inl, inr, arith, All, AllPairs, Contains, filter, is_some, contains_key, get-empty, eq-eqb, eqb-true, false≢true, true≢false, All-cons, All-nil, Contains-append_left, Contains-get_or, same_Some}
 use Rattle.std.specs.Ordering.{nat_cmp}
-use Rattle.std.specs.FinMap.{contains_key, get-empty}
-use Rattle.std.proofs.lemmas.Bool.{eq-eqb, eqb-true, false≢true, true≢false}
-use Rattle.std.proofs.lemmas.List.Elements.{All-cons, All-nil, Contains-append_left, Contains-get_or}
-use Rattle.std.proofs.lemmas.Option.{same_Some}
 use Rattle.aig_circuit.specs.declared.edge.AigEdge.{AigEdge}
 use Rattle.aig_circuit.specs.declared.node.AigNodeType.TheVariants.{False, Leaf}
-use Rattle.aig_circuit.specs.Node.{kind_at}
-use Rattle.aig_circuit.specs.Circuit.{Circuit, IsCircuit, IsClosed, IsInRange, IsLatch, IsLeaf}
-use Rattle.aig_circuit.specs.Reach.{DependsOn, IsFanin, IsInCone, IsReached, root, step}
-use Rattle.aig_circuit.specs.Renumber.{is_in, position_of, renumbered_edge}
-use Rattle.aig_circuit.specs.Runs.{IsRun}
-use Rattle.aig_circuit.specs.Tree.{edge_value}
+use Rattle.aig_circuit.proofs.Words.{kind_at, Circuit, IsCircuit, IsClosed, IsInRange, IsLatch, IsLeaf, DependsOn, IsFanin, IsInCone, IsReached, root, step, is_in, position_of, renumbered_edge, IsRun, edge_value}
 use Rattle.aig_circuit.proofs.Trees.{kind_at-within}
 use Rattle.aig_circuit.proofs.Values.{edge_value_by_leaves}
 use Rattle.aig_renumber.proofs.Kept.{is_in-back, is_in-there}

@@ -1,12 +1,8 @@
 -- States that are told apart.
-use Rattle.std.proofs.Common.{◌≡◌, ◌⊎◌, ℕ, zero, suc, ◌+◌, ◌*◌, ◌<◌, ◌≤◌, Bool, false, ◌&&◌, ◌||◌, List, length, add-one, refl, sym, ap, subst, ◌∙◌, inl, inr, arith}
+use Rattle.aig_base.proofs.Words.{◌≡◌, ◌⊎◌, ℕ, zero, suc, ◌+◌, ◌*◌, ◌<◌, ◌≤◌, Bool, false, ◌&&◌, ◌||◌, List, length, add-one, refl, sym, ap, subst, ◌∙◌, inl, inr, arith, mul-le-mul_right, cases_lt}
 use Rattle.std.specs.Prelude.{All, not}
-use Rattle.std.proofs.Math.Nat.{mul-le-mul_right}
-use Rattle.std.proofs.lemmas.Bool.{cases_lt}
 use Rattle.aig_circuit.specs.declared.edge.AigEdge.{AigEdge}
-use Rattle.aig_circuit.specs.Edge.{edge_to, inverse}
-use Rattle.aig_circuit.specs.Circuit.{IsInRange}
-use Rattle.aig_circuit.specs.Tree.{edge_value}
+use Rattle.aig_circuit.proofs.Words.{edge_to, inverse, IsInRange, edge_value, AreNodes}
 use Rattle.aig_circuit.proofs.Joining.{edge_value-inverse}
 use Rattle.aig_runs.specs.WindowClauses.{count_pairs}
 use Rattle.aig_bounded.specs.declared.frames.Frames.{Frames}
@@ -14,7 +10,6 @@ use Rattle.aig_bounded.specs.Apart.{all_apart, apart_from, differ, seen_edge, st
 use Rattle.aig_bounded.specs.Frames.{AddsAnds, Gives}
 use Rattle.aig_bounded.proofs.Extended.{AddsAnds-itself, AddsAnds-then}
 use Rattle.aig_bounded.proofs.Shown.{constant_there, value-constant}
-use Rattle.aig_circuit.specs.Circuit.{AreNodes}
 
 -- ---- truth values
 

@@ -1,15 +1,9 @@
 -- Nodes of a question that gates or a leaf are added to.
-use Rattle.std.proofs.Common.{◌≡◌, ◌≢◌, ◌⊎◌, ℕ, ◌+◌, ◌<◌, ◌≤◌, Bool, List, [], ◌∷◌, ◌++◌, length, length-append, get_or, refl, sym, ap, subst, ◌∙◌, inl, inr, arith}
-use Rattle.std.specs.Prelude.{All, AllPairs, Contains}
-use Rattle.std.proofs.lemmas.Bool.{cases_lt}
-use Rattle.std.proofs.lemmas.Option.{same_Some}
-use Rattle.std.proofs.lemmas.List.Elements.{All-push, All-weaker, Contains-append_left, Contains-append_right}
-use Rattle.std.proofs.lemmas.List.Quantifiers.{all_pairs_push}
+use Rattle.aig_base.proofs.Words.{◌≡◌, ◌≢◌, ◌⊎◌, ℕ, ◌+◌, ◌<◌, ◌≤◌, Bool, List, [], ◌∷◌, ◌++◌, length, length-append, get_or, refl, sym, ap, subst, ◌∙◌, inl, inr, arith, All, AllPairs, Contains, cases_lt, same_Some, All-push, All-weaker, Contains-append_left, Contains-append_right, all_pairs_push}
 use Rattle.aig_circuit.specs.declared.edge.AigEdge.{AigEdge}
 use Rattle.aig_circuit.specs.declared.node.AigNode.{AigNode}
 use Rattle.aig_circuit.specs.declared.node.AigNodeType.TheVariants.{And, Leaf}
-use Rattle.aig_circuit.specs.Circuit.{AreNodes, Circuit, IsLeaf}
-use Rattle.aig_circuit.specs.Build.{Grows, with_node}
+use Rattle.aig_circuit.proofs.Words.{AreNodes, Circuit, IsLeaf, Grows, with_node}
 use Rattle.aig_circuit.proofs.Building.{AddsGates-itself, AddsGates-then, Grows-itself, Grows-kept, Grows-leaf, Grows-then}
 use Rattle.aig_circuit.proofs.Trees.{kind_at-last, kind_at-within}
 use Rattle.aig_bounded.specs.declared.frames.Frames.{Frames}

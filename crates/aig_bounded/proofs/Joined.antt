@@ -1,12 +1,8 @@
 -- Edges that are joined one after another.
-use Rattle.std.proofs.Common.{◌≡◌, ℕ, ◌+◌, ◌<◌, false, Bool, ◌&&◌, ◌||◌, List, [], length, get_or, take, sym, ap, ◌∙◌}
-use Rattle.std.proofs.Math.Bool.{and_assoc, and-true}
-use Rattle.std.specs.List.{list_all, list_any}
+use Rattle.aig_base.proofs.Words.{◌≡◌, ℕ, ◌+◌, ◌<◌, false, Bool, ◌&&◌, ◌||◌, List, [], length, get_or, take, sym, ap, ◌∙◌, and_assoc, and-true, list_all, list_any}
 use Rattle.std.proofs.lemmas.List.Folds.{list_all_more, list_any_more}
 use Rattle.aig_circuit.specs.declared.edge.AigEdge.{AigEdge}
-use Rattle.aig_circuit.specs.Edge.{edge_to}
-use Rattle.aig_circuit.specs.Circuit.{AreNodes, IsInRange}
-use Rattle.aig_circuit.specs.Tree.{edge_value}
+use Rattle.aig_circuit.proofs.Words.{edge_to, AreNodes, IsInRange, edge_value}
 use Rattle.aig_bounded.specs.declared.frames.Frames.{Frames}
 use Rattle.aig_bounded.specs.Frames.{AddsAnds}
 use Rattle.aig_bounded.specs.Steps.{image_in}

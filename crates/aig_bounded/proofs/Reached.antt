@@ -1,11 +1,8 @@
 -- The two sums, and the states, say what it is to reach what is sought.
-use Rattle.std.proofs.Common.{◌≡◌, ◌⊎◌, ◌↔◌, ℕ, zero, suc, ◌+◌, ◌<◌, ◌≤◌, Bool, true, false, ◌&&◌, ◌||◌, IsTrue, List, [], ◌∷◌, add-one, refl, sym, ap, subst, ◌∙◌, inl, inr, arith}
+use Rattle.aig_base.proofs.Words.{◌≡◌, ◌⊎◌, ◌↔◌, ℕ, zero, suc, ◌+◌, ◌<◌, ◌≤◌, Bool, true, false, ◌&&◌, ◌||◌, IsTrue, List, [], ◌∷◌, add-one, refl, sym, ap, subst, ◌∙◌, inl, inr, arith, list_all, list_any, cases_lt, false≢true}
 use Rattle.std.specs.Prelude.{All, not}
-use Rattle.std.specs.List.{list_all, list_any}
-use Rattle.std.proofs.lemmas.Bool.{cases_lt, false≢true}
 use Rattle.aig_circuit.specs.declared.edge.AigEdge.{AigEdge}
-use Rattle.aig_circuit.specs.Circuit.{Circuit}
-use Rattle.aig_circuit.specs.Tree.{edge_value}
+use Rattle.aig_circuit.proofs.Words.{Circuit, edge_value}
 use Rattle.aig_bounded.specs.declared.asked.Sought.{Sought}
 use Rattle.aig_bounded.specs.declared.asked.Sought.TheVariants.{First, Last, Somewhere}
 use Rattle.aig_bounded.specs.Asked.{IsAsSought, reached_to, sought_to, within_to}

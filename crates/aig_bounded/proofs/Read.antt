@@ -1,16 +1,8 @@
 -- A run that has given values at places.
-use Rattle.std.proofs.Common.{◌≡◌, ◌≢◌, ℕ, zero, suc, ◌<◌, Bool, true, false, ◌&&◌, cond, eqb, Option, Some, None, List, [], ◌∷◌, length, get_or, add-one, refl, sym, ap, ◌∙◌, arith}
-use Rattle.std.specs.Prelude.{All, AllPairs, Contains, IfSome}
-use Rattle.std.specs.List.{AllZip}
-use Rattle.std.proofs.lemmas.Bool.{eq-eqb, eqb-true, false≢true}
-use Rattle.std.proofs.lemmas.Option.{same_Some}
-use Rattle.std.proofs.lemmas.List.{get_or-map, length-map}
+use Rattle.aig_base.proofs.Words.{◌≡◌, ◌≢◌, ℕ, zero, suc, ◌<◌, Bool, true, false, ◌&&◌, cond, eqb, Option, Some, None, List, [], ◌∷◌, length, get_or, add-one, refl, sym, ap, ◌∙◌, arith, All, AllPairs, Contains, IfSome, AllZip, eq-eqb, eqb-true, false≢true, same_Some, get_or-map, length-map}
 use Rattle.aig_circuit.specs.declared.edge.AigEdge.{AigEdge}
 use Rattle.aig_circuit.specs.declared.node.AigLatch.{AigLatch}
-use Rattle.aig_circuit.specs.Edge.{edge_to}
-use Rattle.aig_circuit.specs.Circuit.{Circuit, IsCircuit, latch_leaves}
-use Rattle.aig_circuit.specs.Runs.{IsRun}
-use Rattle.aig_circuit.specs.Tree.{edge_value}
+use Rattle.aig_circuit.proofs.Words.{edge_to, Circuit, IsCircuit, latch_leaves, IsRun, edge_value}
 use Rattle.aig_bounded.specs.declared.place.Place.{Place}
 use Rattle.aig_bounded.specs.declared.asked.Start.{Start}
 use Rattle.aig_bounded.specs.declared.asked.Start.TheVariants.{Any, Initial}

@@ -1,14 +1,11 @@
 -- The states of steps, one after another.
-use Rattle.std.proofs.Common.{◌≡◌, ◌⊎◌, ℕ, ◌+◌, ◌*◌, ◌-◌, ◌<◌, ◌≤◌, Bool, true, false, List, [], ◌++◌, length, get_or, map, refl, sym, ap, subst, ◌∙◌, inl, inr, arith}
+use Rattle.aig_base.proofs.Words.{◌≡◌, ◌⊎◌, ℕ, ◌+◌, ◌*◌, ◌-◌, ◌<◌, ◌≤◌, Bool, true, false, List, [], ◌++◌, length, get_or, map, refl, sym, ap, subst, ◌∙◌, inl, inr, arith, cases_lt}
 use Rattle.std.proofs.Math.ListN.{get_or-append, length-append}
-use Rattle.std.proofs.lemmas.Bool.{cases_lt}
 use Rattle.std.proofs.lemmas.List.{get_or-append_right, get_or-map, length-map}
 use Rattle.aig_circuit.specs.declared.edge.AigEdge.{AigEdge}
 use Rattle.aig_circuit.specs.declared.node.AigLatch.{AigLatch}
 use Rattle.aig_circuit.specs.declared.node.AigNodeType.TheVariants.{Leaf}
-use Rattle.aig_circuit.specs.Edge.{edge_to}
-use Rattle.aig_circuit.specs.Circuit.{Circuit, IsCircuit, IsInRange, latch_leaves}
-use Rattle.aig_circuit.specs.Tree.{edge_value, node_value}
+use Rattle.aig_circuit.proofs.Words.{edge_to, Circuit, IsCircuit, IsInRange, latch_leaves, edge_value, node_value}
 use Rattle.aig_circuit.proofs.Trees.{kind_at-within, node_value-leaf}
 use Rattle.aig_bounded.specs.declared.asked.Sought.{Sought}
 use Rattle.aig_bounded.specs.declared.frames.Frames.{Frames}

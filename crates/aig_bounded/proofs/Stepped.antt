@@ -1,22 +1,13 @@
 -- The tables of one step, and what the steps say.
-use Rattle.std.proofs.Common.{◌≡◌, ◌≢◌, ◌⊎◌, ℕ, zero, suc, ◌+◌, ◌-◌, ◌<◌, ◌≤◌, Bool, true, false, ◌&&◌, Option, Some, None, Result, Ok, Err, List, length, get_or, set, add-one, get_or-set_other, get_or-set_same, refl, sym, ap, subst, ◌∙◌, inl, inr, arith}
-use Rattle.std.specs.List.{list_all, list_any}
+use Rattle.aig_base.proofs.Words.{◌≡◌, ◌≢◌, ◌⊎◌, ℕ, zero, suc, ◌+◌, ◌-◌, ◌<◌, ◌≤◌, Bool, true, false, ◌&&◌, Option, Some, None, Result, Ok, Err, List, length, get_or, set, add-one, get_or-set_other, get_or-set_same, refl, sym, ap, subst, ◌∙◌, inl, inr, arith, list_all, list_any, cases_lt, same_Some, get_or-map, get_or_default, length-map}
 use Rattle.std.specs.Prelude.{All, AllPairs, Contains, IfOk, IfSome, OnOk, replicate, slice_index}
-use Rattle.std.proofs.lemmas.Bool.{cases_lt}
-use Rattle.std.proofs.lemmas.Option.{same_Some}
-use Rattle.std.proofs.lemmas.List.{get_or-map, get_or_default, length-map}
 use Rattle.aig_circuit.specs.declared.edge.AigEdge.{AigEdge}
 use Rattle.aig_circuit.specs.declared.node.AigLatch.{AigLatch}
 use Rattle.aig_circuit.specs.declared.node.AigNode.{AigNode}
 use Rattle.aig_circuit.specs.declared.node.AigNodeType.{AigNodeType}
 use Rattle.aig_circuit.specs.declared.node.AigNodeType.TheVariants.{And, False, Leaf}
-use Rattle.aig_circuit.specs.Node.{kind_at}
-use Rattle.aig_circuit.specs.Reach.{IsFanin}
+use Rattle.aig_circuit.proofs.Words.{kind_at, IsFanin, edge_to, AreNodes, Circuit, IsCircuit, IsInRange, IsLatch, IsLeaf, latch_leaves, is_in, edge_value, node_value}
 use Rattle.aig_circuit.proofs.Trees.{kind_at-read, kind_at-within}
-use Rattle.aig_circuit.specs.Edge.{edge_to}
-use Rattle.aig_circuit.specs.Circuit.{AreNodes, Circuit, IsCircuit, IsInRange, IsLatch, IsLeaf, latch_leaves}
-use Rattle.aig_circuit.specs.Renumber.{is_in}
-use Rattle.aig_circuit.specs.Tree.{edge_value, node_value}
 use Rattle.aig_renumber.proofs.Kept.{is_in-back, is_in-there}
 use Rattle.aig_bounded.specs.declared.asked.Sought.{Sought}
 use Rattle.aig_bounded.specs.declared.asked.Start.{Start}

@@ -1,20 +1,11 @@
 -- What is asked of a file that was read.
-use Rattle.std.proofs.Common.{◌≡◌, ◌≢◌, ℕ, ◌<◌, Bool, not, Option, List, [], ◌∷◌, length, map, refl, sym, ap, subst, ◌∙◌, arith, ◌+◌, ◌≤◌}
-use Rattle.std.proofs.lemmas.List.Elements.{All-from_recursion}
-use Rattle.std.specs.Prelude.{All}
-use Rattle.std.specs.List.{AllZip}
+use Rattle.aig_base.proofs.Words.{◌≡◌, ◌≢◌, ℕ, ◌<◌, Bool, not, Option, List, [], ◌∷◌, length, map, refl, sym, ap, subst, ◌∙◌, arith, ◌+◌, ◌≤◌, All-from_recursion, All, AllZip}
 use Rattle.aig_base.specs.Clauses.{AreBelow, variable_of}
 use Rattle.aig_base.proofs.Literals.{variable_of-lit_to}
 use Rattle.aig_circuit.specs.declared.edge.AigEdge.{AigEdge}
 use Rattle.aig_circuit.specs.declared.view.CircuitLists.{CircuitLists}
-use Rattle.aig_circuit.specs.Circuit.{Circuit, IsCircuit, IsClosed, IsInRange, IsLeaf}
-use Rattle.aig_circuit.specs.Edge.{lit_of}
-use Rattle.aig_circuit.specs.Edges.{HasConstantInit}
-use Rattle.aig_circuit.specs.Properties.{Properties, no_properties}
-use Rattle.aig_circuit.specs.View.{lists_circuit}
-use Rattle.aig_format.specs.Circuit.{circuit_of, edge_of}
-use Rattle.aig_format.specs.File.{File}
-use Rattle.aig_format.specs.Fits.{Accepts, Fits}
+use Rattle.aig_circuit.proofs.Words.{Circuit, IsCircuit, IsClosed, IsInRange, IsLeaf, lit_of, HasConstantInit, Properties, no_properties, lists_circuit}
+use Rattle.aig_format.proofs.Words.{circuit_of, edge_of, File, Accepts, Fits}
 use Rattle.aig_format.proofs.Circuits.{IsCircuit-of_file}
 use Rattle.aig_format_laws.proofs.Closed.{IsClosed-of_file}
 use Rattle.aig_format_laws.proofs.Writable.{plain_starts}

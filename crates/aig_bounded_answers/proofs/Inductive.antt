@@ -1,27 +1,14 @@
 -- What refuted clauses of a window's question say of a file's machine.
-use Rattle.std.proofs.Common.{◌≡◌, ◌↔◌, ◌++◌, ◌+◌, ◌/◌, ◌≤◌, ℕ, Bool, get_or, false, IsTrue, refl, sym, ◌∙◌, arith}
-use Rattle.std.specs.Prelude.{All}
-use Rattle.std.specs.List.{list_any}
-use Rattle.std.proofs.lemmas.Bool.{false_from_ne_true, false≢true}
-use Rattle.std.proofs.lemmas.List.Elements.{All-from_recursion, All-map, recursion_from_All}
+use Rattle.aig_base.proofs.Words.{◌≡◌, ◌↔◌, ◌++◌, ◌+◌, ◌/◌, ◌≤◌, ℕ, Bool, get_or, false, IsTrue, refl, sym, ◌∙◌, arith, All, list_any, false_from_ne_true, false≢true, All-from_recursion, All-map, recursion_from_All}
 use Rattle.aig_base.specs.Clauses.{literal_value}
 use Rattle.aig_base.specs.Formula.{IsSatisfiable, clauses_in}
 use Rattle.aig_circuit.specs.declared.edge.AigEdge.{AigEdge}
 use Rattle.aig_circuit.specs.declared.node.AigLatch.{AigLatch}
-use Rattle.aig_circuit.specs.Circuit.{Circuit, latch_leaves}
-use Rattle.aig_circuit.specs.Edge.{edge_to, lit_of}
-use Rattle.aig_circuit.specs.Properties.{AllProperties}
-use Rattle.aig_circuit.specs.Runs.{IsRun}
-use Rattle.aig_circuit.specs.Tree.{edge_value}
-use Rattle.aig_circuit.specs.View.{lists_circuit}
+use Rattle.aig_circuit.proofs.Words.{Circuit, latch_leaves, edge_to, lit_of, AllProperties, IsRun, edge_value, lists_circuit}
 use Rattle.aig_circuit.proofs.Listed.{AllProperties-weaker}
 use Rattle.aig_circuit.proofs.Lists.{All-from_map, AllZip-map}
 use Rattle.aig_cnf.specs.Cnf.{edge_in}
-use Rattle.aig_format.specs.Circuit.{circuit_of, edge_of, latch_of}
-use Rattle.aig_format.specs.File.{File, LatchLine}
-use Rattle.aig_format.specs.Fits.{Fits}
-use Rattle.aig_format.specs.Machine.{IsMachineRun, value_of_literal}
-use Rattle.aig_format.specs.Variables.{IsKnown}
+use Rattle.aig_format.proofs.Words.{circuit_of, edge_of, latch_of, File, LatchLine, Fits, IsMachineRun, value_of_literal, IsKnown}
 use Rattle.aig_format.proofs.Circuits.{used_by_section}
 use Rattle.aig_format.proofs.Numbers.{used_known}
 use Rattle.aig_format_laws.specs.Nodes.{HasNodeValues, values_over}

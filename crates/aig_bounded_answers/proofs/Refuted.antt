@@ -1,11 +1,8 @@
 -- Wrong results, of which the definitions are false.
 use Rattle.std.proofs.Common.{◌≡◌, ◌≢◌, ◌≤◌, ◌^◌, ℕ, Bool, false, Option, Some, Ok, Err, IfOk, List, [], length, slice_get, sym, ap, subst, ◌∙◌, arith}
-use Rattle.std.specs.Prelude.{Contains}
-use Rattle.std.proofs.lemmas.List.Elements.{Contains-get_or}
-use Rattle.std.proofs.lemmas.Option.{get_or_from_slice_get, slice_get_within}
+use Rattle.aig_base.proofs.Words.{Contains, Contains-get_or, get_or_from_slice_get, slice_get_within}
 use Rattle.aig_base.specs.declared.logic.three.Lbool.{Lbool}
-use Rattle.aig_circuit.specs.Circuit.{Circuit}
-use Rattle.aig_circuit.specs.View.{lists_circuit}
+use Rattle.aig_circuit.proofs.Words.{Circuit, lists_circuit}
 use Rattle.aig_format.specs.File.{File}
 use Rattle.aig_solutions.specs.declared.error.SolutionError.TheVariants.{NoBad}
 use Rattle.aig_solutions.specs.Reading.{solution_in}

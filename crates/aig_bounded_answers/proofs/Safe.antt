@@ -1,23 +1,14 @@
 -- What refuted clauses of a question say of a file's machine.
-use Rattle.std.proofs.Common.{◌≡◌, ◌≤◌, ◌↔◌, ◌++◌, ◌∷◌, [], ◌||◌, ℕ, Bool, true, false, IsTrue, List, suc, refl, sym, ap, subst, ◌∙◌, arith}
-use Rattle.std.proofs.lemmas.Bool.{false≢true}
-use Rattle.std.proofs.lemmas.List.Elements.{All-cons, All-nil}
-use Rattle.std.proofs.lemmas.List.Folds.{list_all-append}
+use Rattle.aig_base.proofs.Words.{◌≡◌, ◌≤◌, ◌↔◌, ◌++◌, ◌∷◌, [], ◌||◌, ℕ, Bool, true, false, IsTrue, List, suc, refl, sym, ap, subst, ◌∙◌, arith, false≢true, All-cons, All-nil, list_all-append}
 use Rattle.std.specs.Prelude.{◌&&◌, All}
 use Rattle.aig_base.specs.declared.logic.literal.Lit.{Lit}
 use Rattle.aig_base.specs.Clauses.{Satisfies, are_true, is_true_clause, literal_value}
 use Rattle.aig_base.specs.Formula.{IsSatisfiable, clauses_in}
 use Rattle.aig_circuit.specs.declared.edge.AigEdge.{AigEdge}
-use Rattle.aig_circuit.specs.Circuit.{Circuit}
-use Rattle.aig_circuit.specs.Properties.{Properties, no_properties}
-use Rattle.aig_circuit.specs.Edge.{edge_to, lit_of}
-use Rattle.aig_circuit.specs.Tree.{edge_value, node_value}
-use Rattle.aig_circuit.specs.View.{lists_circuit}
+use Rattle.aig_circuit.proofs.Words.{Circuit, Properties, no_properties, edge_to, lit_of, edge_value, node_value, lists_circuit}
 use Rattle.aig_circuit.proofs.Trees.{node_value-false}
 use Rattle.aig_cnf.specs.Cnf.{FixesRoots, IsFixed, edge_in}
-use Rattle.aig_format.specs.Circuit.{circuit_of}
-use Rattle.aig_format.specs.File.{File}
-use Rattle.aig_format.specs.Fits.{Fits}
+use Rattle.aig_format.proofs.Words.{circuit_of, File, Fits}
 use Rattle.aig_format.proofs.Circuits.{IsCircuit-of_file}
 use Rattle.aig_runs.specs.Queries.{IsSafeTo}
 use Rattle.aig_runs.specs.Safety.{IsSafeAt}

@@ -1,22 +1,15 @@
 -- The run that values say: its start, and the values that are put into it.
-use Rattle.std.proofs.Common.{◌≡◌, ◌≢◌, ℕ, zero, suc, ◌+◌, ◌<◌, ◌≤◌, ◌⊎◌, eqb, Bool, true, false, Option, Some, None, List, [], ◌∷◌, ◌++◌, length, map, get_or, set, inl, inr, refl, sym, ap, ap₂, subst, ◌∙◌, arith}
+use Rattle.aig_base.proofs.Words.{◌≡◌, ◌≢◌, ℕ, zero, suc, ◌+◌, ◌<◌, ◌≤◌, ◌⊎◌, eqb, Bool, true, false, Option, Some, None, List, [], ◌∷◌, ◌++◌, length, map, get_or, set, inl, inr, refl, sym, ap, ap₂, subst, ◌∙◌, arith, AllByRecursion, AllZip, false≢true, All-from_recursion, All-map, All-push, All-set, Contains-get_or, recursion_from_All, get_or_from_slice_get, same_Some, slice_get_within, AllZip-long}
 use Rattle.std.specs.Prelude.{All, AllPairs, IfSome, Vec, replicate, slice_index}
-use Rattle.std.specs.List.{AllByRecursion, AllZip}
 use Rattle.std.specs.declared.alloc.Global.{Global}
 use borrow.Author.Count.{below_more}
-use Rattle.std.proofs.lemmas.Bool.{false≢true}
 use Rattle.std.proofs.lemmas.Bool.Decides.{eqb_tells}
 use Rattle.std.proofs.lemmas.List.{get_or-map, get_or-set_other, get_or-set_same, get_or_default, length-append, length-map, length-replicate, length-set, map-set}
-use Rattle.std.proofs.lemmas.List.Elements.{All-from_recursion, All-map, All-push, All-set, Contains-get_or, recursion_from_All}
-use Rattle.std.proofs.lemmas.Option.{get_or_from_slice_get, same_Some, slice_get_within}
-use Rattle.std.proofs.lemmas.Slice.Zip.{AllZip-long}
 use Rattle.aig_base.specs.declared.logic.three.Lbool.{Lbool}
 use Rattle.aig_base.specs.declared.logic.three.Lbool.TheVariants.{FALSE, NONE}
 use Rattle.aig_circuit.specs.declared.edge.AigEdge.{AigEdge}
 use Rattle.aig_circuit.specs.declared.node.AigLatch.{AigLatch}
-use Rattle.aig_circuit.specs.Circuit.{Circuit, latch_leaves}
-use Rattle.aig_circuit.specs.Edge.{edge_to}
-use Rattle.aig_circuit.specs.Edges.{HasConstantInit}
+use Rattle.aig_circuit.proofs.Words.{Circuit, latch_leaves, edge_to, HasConstantInit}
 use Rattle.aig_unroll.proofs.Lists.{zip_at}
 use Rattle.aig_witness.specs.Shown.{AreStarts, HasStart, known_of}
 use Rattle.aig_witness.specs.declared.witness.Witness as lists

@@ -1,14 +1,9 @@
 -- What is said of a file that was read, and of a proof that is held against its question.
-use Rattle.std.proofs.Common.{◌≡◌, ◌≢◌, ℕ, Bool, Option, List, [], ◌∷◌, length, Result, Ok, Err, refl, sym, ap, subst, ◌∙◌, arith}
-use Rattle.std.specs.Prelude.{◌==◌, if◌then◌else◌, IfErr, IsErrOf}
-use Rattle.std.proofs.lemmas.List.{length-map}
-use Rattle.std.proofs.lemmas.Bool.{eq-eqb, ne_eqb}
+use Rattle.aig_base.proofs.Words.{◌≡◌, ◌≢◌, ℕ, Bool, Option, List, [], ◌∷◌, length, Result, Ok, Err, refl, sym, ap, subst, ◌∙◌, arith, ◌==◌, if◌then◌else◌, IfErr, IsErrOf, length-map, eq-eqb, ne_eqb}
 use Rattle.aig_circuit.specs.Circuit.{Circuit}
 use Rattle.aig_circuit.specs.declared.edge.AigEdge.{AigEdge}
 use Rattle.aig_circuit.specs.declared.view.CircuitLists.{CircuitLists}
-use Rattle.aig_format.specs.Circuit.{edge_of}
-use Rattle.aig_format.specs.File.{File}
-use Rattle.aig_format.specs.Fits.{Accepts}
+use Rattle.aig_format.proofs.Words.{edge_of, File, Accepts}
 use Rattle.aig_reader.specs.declared.error.ReadError.{ReadError}
 use Rattle.aig_reader.specs.declared.error.ReadError.TheVariants as read
 use Rattle.aig_reader.specs.Reading.{AreListsOf, IsReadAs}

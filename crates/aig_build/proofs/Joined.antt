@@ -2,10 +2,7 @@
 use Rattle.std.proofs.Common.{◌≡◌, ℕ, Bool, true, false, not, ◌&&◌, ◌||◌, List, length, take, refl, ap, ◌∙◌, arith}
 use Rattle.aig_circuit.specs.declared.edge.AigEdge.{AigEdge}
 use Rattle.aig_circuit.specs.declared.node.AigNode.{AigNode}
-use Rattle.aig_circuit.specs.Edge.{inverse}
-use Rattle.aig_circuit.specs.Tree.{edge_value}
-use Rattle.aig_circuit.specs.Build.{Grows}
-use Rattle.aig_circuit.specs.Circuit.{IsInRange}
+use Rattle.aig_circuit.proofs.Words.{inverse, edge_value, Grows, IsInRange}
 use Rattle.aig_circuit.proofs.Building.{take-Grows}
 use Rattle.aig_circuit.proofs.Joining.{edge_value-inverse}
 

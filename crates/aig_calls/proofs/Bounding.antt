@@ -1,6 +1,5 @@
 -- What calls of bounded checks tell, and leave in their caller's memory.
-use Rattle.std.proofs.Common.{◌≡◌, ℕ, ◌<◌, ◌≤◌, ◌^◌, Bool, List, Option, Some, Result, Ok, Err, Vec, Global, sym, subst, arith, ◌∙◌}
-use Rattle.std.specs.Prelude.{IfErr}
+use Rattle.aig_base.proofs.Words.{◌≡◌, ℕ, ◌<◌, ◌≤◌, ◌^◌, Bool, List, Option, Some, Result, Ok, Err, Vec, Global, sym, subst, arith, ◌∙◌, IfErr}
 use Rattle.aig_bounded_answers.specs.Asking.{IsAskedWithin, bounded_verdict}
 use Rattle.aig_checks.specs.Bounded.{IsBoundedText, IsSettledTo}
 use Rattle.aig_checks.specs.Running.{TellsOfGiven, verdict_of}

@@ -1,9 +1,6 @@
 -- What a call makes of a file, from what the call below told of the file's bytes.
-use Rattle.std.proofs.Common.{◌≡◌, ℕ, ◌≤◌, Bool, false, List, [], Option, None, Some, Ok, Err, Vec, Global, sym, subst, arith}
-use Rattle.std.specs.Io.KnownBytes.{Appends}
-use Rattle.std.proofs.KnownBytes.{Consumes-whole}
-use Rattle.aig_format.specs.File.{File}
-use Rattle.aig_format.specs.Fits.{Accepts}
+use Rattle.aig_base.proofs.Words.{◌≡◌, ℕ, ◌≤◌, Bool, false, List, [], Option, None, Some, Ok, Err, Vec, Global, sym, subst, arith, Appends, Consumes-whole}
+use Rattle.aig_format.proofs.Words.{File, Accepts}
 use Rattle.aig_reader.specs.Reading.{IsReadAs}
 use Rattle.aig_reader.specs.Verdicts.{Accepted, IsVerdictOn, Judges, Verdict}
 use Rattle.aig_calls.specs.Statuses.{Tells, done, said_by, small}

@@ -4,8 +4,7 @@ use Rattle.aig_edits.specs.Joints.{DoFit, IsRefusalOf}
 use Rattle.aig_edits.specs.Pairs.{ReadsPair}
 use Rattle.aig_edits.specs.declared.error.PairError.TheVariants.{TooLarge}
 use Rattle.aig_edits.specs.declared.pairing.Pairing.{Pairing}
-use Rattle.aig_format.specs.File.{File}
-use Rattle.aig_format.specs.Fits.{Accepts}
+use Rattle.aig_format.proofs.Words.{File, Accepts}
 use Rattle.aig_reader.specs.Reading.{IsReadAs}
 use Rattle.aig_reader.specs.Verdicts.{Accepted, Judges, Verdict, verdict_by}
 use Rattle.aig_calls.specs.Statuses.{AtStep, done, many_steps, misfit, said_by, said_of_other, small}

@@ -1,6 +1,5 @@
 -- What statuses of proofs, and of questions that are too large, tell of a file's bytes.
-use Rattle.std.proofs.Common.{◌≡◌, ℕ, ◌<◌, Bool, List, Option, None, Some, Result, Ok, Err, Vec, Global, refl, sym, ap, subst, ◌∙◌, arith}
-use Rattle.std.specs.Prelude.{IfErr, IfSome}
+use Rattle.aig_base.proofs.Words.{◌≡◌, ℕ, ◌<◌, Bool, List, Option, None, Some, Result, Ok, Err, Vec, Global, refl, sym, ap, subst, ◌∙◌, arith, IfErr, IfSome}
 use Rattle.aig_bounded.specs.Question.{question_size}
 use Rattle.aig_bounded.specs.declared.error.BoundedError.TheVariants.{TooLarge}
 use Rattle.aig_bounded_answers.specs.Asking as bounding
@@ -13,9 +12,7 @@ use Rattle.aig_checks.specs.declared.command.FileCommand.{FileCommand}
 use Rattle.aig_checks.specs.declared.command.FileCommand.TheVariants as commands
 use Rattle.aig_checks.specs.declared.tool.CheckError.{CheckError}
 use Rattle.aig_checks.specs.declared.tool.CheckError.TheVariants as errors
-use Rattle.aig_format.specs.Circuit.{circuit_of}
-use Rattle.aig_format.specs.File.{File}
-use Rattle.aig_format.specs.Fits.{Accepts}
+use Rattle.aig_format.proofs.Words.{circuit_of, File, Accepts}
 use Rattle.aig_reader.specs.Reading.{IsReadAs}
 use Rattle.aig_reader.specs.Verdicts.{Accepted, Judges, Short, Verdict}
 use Rattle.aig_refutation.specs.declared.error.RefutationError.{RefutationError}

@@ -1,14 +1,11 @@
 -- A file that would be taken, of which no more is said, is told to be taken.
-use Rattle.std.proofs.Common.{◌≡◌, ℕ, ◌+◌, ◌≤◌, Bool, true, ltb, List, ◌++◌, Option, None, Some, Err, Vec, Global, refl, sym, ap, subst, ◌∙◌, append_assoc, arith}
-use Rattle.std.proofs.lemmas.Bool.{and_parts, ltb-true}
-use Rattle.std.proofs.KnownBytes.{Consumes-whole}
+use Rattle.aig_base.proofs.Words.{◌≡◌, ℕ, ◌+◌, ◌≤◌, Bool, true, ltb, List, ◌++◌, Option, None, Some, Err, Vec, Global, refl, sym, ap, subst, ◌∙◌, append_assoc, arith, and_parts, ltb-true, Consumes-whole}
 use Rattle.aig_checks.specs.Running.{Answers, file_verdict, verdict_of}
 use Rattle.aig_checks.specs.declared.command.FileCommand.{FileCommand}
 use Rattle.aig_checks.specs.declared.tool.CheckError.{CheckError}
-use Rattle.aig_format.specs.File.{File, HeaderNumbers, header_of}
+use Rattle.aig_format.proofs.Words.{File, HeaderNumbers, header_of, parse_header, too_many_of}
 use Rattle.aig_format.specs.declared.FileKind.{FileKind}
 use Rattle.aig_format.specs.Fits.{Accepts, TooMany, has_enough}
-use Rattle.aig_format.specs.Parse.{parse_header, too_many_of}
 use Rattle.aig_format.proofs.Sections.{Reads-header}
 use Rattle.aig_format.proofs.TooManyAt.{too_many_exact}
 use Rattle.aig_reader.specs.Verdicts.{Judges, Short, Verdict}

@@ -1,5 +1,5 @@
 -- What proofs of a joint circuit's text show of the two files.
-use Rattle.std.proofs.Common.{◌≡◌, ℕ, Bool, List, Result, Ok, Err, Vec, Global, refl, subst, ◌∙◌, arith}
+use Rattle.aig_base.proofs.Words.{◌≡◌, ℕ, Bool, List, Result, Ok, Err, Vec, Global, refl, subst, ◌∙◌, arith}
 use Rattle.std.specs.Prelude.{IfErr, length}
 use Rattle.aig_runs.specs.Safety.{IsSafeAt}
 use Rattle.aig_circuit.specs.Circuit.{Circuit}
@@ -9,9 +9,8 @@ use Rattle.aig_edits.specs.declared.pairing.Pairing.TheVariants.{Certificate, Mi
 use Rattle.aig_runs.specs.WindowClauses.{AsksWindow}
 use Rattle.aig_runs.specs.declared.window.Window.TheVariants.{Plain}
 use Rattle.aig_encode.specs.Encoding.{IsQuery}
-use Rattle.aig_format.specs.Circuit.{circuit_of, file_of, text_of}
+use Rattle.aig_format.proofs.Words.{circuit_of, file_of, text_of, File}
 use Rattle.aig_format.specs.declared.FileKind.TheVariants.{Text}
-use Rattle.aig_format.specs.File.{File}
 use Rattle.aig_reader.specs.Verdicts.{Accepted, verdict_by}
 use Rattle.aig_runs.specs.Queries.{IsSafeTo}
 use Rattle.aig_certificates.specs.declared.error.CertificateError.{CertificateError}

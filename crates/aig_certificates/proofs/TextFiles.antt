@@ -1,14 +1,9 @@
 -- A text in memory that was read as a file.
-use Rattle.std.proofs.Common.{◌≡◌, ℕ, ◌≤◌, Bool, List, Option, Some, Result, Ok, Err, sym, subst, ◌∙◌, arith}
-use Rattle.std.specs.Prelude.{IfOk}
-use Rattle.std.proofs.KnownBytes.{Consumes-whole}
-use Rattle.std.proofs.lemmas.Option.{same_Some}
+use Rattle.aig_base.proofs.Words.{◌≡◌, ℕ, ◌≤◌, Bool, List, Option, Some, Result, Ok, Err, sym, subst, ◌∙◌, arith, IfOk, Consumes-whole, same_Some}
 use Rattle.aig_answers.specs.declared.error.AnswerError.{AnswerError}
 use Rattle.aig_answers.specs.Answers.{verdict_of}
 use Rattle.aig_runs.specs.Safety.{IsSafeAt}
-use Rattle.aig_format.specs.File.{File}
-use Rattle.aig_format.specs.Fits.{Accepts}
-use Rattle.aig_format.specs.Spells.{Spells}
+use Rattle.aig_format.proofs.Words.{File, Accepts, Spells}
 use Rattle.aig_format.proofs.AnyFile.{any_complete}
 use Rattle.aig_reader.specs.Reading.{IsReadAs}
 use Rattle.aig_reader.specs.Verdicts.{Judges, Verdict, verdict_by}

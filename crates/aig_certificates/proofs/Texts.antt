@@ -1,12 +1,10 @@
 -- The text of a joint circuit, from what was printed to memory.
-use Rattle.std.proofs.Common.{◌≡◌, ℕ, Bool, List, [], Option, Some, Ok, Err, Vec, Global, refl, subst}
-use Rattle.std.specs.Io.KnownBytes.{Appends}
+use Rattle.aig_base.proofs.Words.{◌≡◌, ℕ, Bool, List, [], Option, Some, Ok, Err, Vec, Global, refl, subst, Appends}
 use Rattle.aig_edits.specs.Joints.{IsOwn, PrintsJoint, WritesJoint, first_verdict, second_verdict}
 use Rattle.aig_edits.specs.declared.error.PairError.{PairError}
 use Rattle.aig_edits.specs.declared.error.PairError.TheVariants as pair
 use Rattle.aig_edits.specs.declared.pairing.Pairing.{Pairing}
-use Rattle.aig_format.specs.Circuit.{text_of}
-use Rattle.aig_format.specs.File.{File}
+use Rattle.aig_format.proofs.Words.{text_of, File}
 use Rattle.aig_certificates.specs.Parts.{JoinsText, text_error}
 
 -- refused memory says as much of the files as a refused write

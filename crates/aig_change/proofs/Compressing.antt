@@ -1,13 +1,8 @@
 -- The bad edges joined by or, from what the builders promise.
-use Rattle.std.proofs.Common.{◌≡◌, List, [], ◌∷◌, map, refl, sym, ap, subst, ◌∙◌}
-use Rattle.std.specs.Prelude.{All}
-use Rattle.std.proofs.lemmas.List.Elements.{All-nil, All-push}
+use Rattle.aig_base.proofs.Words.{◌≡◌, List, [], ◌∷◌, map, refl, sym, ap, subst, ◌∙◌, All, All-nil, All-push}
 use Rattle.aig_circuit.specs.declared.edge.AigEdge.{AigEdge}
 use Rattle.aig_circuit.specs.declared.node.AigNode.{AigNode}
-use Rattle.aig_circuit.specs.Edge.{inverse}
-use Rattle.aig_circuit.specs.Circuit.{Circuit, IsCircuit, IsInRange}
-use Rattle.aig_circuit.specs.Properties.{AllProperties}
-use Rattle.aig_circuit.specs.Build.{AddsGates, FoldsOrAddsAll, JoinsByAnd, JoinsByOr}
+use Rattle.aig_circuit.proofs.Words.{inverse, Circuit, IsCircuit, IsInRange, AllProperties, AddsGates, FoldsOrAddsAll, JoinsByAnd, JoinsByOr}
 use Rattle.aig_circuit.proofs.Circuits.{IsCircuit-grown}
 use Rattle.aig_circuit.proofs.Joining.{JoinsByOr-inverse, inverse_twice}
 use Rattle.aig_change.specs.Changes.{CompressesBads}

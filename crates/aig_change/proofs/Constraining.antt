@@ -1,26 +1,17 @@
 -- Constraints in place of initial edges that aren't constant, from what the builders promise.
-use Rattle.std.proofs.Common.{◌≡◌, ◌≢◌, ◌↔◌, ℕ, zero, suc, ◌+◌, ◌<◌, Bool, true, false, not, ◌||◌, cond, eqb, Option, Some, None, List, [], ◌∷◌, ◌++◌, length, map, take, get_or, refl, sym, ap, subst, ◌∙◌, arith, append_assoc, append-nil}
+use Rattle.aig_base.proofs.Words.{◌≡◌, ◌≢◌, ◌↔◌, ℕ, zero, suc, ◌+◌, ◌<◌, Bool, true, false, not, ◌||◌, cond, eqb, Option, Some, None, List, [], ◌∷◌, ◌++◌, length, map, take, get_or, refl, sym, ap, subst, ◌∙◌, arith, append_assoc, append-nil, AllZip, eq-eqb, ne_eqb, take_at, take_more, All-append, All-nil, All-filter, All-map, All-push, filter-append}
 use Rattle.std.specs.Prelude.{All, Contains, IfSome, IsTrue}
-use Rattle.std.specs.List.{AllZip}
-use Rattle.std.proofs.lemmas.Bool.{eq-eqb, ne_eqb}
-use Rattle.std.proofs.lemmas.List.{take_at, take_more}
-use Rattle.std.proofs.lemmas.List.Elements.{All-append, All-nil, All-filter, All-map, All-push, filter-append}
 use Rattle.aig_circuit.specs.declared.edge.AigEdge.{AigEdge}
 use Rattle.aig_circuit.specs.declared.node.AigNode.{AigNode}
 use Rattle.aig_circuit.specs.declared.node.AigNodeType.TheVariants.{False, Leaf}
 use Rattle.aig_circuit.specs.declared.node.AigLatch.{AigLatch}
-use Rattle.aig_circuit.specs.Edge.{edge_to, inverse}
-use Rattle.aig_circuit.specs.Tree.{edge_value}
-use Rattle.aig_circuit.specs.Circuit.{AreNodes, Circuit, IsCircuit, IsFree, IsInRange, IsLatch, latch_leaves}
-use Rattle.aig_circuit.specs.Properties.{AllProperties}
-use Rattle.aig_circuit.specs.Build.{AddsGates, FoldsOrAdds, FoldsOrAddsEq, Grows, with_node}
+use Rattle.aig_circuit.proofs.Words.{edge_to, inverse, edge_value, AreNodes, Circuit, IsCircuit, IsFree, IsInRange, IsLatch, latch_leaves, AllProperties, AddsGates, FoldsOrAdds, FoldsOrAddsEq, Grows, with_node, HasConstantInit}
 use Rattle.aig_change.specs.Runs.{IsAllowedRun}
 use Rattle.aig_circuit.proofs.Building.{Grows-itself, Grows-leaf, edge_value-Grows}
 use Rattle.aig_circuit.proofs.Circuits.{IsCircuit-grown, IsFree-fresh}
 use Rattle.aig_circuit.proofs.Joining.{edge_value-inverse, inverse_twice}
 use Rattle.aig_circuit.proofs.Trees.{kind_at-last, kind_at-within, node_value-leaf}
 use Rattle.aig_circuit.proofs.Writing.{IsCircuit-add_latch, IsCircuit-latchs}
-use Rattle.aig_circuit.specs.Edges.{HasConstantInit}
 use Rattle.aig_change.specs.Changes.{ConstrainsInits, constant_start, first_step_latch, with_constant_start}
 use Rattle.aig_change.specs.Inits.{Constrains, MeetsInit, SayInSteps, ImpliesInit, is_variable, variable_latchs}
 use Rattle.aig_change.proofs.FirstStep.{AddsFirst, AreOldRuns-gated, AreOldRuns-itself}

@@ -1,13 +1,8 @@
 -- The first edge of a list joined with another.
-use Rattle.std.proofs.Common.{◌≡◌, ℕ, ◌<◌, Bool, ◌&&◌, List, [], ◌∷◌, length, get_or, suc, set, refl, subst, ◌∙◌, arith}
-use Rattle.std.specs.Prelude.{All}
-use Rattle.std.proofs.lemmas.List.Elements.{All-cons}
-use Rattle.std.proofs.lemmas.Option.{same_Some}
+use Rattle.aig_base.proofs.Words.{◌≡◌, ℕ, ◌<◌, Bool, ◌&&◌, List, [], ◌∷◌, length, get_or, suc, set, refl, subst, ◌∙◌, arith, All, All-cons, same_Some}
 use Rattle.aig_circuit.specs.declared.edge.AigEdge.{AigEdge}
 use Rattle.aig_circuit.specs.declared.node.AigNode.{AigNode}
-use Rattle.aig_circuit.specs.Tree.{edge_value}
-use Rattle.aig_circuit.specs.Circuit.{IsInRange}
-use Rattle.aig_circuit.specs.Build.{FoldsOrAdds}
+use Rattle.aig_circuit.proofs.Words.{edge_value, IsInRange, FoldsOrAdds}
 use Rattle.aig_change.specs.Joining.{JoinsFirst}
 
 -- the and takes the place of the first edge

@@ -1,14 +1,10 @@
 -- A latch that is added and holds where all constraints held at all steps before.
-use Rattle.std.proofs.Common.{◌≡◌, ◌↔◌, ◌≢◌, ℕ, zero, suc, ◌+◌, ◌<◌, ◌≤◌, Bool, true, cond, eqb, not, ◌&&◌, Some, List, [], ◌∷◌, ◌++◌, length, get_or, refl, sym, ap, subst, ◌∙◌, arith, inl, inr, add-one}
+use Rattle.aig_base.proofs.Words.{◌≡◌, ◌↔◌, ◌≢◌, ℕ, zero, suc, ◌+◌, ◌<◌, ◌≤◌, Bool, true, cond, eqb, not, ◌&&◌, Some, List, [], ◌∷◌, ◌++◌, length, get_or, refl, sym, ap, subst, ◌∙◌, arith, inl, inr, add-one, and_from, and_parts, cases_lt, eq-eqb, ne_eqb, All-push}
 use Rattle.std.specs.Prelude.{All, IsTrue, drop, slice_get}
-use Rattle.std.proofs.lemmas.Bool.{and_from, and_parts, cases_lt, eq-eqb, ne_eqb}
-use Rattle.std.proofs.lemmas.List.Elements.{All-push}
 use Rattle.std.proofs.lemmas.List.Sums.{AllPass-from_list_all, list_all-from_AllPass}
 use Rattle.aig_circuit.specs.declared.edge.AigEdge.{AigEdge}
 use Rattle.aig_circuit.specs.declared.node.AigNodeType.TheVariants.{Leaf}
-use Rattle.aig_circuit.specs.Tree.{edge_value}
-use Rattle.aig_circuit.specs.Circuit.{Circuit, IsCircuit, IsLeaf}
-use Rattle.aig_circuit.specs.Runs.{AgreeOnLeaves}
+use Rattle.aig_circuit.proofs.Words.{edge_value, Circuit, IsCircuit, IsLeaf, AgreeOnLeaves}
 use Rattle.aig_circuit.proofs.Trees.{kind_at-within, node_value-false}
 use Rattle.aig_change.specs.Changes.{JoinsConstraints, constraints_held_latch}
 use Rattle.aig_change.specs.Runs.{AreOldRuns, ConstraintsHoldUpTo, IsRunFromInitial}

@@ -1,8 +1,5 @@
 -- One list after another.
-use Rattle.std.proofs.Common.{◌≡◌, ℕ, zero, suc, ◌+◌, ◌<◌, ◌≤◌, Bool, ◌&&◌, List, [], ◌∷◌, ◌++◌, length, map, take, get_or, refl, sym, ap, ◌∙◌, arith, append_assoc, Vec, Global}
-use Rattle.std.proofs.lemmas.List.{map-append, map_more, take_all}
-use Rattle.std.specs.Prelude.{All, slice_get}
-use Rattle.std.specs.List.{AllZip, list_all}
+use Rattle.aig_base.proofs.Words.{◌≡◌, ℕ, zero, suc, ◌+◌, ◌<◌, ◌≤◌, Bool, ◌&&◌, List, [], ◌∷◌, ◌++◌, length, map, take, get_or, refl, sym, ap, ◌∙◌, arith, append_assoc, Vec, Global, map-append, map_more, take_all, All, slice_get, AllZip, list_all}
 
 -- what stands in the first list stands there still
 pub get-append_left : {X : Type 0} (xs ys : List X) (n : ℕ) → n < length xs

@@ -1,19 +1,10 @@
 -- Two circuits merged are a circuit, and its runs are pairs of runs.
-use Rattle.std.proofs.Common.{◌≡◌, ◌≢◌, ◌↔◌, ℕ, ◌+◌, ◌-◌, ◌<◌, ◌≤◌, Bool, cond, ltb, Option, Some, None, List, ◌++◌, length, map, get_or, refl, sym, ap, subst, ◌∙◌, arith, inl, inr, append-nil}
-use Rattle.std.specs.Prelude.{All, AllPairs, Contains, IfSome, option_map}
-use Rattle.std.proofs.lemmas.Bool.{cases_lt, le-ltb, lt-ltb}
-use Rattle.std.proofs.lemmas.List.{map-append}
-use Rattle.std.proofs.lemmas.List.Elements.{All-append, All-contains, All-map, All-weaker, Contains-append_cases}
+use Rattle.aig_base.proofs.Words.{◌≡◌, ◌≢◌, ◌↔◌, ℕ, ◌+◌, ◌-◌, ◌<◌, ◌≤◌, Bool, cond, ltb, Option, Some, None, List, ◌++◌, length, map, get_or, refl, sym, ap, subst, ◌∙◌, arith, inl, inr, append-nil, All, AllPairs, Contains, IfSome, option_map, cases_lt, le-ltb, lt-ltb, map-append, All-append, All-contains, All-map, All-weaker, Contains-append_cases}
 use Rattle.aig_circuit.specs.declared.edge.AigEdge.{AigEdge}
 use Rattle.aig_circuit.specs.declared.node.AigNode.{AigNode}
 use Rattle.aig_circuit.specs.declared.node.AigNodeType.TheVariants.{Leaf}
 use Rattle.aig_circuit.specs.declared.node.AigLatch.{AigLatch}
-use Rattle.aig_circuit.specs.Edge.{inverted_if}
-use Rattle.aig_circuit.specs.Tree.{edge_value}
-use Rattle.aig_circuit.specs.Circuit.{Circuit, IsCircuit, IsInRange, IsLatch, IsLeaf, latch_leaves, only_false}
-use Rattle.aig_circuit.specs.Properties.{AllProperties, Properties, append_properties, map_properties}
-use Rattle.aig_circuit.specs.Runs.{IsRun, IsInitial}
-use Rattle.aig_circuit.specs.Renumber.{nodes_in_order, renumbered_edge, renumbered_latch}
+use Rattle.aig_circuit.proofs.Words.{inverted_if, edge_value, Circuit, IsCircuit, IsInRange, IsLatch, IsLeaf, latch_leaves, only_false, AllProperties, Properties, append_properties, map_properties, IsRun, IsInitial, nodes_in_order, renumbered_edge, renumbered_latch}
 use Rattle.aig_circuit.proofs.Building.{Grows-kept, Grows-longer, edge_value-Grows}
 use Rattle.aig_circuit.proofs.Circuits.{AllPairs-append, latch_leaves-leaves}
 use Rattle.aig_circuit.proofs.Listed.{AllProperties-append, AllProperties-map, AllProperties-weaker}

@@ -1,16 +1,9 @@
 -- The nodes of one circuit but 0 after those of another.
-use Rattle.std.proofs.Common.{◌≡◌, ℕ, zero, suc, ◌+◌, ◌-◌, ◌<◌, ◌≤◌, ◌⊎◌, false, cond, eqb, Some, List, [], ◌∷◌, ◌++◌, length, get_or, refl, sym, ap, subst, ◌∙◌, arith, inl, inr, length-append, take, append_assoc}
-use Rattle.std.specs.Prelude.{option_map, slice_get}
-use Rattle.std.proofs.lemmas.Bool.{cases_lt, ne_eqb}
-use Rattle.std.proofs.lemmas.List.{get_or-map, length-map, length-take-le, take_more}
-use Rattle.std.proofs.lemmas.Option.{same_Some, slice_get-get_or, slice_get_within}
+use Rattle.aig_base.proofs.Words.{◌≡◌, ℕ, zero, suc, ◌+◌, ◌-◌, ◌<◌, ◌≤◌, ◌⊎◌, false, cond, eqb, Some, List, [], ◌∷◌, ◌++◌, length, get_or, refl, sym, ap, subst, ◌∙◌, arith, inl, inr, length-append, take, append_assoc, option_map, slice_get, cases_lt, ne_eqb, get_or-map, length-map, length-take-le, take_more, same_Some, slice_get-get_or, slice_get_within}
 use Rattle.aig_circuit.specs.declared.node.AigNode.{AigNode}
 use Rattle.aig_circuit.specs.declared.node.AigNodeType.{AigNodeType}
 use Rattle.aig_circuit.specs.declared.node.AigNodeType.TheVariants.{False, Leaf, And}
-use Rattle.aig_circuit.specs.Node.{kind_at, FitsBelow, IsOrdered}
-use Rattle.aig_circuit.specs.Circuit.{AreNodes, IsLeaf}
-use Rattle.aig_circuit.specs.Build.{Grows}
-use Rattle.aig_circuit.specs.Renumber.{nodes_in_order, renumbered_edge, renumbered_kind}
+use Rattle.aig_circuit.proofs.Words.{kind_at, FitsBelow, IsOrdered, AreNodes, IsLeaf, Grows, nodes_in_order, renumbered_edge, renumbered_kind}
 use Rattle.aig_circuit.proofs.Building.{FitsBelow-and_of, grows_by_appending}
 use Rattle.aig_circuit.proofs.Trees.{kind_at-append, kind_at-there, kind_at-within}
 use Rattle.aig_renumber.proofs.NodesInOrder.{false_back, get-nodes_in_order, length-nodes_in_order, node_in_order, nodes_in_order-push}

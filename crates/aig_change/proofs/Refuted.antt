@@ -1,20 +1,11 @@
 -- Wrong results of changes of small circuits, of which the definitions are false.
-use Rattle.std.proofs.Common.{◌≡◌, ◌≢◌, ℕ, zero, suc, Bool, true, false, Option, Some, None, List, [], ◌∷◌, length, refl, sym, ap, subst, ◌∙◌, inl, inr, arith}
-use Rattle.std.specs.Prelude.{◌==◌, if◌then◌else◌, All, slice_get, unwrap_or}
-use Rattle.std.specs.List.{AllZip}
-use Rattle.std.specs.FinMap.{empty}
-use Rattle.std.proofs.lemmas.Bool.{false≢true}
+use Rattle.aig_base.proofs.Words.{◌≡◌, ◌≢◌, ℕ, zero, suc, Bool, true, false, Option, Some, None, List, [], ◌∷◌, length, refl, sym, ap, subst, ◌∙◌, inl, inr, arith, ◌==◌, if◌then◌else◌, All, slice_get, unwrap_or, AllZip, empty, false≢true}
 use Rattle.aig_circuit.specs.declared.edge.AigEdge.{AigEdge}
 use Rattle.aig_circuit.specs.declared.node.AigNodeType.{AigNodeType}
 use Rattle.aig_circuit.specs.declared.node.AigNodeType.TheVariants.{False, Leaf, And}
 use Rattle.aig_circuit.specs.declared.node.AigNode.{AigNode}
 use Rattle.aig_circuit.specs.declared.node.AigLatch.{AigLatch}
-use Rattle.aig_circuit.specs.Build.{Folds, FoldsOrAdds, FoldsOrAddsEq, true_first, true_second, false_first, false_second, same, opposite, with_node}
-use Rattle.aig_circuit.specs.Circuit.{Circuit}
-use Rattle.aig_circuit.specs.Properties.{no_properties}
-use Rattle.aig_circuit.specs.Edge.{edge_to, inverse}
-use Rattle.aig_circuit.specs.Edges.{HasConstantInit}
-use Rattle.aig_circuit.specs.Runs.{IsRun, IsInitial}
+use Rattle.aig_circuit.proofs.Words.{Folds, FoldsOrAdds, FoldsOrAddsEq, true_first, true_second, false_first, false_second, same, opposite, with_node, Circuit, no_properties, edge_to, inverse, HasConstantInit, IsRun, IsInitial}
 use Rattle.aig_circuit.specs.Tree.{node_value, tree_of}
 use Rattle.aig_change.specs.Merge.{merged}
 use Rattle.aig_change.specs.Changes.{CompressesBads, ConstrainsInits, FoldsConstraints, constraints_held_latch}

@@ -1,7 +1,6 @@
 -- Words give one command.
-use Rattle.std.proofs.Common.{◌≢◌, Bool, length, map, get_or, Global, ◌≡◌, ◌↔◌, ℕ, List, ◌∷◌, [], Some, refl, sym, ap, ◌∙◌, arith}
+use Rattle.aig_base.proofs.Words.{◌≢◌, Bool, length, map, get_or, Global, ◌≡◌, ◌↔◌, ℕ, List, ◌∷◌, [], Some, refl, sym, ap, ◌∙◌, arith, same_Some}
 use Rattle.std.specs.Prelude.{All, Contains, Err, Ok, Result, String, codes, string_bytes}
-use Rattle.std.proofs.lemmas.Option.{same_Some}
 use Rattle.aig_command_line.specs.declared.about.Question.{Question}
 use Rattle.aig_command_line.specs.declared.about.Question.TheVariants.{Usage, Version}
 use Rattle.aig_command_line.specs.About.{word_of}

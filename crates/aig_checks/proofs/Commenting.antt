@@ -1,15 +1,13 @@
 -- The lines of comments, as a text for each place in a list, and behind them the clauses.
 use Rattle.std.proofs.Common.{◌≡◌, ℕ, Bool, ◌+◌, ◌-◌, ◌<◌, ◌==◌, true, false, Some, List, [], ◌∷◌, ◌++◌, length, get_or, take, drop, refl, sym, ap, ◌∙◌, zero-add, arith}
-use Rattle.std.specs.Prelude.{codes, decimal}
-use Rattle.std.specs.List.{enumerate_from, flat_map, range_with_len, zip}
+use Rattle.aig_base.proofs.Words.{codes, decimal, enumerate_from, flat_map, range_with_len, zip}
 use Rattle.std.proofs.lemmas.List.{length-drop, take_all}
 use Rattle.std.proofs.lemmas.Slice.Zip.{get_or-zip}
 use Rattle.std.proofs.lemmas.List.FromFn.{get_or-enumerate_from}
 use Rattle.aig_base.specs.declared.logic.literal.Lit.{Lit}
 use Rattle.aig_base.specs.Clauses.{lit_to, variable_of}
 use Rattle.aig_base.specs.Formula.{clauses_in}
-use Rattle.aig_circuit.specs.Circuit.{Circuit, latch_leaves}
-use Rattle.aig_circuit.specs.Edge.{lit_of}
+use Rattle.aig_circuit.proofs.Words.{Circuit, latch_leaves, lit_of}
 use Rattle.aig_unroll.specs.Places.{place_at}
 use Rattle.aig_runs.specs.Queries.{last_bads}
 use Rattle.aig_dimacs.specs.Reading.{after_comments, parse_formula}

@@ -1,13 +1,11 @@
 -- The comments of a small query, computed; and wrong words and lines, of which the definitions are
 -- false.
-use Rattle.std.proofs.Common.{◌≡◌, ◌≢◌, ℕ, Bool, true, false, None, Option, List, [], ◌∷◌, ◌++◌, length, refl, ap, subst, arith, length-append, ◌∙◌}
+use Rattle.aig_base.proofs.Words.{◌≡◌, ◌≢◌, ℕ, Bool, true, false, None, Option, List, [], ◌∷◌, ◌++◌, length, refl, ap, subst, arith, length-append, ◌∙◌}
 use Rattle.std.specs.Prelude.{IsTrue, codes, not, slice_get, slice_index, slice_index_or}
 use Rattle.std.specs.Fmt.{digits}
 use Rattle.aig_base.specs.Clauses.{lit_to}
 use Rattle.aig_circuit.specs.declared.node.AigNodeType.TheVariants.{False, Leaf}
-use Rattle.aig_circuit.specs.Circuit.{Circuit, only_false}
-use Rattle.aig_circuit.specs.Edge.{edge_to}
-use Rattle.aig_circuit.specs.Properties.{no_properties}
+use Rattle.aig_circuit.proofs.Words.{Circuit, only_false, edge_to, no_properties}
 use Rattle.aig_format.specs.File.{File}
 use Rattle.aig_reader.specs.Verdicts.{Accepted, Judges}
 use Rattle.aig_refutation.specs.declared.error.RefutationError.{RefutationError}

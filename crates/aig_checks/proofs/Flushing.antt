@@ -1,7 +1,6 @@
 -- What a command printed on files that were opened, and was flushed.
-use Rattle.std.proofs.Common.{◌≡◌, Bool, false, List, [], ◌∷◌, ℕ, Option, Ok, Err, refl}
+use Rattle.aig_base.proofs.Words.{◌≡◌, Bool, false, List, [], ◌∷◌, ℕ, Option, Ok, Err, refl, Appends, Keeps}
 use Rattle.std.specs.Prelude.{IfErr, IsTrue, Result}
-use Rattle.std.specs.Io.KnownBytes.{Appends, Keeps}
 use Rattle.aig_command_line.proofs.Kept.{appends_kept, stops_unflushed}
 use Rattle.aig_command_line.specs.declared.files.OpenError.{OpenError}
 use Rattle.aig_edits.proofs.Reading.{reads_on}

@@ -1,7 +1,6 @@
 -- What a command does, at each way out of it.
-use Rattle.std.proofs.Common.{◌≡◌, ◌≢◌, ℕ, ◌+◌, Bool, false, Option, Ok, Err, List, refl, sym, ap, subst}
+use Rattle.aig_base.proofs.Words.{◌≡◌, ◌≢◌, ℕ, ◌+◌, Bool, false, Option, Ok, Err, List, refl, sym, ap, subst, Appends}
 use Rattle.std.specs.Prelude.{IfErr, IsErrOf, IsTrue, Result}
-use Rattle.std.specs.Io.KnownBytes.{Appends}
 use Rattle.aig_format.specs.File.{File}
 use Rattle.aig_reader.specs.declared.error.ReadError.{ReadError}
 use Rattle.aig_reader.specs.Reading.{IsReadAs}

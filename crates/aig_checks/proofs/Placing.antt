@@ -1,13 +1,11 @@
 -- The places of leaves are nodes of the unrolled circuit; and the inputs of a question are
 -- variables.
-use Rattle.std.proofs.Common.{ℕ, zero, suc, ◌^◌, ◌<◌, ◌≤◌, Bool, length, arith}
+use Rattle.aig_base.proofs.Words.{ℕ, zero, suc, ◌^◌, ◌<◌, ◌≤◌, Bool, length, arith, All}
 use Rattle.aig_circuit.specs.declared.node.AigNodeType.TheVariants.{False, Leaf}
-use Rattle.aig_circuit.specs.Circuit.{Circuit, IsCircuit, IsLeaf}
+use Rattle.aig_circuit.proofs.Words.{Circuit, IsCircuit, IsLeaf, lists_circuit}
 use Rattle.aig_circuit.proofs.Trees.{kind_at-within}
 use Rattle.aig_unroll.specs.Places.{place_at}
 use Rattle.aig_unroll.specs.Unroll.{UnrollsTo}
-use Rattle.std.specs.Prelude.{All}
-use Rattle.aig_circuit.specs.View.{lists_circuit}
 use Rattle.aig_format.specs.File.{File}
 use Rattle.aig_bounded_answers.specs.declared.clauses.BoundedClauses.{BoundedClauses}
 use Rattle.aig_bounded_answers.specs.Asking.{AsksBounded}

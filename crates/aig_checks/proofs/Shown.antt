@@ -1,8 +1,6 @@
 -- Of a file, a bad state of which is shown, something is asked.
-use Rattle.std.proofs.Common.{◌≡◌, ◌≢◌, ℕ, Option, Some, None, List, [], ◌∷◌, refl, arith}
-use Rattle.std.specs.Prelude.{slice_get}
-use Rattle.aig_format.specs.File.{File}
-use Rattle.aig_format.specs.Fits.{Accepts}
+use Rattle.aig_base.proofs.Words.{◌≡◌, ◌≢◌, ℕ, Option, Some, None, List, [], ◌∷◌, refl, arith, slice_get}
+use Rattle.aig_format.proofs.Words.{File, Accepts}
 use Rattle.aig_format.proofs.Nodes.{few_nodes}
 use Rattle.aig_witness.specs.Witness.{Witness}
 use Rattle.aig_witness.specs.Machine.{ShowsBad}

@@ -1,17 +1,10 @@
-use Rattle.std.proofs.Common.{◌≡◌, ℕ, zero, suc, ◌<◌, ◌≤◌, Bool, true, false, not, ◌&&◌, ◌⊎◌, Some, List, [], ◌∷◌, ◌++◌, length, take, refl, sym, ap, subst, ◌∙◌, arith, inl, inr, length-append, append_assoc, append-nil}
+use Rattle.aig_base.proofs.Words.{◌≡◌, ℕ, zero, suc, ◌<◌, ◌≤◌, Bool, true, false, not, ◌&&◌, ◌⊎◌, Some, List, [], ◌∷◌, ◌++◌, length, take, refl, sym, ap, subst, ◌∙◌, arith, inl, inr, length-append, append_assoc, append-nil, take-append_seam, slice_get, cases_lt, nat_tests}
 use Rattle.std.proofs.Math.Bool.{and_comm, and-true, and-false, and_self}
-use Rattle.std.proofs.Math.Seq.{take-append_seam}
-use Rattle.std.specs.Prelude.{slice_get}
-use Rattle.std.proofs.lemmas.Bool.{cases_lt}
-use Rattle.std.proofs.lemmas.Bool.Decides.{nat_tests}
 use Rattle.aig_circuit.specs.declared.edge.AigEdge.{AigEdge}
 use Rattle.aig_circuit.specs.declared.node.AigNodeType.{AigNodeType}
 use Rattle.aig_circuit.specs.declared.node.AigNodeType.TheVariants.{False, Leaf, And}
 use Rattle.aig_circuit.specs.declared.node.AigNode.{AigNode}
-use Rattle.aig_circuit.specs.Edge.{inverted_if, literal_of}
-use Rattle.aig_circuit.specs.Node.{kind_at, FitsBelow, IsOrdered, and_of}
-use Rattle.aig_circuit.specs.Tree.{node_value, edge_value}
-use Rattle.aig_circuit.specs.Circuit.{AreNodes}
+use Rattle.aig_circuit.proofs.Words.{inverted_if, literal_of, kind_at, FitsBelow, IsOrdered, and_of, node_value, edge_value, AreNodes}
 use Rattle.aig_circuit.specs.Build.{with_node, Folds, true_first, true_second, false_first, false_second, same, opposite, AddsGate, AddsGates, Grows, KeepsTrees, KeepsValues}
 use Rattle.aig_circuit.proofs.Edges.{literals-same}
 use Rattle.aig_circuit.proofs.Trees.{kind_at-append, kind_at-last, kind_at-within, tree_of-agrees, node_value-agrees, node_value-and, node_value-false}

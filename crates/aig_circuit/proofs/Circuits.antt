@@ -1,18 +1,12 @@
-use Rattle.std.proofs.Common.{◌≡◌, ◌≢◌, ℕ, zero, suc, nat_cmp, ◌<◌, ◌≤◌, Option, Some, None, List, [], ◌∷◌, ◌++◌, length, length-append, get_or, refl, sym, ap, subst, ◌∙◌, arith, inl, inr, ◌-◌}
+use Rattle.aig_base.proofs.Words.{◌≡◌, ◌≢◌, ℕ, zero, suc, nat_cmp, ◌<◌, ◌≤◌, Option, Some, None, List, [], ◌∷◌, ◌++◌, length, length-append, get_or, refl, sym, ap, subst, ◌∙◌, arith, inl, inr, ◌-◌, FinMap, contains_key, get-empty, same_Some, cases_lt, false≢true, All-weaker, All-append, All-push, All-nil, All-map, All-contains, Contains-push_cases, Contains-get_or, all_pairs_push}
 use Rattle.std.specs.Prelude.{IfSome, All, AllPairs, Contains, IsTrue, slice_get, is_some}
-use Rattle.std.specs.FinMap.{FinMap, contains_key, get-empty}
-use Rattle.std.proofs.lemmas.Option.{same_Some}
-use Rattle.std.proofs.lemmas.Bool.{cases_lt, false≢true}
 use Rattle.std.proofs.lemmas.List.{get_or-map, get_or_append_left, get_or-append_right}
-use Rattle.std.proofs.lemmas.List.Elements.{All-weaker, All-append, All-push, All-nil, All-map, All-contains, Contains-push_cases, Contains-get_or}
-use Rattle.std.proofs.lemmas.List.Quantifiers.{all_pairs_push}
 use Rattle.aig_circuit.specs.declared.edge.AigEdge.{AigEdge}
 use Rattle.aig_circuit.specs.declared.node.AigNodeType.TheVariants.{False, Leaf, And}
 use Rattle.aig_circuit.specs.declared.node.AigNode.{AigNode}
 use Rattle.aig_circuit.specs.declared.node.AigLatch.{AigLatch}
-use Rattle.aig_circuit.specs.Node.{kind_at}
+use Rattle.aig_circuit.proofs.Words.{kind_at, Grows, with_node}
 use Rattle.aig_circuit.specs.Circuit.{Circuit, IsCircuit, AreLeaves, AreNodes, IsLeaf, IsInRange, IsLatch, IsFree, latch_leaves, only_false}
-use Rattle.aig_circuit.specs.Build.{Grows, with_node}
 use Rattle.aig_circuit.proofs.Listed.{AllProperties-weaker, AllProperties-none}
 use Rattle.aig_circuit.proofs.Building.{Grows-leaf, Grows-longer, Grows-kept}
 use Rattle.aig_circuit.proofs.Trees.{kind_at-within, kind_at-last}

@@ -1,8 +1,5 @@
 -- Copies of lists and names.
-use Rattle.std.proofs.Common.{◌≡◌, ℕ, List, [], ◌∷◌, map, String, Global, refl, ap, ◌∙◌}
-use Rattle.std.specs.Prelude.{string_bytes}
-use Rattle.std.specs.List.{AllZip}
-use Rattle.std.specs.FinMap.{from_entries}
+use Rattle.aig_base.proofs.Words.{◌≡◌, ℕ, List, [], ◌∷◌, map, String, Global, refl, ap, ◌∙◌, string_bytes, AllZip, from_entries}
 use Rattle.aig_circuit.specs.View.{names_of}
 
 -- entries that a function can't tell apart, one for one, are mapped alike

@@ -1,8 +1,7 @@
 -- Initial edges that are constant, or not.
 use Rattle.std.proofs.Common.{◌≡◌, ◌≢◌, ◌↔◌, Bool, true, false, Option, Some, None, IsTrue, List, nat_eq, refl, subst}
 use Rattle.std.specs.Prelude.{All, Any, IfSome, IsSomeAnd, not}
-use Rattle.std.proofs.lemmas.Bool.{eqb-false, eqb-true, false≢true}
-use Rattle.std.proofs.lemmas.List.Elements.{All-weaker}
+use Rattle.aig_base.proofs.Words.{eqb-false, eqb-true, false≢true, All-weaker}
 use Rattle.aig_circuit.specs.declared.edge.AigEdge.{AigEdge}
 use Rattle.aig_circuit.specs.declared.node.AigLatch.{AigLatch}
 use Rattle.aig_circuit.specs.Edges.{HasConstantInit, HasNonConstantInit}

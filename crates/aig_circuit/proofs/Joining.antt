@@ -1,15 +1,9 @@
-use Rattle.std.proofs.Common.{◌≡◌, ℕ, Bool, true, false, not, ◌&&◌, ◌||◌, ◌↔◌, IsTrue, List, [], ◌∷◌, ◌++◌, map, refl, sym, ap, subst, ◌∙◌, inl, inr}
-use Rattle.std.specs.Prelude.{All}
+use Rattle.aig_base.proofs.Words.{◌≡◌, ℕ, Bool, true, false, not, ◌&&◌, ◌||◌, ◌↔◌, IsTrue, List, [], ◌∷◌, ◌++◌, map, refl, sym, ap, subst, ◌∙◌, inl, inr, All, list_all, list_any, All-map, false≢true}
 use Rattle.std.proofs.Math.Bool.{and_assoc, and-true, not-not}
-use Rattle.std.specs.List.{list_all, list_any}
-use Rattle.std.proofs.lemmas.List.Elements.{All-map}
-use Rattle.std.proofs.lemmas.Bool.{false≢true}
 use Rattle.aig_circuit.specs.declared.edge.AigEdge.{AigEdge}
 use Rattle.aig_circuit.specs.declared.node.AigNodeType.TheVariants.{False}
 use Rattle.aig_circuit.specs.declared.node.AigNode.{AigNode}
-use Rattle.aig_circuit.specs.Edge.{edge_to, inverse, inverted_if}
-use Rattle.aig_circuit.specs.Tree.{node_value, edge_value}
-use Rattle.aig_circuit.specs.Circuit.{Circuit, AreNodes, IsInRange}
+use Rattle.aig_circuit.proofs.Words.{edge_to, inverse, inverted_if, node_value, edge_value, Circuit, AreNodes, IsInRange}
 use Rattle.aig_circuit.specs.Build.{Folds, true_first, true_second, false_first, false_second, same, opposite, FoldsOrAdds, AddsGates, AddsOnlyGates, Grows, JoiningStep, JoinsByAnd, JoinsByOr, JoinsFromLeft}
 use Rattle.aig_circuit.proofs.Trees.{kind_at-within, node_value-false}
 use Rattle.aig_circuit.proofs.Building.{AddsGates-itself, AddsGates-then, edge_value-Grows}

@@ -1,15 +1,16 @@
-pub mod Trees
 pub mod Building
+pub mod Circuits
+pub mod Copies
+pub mod Counting
+pub mod Edges
+mod InitialEdges
 pub mod Joining
 pub mod Listed
-pub mod Circuits
-pub mod Writing
-pub mod Counting
-pub mod Names
-pub mod Copies
-mod InitialEdges
 pub mod Lists
 pub mod Marking
-pub mod Values
-pub mod Edges
+pub mod Names
 mod Refuted
+pub mod Trees
+pub mod Values
+pub mod Words
+pub mod Writing

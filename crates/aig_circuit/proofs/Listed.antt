@@ -1,9 +1,5 @@
 -- Lists of properties.
-use Rattle.std.proofs.Common.{◌≡◌, ◌∙◌, ◌++◌, List, [], get_or, map}
-use Rattle.std.specs.Prelude.{All}
-use Rattle.std.specs.List.{AllZip, flat_map}
-use Rattle.std.proofs.lemmas.List.Elements.{All-weaker, All-map, All-nil, All-append}
-use Rattle.std.proofs.lemmas.Simd.{map-map}
+use Rattle.aig_base.proofs.Words.{◌≡◌, ◌∙◌, ◌++◌, List, [], get_or, map, All, AllZip, flat_map, All-weaker, All-map, All-nil, All-append, map-map}
 use Rattle.aig_circuit.specs.Properties.{Properties, AllProperties, AreProperties, append_properties, entries_of, map_properties, no_properties}
 use Rattle.aig_circuit.proofs.Lists.{All-first, All-flat_map, All-from_flat_map, All-second, AllZip-map, AllZip-weaker, map-agrees, map-same}
 

@@ -1,9 +1,5 @@
 -- Facts on the elements of lists.
-use Rattle.std.proofs.Common.{◌≡◌, ℕ, ◌+◌, ◌<◌, ◌∙◌, suc, List, [], ◌∷◌, ◌++◌, map, length, take, get_or, ap, refl, sym, subst, append_assoc, length-append, arith}
-use Rattle.std.specs.Prelude.{All, Any}
-use Rattle.std.specs.List.{AllZip, flat_map}
-use Rattle.std.proofs.lemmas.List.{length-map, map_more, get_or-map, get_or_append_left, get_or-append-add}
-use Rattle.std.proofs.lemmas.List.Elements.{All-append, All-cons, All-head, All-nil, All-tail, Contains-get_or}
+use Rattle.aig_base.proofs.Words.{◌≡◌, ℕ, ◌+◌, ◌<◌, ◌∙◌, suc, List, [], ◌∷◌, ◌++◌, map, length, take, get_or, ap, refl, sym, subst, append_assoc, length-append, arith, All, Any, AllZip, flat_map, length-map, map_more, get_or-map, get_or_append_left, get_or-append-add, All-append, All-cons, All-head, All-nil, All-tail, Contains-get_or}
 
 -- what no element has, each is without
 pub All-from_no_Any : {X : Type 0} (P : X → Type 0) (xs : List X) → ¬ Any P xs → All (λ x. ¬ P x) xs

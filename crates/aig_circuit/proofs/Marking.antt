@@ -1,14 +1,8 @@
 -- Marks of the nodes that edges name.
-use Rattle.std.proofs.Common.{◌≡◌, ℕ, ◌+◌, ◌<◌, ◌⊎◌, ◌↔◌, Bool, true, List, [], ◌∷◌, ◌++◌, length, map, take, drop, get_or, set, get_or-set_other, get_or-set_same, sym, ap, subst, ◌∙◌, arith, inl, inr}
-use Rattle.std.proofs.Math.Seq.{take-append_seam}
-use Rattle.std.specs.Prelude.{All, Contains}
-use Rattle.std.specs.List.{flat_map}
-use Rattle.std.proofs.lemmas.Bool.{cases_eq}
+use Rattle.aig_base.proofs.Words.{◌≡◌, ℕ, ◌+◌, ◌<◌, ◌⊎◌, ◌↔◌, Bool, true, List, [], ◌∷◌, ◌++◌, length, map, take, drop, get_or, set, get_or-set_other, get_or-set_same, sym, ap, subst, ◌∙◌, arith, inl, inr, take-append_seam, All, Contains, flat_map, cases_eq, Contains-append_left, Contains-append_right, Contains-append_cases, Contains-push, Contains-push_cases, All-contains, All-map}
 use Rattle.std.proofs.lemmas.List.{take_more, flat_map_more, map-append, get_or-map, length-map}
-use Rattle.std.proofs.lemmas.List.Elements.{Contains-append_left, Contains-append_right, Contains-append_cases, Contains-push, Contains-push_cases, All-contains, All-map}
 use Rattle.aig_circuit.specs.declared.edge.AigEdge.{AigEdge}
-use Rattle.aig_circuit.specs.Edges.{ReferTo}
-use Rattle.aig_circuit.specs.Marks.{IsMarked, AddsEdgeMarks}
+use Rattle.aig_circuit.proofs.Words.{ReferTo, IsMarked, AddsEdgeMarks}
 
 -- what holds of the node of each edge holds of each node that they name
 pub named_has : (P : ℕ → Type 0) (es : List AigEdge) (n : ℕ) → All (λ e. P e.node_id) es → ReferTo es n → P n

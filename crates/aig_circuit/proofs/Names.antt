@@ -1,11 +1,8 @@
 -- The names that a map holds.
 use Rattle.std.proofs.Common.{◌≡◌, ℕ, ◌<◌, Bool, true, false, cond, IsTrue, Option, Some, List, [], ◌∷◌, map, nat_cmp, nat_eq, String, refl, sym, ap, ◌∙◌, arith}
-use Rattle.std.specs.Prelude.{option_map, string_bytes, is_some}
+use Rattle.aig_base.proofs.Words.{option_map, string_bytes, is_some, lookup, nat_cmp_total, nat_tests}
 use Rattle.std.specs.declared.alloc.Global.{Global}
-use Rattle.std.specs.Map.{lookup}
 use Rattle.std.specs.FinMap.{FinMap, insert, get, find, contains_key, get-insert, get-from_entries, same_map, nat_cmp-IsAntisymmetric}
-use Rattle.std.proofs.lemmas.Cmp.{nat_cmp_total}
-use Rattle.std.proofs.lemmas.Bool.Decides.{nat_tests}
 use Rattle.aig_base.proofs.Mapping.{same_test, turned}
 use Rattle.aig_circuit.specs.View.{names_of}
 

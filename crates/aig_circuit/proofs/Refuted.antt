@@ -1,17 +1,12 @@
 -- Wrong results on small circuits, of which the definitions are false.
-use Rattle.std.proofs.Common.{◌≡◌, ◌≢◌, ℕ, false, Option, Some, None, List, [], ◌∷◌, ap, refl, inl, inr, arith}
+use Rattle.aig_base.proofs.Words.{◌≡◌, ◌≢◌, ℕ, false, Option, Some, None, List, [], ◌∷◌, ap, refl, inl, inr, arith, empty}
 use Rattle.std.specs.Prelude.{slice_get, unwrap_or, length}
-use Rattle.std.specs.FinMap.{empty}
 use Rattle.aig_circuit.specs.declared.edge.AigEdge.{AigEdge}
 use Rattle.aig_circuit.specs.declared.node.AigNodeType.{AigNodeType}
 use Rattle.aig_circuit.specs.declared.node.AigNodeType.TheVariants.{False, Leaf, And}
 use Rattle.aig_circuit.specs.declared.node.AigNode.{AigNode}
 use Rattle.aig_circuit.specs.declared.node.AigLatch.{AigLatch}
-use Rattle.aig_circuit.specs.Build.{Folds, FoldsOrAdds, true_first, true_second, false_first, false_second, same, opposite}
-use Rattle.aig_circuit.specs.Circuit.{AreNodes, Circuit}
-use Rattle.aig_circuit.specs.Edge.{edge_to}
-use Rattle.aig_circuit.specs.Properties.{no_properties}
-use Rattle.aig_circuit.specs.Reencode.{reencoded}
+use Rattle.aig_circuit.proofs.Words.{Folds, FoldsOrAdds, true_first, true_second, false_first, false_second, same, opposite, AreNodes, Circuit, edge_to, no_properties, reencoded}
 
 abbrev node : ℕ → AigNodeType → AigNode
 node n kind = record { node_id = n; typ = kind }

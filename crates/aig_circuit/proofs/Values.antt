@@ -4,11 +4,8 @@ use Rattle.aig_circuit.specs.declared.edge.AigEdge.{AigEdge}
 use Rattle.aig_circuit.specs.declared.node.AigNodeType.{AigNodeType}
 use Rattle.aig_circuit.specs.declared.node.AigNodeType.TheVariants.{False, Leaf, And}
 use Rattle.aig_circuit.specs.declared.node.AigNode.{AigNode}
-use Rattle.aig_circuit.specs.Edge.{inverted_if}
-use Rattle.aig_circuit.specs.Node.{kind_at, IsOrdered}
+use Rattle.aig_circuit.proofs.Words.{inverted_if, kind_at, IsOrdered, IsLeaf, renumbered_edge, renumbered_kind}
 use Rattle.aig_circuit.specs.Tree.{tree_of, tree_of_kind, value_of_tree, node_value, edge_value}
-use Rattle.aig_circuit.specs.Circuit.{IsLeaf}
-use Rattle.aig_circuit.specs.Renumber.{renumbered_edge, renumbered_kind}
 use Rattle.aig_circuit.proofs.Trees.{by_smaller, kind_at-there, tree_of-is, node_value-false, node_value-leaf, node_value-and}
 use Rattle.aig_circuit.proofs.Building.{node_value-and_of}
 

@@ -1,19 +1,13 @@
 use Rattle.std.proofs.Common.{◌≡◌, ◌≢◌, ℕ, ◌<◌, ◌≤◌, ◌⊎◌, Option, Some, None, List, ◌++◌, ◌∷◌, [], length, get_or, set, refl, sym, ap, subst, ◌∙◌, inl, inr, arith, length-set, get_or-set_same, get_or-set_other}
-use Rattle.std.specs.Prelude.{All, AllPairs, Contains, IfSome, IsSomeAnd, option_map, slice_get}
+use Rattle.aig_base.proofs.Words.{All, AllPairs, Contains, IfSome, IsSomeAnd, option_map, slice_get, cases_lt, cases_eq, slice_get-get_or, slice_get_past, same_Some, map-append, All-push, All-set, Contains-get_or, all_pairs_push}
 use Rattle.std.proofs.Math.Seq.{map-set_same}
-use Rattle.std.proofs.lemmas.Bool.{cases_lt, cases_eq}
-use Rattle.std.proofs.lemmas.Option.{slice_get-get_or, slice_get_past, same_Some}
-use Rattle.std.proofs.lemmas.List.{map-append}
-use Rattle.std.proofs.lemmas.List.Elements.{All-push, All-set, Contains-get_or}
-use Rattle.std.proofs.lemmas.List.Quantifiers.{all_pairs_push}
 use Rattle.aig_circuit.specs.declared.edge.AigEdge.{AigEdge}
 use Rattle.aig_circuit.specs.declared.node.AigNodeType.{AigNodeType}
 use Rattle.aig_circuit.specs.declared.node.AigNodeType.TheVariants.{False, Leaf, And}
 use Rattle.aig_circuit.specs.declared.node.AigNode.{AigNode}
 use Rattle.aig_circuit.specs.declared.node.AigLatch.{AigLatch}
 use Rattle.aig_circuit.specs.Node.{kind_at, FitsBelow, IsOrdered, IsSameKind, Admits}
-use Rattle.aig_circuit.specs.Circuit.{Circuit, IsCircuit, AreNodes, IsInRange, IsLeaf, IsLatch, IsFree, latch_leaves}
-use Rattle.aig_circuit.specs.Build.{with_node}
+use Rattle.aig_circuit.proofs.Words.{Circuit, IsCircuit, AreNodes, IsInRange, IsLeaf, IsLatch, IsFree, latch_leaves, with_node}
 use Rattle.aig_circuit.proofs.Trees.{kind_at-within, kind_at-last}
 use Rattle.aig_circuit.proofs.Building.{Grows-leaf, Grows-longer}
 use Rattle.aig_circuit.proofs.Circuits.{IsCircuit-over, IsCircuit-grown, IsFree-fresh, init_grown}

@@ -1,25 +1,17 @@
 -- Lists of clauses to which those of one node after another are added, from the last on.
-use Rattle.std.proofs.Common.{◌≡◌, ◌≢◌, ℕ, zero, suc, ◌+◌, ◌-◌, ◌<◌, ◌≤◌, Bool, true, false, not, Some, List, [], ◌∷◌, ◌++◌, length, get_or, set, replicate, IsTrue, refl, sym, ap, subst, ◌∙◌, arith, inl, inr}
-use Rattle.std.specs.Prelude.{All, slice_get}
+use Rattle.aig_base.proofs.Words.{◌≡◌, ◌≢◌, ℕ, zero, suc, ◌+◌, ◌-◌, ◌<◌, ◌≤◌, Bool, true, false, not, Some, List, [], ◌∷◌, ◌++◌, length, get_or, set, replicate, IsTrue, refl, sym, ap, subst, ◌∙◌, arith, inl, inr, All, slice_get, cases_lt, slice_get-get_or, slice_get_within, same_Some, All-nil, All-cons}
 use Rattle.std.proofs.lemmas.List.{append-nil, get_or-replicate, get_or-set_other, get_or-set_same, length-replicate, length-set, set-get_or}
-use Rattle.std.proofs.lemmas.Bool.{cases_lt}
-use Rattle.std.proofs.lemmas.Option.{slice_get-get_or, slice_get_within, same_Some}
-use Rattle.std.proofs.lemmas.List.Elements.{All-nil, All-cons}
 use Rattle.aig_base.specs.declared.logic.literal.Lit.{Lit}
 use Rattle.aig_base.specs.Clauses.{lit_to, inverse_lit, variable_of, is_positive, AreBelow}
 use Rattle.aig_base.proofs.Literals.{variable_of-lit_to}
 use Rattle.aig_circuit.specs.declared.edge.AigEdge.{AigEdge}
 use Rattle.aig_circuit.specs.declared.node.AigNodeType.TheVariants.{False, And}
 use Rattle.aig_circuit.specs.declared.node.AigNode.{AigNode}
-use Rattle.aig_circuit.specs.Edge.{lit_of}
-use Rattle.aig_circuit.specs.Node.{IsOrdered, kind_at}
-use Rattle.aig_circuit.specs.Circuit.{Circuit, AreNodes}
+use Rattle.aig_circuit.proofs.Words.{lit_of, IsOrdered, kind_at, Circuit, AreNodes, roots_of, IsMarked}
 use Rattle.aig_circuit.proofs.Trees.{kind_at-within}
 use Rattle.aig_cnf.specs.declared.form.Form.{Form}
 use Rattle.aig_cnf.specs.declared.form.Form.TheVariants.{AndOf, XorOf, IteOf}
 use Rattle.aig_cnf.specs.Cnf.{HasForm, NeedsClauses, HasClauses, clauses_of, edges_of_form}
-use Rattle.aig_circuit.specs.Edges.{roots_of}
-use Rattle.aig_circuit.specs.Marks.{IsMarked}
 use Rattle.aig_cnf.specs.Marks.{AddsNeededMarks, AreClausesOf}
 use Rattle.aig_cnf.proofs.Unique.{form_unique}
 use Rattle.aig_cnf.proofs.Needing.{has_gate, named_below}

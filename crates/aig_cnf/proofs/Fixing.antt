@@ -1,10 +1,5 @@
 -- What the clauses of a circuit say together.
-use Rattle.std.proofs.Common.{◌≡◌, ℕ, ◌<◌, Bool, true, false, not, ◌&&◌, ◌||◌, Some, List, [], ◌∷◌, get_or, IsTrue, cond, refl, sym, ap, subst, ◌∙◌, arith, inl, inr}
-use Rattle.std.specs.Prelude.{All, option_to_list, slice_get}
-use Rattle.std.specs.List.{flat_map}
-use Rattle.std.proofs.lemmas.List.Elements.{All-head, All-map, All-tail, All-weaker}
-use Rattle.std.proofs.lemmas.Bool.{cases_eq, not-true}
-use Rattle.std.proofs.lemmas.Option.{slice_get-get_or, slice_get_within, get_or_from_slice_get}
+use Rattle.aig_base.proofs.Words.{◌≡◌, ℕ, ◌<◌, Bool, true, false, not, ◌&&◌, ◌||◌, Some, List, [], ◌∷◌, get_or, IsTrue, cond, refl, sym, ap, subst, ◌∙◌, arith, inl, inr, All, option_to_list, slice_get, flat_map, All-head, All-map, All-tail, All-weaker, cases_eq, not-true, slice_get-get_or, slice_get_within, get_or_from_slice_get}
 use Rattle.aig_base.specs.declared.logic.literal.Lit.{Lit}
 use Rattle.aig_base.specs.Clauses.{are_true, lit_to, literal_value, Satisfies}
 use Rattle.aig_base.proofs.Literals.{literal_value-lit_to}
@@ -13,18 +8,13 @@ use Rattle.aig_circuit.specs.declared.node.AigNodeType.{AigNodeType}
 use Rattle.aig_circuit.specs.declared.node.AigNodeType.TheVariants.{False, Leaf, And}
 use Rattle.aig_circuit.specs.declared.node.AigLatch.{AigLatch}
 use Rattle.aig_circuit.specs.declared.node.AigNode.{AigNode}
-use Rattle.aig_circuit.specs.Edge.{inverted_if}
-use Rattle.aig_circuit.specs.Node.{kind_at}
-use Rattle.aig_circuit.specs.Tree.{node_value, edge_value}
-use Rattle.aig_circuit.specs.Circuit.{Circuit, IsCircuit}
+use Rattle.aig_circuit.proofs.Words.{inverted_if, kind_at, node_value, edge_value, Circuit, IsCircuit, ReferTo, latch_edges, property_edges, roots_of, root, step}
 use Rattle.aig_circuit.proofs.Listed.{AllProperties-entries_of}
 use Rattle.aig_circuit.proofs.Lists.{All-first, All-flat_map, All-from_flat_map, All-second}
 use Rattle.aig_circuit.proofs.Trees.{by_smaller, kind_at-there, node_value-false, node_value-leaf}
 use Rattle.aig_cnf.specs.declared.form.Form.{Form}
 use Rattle.aig_cnf.specs.declared.form.Form.TheVariants.{AndOf, XorOf, IteOf}
 use Rattle.aig_cnf.specs.Cnf.{edge_in, form_value, clauses_of, HasForm, plain, xor, ite, other, IsXor, IsIte, NeedsClauses, edges_of_form, HasClauses, IsFixed, FixesRoots, NodeValuesSatisfy}
-use Rattle.aig_circuit.specs.Edges.{ReferTo, latch_edges, property_edges, roots_of}
-use Rattle.aig_circuit.specs.Reach.{root, step}
 use Rattle.aig_circuit.proofs.Marking.{each_named}
 use Rattle.aig_cnf.proofs.Forms.{clauses-say, node_value-HasForm}
 use Rattle.aig_cnf.proofs.Needing.{named_below, needed_within, roots_in_range}

@@ -1,14 +1,11 @@
 -- What the clauses of a gate say: that it has the value of its form, which is its value.
-use Rattle.std.proofs.Common.{◌≡◌, ℕ, Bool, true, false, not, ◌&&◌, ◌↔◌, Some, List, [], ◌∷◌, IsTrue, cond, refl, sym, ap, ◌∙◌}
-use Rattle.std.proofs.Math.Bool.{and-true}
+use Rattle.aig_base.proofs.Words.{◌≡◌, ℕ, Bool, true, false, not, ◌&&◌, ◌↔◌, Some, List, [], ◌∷◌, IsTrue, cond, refl, sym, ap, ◌∙◌, and-true}
 use Rattle.aig_base.specs.Clauses.{literal_value, are_true, with_polarity, lit_to}
 use Rattle.aig_base.proofs.Literals.{literal_value-lit_to, are_true-and_clauses, are_true-xor_clauses, are_true-ite_clauses}
 use Rattle.aig_circuit.specs.declared.edge.AigEdge.{AigEdge}
 use Rattle.aig_circuit.specs.declared.node.AigNodeType.TheVariants.{And}
 use Rattle.aig_circuit.specs.declared.node.AigNode.{AigNode}
-use Rattle.aig_circuit.specs.Edge.{inverse, inverted_if, lit_of}
-use Rattle.aig_circuit.specs.Node.{kind_at, IsOrdered}
-use Rattle.aig_circuit.specs.Tree.{node_value, edge_value}
+use Rattle.aig_circuit.proofs.Words.{inverse, inverted_if, lit_of, kind_at, IsOrdered, node_value, edge_value}
 use Rattle.aig_circuit.proofs.Joining.{inverted_if-not, edge_value-inverse}
 use Rattle.aig_circuit.proofs.Trees.{node_value-and}
 use Rattle.aig_cnf.specs.declared.form.Form.{Form}

@@ -1,17 +1,11 @@
 -- Marks of the nodes that need clauses.
-use Rattle.std.proofs.Common.{◌≡◌, ℕ, zero, suc, ◌+◌, ◌<◌, ◌≤◌, Bool, Some, List, length, sym, subst, ◌∙◌, arith, inl, inr}
-use Rattle.std.specs.Prelude.{All}
-use Rattle.std.proofs.lemmas.Bool.{cases_lt}
+use Rattle.aig_base.proofs.Words.{◌≡◌, ℕ, zero, suc, ◌+◌, ◌<◌, ◌≤◌, Bool, Some, List, length, sym, subst, ◌∙◌, arith, inl, inr, All, cases_lt}
 use Rattle.aig_circuit.specs.declared.edge.AigEdge.{AigEdge}
 use Rattle.aig_circuit.specs.declared.node.AigNode.{AigNode}
-use Rattle.aig_circuit.specs.Node.{IsOrdered}
+use Rattle.aig_circuit.proofs.Words.{IsOrdered, AreNodes, IsInRange, ReferTo, IsMarked, AddsEdgeMarks, root, step}
 use Rattle.aig_circuit.specs.declared.node.AigNodeType.TheVariants.{And, False}
-use Rattle.aig_circuit.specs.Circuit.{AreNodes, IsInRange}
 use Rattle.aig_cnf.specs.declared.form.Form.{Form}
 use Rattle.aig_cnf.specs.Cnf.{HasForm, FormNames, NeedsClauses, edges_of_form}
-use Rattle.aig_circuit.specs.Edges.{ReferTo}
-use Rattle.aig_circuit.specs.Marks.{IsMarked, AddsEdgeMarks}
-use Rattle.aig_circuit.specs.Reach.{root, step}
 use Rattle.aig_cnf.specs.Marks.{AddsNeededMarks}
 use Rattle.aig_cnf.proofs.Unique.{form_unique}
 use Rattle.aig_cnf.proofs.Needing.{has_gate, named_below, needed_within}

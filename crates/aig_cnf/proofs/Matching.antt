@@ -1,12 +1,10 @@
 -- The exclusive or and if-then-else by the operands of the inner gates.
-use Rattle.std.proofs.Common.{◌≡◌, ◌≢◌, ℕ, Bool, true, false, Option, Some, None, List, sym, ap, subst, ◌∙◌}
+use Rattle.aig_base.proofs.Words.{◌≡◌, ◌≢◌, ℕ, Bool, true, false, Option, Some, None, List, sym, ap, subst, ◌∙◌, false≢true}
 use Rattle.std.specs.Prelude.{◌↔◌, IsTrue, MatchOption, unwrap_or}
-use Rattle.std.proofs.lemmas.Bool.{false≢true}
 use Rattle.aig_circuit.specs.declared.edge.AigEdge.{AigEdge}
 use Rattle.aig_circuit.specs.declared.node.AigNodeType.TheVariants.{And}
 use Rattle.aig_circuit.specs.declared.node.AigNode.{AigNode}
-use Rattle.aig_circuit.specs.Edge.{inverse}
-use Rattle.aig_circuit.specs.Node.{kind_at}
+use Rattle.aig_circuit.proofs.Words.{inverse, kind_at}
 use Rattle.aig_circuit.proofs.Joining.{inverse_twice}
 use Rattle.aig_cnf.specs.declared.form.Form.{Form}
 use Rattle.aig_cnf.specs.declared.form.Form.TheVariants.{AndOf, XorOf, IteOf}

@@ -1,21 +1,14 @@
 -- What the forms of gates name: nodes below them.
-use Rattle.std.proofs.Common.{◌≡◌, ℕ, ◌<◌, Bool, Some, None, Option, List, [], ◌∷◌, length, map, subst, arith}
+use Rattle.aig_base.proofs.Words.{◌≡◌, ℕ, ◌<◌, Bool, Some, None, Option, List, [], ◌∷◌, length, map, subst, arith, flat_map, get_or-map, length-map, All-nil, All-cons, All-append, All-weaker}
 use Rattle.std.specs.Prelude.{All, IfSome, Vec, option_to_list}
 use Rattle.std.specs.declared.alloc.Global.{Global}
-use Rattle.std.specs.List.{flat_map}
-use Rattle.std.proofs.lemmas.List.{get_or-map, length-map}
-use Rattle.std.proofs.lemmas.List.Elements.{All-nil, All-cons, All-append, All-weaker}
 use Rattle.aig_circuit.specs.declared.edge.AigEdge.{AigEdge}
 use Rattle.aig_circuit.specs.declared.node.AigNodeType.TheVariants.{And}
 use Rattle.aig_circuit.specs.declared.node.AigNode.{AigNode}
-use Rattle.aig_circuit.specs.Edge.{inverse}
-use Rattle.aig_circuit.specs.Node.{kind_at, IsOrdered}
+use Rattle.aig_circuit.proofs.Words.{inverse, kind_at, IsOrdered, Circuit, IsCircuit, IsInRange, IsLatch, latch_edges, property_edges, roots_of, root, step}
 use Rattle.aig_circuit.specs.declared.node.AigLatch.{AigLatch}
-use Rattle.aig_circuit.specs.Circuit.{Circuit, IsCircuit, IsInRange, IsLatch}
 use Rattle.aig_cnf.specs.declared.form.Form.{Form}
 use Rattle.aig_cnf.specs.Cnf.{HasForm, plain, xor, ite, other, Chooses, by_0_0, by_0_1, by_1_0, by_1_1, FormNames, NeedsClauses, edges_of_form}
-use Rattle.aig_circuit.specs.Edges.{latch_edges, property_edges, roots_of}
-use Rattle.aig_circuit.specs.Reach.{root, step}
 use Rattle.aig_circuit.proofs.Listed.{All-entries_of}
 use Rattle.aig_circuit.proofs.Lists.{All-flat_map}
 use Rattle.aig_circuit.proofs.Marking.{named_has}

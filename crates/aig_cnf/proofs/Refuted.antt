@@ -1,9 +1,6 @@
 -- Wrong clauses of small circuits, of which the definitions are false.
-use Rattle.std.proofs.Common.{◌≡◌, ℕ, Bool, true, false, List, [], ◌∷◌, Some, IsTrue, refl, sym, ap, ◌∙◌, arith}
+use Rattle.aig_base.proofs.Words.{◌≡◌, ℕ, Bool, true, false, List, [], ◌∷◌, Some, IsTrue, refl, sym, ap, ◌∙◌, arith, empty, false≢true, All-from_recursion}
 use Rattle.std.specs.Prelude.{◌==◌, if◌then◌else◌, Option, unwrap_or, length}
-use Rattle.std.specs.FinMap.{empty}
-use Rattle.std.proofs.lemmas.Bool.{false≢true}
-use Rattle.std.proofs.lemmas.List.Elements.{All-from_recursion}
 use Rattle.aig_base.specs.declared.logic.literal.Lit.{Lit}
 use Rattle.aig_base.specs.Clauses.{lit_to, are_true, Satisfies, literal_value}
 use Rattle.aig_circuit.specs.declared.edge.AigEdge.{AigEdge}
@@ -11,11 +8,7 @@ use Rattle.aig_circuit.specs.declared.node.AigNodeType.{AigNodeType}
 use Rattle.aig_circuit.specs.declared.node.AigNodeType.TheVariants.{False, Leaf, And}
 use Rattle.aig_circuit.specs.declared.node.AigNode.{AigNode}
 use Rattle.aig_circuit.specs.declared.node.AigLatch.{AigLatch}
-use Rattle.aig_circuit.specs.Circuit.{Circuit}
-use Rattle.aig_circuit.specs.Properties.{no_properties}
-use Rattle.aig_circuit.specs.Edge.{edge_to}
-use Rattle.aig_circuit.specs.Edges.{nodes_of, roots_of}
-use Rattle.aig_circuit.specs.Reach.{IsReached, root}
+use Rattle.aig_circuit.proofs.Words.{Circuit, no_properties, edge_to, nodes_of, roots_of, IsReached, root}
 use Rattle.aig_circuit.specs.Tree.{tree_of, node_value}
 use Rattle.aig_cnf.specs.declared.form.Form.TheVariants.{AndOf, XorOf, IteOf}
 use Rattle.aig_cnf.specs.Cnf.{HasForm, xor, ite, IsXor, by_0_1, clauses_of, form_value, FixesRoots, FormNames, HasClauses, NodeValuesSatisfy}

@@ -2,7 +2,7 @@
 use Rattle.std.proofs.Common.{◌≡◌, ◌≢◌, ℕ, zero, suc, ◌+◌, ◌<◌, Bool, true, false, cond, List, [], ◌∷◌, ◌++◌, length, get_or, refl, sym, ap, subst, ◌∙◌, arith, below_more, eqb-true}
 use Rattle.std.specs.Prelude.{All, Contains, IsTrue, codes, nat_eq}
 use Rattle.std.specs.Cmp.Lexicographic.{other_text, pointwise}
-use Rattle.std.proofs.lemmas.List.{get_or_read}
+use Rattle.aig_base.proofs.Words.{get_or_read}
 use Rattle.aig_format.specs.Text.{IsNumber}
 use Rattle.aig_command_line.specs.declared.arguments.Form.{Form}
 use Rattle.aig_command_line.specs.declared.arguments.Step.{Step}

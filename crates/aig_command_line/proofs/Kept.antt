@@ -1,7 +1,6 @@
 -- Bytes that are known, and stay so.
-use Rattle.std.proofs.Common.{Bool, List, [], ℕ, Option, None, Some, Err, refl, sym, ◌∙◌}
+use Rattle.aig_base.proofs.Words.{Bool, List, [], ℕ, Option, None, Some, Err, refl, sym, ◌∙◌, Appends, Keeps}
 use Rattle.std.specs.Prelude.{IsTrue}
-use Rattle.std.specs.Io.KnownBytes.{Appends, Keeps}
 use Rattle.std.proofs.lemmas.List.{append-nil}
 use Rattle.aig_output.specs.Sinks.{Stops}
 use Rattle.aig_command_line.specs.Ending.{Says}

@@ -5,9 +5,7 @@ use Rattle.aig_base.specs.Formula.{clauses_in}
 use Rattle.aig_circuit.specs.Circuit.{Circuit}
 use Rattle.aig_dimacs.specs.Text.{IsFormula, dimacs_of}
 use Rattle.aig_dimacs.proofs.Reading.{parse_formula-dimacs_of}
-use Rattle.aig_format.specs.File.{File}
-use Rattle.aig_format.specs.Circuit.{binary_of, circuit_of, text_of}
-use Rattle.aig_format.specs.Fits.{Accepts}
+use Rattle.aig_format.proofs.Words.{File, binary_of, circuit_of, text_of, Accepts}
 use Rattle.aig_reader.specs.Reading.{IsReadAs}
 use Rattle.aig_strash.specs.Strash.{strashed}
 use Rattle.aig.specs.Reading.{IsFileCircuit}

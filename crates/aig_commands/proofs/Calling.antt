@@ -1,7 +1,6 @@
 -- Words give one command.
-use Rattle.std.proofs.Common.{◌≡◌, ◌↔◌, ℕ, List, Some, refl, sym, ap, subst, ◌∙◌, arith}
+use Rattle.aig_base.proofs.Words.{◌≡◌, ◌↔◌, ℕ, List, Some, refl, sym, ap, subst, ◌∙◌, arith, same_Some}
 use Rattle.std.specs.Prelude.{All, Contains, Err, Ok, Result}
-use Rattle.std.proofs.lemmas.Option.{same_Some}
 use Rattle.aig_command_line.specs.declared.status.Ending.TheVariants as endings
 use Rattle.aig_command_line.specs.Arguments.{Arguments}
 use Rattle.aig_command_line.specs.Ending.{ended}

@@ -1,16 +1,14 @@
 -- Wrong words and texts of commands, of which the definitions are false.
-use Rattle.std.proofs.Common.{◌≡◌, ℕ, Bool, true, false, None, Some, Option, List, [], ◌∷◌, ◌++◌, length, refl, sym, ap, subst, arith, length-append}
+use Rattle.aig_base.proofs.Words.{◌≡◌, ℕ, Bool, true, false, None, Some, Option, List, [], ◌∷◌, ◌++◌, length, refl, sym, ap, subst, arith, length-append, same_Some}
 use Rattle.std.specs.Prelude.{IsTrue, codes, slice_get}
 use Rattle.std.specs.Fmt.{digits}
-use Rattle.std.proofs.lemmas.Option.{same_Some}
 use Rattle.aig_base.specs.declared.logic.literal.Lit.{Lit}
 use Rattle.aig_base.specs.Clauses.{lit_to}
 use Rattle.aig_circuit.specs.Properties.{no_properties}
 use Rattle.aig_circuit.specs.Tree.{tree_of}
 use Rattle.aig_dimacs.specs.Reading.{after_comments, clauses_from, counted_in, parse_formula, signed_in, words_from}
 use Rattle.aig_format.specs.declared.FileKind.TheVariants.{Text}
-use Rattle.aig_format.specs.File.{File}
-use Rattle.aig_format.specs.Circuit.{circuit_of, text_of}
+use Rattle.aig_format.proofs.Words.{File, circuit_of, text_of}
 use Rattle.aig_format.specs.Numbering.{node_of_variable, variables_in_order}
 use Rattle.aig_format.specs.Written.{file_text, line_text}
 use Rattle.aig_command_line.specs.Arguments.{Arguments, Gives, setting_words}

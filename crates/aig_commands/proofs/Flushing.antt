@@ -1,7 +1,6 @@
 -- A command on a file that is opened, whose answer is flushed.
-use Rattle.std.proofs.Common.{◌≡◌, ℕ, Bool, false, List, [], Option, Ok, Err, refl, sym}
+use Rattle.aig_base.proofs.Words.{◌≡◌, ℕ, Bool, false, List, [], Option, Ok, Err, refl, sym, Keeps}
 use Rattle.std.specs.Prelude.{IsTrue, Result}
-use Rattle.std.specs.Io.KnownBytes.{Keeps}
 use Rattle.std.proofs.lemmas.List.{append-nil}
 use Rattle.aig.specs.declared.aiger.WriteError.TheVariants as write
 use Rattle.aig_command_line.specs.declared.files.OpenError.{OpenError}

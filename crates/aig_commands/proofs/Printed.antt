@@ -1,21 +1,16 @@
 -- What a command that makes clauses does, once a file is read and unrolled.
-use Rattle.std.proofs.Common.{◌≡◌, ℕ, suc, ◌≤◌, ◌++◌, ◌∷◌, [], Bool, false, Option, None, Some, Result, List, drop, get_or, length, map, refl, sym, ap, ap₂, subst, ◌∙◌, arith, inl, inr}
-use Rattle.std.specs.List.{flat_map}
+use Rattle.aig_base.proofs.Words.{◌≡◌, ℕ, suc, ◌≤◌, ◌++◌, ◌∷◌, [], Bool, false, Option, None, Some, Result, List, drop, get_or, length, map, refl, sym, ap, ap₂, subst, ◌∙◌, arith, inl, inr, flat_map}
 use Rattle.aig_base.specs.declared.logic.literal.Lit.{Lit}
 use Rattle.aig_base.specs.Clauses.{AreBelow}
 use Rattle.aig_base.specs.Formula.{clauses_in}
-use Rattle.aig_circuit.specs.Circuit.{latch_leaves}
+use Rattle.aig_circuit.proofs.Words.{latch_leaves, lit_of, lists_circuit}
 use Rattle.aig_circuit.specs.declared.edge.AigEdge.{AigEdge}
 use Rattle.aig_circuit.specs.declared.node.AigLatch.{AigLatch}
-use Rattle.aig_circuit.specs.Edge.{lit_of}
-use Rattle.aig_circuit.specs.View.{lists_circuit}
 use Rattle.aig_cnf.specs.Cnf.{HasClauses}
 use Rattle.aig_cnf.proofs.Fixing.{clauses_fix, node_values_satisfy}
 use Rattle.aig_dimacs.specs.Text.{IsFormula, dimacs_of}
 use Rattle.aig_format.proofs.Circuits.{IsCircuit-of_file}
-use Rattle.aig_format.specs.File.{File}
-use Rattle.aig_format.specs.Circuit.{circuit_of}
-use Rattle.aig_format.specs.Fits.{Accepts}
+use Rattle.aig_format.proofs.Words.{File, circuit_of, Accepts}
 use Rattle.aig_reader.specs.Reading.{IsReadAs}
 use Rattle.aig_reader.specs.Verdicts.{Accepted, Judges}
 use Rattle.aig_reader.proofs.Verdicts.{short_of}

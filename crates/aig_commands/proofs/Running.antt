@@ -1,12 +1,8 @@
 -- What printing a circuit is refused for, and its bytes.
-use Rattle.std.proofs.Common.{◌≡◌, ◌≢◌, Option, Some, None, Result, Err, List, refl, ap, subst, inl, inr, ◌⊎◌}
-use Rattle.std.specs.Prelude.{All, Any, IfSome, IsErrOf, IsSomeAnd}
-use Rattle.std.proofs.lemmas.List.Elements.{Contains-append_cases}
+use Rattle.aig_base.proofs.Words.{◌≡◌, ◌≢◌, Option, Some, None, Result, Err, List, refl, ap, subst, inl, inr, ◌⊎◌, All, Any, IfSome, IsErrOf, IsSomeAnd, Contains-append_cases}
 use Rattle.aig_circuit.specs.declared.edge.AigEdge.{AigEdge}
-use Rattle.aig_circuit.specs.Circuit.{Circuit, HasFreeLeaf, latch_leaves}
-use Rattle.aig_circuit.specs.Edges.{HasConstantInit, HasNonConstantInit}
-use Rattle.aig_format.specs.Circuit.{text_of}
-use Rattle.aig_format.specs.Writable.{HasLineFeed, IsWritable, named_nodes}
+use Rattle.aig_circuit.proofs.Words.{Circuit, HasFreeLeaf, latch_leaves, HasConstantInit, HasNonConstantInit}
+use Rattle.aig_format.proofs.Words.{text_of, HasLineFeed, IsWritable, named_nodes}
 use Rattle.aig.specs.declared.aiger.WriteError.{WriteError}
 use Rattle.aig.specs.declared.aiger.WriteError.TheVariants as write
 use Rattle.aig.specs.Writing.{IsRefusal, IsVerdictOf}

@@ -119,12 +119,7 @@ pub(crate) fn query_clauses(
 {
     let view = CircuitView::new(circuit);
     let bads = view.bads();
-    Ok(aig_runs::query_clauses(
-        alloc,
-        view.latchs(),
-        view.constraints(),
-        &bads[last_bads..],
-    )?)
+    Ok(aig_runs::query_clauses(alloc, view.latchs(), view.constraints(), &bads[last_bads..])?)
 }
 
 /// Finds which gates need clauses.

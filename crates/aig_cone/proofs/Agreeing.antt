@@ -1,10 +1,6 @@
 -- A table of places numbers the kept nodes as their places do.
-use Rattle.std.proofs.Common.{◌≡◌, ℕ, List, get_or, sym, ap, ◌∙◌}
-use Rattle.std.specs.Prelude.{Contains, slice_index}
-use Rattle.std.proofs.lemmas.List.{get_or_default}
-use Rattle.std.proofs.lemmas.List.Elements.{All-contains_itself}
-use Rattle.aig_circuit.specs.Circuit.{Circuit, IsCircuit}
-use Rattle.aig_circuit.specs.Renumber.{kept_circuit, only_kept, position_of}
+use Rattle.aig_base.proofs.Words.{◌≡◌, ℕ, List, get_or, sym, ap, ◌∙◌, Contains, slice_index, get_or_default, All-contains_itself}
+use Rattle.aig_circuit.proofs.Words.{Circuit, IsCircuit, kept_circuit, only_kept, position_of}
 use Rattle.aig_renumber.proofs.Agreeing.{kept-agree}
 use Rattle.aig_renumber.proofs.Places.{rising-place}
 use Rattle.aig_cone.specs.Refine.{AreKept, ArePlaces, refined}

@@ -1,19 +1,11 @@
 -- Small circuits, refined by computation.
-use Rattle.std.proofs.Common.{◌≡◌, ◌≢◌, nat_cmp, ℕ, zero, suc, ◌<◌, false, Some, List, [], ◌∷◌, refl, sym, ap, subst, ◌∙◌, inl, inr, arith}
-use Rattle.std.specs.Prelude.{All, AllPairs, Contains, is_some, slice_get}
-use Rattle.std.specs.FinMap.{empty, get-empty}
-use Rattle.std.proofs.lemmas.Bool.{false≢true}
-use Rattle.std.proofs.lemmas.Option.{same_Some}
+use Rattle.aig_base.proofs.Words.{◌≡◌, ◌≢◌, nat_cmp, ℕ, zero, suc, ◌<◌, false, Some, List, [], ◌∷◌, refl, sym, ap, subst, ◌∙◌, inl, inr, arith, All, AllPairs, Contains, is_some, slice_get, empty, get-empty, false≢true, same_Some}
 use Rattle.aig_circuit.specs.declared.edge.AigEdge.{AigEdge}
 use Rattle.aig_circuit.specs.declared.node.AigNodeType.{AigNodeType}
 use Rattle.aig_circuit.specs.declared.node.AigNodeType.TheVariants.{False, Leaf, And}
 use Rattle.aig_circuit.specs.declared.node.AigNode.{AigNode}
 use Rattle.aig_circuit.specs.declared.node.AigLatch.{AigLatch}
-use Rattle.aig_circuit.specs.Edge.{edge_to}
-use Rattle.aig_circuit.specs.Node.{kind_at}
-use Rattle.aig_circuit.specs.Circuit.{AreNodes, Circuit, IsCircuit, IsInRange, IsLeaf}
-use Rattle.aig_circuit.specs.Properties.{no_properties}
-use Rattle.aig_circuit.specs.Reach.{DependsOn, IsInCone, IsFanin, IsReached, root, step}
+use Rattle.aig_circuit.proofs.Words.{edge_to, kind_at, AreNodes, Circuit, IsCircuit, IsInRange, IsLeaf, no_properties, DependsOn, IsInCone, IsFanin, IsReached, root, step}
 use Rattle.aig_circuit.proofs.Listed.{AllProperties-entries_of}
 use Rattle.aig_cone.specs.Refine.{AreKept, refined, refining_roots}
 use Rattle.aig_cone.proofs.Keeping.{reached_within}

@@ -1,28 +1,16 @@
 -- What is kept is closed under operands and next edges, and holds all that the lists of the circuit speak of.
-use Rattle.std.proofs.Common.{◌≡◌, ℕ, zero, suc, ◌+◌, ◌<◌, ◌≤◌, ◌↔◌, Bool, true, false, cond, Option, Some, None, List, [], ◌∷◌, ◌++◌, length, map, take, get_or, refl, sym, ap, subst, ◌∙◌, arith, append_assoc, append-nil, Vec, Global, inl, inr}
-use Rattle.std.specs.Prelude.{All, Contains, IfSome, option_to_list, ◌==◌}
-use Rattle.std.specs.List.{AllByRecursion, flat_map}
-use Rattle.std.proofs.lemmas.Bool.{cases_lt, eqb-true}
-use Rattle.std.proofs.lemmas.List.{map-append, take_more}
-use Rattle.std.proofs.lemmas.List.Concat.{flat_map-append}
-use Rattle.std.proofs.lemmas.List.Elements.{All-append, All-contains, All-contains_itself, All-from_recursion, All-map, All-weaker, Contains-append_left, Contains-append_right, Contains-get_or, recursion_from_All}
-use Rattle.std.proofs.lemmas.Option.{same_Some}
+use Rattle.aig_base.proofs.Words.{◌≡◌, ℕ, zero, suc, ◌+◌, ◌<◌, ◌≤◌, ◌↔◌, Bool, true, false, cond, Option, Some, None, List, [], ◌∷◌, ◌++◌, length, map, take, get_or, refl, sym, ap, subst, ◌∙◌, arith, append_assoc, append-nil, Vec, Global, inl, inr, All, Contains, IfSome, option_to_list, ◌==◌, AllByRecursion, flat_map, cases_lt, eqb-true, map-append, take_more, flat_map-append, All-append, All-contains, All-contains_itself, All-from_recursion, All-map, All-weaker, Contains-append_left, Contains-append_right, Contains-get_or, recursion_from_All, same_Some}
 use Rattle.aig_circuit.specs.declared.edge.AigEdge.{AigEdge}
 use Rattle.aig_circuit.specs.declared.node.AigNodeType.TheVariants.{False, Leaf, And}
 use Rattle.aig_circuit.specs.declared.node.AigLatch.{AigLatch}
-use Rattle.aig_circuit.specs.Node.{kind_at}
-use Rattle.aig_circuit.specs.Circuit.{Circuit, IsCircuit, IsInRange, IsLatch, latch_leaves}
-use Rattle.aig_circuit.specs.Renumber.{position_of}
+use Rattle.aig_circuit.proofs.Words.{kind_at, Circuit, IsCircuit, IsInRange, IsLatch, latch_leaves, position_of, DependsOn, IsInCone, IsReached, root, step, IsMarked, initial_edges, property_edges}
 use Rattle.aig_circuit.proofs.Listed.{All-entries_of}
 use Rattle.aig_circuit.proofs.Trees.{kind_at-within}
 use Rattle.aig_renumber.specs.Numbers.{IsEdgeIn, IsLatchIn}
 use Rattle.aig_renumber.proofs.NodesInOrder.{Numbers}
 use Rattle.aig_renumber.proofs.Places.{Contains-map, get_or-position_of, position_of-within, places-rise, rising-place, rising_from}
-use Rattle.aig_circuit.specs.Reach.{DependsOn, IsInCone, IsReached, root, step}
-use Rattle.aig_circuit.specs.Marks.{IsMarked}
 use Rattle.aig_cone.specs.Marks.{AreMarked}
 use Rattle.aig_cone.specs.Refine.{AreKept, refining_roots, variable_nodes}
-use Rattle.aig_circuit.specs.Edges.{initial_edges, property_edges}
 
 -- what holds of the roots and goes on along steps holds of all that is reached
 pub reached_within : {Step : ℕ → ℕ → Type 0} {roots : List ℕ} (P : ℕ → Type 0)

@@ -1,17 +1,11 @@
 -- Marks that are set, and the marks of what is reached along operands.
 use Rattle.std.proofs.Common.{◌≡◌, ℕ, zero, suc, ◌+◌, ◌<◌, ◌≤◌, ◌⊎◌, ◌↔◌, Bool, true, false, Some, List, [], ◌∷◌, ◌++◌, length, take, get_or, set, get_or-set_other, get_or-set_same, length-set, replicate, sym, ap, subst, ◌∙◌, arith, inl, inr}
-use Rattle.std.specs.Prelude.{Contains}
-use Rattle.std.proofs.lemmas.Bool.{cases_eq, cases_lt, false≢true}
-use Rattle.std.proofs.lemmas.List.{take_more}
-use Rattle.std.proofs.lemmas.List.Elements.{Contains-append_left, Contains-push, Contains-push_cases}
-use Rattle.std.proofs.lemmas.Option.{same_Some}
+use Rattle.aig_base.proofs.Words.{Contains, cases_eq, cases_lt, false≢true, take_more, Contains-append_left, Contains-push, Contains-push_cases, same_Some}
 use Rattle.aig_circuit.specs.declared.edge.AigEdge.{AigEdge}
 use Rattle.aig_circuit.specs.declared.node.AigNodeType.TheVariants.{And}
 use Rattle.aig_circuit.specs.declared.node.AigNode.{AigNode}
-use Rattle.aig_circuit.specs.Node.{IsOrdered, kind_at}
-use Rattle.aig_circuit.specs.Reach.{IsFanin, IsReached, root, step}
+use Rattle.aig_circuit.proofs.Words.{IsOrdered, kind_at, IsFanin, IsReached, root, step, IsMarked}
 use Rattle.aig_circuit.proofs.Trees.{kind_at-within}
-use Rattle.aig_circuit.specs.Marks.{IsMarked}
 use Rattle.aig_cone.specs.Marks.{AddsMarks}
 
 -- a mark that is set, and the others as they were

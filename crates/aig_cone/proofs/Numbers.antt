@@ -1,14 +1,7 @@
 -- The marked numbers, and the map of the kept ones.
 use Rattle.std.proofs.Common.{◌≡◌, ◌≢◌, ℕ, zero, suc, ◌+◌, ◌<◌, ◌≤◌, ◌⊎◌, ◌↔◌, Bool, true, false, cond, nat_cmp, nat_eq, Some, List, [], ◌∷◌, ◌++◌, length, take, get_or, get_or-set_other, get_or-set_same, replicate, set, sym, ap, subst, ◌∙◌, arith, inl, inr}
 use Rattle.std.specs.Prelude.{All, AllPairs, IsTrue, slice_get}
-use Rattle.std.specs.Ordering.{eq_by_cmp}
-use Rattle.std.specs.FinMap.{FinMap, get, insert, get-insert}
-use Rattle.std.proofs.lemmas.Bool.{cases_eq, cases_lt, eq-eqb, false≢true, ne_eqb}
-use Rattle.std.proofs.lemmas.Cmp.{nat_cmp_total}
-use Rattle.std.proofs.lemmas.List.{get_or-replicate, get_or-take, length-replicate, length-take}
-use Rattle.std.proofs.lemmas.List.Elements.{All-set, Contains-append_left, Contains-get_or, Contains-push, Contains-push_cases}
-use Rattle.std.proofs.lemmas.List.Quantifiers.{all_pairs_push}
-use Rattle.std.proofs.lemmas.Option.{slice_get-get_or, slice_get_past}
+use Rattle.aig_base.proofs.Words.{eq_by_cmp, FinMap, get, insert, get-insert, cases_eq, cases_lt, eq-eqb, false≢true, ne_eqb, nat_cmp_total, get_or-replicate, get_or-take, length-replicate, length-take, All-set, Contains-append_left, Contains-get_or, Contains-push, Contains-push_cases, all_pairs_push, slice_get-get_or, slice_get_past}
 use Rattle.aig_base.proofs.Mapping.{same_test}
 use Rattle.aig_circuit.specs.Marks.{IsMarked}
 use Rattle.aig_cone.specs.Marks.{AreMarked}

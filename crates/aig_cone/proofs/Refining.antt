@@ -1,19 +1,10 @@
 -- The refined circuit is a circuit, and its runs are the old ones, cut to the kept leaves.
-use Rattle.std.proofs.Common.{◌≡◌, ◌≢◌, ℕ, ◌+◌, ◌<◌, Bool, true, false, cond, Option, Some, None, List, length, map, get_or, refl, sym, ap, subst, ◌∙◌, IsTrue}
-use Rattle.std.specs.Prelude.{All, Contains, IfSome, is_some, option_map, slice_index}
-use Rattle.std.specs.FinMap.{contains_key, get, get-retain_keys}
-use Rattle.std.proofs.lemmas.Bool.{false≢true}
-use Rattle.std.proofs.lemmas.Map.Lookups.{exact_unsigned}
-use Rattle.std.proofs.lemmas.List.Elements.{All-filter, All-from_recursion, All-map, All-weaker, filter_passes}
-use Rattle.std.proofs.lemmas.List.Kept.{AllPairs-filter}
+use Rattle.aig_base.proofs.Words.{◌≡◌, ◌≢◌, ℕ, ◌+◌, ◌<◌, Bool, true, false, cond, Option, Some, None, List, length, map, get_or, refl, sym, ap, subst, ◌∙◌, IsTrue, All, Contains, IfSome, is_some, option_map, slice_index, contains_key, get, get-retain_keys, false≢true, exact_unsigned, All-filter, All-from_recursion, All-map, All-weaker, filter_passes, AllPairs-filter}
 use Rattle.aig_circuit.specs.declared.edge.AigEdge.{AigEdge}
 use Rattle.aig_circuit.specs.declared.node.AigNode.{AigNode}
 use Rattle.aig_circuit.specs.declared.node.AigNodeType.TheVariants.{Leaf}
 use Rattle.aig_circuit.specs.declared.node.AigLatch.{AigLatch}
-use Rattle.aig_circuit.specs.Tree.{edge_value}
-use Rattle.aig_circuit.specs.Circuit.{Circuit, IsCircuit, IsLeaf, latch_leaves}
-use Rattle.aig_circuit.specs.Runs.{HaveSameValues, next_edges}
-use Rattle.aig_circuit.specs.Renumber.{nodes_in_order, position_of, renumbered_edge, renumbered_latch}
+use Rattle.aig_circuit.proofs.Words.{edge_value, Circuit, IsCircuit, IsLeaf, latch_leaves, HaveSameValues, next_edges, nodes_in_order, position_of, renumbered_edge, renumbered_latch, is_in, only_kept, initial_edges}
 use Rattle.aig_circuit.proofs.Listed.{AllProperties-entries_of, AllProperties-weaker, AreProperties-map}
 use Rattle.aig_circuit.proofs.Lists.{All-from_map, AllZip-map}
 use Rattle.aig_circuit.proofs.Trees.{kind_at-within}
@@ -24,8 +15,6 @@ use Rattle.aig_renumber.proofs.NodesInOrder.{IsOrdered-made, Merges, Merges-numb
 use Rattle.aig_renumber.proofs.Places.{filter-back}
 use Rattle.aig_circuit.proofs.Values.{edge_value-renumbered}
 use Rattle.aig_cone.specs.Refine.{AreKept, CutsRuns, cut_to, refined}
-use Rattle.aig_circuit.specs.Renumber.{is_in, only_kept}
-use Rattle.aig_circuit.specs.Edges.{initial_edges}
 use Rattle.aig_cone.proofs.Keeping.{Numbers-kept, S, S-latchs, S-properties, S-starts}
 
 module _ (c : Circuit) (kept : List ℕ) (is : IsCircuit c) (are : AreKept c kept) where

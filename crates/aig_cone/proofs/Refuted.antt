@@ -1,16 +1,11 @@
 -- Wrong results of refining small circuits, of which the definitions are false.
-use Rattle.std.proofs.Common.{◌≡◌, ◌≢◌, ℕ, zero, suc, false, Some, List, [], ◌∷◌, sym, subst, refl, arith, inl, inr}
-use Rattle.std.specs.Prelude.{Contains}
-use Rattle.std.specs.FinMap.{empty}
+use Rattle.aig_base.proofs.Words.{◌≡◌, ◌≢◌, ℕ, zero, suc, false, Some, List, [], ◌∷◌, sym, subst, refl, arith, inl, inr, Contains, empty}
 use Rattle.aig_circuit.specs.declared.edge.AigEdge.{AigEdge}
 use Rattle.aig_circuit.specs.declared.node.AigNodeType.{AigNodeType}
 use Rattle.aig_circuit.specs.declared.node.AigNodeType.TheVariants.{False, Leaf}
 use Rattle.aig_circuit.specs.declared.node.AigNode.{AigNode}
 use Rattle.aig_circuit.specs.declared.node.AigLatch.{AigLatch}
-use Rattle.aig_circuit.specs.Edge.{edge_to}
-use Rattle.aig_circuit.specs.Circuit.{Circuit}
-use Rattle.aig_circuit.specs.Properties.{no_properties}
-use Rattle.aig_circuit.specs.Reach.{DependsOn, IsInCone, IsReached, root}
+use Rattle.aig_circuit.proofs.Words.{edge_to, Circuit, no_properties, DependsOn, IsInCone, IsReached, root}
 use Rattle.aig_cone.specs.Refine.{AreKept}
 use Rattle.aig_cone.proofs.Keeping.{reached_within}
 use Rattle.aig_cone.proofs.Examples.{only_one}

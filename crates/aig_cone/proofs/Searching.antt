@@ -1,21 +1,14 @@
 -- Visits of nodes, and the search that follows what they have on the stack.
 use Rattle.std.proofs.Common.{◌≡◌, ◌≢◌, ℕ, zero, suc, ◌+◌, ◌<◌, ◌⊎◌, ◌↔◌, Bool, true, false, cond, Option, Some, None, List, [], ◌∷◌, ◌++◌, length, replicate, take, get_or, set, get_or-set_other, get_or-set_same, refl, sym, ap, subst, ◌∙◌, arith, inl, inr, length-append, length-set}
-use Rattle.std.specs.Prelude.{All, AllPairs, Contains, option_map}
-use Rattle.std.proofs.lemmas.Bool.{cases_eq}
-use Rattle.std.proofs.lemmas.List.{get_or-map, get_or-take, length-map, length-replicate, length-take, take_more}
-use Rattle.std.proofs.lemmas.List.Sums.{sum_by-set}
-use Rattle.std.proofs.lemmas.List.Elements.{Contains-append_left, Contains-push, Contains-push_cases}
-use Rattle.std.proofs.lemmas.Option.{same_Some, slice_get-get_or}
+use Rattle.aig_base.proofs.Words.{All, AllPairs, Contains, option_map, cases_eq, get_or-map, get_or-take, length-map, length-replicate, length-take, take_more, sum_by-set, Contains-append_left, Contains-push, Contains-push_cases, same_Some, slice_get-get_or}
 use Rattle.aig_circuit.specs.declared.edge.AigEdge.{AigEdge}
 use Rattle.aig_circuit.specs.declared.node.AigNodeType.{AigNodeType}
 use Rattle.aig_circuit.specs.declared.node.AigNodeType.TheVariants.{Leaf, And}
 use Rattle.aig_circuit.specs.declared.node.AigNode.{AigNode}
 use Rattle.aig_circuit.specs.declared.node.AigLatch.{AigLatch}
-use Rattle.aig_circuit.specs.Node.{kind_at}
-use Rattle.aig_circuit.specs.Circuit.{Circuit, IsCircuit, IsLatch, latch_leaves}
+use Rattle.aig_circuit.proofs.Words.{kind_at, Circuit, IsCircuit, IsLatch, latch_leaves, IsMarked}
 use Rattle.aig_circuit.specs.Reach.{DependsOn, IsInCone, IsLatchNext, IsFanin, IsReached, root, step}
 use Rattle.aig_circuit.proofs.Trees.{kind_at-within}
-use Rattle.aig_circuit.specs.Marks.{IsMarked}
 use Rattle.aig_cone.specs.Marks.{AreNextStates, Visits}
 use Rattle.aig_cone.proofs.Marking.{AddsMarks-none, AddsMarks-same, AddsMarks-set, AddsMarks-then, operands_of}
 

@@ -1,9 +1,5 @@
 -- The clauses of nodes by their marks.
-use Rattle.std.proofs.Common.{◌≡◌, ◌+◌, ◌^◌, ◌<◌, ◌≤◌, ◌++◌, ℕ, Bool, false, List, [], Some, get_or, length, sym, ◌∙◌, arith}
-use Rattle.std.specs.Prelude.{slice_get}
-use Rattle.std.specs.List.{sum_by}
-use Rattle.std.proofs.lemmas.List.Concat.{length-flat_map}
-use Rattle.std.proofs.lemmas.Option.{same_Some, slice_get-get_or, slice_get_within}
+use Rattle.aig_base.proofs.Words.{◌≡◌, ◌+◌, ◌^◌, ◌<◌, ◌≤◌, ◌++◌, ℕ, Bool, false, List, [], Some, get_or, length, sym, ◌∙◌, arith, slice_get, sum_by, length-flat_map, same_Some, slice_get-get_or, slice_get_within}
 use Rattle.aig_base.specs.Clauses.{AreBelow}
 use Rattle.aig_base.specs.Formula.{clauses_in}
 use Rattle.aig_base.specs.declared.logic.literal.Lit.{Lit}

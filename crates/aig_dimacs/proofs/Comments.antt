@@ -1,9 +1,7 @@
 -- Texts that stand in a comment line, and texts of such lines, which are passed over.
 use Rattle.std.proofs.Common.{◌≡◌, ℕ, zero, suc, ◌+◌, ◌/◌, ◌%◌, ◌≤◌, ◌==◌, nat_lt, Bool, true, false, not, if◌then◌else◌, List, [], ◌∷◌, ◌++◌, refl, ap, ◌∙◌, append_assoc, arith}
-use Rattle.std.specs.Prelude.{codes, decimal}
+use Rattle.aig_base.proofs.Words.{codes, decimal, flat_map, nat_tests}
 use Rattle.std.specs.Fmt.{digit_glyph, digits, digits_onto}
-use Rattle.std.specs.List.{flat_map}
-use Rattle.std.proofs.lemmas.Bool.Decides.{nat_tests}
 use Rattle.aig_base.specs.declared.logic.literal.Lit.{Lit}
 use Rattle.aig_base.specs.Clauses.{is_positive}
 use Rattle.aig_format.specs.Parse.{◌>>=◌, strip}

@@ -1,6 +1,5 @@
 -- The text of a small formula, and what is read from it and from other texts.
-use Rattle.std.proofs.Common.{◌≡◌, true, false, List, [], ◌∷◌, None, Some, refl}
-use Rattle.std.specs.Prelude.{codes}
+use Rattle.aig_base.proofs.Words.{◌≡◌, true, false, List, [], ◌∷◌, None, Some, refl, codes}
 use Rattle.std.specs.Fmt.{digits}
 use Rattle.aig_base.specs.declared.logic.literal.Lit.{Lit}
 use Rattle.aig_base.specs.Clauses.{lit_to}

@@ -1,7 +1,6 @@
 -- What is printed of files that are open, and flushed.
-use Rattle.std.proofs.Common.{◌≡◌, ℕ, Bool, false, List, Option, Result, Ok, Err, refl, sym, subst, ◌∙◌}
+use Rattle.aig_base.proofs.Words.{◌≡◌, ℕ, Bool, false, List, Option, Result, Ok, Err, refl, sym, subst, ◌∙◌, Appends, Keeps}
 use Rattle.std.specs.Prelude.{IfErr, IsTrue}
-use Rattle.std.specs.Io.KnownBytes.{Appends, Keeps}
 use Rattle.aig_command_line.proofs.Kept.{appends_kept, stops_unflushed}
 use Rattle.aig_format.specs.File.{File}
 use Rattle.aig_output.specs.Sinks.{Stops}

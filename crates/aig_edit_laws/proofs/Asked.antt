@@ -1,20 +1,10 @@
 -- The cone of what a query asks about, and the circuit with the latches alone that it reaches.
-use Rattle.std.proofs.Common.{◌≡◌, ◌≢◌, ℕ, ◌<◌, length, Bool, true, false, cond, ◌&&◌, Option, Some, None, List, [], ◌∷◌, ◌++◌, map, refl, sym, ap, subst, ◌∙◌, inl, inr}
-use Rattle.std.specs.Prelude.{All, AllPairs, Contains, IfSome, filter, option_to_list}
-use Rattle.std.proofs.lemmas.List.Elements.{All-append, All-contains, All-cons, All-filter, All-map, All-nil, All-weaker, Contains-get_or}
-use Rattle.std.proofs.lemmas.List.Kept.{AllPairs-filter}
-use Rattle.std.proofs.lemmas.Option.{same_Some}
+use Rattle.aig_base.proofs.Words.{◌≡◌, ◌≢◌, ℕ, ◌<◌, length, Bool, true, false, cond, ◌&&◌, Option, Some, None, List, [], ◌∷◌, ◌++◌, map, refl, sym, ap, subst, ◌∙◌, inl, inr, All, AllPairs, Contains, IfSome, filter, option_to_list, All-append, All-contains, All-cons, All-filter, All-map, All-nil, All-weaker, Contains-get_or, AllPairs-filter, same_Some}
 use Rattle.aig_circuit.specs.declared.edge.AigEdge.{AigEdge}
 use Rattle.aig_circuit.specs.declared.node.AigLatch.{AigLatch}
 use Rattle.aig_circuit.specs.declared.node.AigNodeType.{AigNodeType}
 use Rattle.aig_circuit.specs.declared.node.AigNodeType.TheVariants.{And, False, Leaf}
-use Rattle.aig_circuit.specs.Circuit.{Circuit, IsCircuit, IsInRange, IsLatch, IsLeaf, latch_leaves}
-use Rattle.aig_circuit.specs.Edge.{inverted_if}
-use Rattle.aig_circuit.specs.Edges.{initial_edges, nodes_of}
-use Rattle.aig_circuit.specs.Node.{kind_at}
-use Rattle.aig_circuit.specs.Reach.{DependsOn, IsReached, root, step}
-use Rattle.aig_circuit.specs.Renumber.{is_in}
-use Rattle.aig_circuit.specs.Tree.{edge_value, node_value}
+use Rattle.aig_circuit.proofs.Words.{Circuit, IsCircuit, IsInRange, IsLatch, IsLeaf, latch_leaves, inverted_if, initial_edges, nodes_of, kind_at, DependsOn, IsReached, root, step, is_in, edge_value, node_value}
 use Rattle.aig_circuit.proofs.Lists.{All-first, All-flat_map, All-from_flat_map, All-second}
 use Rattle.aig_circuit.proofs.Trees.{by_smaller, kind_at-there, kind_at-within, node_value-and, node_value-false, node_value-leaf}
 use Rattle.aig_cone.proofs.Keeping.{along, reached_within}

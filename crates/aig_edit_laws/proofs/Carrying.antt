@@ -1,13 +1,9 @@
 -- A witness of one circuit is a witness of another that gives its properties the same values.
-use Rattle.std.proofs.Common.{◌≡◌, ℕ, ◌+◌, ◌≤◌, Bool, ◌||◌, Option, Some, None, List, [], ◌∷◌, IsTrue, get_or, sym, refl, ap, ◌∙◌, arith}
-use Rattle.std.specs.Prelude.{All, IfSome}
-use Rattle.std.specs.List.{AllByRecursion, list_any}
-use Rattle.std.proofs.lemmas.List.Elements.{All-from_recursion, recursion_from_All}
+use Rattle.aig_base.proofs.Words.{◌≡◌, ℕ, ◌+◌, ◌≤◌, Bool, ◌||◌, Option, Some, None, List, [], ◌∷◌, IsTrue, get_or, sym, refl, ap, ◌∙◌, arith, All, IfSome, AllByRecursion, list_any, All-from_recursion, recursion_from_All}
 use Rattle.aig_circuit.specs.declared.edge.AigEdge.{AigEdge}
 use Rattle.aig_circuit.specs.declared.node.AigNode.{AigNode}
-use Rattle.aig_circuit.specs.Circuit.{Circuit, IsCircuit}
+use Rattle.aig_circuit.proofs.Words.{Circuit, IsCircuit, edge_value}
 use Rattle.aig_circuit.specs.Runs.{AgreeOnLeaves, HaveSameProperties, HaveSameValues, IsRun, IsInitial}
-use Rattle.aig_circuit.specs.Tree.{edge_value}
 use Rattle.aig_circuit.proofs.Values.{edge_value_by_leaves}
 use Rattle.aig_runs.specs.CircuitQueries.{IsCircuitWitness}
 

@@ -1,10 +1,7 @@
 -- A circuit whose bad edges became one has the witnesses of the old one.
-use Rattle.std.proofs.Common.{◌≡◌, ℕ, Bool, true, false, ◌||◌, Option, Some, None, get_or, refl, sym, ap, subst, ◌∙◌}
-use Rattle.std.specs.Prelude.{IfSome}
-use Rattle.std.specs.List.{list_any}
+use Rattle.aig_base.proofs.Words.{◌≡◌, ℕ, Bool, true, false, ◌||◌, Option, Some, None, get_or, refl, sym, ap, subst, ◌∙◌, IfSome, list_any}
 use Rattle.aig_circuit.specs.declared.edge.AigEdge.{AigEdge}
-use Rattle.aig_circuit.specs.Circuit.{Circuit, IsCircuit, IsInRange}
-use Rattle.aig_circuit.specs.Tree.{edge_value}
+use Rattle.aig_circuit.proofs.Words.{Circuit, IsCircuit, IsInRange, edge_value}
 use Rattle.aig_change.specs.Changes.{CompressesBads}
 use Rattle.aig_edit_laws.specs.Reduction.{HaveSameWitnesses}
 use Rattle.aig_runs.specs.CircuitQueries.{IsCircuitWitness}

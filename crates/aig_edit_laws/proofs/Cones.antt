@@ -1,11 +1,7 @@
 -- The cone of a circuit's output shows that output where the circuit does.
-use Rattle.std.proofs.Common.{◌≡◌, ◌↔◌, ℕ, Some, List, [], IsTrue, sym, subst, ◌∙◌}
-use Rattle.std.specs.Prelude.{IsSomeAnd, slice_get}
-use Rattle.std.proofs.lemmas.List.Elements.{All-cons, All-nil}
-use Rattle.std.proofs.lemmas.Option.{get_or_from_slice_get, slice_get_within}
+use Rattle.aig_base.proofs.Words.{◌≡◌, ◌↔◌, ℕ, Some, List, [], IsTrue, sym, subst, ◌∙◌, IsSomeAnd, slice_get, All-cons, All-nil, get_or_from_slice_get, slice_get_within}
 use Rattle.aig_circuit.specs.declared.edge.AigEdge.{AigEdge}
-use Rattle.aig_circuit.specs.Circuit.{Circuit, IsCircuit, IsInRange}
-use Rattle.aig_circuit.specs.Tree.{edge_value}
+use Rattle.aig_circuit.proofs.Words.{Circuit, IsCircuit, IsInRange, edge_value}
 use Rattle.aig_cone.specs.Refine.{AreKept, CutsRuns, refined}
 use Rattle.aig_edit_laws.specs.Reduction.{HaveSameWitnesses}
 use Rattle.aig_edit_laws.specs.Plain.{IsPlain}

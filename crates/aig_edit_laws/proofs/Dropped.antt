@@ -1,16 +1,8 @@
 -- A circuit has a witness where it has one without the latches that its query's cone doesn't reach.
-use Rattle.std.proofs.Common.{◌≡◌, ℕ, zero, suc, ◌+◌, ◌<◌, Bool, true, false, cond, ◌||◌, Option, Some, None, List, [], ◌∷◌, length, get_or, add-one, refl, sym, ap, ◌∙◌, inr, arith}
-use Rattle.std.specs.Prelude.{All, Contains, IfSome, filter, option_to_list}
-use Rattle.std.specs.List.{list_any}
-use Rattle.std.proofs.lemmas.Bool.{false≢true}
-use Rattle.std.proofs.lemmas.List.{get_or-map, get_or_default, length-map}
-use Rattle.std.proofs.lemmas.List.Elements.{All-cons, All-filter, All-head, All-nil, All-tail, Contains-get_or}
+use Rattle.aig_base.proofs.Words.{◌≡◌, ℕ, zero, suc, ◌+◌, ◌<◌, Bool, true, false, cond, ◌||◌, Option, Some, None, List, [], ◌∷◌, length, get_or, add-one, refl, sym, ap, ◌∙◌, inr, arith, All, Contains, IfSome, filter, option_to_list, list_any, false≢true, get_or-map, get_or_default, length-map, All-cons, All-filter, All-head, All-nil, All-tail, Contains-get_or}
 use Rattle.aig_circuit.specs.declared.edge.AigEdge.{AigEdge}
 use Rattle.aig_circuit.specs.declared.node.AigLatch.{AigLatch}
-use Rattle.aig_circuit.specs.Circuit.{Circuit, IsCircuit, latch_leaves}
-use Rattle.aig_circuit.specs.Edge.{edge_to}
-use Rattle.aig_circuit.specs.Renumber.{is_in, position_of}
-use Rattle.aig_circuit.specs.Tree.{edge_value}
+use Rattle.aig_circuit.proofs.Words.{Circuit, IsCircuit, latch_leaves, edge_to, is_in, position_of, edge_value}
 use Rattle.aig_renumber.proofs.Kept.{is_in-back, is_in-there}
 use Rattle.aig_renumber.proofs.Places.{position_of-get_or}
 use Rattle.aig_runs.specs.CircuitQueries.{IsCircuitWitness}

@@ -1,12 +1,7 @@
 -- A circuit with at most one bad edge, to which its constraints were joined, has the witnesses of the old one.
-use Rattle.std.proofs.Common.{◌≡◌, ℕ, ◌≤◌, Bool, ◌||◌, List, [], ◌∷◌, length, IsTrue, get_or, refl, sym, ap, subst, ◌∙◌, arith}
-use Rattle.std.specs.Prelude.{All, slice_get}
-use Rattle.std.specs.List.{list_any}
-use Rattle.std.proofs.lemmas.Bool.{false≢true}
-use Rattle.std.proofs.lemmas.List.Elements.{All-head, All-nil, All-tail}
+use Rattle.aig_base.proofs.Words.{◌≡◌, ℕ, ◌≤◌, Bool, ◌||◌, List, [], ◌∷◌, length, IsTrue, get_or, refl, sym, ap, subst, ◌∙◌, arith, All, slice_get, list_any, false≢true, All-head, All-nil, All-tail}
 use Rattle.aig_circuit.specs.declared.edge.AigEdge.{AigEdge}
-use Rattle.aig_circuit.specs.Circuit.{Circuit, IsCircuit, IsInRange, IsLeaf}
-use Rattle.aig_circuit.specs.Tree.{edge_value}
+use Rattle.aig_circuit.proofs.Words.{Circuit, IsCircuit, IsInRange, IsLeaf, edge_value}
 use Rattle.aig_change.specs.Changes.{FoldsConstraints}
 use Rattle.aig_change.specs.Runs.{ConstraintsHoldUpTo, IsRunFromInitial}
 use Rattle.aig_edit_laws.specs.Reduction.{HaveSameWitnesses}

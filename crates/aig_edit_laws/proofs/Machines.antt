@@ -1,22 +1,12 @@
 -- A file's machine shows what the file's circuit shows.
-use Rattle.std.proofs.Common.{◌≡◌, ◌↔◌, ℕ, ◌≤◌, Bool, Option, Some, None, List, map, IsTrue, refl, sym, subst, ◌∙◌, arith}
-use Rattle.std.specs.Prelude.{All, IfSome, IsSomeAnd, option_map, slice_get}
-use Rattle.std.specs.List.{AllByRecursion, list_any}
-use Rattle.std.proofs.lemmas.List.Elements.{All-from_recursion, All-map, recursion_from_All}
+use Rattle.aig_base.proofs.Words.{◌≡◌, ◌↔◌, ℕ, ◌≤◌, Bool, Option, Some, None, List, map, IsTrue, refl, sym, subst, ◌∙◌, arith, All, IfSome, IsSomeAnd, option_map, slice_get, AllByRecursion, list_any, All-from_recursion, All-map, recursion_from_All}
 use Rattle.std.proofs.lemmas.Option.{get_or_from_slice_get, slice_get-map, slice_get_within}
 use Rattle.aig_circuit.specs.declared.edge.AigEdge.{AigEdge}
-use Rattle.aig_circuit.specs.Circuit.{Circuit}
-use Rattle.aig_circuit.specs.Properties.{AllProperties}
-use Rattle.aig_circuit.specs.Runs.{IsInitial, IsRun}
-use Rattle.aig_circuit.specs.Tree.{edge_value}
+use Rattle.aig_circuit.proofs.Words.{Circuit, AllProperties, IsInitial, IsRun, edge_value}
 use Rattle.aig_circuit.proofs.Listed.{AllProperties-weaker}
 use Rattle.aig_circuit.proofs.Lists.{All-from_map, AllZip-map}
 use Rattle.aig_change.specs.Runs.{IsAllowedRun}
-use Rattle.aig_format.specs.Circuit.{circuit_of, edge_of}
-use Rattle.aig_format.specs.File.{File, used}
-use Rattle.aig_format.specs.Fits.{Fits}
-use Rattle.aig_format.specs.Machine.{value_of_literal, IsMachineInitial, IsMachineRun}
-use Rattle.aig_format.specs.Variables.{IsKnown}
+use Rattle.aig_format.proofs.Words.{circuit_of, edge_of, File, used, Fits, value_of_literal, IsMachineInitial, IsMachineRun, IsKnown}
 use Rattle.aig_format.proofs.Circuits.{used_by_section}
 use Rattle.aig_format_laws.specs.Nodes.{HasNodeValues, values_over}
 use Rattle.aig_runs.proofs.Rows.{any_zip}

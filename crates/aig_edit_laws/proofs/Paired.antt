@@ -1,13 +1,7 @@
 -- Two circuits merged have a witness where one of them has one, and the other an allowed run.
-use Rattle.std.proofs.Common.{◌≡◌, ◌↔◌, ◌⊎◌, ℕ, ◌+◌, Bool, true, false, ◌||◌, Option, Some, None, List, [], ◌∷◌, length, map, IsTrue, get_or, refl, sym, ap, ◌∙◌, inl, inr}
-use Rattle.std.specs.Prelude.{All, IfSome}
-use Rattle.std.specs.List.{list_any}
-use Rattle.std.proofs.lemmas.List.Elements.{All-append, All-cons, All-head, All-map, All-nil, All-tail}
-use Rattle.std.proofs.lemmas.List.Folds.{list_any-append}
+use Rattle.aig_base.proofs.Words.{◌≡◌, ◌↔◌, ◌⊎◌, ℕ, ◌+◌, Bool, true, false, ◌||◌, Option, Some, None, List, [], ◌∷◌, length, map, IsTrue, get_or, refl, sym, ap, ◌∙◌, inl, inr, All, IfSome, list_any, All-append, All-cons, All-head, All-map, All-nil, All-tail, list_any-append}
 use Rattle.aig_circuit.specs.declared.edge.AigEdge.{AigEdge}
-use Rattle.aig_circuit.specs.Circuit.{Circuit, IsCircuit, IsInRange, IsLeaf}
-use Rattle.aig_circuit.specs.Renumber.{renumbered_edge}
-use Rattle.aig_circuit.specs.Tree.{edge_value}
+use Rattle.aig_circuit.proofs.Words.{Circuit, IsCircuit, IsInRange, IsLeaf, renumbered_edge, edge_value}
 use Rattle.aig_circuit.proofs.Lists.{All-first, All-from_map, All-second}
 use Rattle.aig_change.specs.Merge.{PairsRuns, merged, shifted}
 use Rattle.aig_change.specs.Runs.{IsAllowedRun}

@@ -1,20 +1,11 @@
 -- Where only its size can keep a circuit from a written form, this is so of what is made of it.
-use Rattle.std.proofs.Common.{◌≡◌, ◌⊎◌, ℕ, zero, suc, ◌<◌, ◌≤◌, Bool, true, false, cond, IsTrue, Option, Some, None, List, [], ◌∷◌, ◌++◌, length, map, get_or, refl, sym, ap, subst, ◌∙◌, inl, inr, arith, length-append}
-use Rattle.std.specs.Prelude.{All, Contains, IfSome, IsSomeAnd, filter, is_some, option_map}
-use Rattle.std.specs.FinMap.{contains_key, entries, get, get-entries, get-from_entries, get-retain_keys}
-use Rattle.std.proofs.lemmas.Bool.{cases_lt, false≢true}
-use Rattle.std.proofs.lemmas.Cmp.{nat_cmp_total}
-use Rattle.std.proofs.lemmas.List.{map-append}
-use Rattle.std.proofs.lemmas.Map.Lookups.{exact_unsigned}
-use Rattle.std.proofs.lemmas.List.Elements.{All-append, All-contains, All-cons, All-map, All-nil, All-weaker, Contains-append_cases, Contains-append_left, Contains-append_right, Contains-get_or, Contains-push}
+use Rattle.aig_base.proofs.Words.{◌≡◌, ◌⊎◌, ℕ, zero, suc, ◌<◌, ◌≤◌, Bool, true, false, cond, IsTrue, Option, Some, None, List, [], ◌∷◌, ◌++◌, length, map, get_or, refl, sym, ap, subst, ◌∙◌, inl, inr, arith, length-append, All, Contains, IfSome, IsSomeAnd, filter, is_some, option_map, contains_key, entries, get, get-entries, get-from_entries, get-retain_keys, cases_lt, false≢true, nat_cmp_total, map-append, exact_unsigned, All-append, All-contains, All-cons, All-map, All-nil, All-weaker, Contains-append_cases, Contains-append_left, Contains-append_right, Contains-get_or, Contains-push}
 use Rattle.aig_circuit.specs.declared.edge.AigEdge.{AigEdge}
 use Rattle.aig_circuit.specs.declared.node.AigLatch.{AigLatch}
 use Rattle.aig_circuit.specs.declared.node.AigNode.{AigNode}
 use Rattle.aig_circuit.specs.declared.node.AigNodeType.{AigNodeType}
 use Rattle.aig_circuit.specs.declared.node.AigNodeType.TheVariants.{And, False, Leaf}
-use Rattle.aig_circuit.specs.Build.{AddsGates, with_node}
-use Rattle.aig_circuit.specs.Circuit.{Circuit, IsCircuit, IsLeaf, latch_leaves}
-use Rattle.aig_circuit.specs.Edges.{HasConstantInit}
+use Rattle.aig_circuit.proofs.Words.{AddsGates, with_node, Circuit, IsCircuit, IsLeaf, latch_leaves, HasConstantInit, is_in, only_kept, position_of, renumbered_edge, renumbered_kind, renumbered_latch}
 use Rattle.aig_circuit.proofs.Building.{Grows-kept, Grows-leaf, and_of-cases}
 use Rattle.aig_circuit.proofs.Circuits.{latch_leaves-leaves}
 use Rattle.aig_change.specs.Merge.{merged, shifted}
@@ -32,7 +23,6 @@ use Rattle.aig_renumber.proofs.Kept.{is_in-back, is_in-there}
 use Rattle.aig_renumber.proofs.Names.{found_back, names_in_circuit}
 use Rattle.aig_renumber.proofs.NodesInOrder.{IsLeaf-back, Merges-numbers, Numbers, number-apart}
 use Rattle.aig_renumber.proofs.Places.{Contains-map, Contains-map_back, filter-back}
-use Rattle.aig_circuit.specs.Renumber.{is_in, only_kept, position_of, renumbered_edge, renumbered_kind, renumbered_latch}
 use Rattle.aig_unroll.specs.Places.{leaves_after}
 use Rattle.aig_unroll.specs.Unroll.{UnrollsTo, starts_of}
 use Rattle.aig_unroll.proofs.Added.{following-are, following-have}

@@ -1,16 +1,9 @@
 -- A circuit that has a written form has one when it is reduced.
-use Rattle.std.proofs.Common.{◌≡◌, ℕ, ◌<◌, ◌^◌, Bool, true, false, cond, List, [], ◌∷◌, ◌++◌, length, map, sym, subst, inl, inr, arith}
-use Rattle.std.specs.Prelude.{All, Contains, filter, option_to_list, ◌==◌}
-use Rattle.std.proofs.lemmas.List.{length-map}
-use Rattle.std.proofs.lemmas.List.Elements.{All-append, All-cons, All-contains, All-contains_itself, All-filter, All-map, All-nil, All-weaker, Contains-append_cases, Contains-append_left, Contains-append_right, filter_passes}
-use Rattle.std.proofs.lemmas.List.Sums.{count_by-le-length, length-filter}
+use Rattle.aig_base.proofs.Words.{◌≡◌, ℕ, ◌<◌, ◌^◌, Bool, true, false, cond, List, [], ◌∷◌, ◌++◌, length, map, sym, subst, inl, inr, arith, All, Contains, filter, option_to_list, ◌==◌, length-map, All-append, All-cons, All-contains, All-contains_itself, All-filter, All-map, All-nil, All-weaker, Contains-append_cases, Contains-append_left, Contains-append_right, filter_passes, count_by-le-length, length-filter}
 use Rattle.aig.proofs.Strashed.{IsWritable-strashed}
 use Rattle.aig_circuit.specs.declared.edge.AigEdge.{AigEdge}
 use Rattle.aig_circuit.specs.declared.node.AigLatch.{AigLatch}
-use Rattle.aig_circuit.specs.Circuit.{Circuit, IsCircuit, IsClosed, IsLeaf, latch_leaves}
-use Rattle.aig_circuit.specs.Edges.{HasConstantInit, initial_edges, property_edges}
-use Rattle.aig_circuit.specs.Reach.{DependsOn}
-use Rattle.aig_circuit.specs.Renumber.{is_in, position_of, renumbered_edge, renumbered_latch}
+use Rattle.aig_circuit.proofs.Words.{Circuit, IsCircuit, IsClosed, IsLeaf, latch_leaves, HasConstantInit, initial_edges, property_edges, DependsOn, is_in, position_of, renumbered_edge, renumbered_latch}
 use Rattle.aig_circuit.proofs.Listed.{All-entries_of}
 use Rattle.aig_circuit.proofs.Lists.{All-first, All-flat_map, All-second}
 use Rattle.aig_cone.specs.Refine.{AreKept, refined, refining_roots, variable_nodes}

@@ -1,7 +1,6 @@
 -- What the steps of a reduction promise, together.
 use Rattle.std.proofs.Common.{◌≡◌, ℕ, List, refl, subst, sym}
-use Rattle.aig_circuit.specs.Circuit.{Circuit, IsCircuit}
-use Rattle.aig_circuit.specs.Runs.{KeepsRuns}
+use Rattle.aig_circuit.proofs.Words.{Circuit, IsCircuit, KeepsRuns}
 use Rattle.aig_cone.specs.Refine.{AreKept, CutsRuns, refined}
 use Rattle.aig_strash.specs.Exchange.{image_of}
 use Rattle.aig_strash.specs.Strash.{strashed}

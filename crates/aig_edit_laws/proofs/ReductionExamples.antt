@@ -1,20 +1,12 @@
 -- Small circuits reduced by computation, and wrong results, of which the definition is false.
-use Rattle.std.proofs.Common.{◌≡◌, ◌≢◌, ℕ, zero, suc, ◌≤◌, Bool, true, false, Some, List, [], ◌∷◌, length, refl, sym, ap, subst, ◌∙◌, inl, inr, arith}
-use Rattle.std.specs.Prelude.{Contains, filter}
-use Rattle.std.specs.FinMap.{empty}
-use Rattle.std.proofs.lemmas.List.{length-map}
-use Rattle.std.proofs.lemmas.List.Sums.{count_by-le-length, length-filter}
+use Rattle.aig_base.proofs.Words.{◌≡◌, ◌≢◌, ℕ, zero, suc, ◌≤◌, Bool, true, false, Some, List, [], ◌∷◌, length, refl, sym, ap, subst, ◌∙◌, inl, inr, arith, Contains, filter, empty, length-map, count_by-le-length, length-filter}
 use Rattle.aig_circuit.specs.declared.node.AigNodeType.{AigNodeType}
 use Rattle.aig_circuit.specs.declared.node.AigNodeType.TheVariants.{And, False, Leaf}
 use Rattle.aig_circuit.specs.declared.node.AigNode.{AigNode}
 use Rattle.aig_circuit.specs.declared.node.AigLatch.{AigLatch}
-use Rattle.aig_circuit.specs.Node.{kind_at}
-use Rattle.aig_circuit.specs.Edge.{edge_to}
+use Rattle.aig_circuit.proofs.Words.{kind_at, edge_to, Circuit, no_properties, is_in, position_of, renumbered_latch}
 use Rattle.aig_circuit.specs.Tree.{tree_of}
-use Rattle.aig_circuit.specs.Circuit.{Circuit}
-use Rattle.aig_circuit.specs.Properties.{no_properties}
 use Rattle.aig_circuit.specs.Reach.{DependsOn, IsFanin, IsInCone, IsLatchNext, IsReached, root, step}
-use Rattle.aig_circuit.specs.Renumber.{is_in, position_of, renumbered_latch}
 use Rattle.aig_renumber.proofs.Kept.{is_in-back, is_in-there}
 use Rattle.aig_cone.specs.Refine.{AreKept, refined, refining_roots}
 use Rattle.aig_cone.proofs.Keeping.{reached_within}

@@ -1,13 +1,9 @@
 -- A reduced circuit is no larger.
-use Rattle.std.proofs.Common.{◌≡◌, ℕ, ◌≤◌, not, List, length, refl, ◌∙◌, arith}
-use Rattle.std.proofs.lemmas.List.{length-map}
+use Rattle.aig_base.proofs.Words.{◌≡◌, ℕ, ◌≤◌, not, List, length, refl, ◌∙◌, arith, length-map, count_by-le-length, length-filter, filter}
 use Rattle.std.proofs.lemmas.List.Filters.{length-filter_both}
-use Rattle.std.proofs.lemmas.List.Sums.{count_by-le-length, length-filter}
 use Rattle.aig_circuit.specs.declared.node.AigLatch.{AigLatch}
 use Rattle.aig_circuit.specs.declared.node.AigNode.{AigNode}
-use Rattle.aig_circuit.specs.Circuit.{Circuit, IsCircuit}
-use Rattle.std.specs.Prelude.{filter}
-use Rattle.aig_circuit.specs.Renumber.{is_in, position_of, renumbered_edge, renumbered_latch}
+use Rattle.aig_circuit.proofs.Words.{Circuit, IsCircuit, is_in, position_of, renumbered_edge, renumbered_latch}
 use Rattle.aig_renumber.proofs.NodesInOrder.{length-nodes_in_order}
 use Rattle.aig_cone.specs.Refine.{AreKept, refined}
 use Rattle.aig_cone.proofs.Keeping.{kept-few}

@@ -1,14 +1,7 @@
 -- A witness of one step of an unrolled circuit is a run of the circuit with some bad edge at one of its steps.
-use Rattle.std.proofs.Common.{◌≡◌, ◌↔◌, ℕ, ◌+◌, ◌*◌, ◌<◌, ◌≤◌, Bool, true, Some, List, length, IsTrue, get_or, sym, ap, subst, ◌∙◌, arith}
-use Rattle.std.specs.Prelude.{All, slice_get}
-use Rattle.std.specs.List.{list_any}
-use Rattle.std.proofs.lemmas.List.Elements.{All-from_recursion, recursion_from_All}
-use Rattle.std.proofs.lemmas.List.Folds.{Any-from_list_any, list_any_at}
-use Rattle.std.proofs.lemmas.Option.{get_or_from_slice_get, slice_get-get_or, slice_get_within}
+use Rattle.aig_base.proofs.Words.{◌≡◌, ◌↔◌, ℕ, ◌+◌, ◌*◌, ◌<◌, ◌≤◌, Bool, true, Some, List, length, IsTrue, get_or, sym, ap, subst, ◌∙◌, arith, All, slice_get, list_any, All-from_recursion, recursion_from_All, Any-from_list_any, list_any_at, get_or_from_slice_get, slice_get-get_or, slice_get_within}
 use Rattle.aig_circuit.specs.declared.edge.AigEdge.{AigEdge}
-use Rattle.aig_circuit.specs.Circuit.{Circuit}
-use Rattle.aig_circuit.specs.Runs.{IsRun}
-use Rattle.aig_circuit.specs.Tree.{edge_value}
+use Rattle.aig_circuit.proofs.Words.{Circuit, IsRun, edge_value}
 use Rattle.aig_unroll.specs.Places.{Reads}
 use Rattle.aig_unroll.specs.Unroll.{HasStepValues, HasValuesAtSteps, UnrollsTo}
 use Rattle.aig_runs.specs.CircuitQueries.{HasCircuitWitness}

@@ -1,7 +1,6 @@
 -- Circuits that keep one another's runs have the same witnesses.
 use Rattle.std.proofs.Common.{ℕ, Bool, List, sym}
-use Rattle.aig_circuit.specs.Circuit.{Circuit, IsCircuit}
-use Rattle.aig_circuit.specs.Runs.{KeepsRuns}
+use Rattle.aig_circuit.proofs.Words.{Circuit, IsCircuit, KeepsRuns}
 use Rattle.aig_cone.specs.Refine.{CutsRuns, cut_to}
 use Rattle.aig_runs.specs.CircuitQueries.{HasCircuitWitness}
 use Rattle.aig_edit_laws.specs.Reduction.{HaveSameWitnesses}

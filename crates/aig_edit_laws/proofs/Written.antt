@@ -1,9 +1,7 @@
 -- A file that is read again as a circuit has the circuit's witnesses; outputs as bad edges.
 use Rattle.std.proofs.Common.{◌↔◌, ℕ, Bool, length, sym, subst, arith}
 use Rattle.aig_circuit.specs.Circuit.{Circuit}
-use Rattle.aig_format.specs.Circuit.{IsReadAgain, circuit_of, without_other_names}
-use Rattle.aig_format.specs.File.{File}
-use Rattle.aig_format.specs.Fits.{Fits}
+use Rattle.aig_format.proofs.Words.{IsReadAgain, circuit_of, without_other_names, File, Fits}
 use Rattle.aig_format_laws.specs.Nodes.{HasNodeValues, values_over}
 use Rattle.aig_runs.specs.CircuitQueries.{HasCircuitWitness, IsCircuitWitness}
 use Rattle.aig_runs.specs.Queries.{IsWitness}

@@ -1,32 +1,19 @@
 -- The question of a file as a file, and what is told of it.
 use Rattle.std.proofs.Common.{◌≡◌, ◌≢◌, ◌↔◌, ℕ, ◌<◌, ◌≤◌, ◌^◌, ◌==◌, Bool, Option, None, List, [], ◌∷◌, length, map, get_or, IsTrue, Err, refl, sym, ap, subst, ◌∙◌, arith}
-use Rattle.std.specs.Prelude.{All, IfSome, IsSomeAnd, IsUtf8, Contains}
-use Rattle.std.specs.FinMap.{contains_key, get, get-empty}
-use Rattle.std.specs.List.{list_any}
+use Rattle.aig_base.proofs.Words.{All, IfSome, IsSomeAnd, IsUtf8, Contains, contains_key, get, get-empty, list_any, eqb-true, false≢true, Decides-eqb, All-from_recursion, All-nil, Any-from_list_any, IsDistinct-from_AllPairs, length-le_from_distinct_below}
 use Rattle.std.specs.Option.{is_some}
 use Rattle.std.specs.Ordering.{nat_cmp}
-use Rattle.std.proofs.lemmas.Bool.{eqb-true, false≢true}
-use Rattle.std.proofs.lemmas.Bool.Decides.{Decides-eqb}
-use Rattle.std.proofs.lemmas.List.Elements.{All-from_recursion, All-nil}
-use Rattle.std.proofs.lemmas.List.Folds.{Any-from_list_any}
-use Rattle.std.proofs.lemmas.Map.Made.{IsDistinct-from_AllPairs}
-use Rattle.std.proofs.lemmas.Map.Steps.{length-le_from_distinct_below}
 use Rattle.aig_bounded.specs.Question.{IsQuestion}
 use Rattle.aig_bounded.specs.declared.place.Place.{Place}
 use Rattle.aig_circuit.specs.declared.edge.AigEdge.{AigEdge}
 use Rattle.aig_circuit.specs.declared.node.AigLatch.{AigLatch}
 use Rattle.aig_circuit.specs.declared.node.AigNodeType.TheVariants.{Leaf}
-use Rattle.aig_circuit.specs.Circuit.{Circuit, IsCircuit}
-use Rattle.aig_circuit.specs.Edges.{HasConstantInit}
-use Rattle.aig_circuit.specs.Properties.{Properties}
-use Rattle.aig_circuit.specs.Tree.{edge_value}
+use Rattle.aig_circuit.proofs.Words.{Circuit, IsCircuit, HasConstantInit, Properties, edge_value}
 use Rattle.aig_circuit.proofs.Trees.{kind_at-within}
 use Rattle.aig_edit_laws.specs.Shown.{HasCircuitOutput, HasOutput, HasWitness}
 use Rattle.aig_edit_laws.proofs.Compressed.{or_false}
-use Rattle.aig_format.specs.Circuit.{IsReadAgain, circuit_of, edge_of, file_of}
+use Rattle.aig_format.proofs.Words.{IsReadAgain, circuit_of, edge_of, file_of, File, AreTexts, FitsFormat, IsWritable, list_lengths}
 use Rattle.aig_format.specs.declared.FileKind.TheVariants.{Text}
-use Rattle.aig_format.specs.File.{File}
-use Rattle.aig_format.specs.Writable.{AreTexts, FitsFormat, IsWritable, list_lengths}
 use Rattle.aig_reader.specs.Verdicts.{Accepted, verdict_by}
 use Rattle.aig_runs.specs.CircuitQueries.{HasCircuitWitness}
 use Rattle.aig_edits.specs.declared.edit_error.EditError.{EditError}

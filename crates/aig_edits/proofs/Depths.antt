@@ -1,17 +1,13 @@
 -- Levels of nodes, and the greatest of them.
-use Rattle.std.proofs.Common.{◌≡◌, ◌⊎◌, ℕ, zero, suc, ◌+◌, ◌<◌, ◌≤◌, Some, List, length, refl, sym, ap, subst, ◌∙◌, inl, inr, arith}
-use Rattle.std.specs.Prelude.{slice_index}
-use Rattle.std.proofs.lemmas.Option.{same_Some}
+use Rattle.aig_base.proofs.Words.{◌≡◌, ◌⊎◌, ℕ, zero, suc, ◌+◌, ◌<◌, ◌≤◌, Some, List, length, refl, sym, ap, subst, ◌∙◌, inl, inr, arith, slice_index, same_Some}
 use Rattle.aig_circuit.specs.declared.edge.AigEdge.{AigEdge}
 use Rattle.aig_circuit.specs.declared.node.AigNode.{AigNode}
 use Rattle.aig_circuit.specs.declared.node.AigNodeType.{AigNodeType}
 use Rattle.aig_circuit.specs.declared.node.AigNodeType.TheVariants.{And}
-use Rattle.aig_circuit.specs.Node.{IsOrdered, kind_at}
+use Rattle.aig_circuit.proofs.Words.{IsOrdered, kind_at, Circuit}
 use Rattle.aig_circuit.proofs.Building.{same_first, same_second}
 use Rattle.aig_circuit.proofs.Trees.{kind_at-within}
-use Rattle.aig_circuit.specs.Circuit.{Circuit}
-use Rattle.aig_format.specs.Circuit.{circuit_of}
-use Rattle.aig_format.specs.File.{File}
+use Rattle.aig_format.proofs.Words.{circuit_of, File}
 use Rattle.aig_edits.specs.Info.{HasPath, IsDepth, IsInfo, counts_of, info_text}
 use Rattle.aig_edits.specs.declared.info.Counts.{Counts}
 use Rattle.aig_edits.specs.Levels.{AreLevels, IsLevel}

@@ -1,18 +1,14 @@
 -- What the parts of an edit tell, at each way out of them.
-use Rattle.std.proofs.Common.{◌≡◌, ◌≢◌, ◌⊎◌, ℕ, Bool, List, Option, Some, None, Result, Ok, Err, refl, sym, ap, subst, inl, inr}
+use Rattle.aig_base.proofs.Words.{◌≡◌, ◌≢◌, ◌⊎◌, ℕ, Bool, List, Option, Some, None, Result, Ok, Err, refl, sym, ap, subst, inl, inr, Contains-append_cases, get_or_from_slice_get, slice_get_within}
 use Rattle.std.specs.Prelude.{Any, IfSome, IsErrOf, IsSomeAnd, IsTrue, slice_get}
-use Rattle.std.proofs.lemmas.List.Elements.{Contains-append_cases}
-use Rattle.std.proofs.lemmas.Option.{get_or_from_slice_get, slice_get_within}
 use Rattle.aig.specs.declared.aiger.WriteError.{WriteError}
 use Rattle.aig.specs.declared.aiger.WriteError.TheVariants as write
 use Rattle.aig.specs.Writing.{IsRefusal, IsVerdictOf}
 use Rattle.aig_circuit.specs.declared.edge.AigEdge.{AigEdge}
-use Rattle.aig_circuit.specs.Circuit.{Circuit, HasFreeLeaf, IsCircuit, IsInRange, latch_leaves}
-use Rattle.aig_circuit.specs.Edges.{HasConstantInit, HasNonConstantInit}
+use Rattle.aig_circuit.proofs.Words.{Circuit, HasFreeLeaf, IsCircuit, IsInRange, latch_leaves, HasConstantInit, HasNonConstantInit}
 use Rattle.aig_edit_laws.specs.Plain.{IsPlain}
-use Rattle.aig_format.specs.Circuit.{text_of}
+use Rattle.aig_format.proofs.Words.{text_of, HasLineFeed, IsWritable, named_nodes}
 use Rattle.aig_output.specs.Sinks.{AppendsBeginning}
-use Rattle.aig_format.specs.Writable.{HasLineFeed, IsWritable, named_nodes}
 use Rattle.aig_edits.specs.declared.edit.Edit.{Edit}
 use Rattle.aig_edits.specs.declared.edit_error.EditError.{EditError}
 use Rattle.aig_edits.specs.declared.edit_error.EditError.TheVariants as errors

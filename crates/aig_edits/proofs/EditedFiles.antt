@@ -1,12 +1,8 @@
 -- What is printed of the circuit of a file is printed of the file.
-use Rattle.std.proofs.Common.{◌≡◌, ℕ, ◌<◌, Bool, List, [], ◌∷◌, Option, Result, Ok, Err, map, refl, sym, ap, subst}
-use Rattle.std.specs.Prelude.{IfErr}
-use Rattle.std.proofs.lemmas.List.{length-map}
+use Rattle.aig_base.proofs.Words.{◌≡◌, ℕ, ◌<◌, Bool, List, [], ◌∷◌, Option, Result, Ok, Err, map, refl, sym, ap, subst, IfErr, length-map}
 use Rattle.aig_circuit.specs.Circuit.{Circuit}
-use Rattle.aig_format.specs.Circuit.{IsReadAgain, circuit_of, edge_of, file_of}
+use Rattle.aig_format.proofs.Words.{IsReadAgain, circuit_of, edge_of, file_of, File, Accepts, Fits}
 use Rattle.aig_format.specs.declared.FileKind.TheVariants.{Text}
-use Rattle.aig_format.specs.File.{File}
-use Rattle.aig_format.specs.Fits.{Accepts, Fits}
 use Rattle.aig.specs.Reading.{IsFileCircuit}
 use Rattle.aig_reader.specs.Reading.{IsReadAs}
 use Rattle.aig_reader.specs.Verdicts.{Accepted, Judges, verdict_by}

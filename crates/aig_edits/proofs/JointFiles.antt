@@ -1,16 +1,9 @@
 -- The joint circuit of two files, from that of their circuits.
-use Rattle.std.proofs.Common.{◌≡◌, ℕ, ◌/◌, ◌≤◌, ◌^◌, List, length, Result, Ok, Err, refl, sym, subst, ◌∙◌, arith}
-use Rattle.std.specs.Prelude.{IfErr, IfOk}
-use Rattle.std.proofs.lemmas.List.{length-map}
-use Rattle.aig_circuit.specs.Circuit.{Circuit, IsCircuit}
-use Rattle.aig_circuit.specs.View.{lists_circuit}
+use Rattle.aig_base.proofs.Words.{◌≡◌, ℕ, ◌/◌, ◌≤◌, ◌^◌, List, length, Result, Ok, Err, refl, sym, subst, ◌∙◌, arith, IfErr, IfOk, length-map}
+use Rattle.aig_circuit.proofs.Words.{Circuit, IsCircuit, lists_circuit}
 use Rattle.aig_circuit.specs.declared.view.CircuitLists.{CircuitLists}
-use Rattle.aig_format.specs.Circuit.{IsReadAgain, circuit_of, edge_of, file_of, latch_of}
+use Rattle.aig_format.proofs.Words.{IsReadAgain, circuit_of, edge_of, file_of, latch_of, File, Accepts, node_of_variable, FitsFormat}
 use Rattle.aig_format.specs.declared.FileKind.TheVariants.{Text}
-use Rattle.aig_format.specs.File.{File}
-use Rattle.aig_format.specs.Fits.{Accepts}
-use Rattle.aig_format.specs.Numbering.{node_of_variable}
-use Rattle.aig_format.specs.Writable.{FitsFormat}
 use Rattle.aig_format.proofs.Circuits.{IsCircuit-of_file}
 use Rattle.aig_join.proofs.Files.{HasLeavesOf-files, HaveSameCounts-files}
 use Rattle.aig_join.proofs.Written.{written-certified, written-miter}

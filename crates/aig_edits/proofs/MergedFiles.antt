@@ -10,11 +10,8 @@ use Rattle.aig_edit_laws.proofs.Machines.{Joined, runs_shown}
 use Rattle.aig_edit_laws.proofs.Paired.{merged_witnesses}
 use Rattle.aig_edit_laws.proofs.PlainForms.{plain-merged}
 use Rattle.aig_edit_laws.proofs.Written.{JoinsWitnesses, written_witnesses}
-use Rattle.aig_format.specs.Circuit.{IsReadAgain, circuit_of, file_of}
+use Rattle.aig_format.proofs.Words.{IsReadAgain, circuit_of, file_of, File, Accepts, Fits, FitsFormat, IsWritable}
 use Rattle.aig_format.specs.declared.FileKind.TheVariants.{Text}
-use Rattle.aig_format.specs.File.{File}
-use Rattle.aig_format.specs.Fits.{Accepts, Fits}
-use Rattle.aig_format.specs.Writable.{FitsFormat, IsWritable}
 use Rattle.aig_format.proofs.Circuits.{IsCircuit-of_file}
 use Rattle.aig_format.proofs.Numbers.{used_known}
 use Rattle.aig_format_laws.specs.Nodes.{values_over}

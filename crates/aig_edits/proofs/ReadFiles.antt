@@ -1,8 +1,6 @@
 -- What a call that reads one file tells, from what the reading told.
-use Rattle.std.proofs.Common.{◌≡◌, ◌≢◌, ℕ, Bool, List, Option, Result, Err, sym, subst}
-use Rattle.std.specs.Prelude.{IfErr}
-use Rattle.aig_format.specs.File.{File}
-use Rattle.aig_format.specs.Fits.{Accepts, Fits}
+use Rattle.aig_base.proofs.Words.{◌≡◌, ◌≢◌, ℕ, Bool, List, Option, Result, Err, sym, subst, IfErr}
+use Rattle.aig_format.proofs.Words.{File, Accepts, Fits}
 use Rattle.aig_reader.specs.declared.error.ReadError.{ReadError}
 use Rattle.aig_reader.specs.declared.error.ReadError.TheVariants as read
 use Rattle.aig_reader.specs.Reading.{IsReadAs}

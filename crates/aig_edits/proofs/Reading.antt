@@ -1,9 +1,7 @@
 -- What a call that reads two files tells, by parts, and from what another told.
-use Rattle.std.proofs.Common.{◌≡◌, ℕ, Bool, List, Option, Result, Ok, refl, sym, subst, ◌∙◌}
-use Rattle.std.specs.Prelude.{IfErr}
+use Rattle.aig_base.proofs.Words.{◌≡◌, ℕ, Bool, List, Option, Result, Ok, refl, sym, subst, ◌∙◌, IfErr}
 use Rattle.aig_circuit.specs.declared.view.CircuitLists.{CircuitLists}
-use Rattle.aig_format.specs.File.{File}
-use Rattle.aig_format.specs.Fits.{Accepts}
+use Rattle.aig_format.proofs.Words.{File, Accepts}
 use Rattle.aig_reader.specs.Reading.{AreListsOf, IsReadAs}
 use Rattle.aig_reader.specs.Verdicts.{Accepted, Judges, Verdict, verdict_by}
 use Rattle.aig_edits.specs.Pairs.{ReadsPair}

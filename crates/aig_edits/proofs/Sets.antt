@@ -1,8 +1,6 @@
 -- Sets of numbers.
-use Rattle.std.proofs.Common.{◌≡◌, ℕ, Bool, true, false, refl, sym, ◌∙◌}
-use Rattle.std.specs.Prelude.{nat_eq}
+use Rattle.aig_base.proofs.Words.{◌≡◌, ℕ, Bool, true, false, refl, sym, ◌∙◌, nat_eq, nat_eq_equiv}
 use Rattle.std.specs.HashSet.{HashSet, contains}
-use Rattle.std.proofs.lemmas.Cmp.{nat_eq_equiv}
 use Rattle.std.proofs.lemmas.Map.Views.{exact_unsigned_eq, hash_set_contains_iff}
 use Rattle.aig_circuit.specs.Renumber.{is_in}
 use Rattle.aig_renumber.proofs.Kept.{is_in-back, is_in-there}

@@ -1,9 +1,7 @@
 -- What is promised of a circuit that was read: an encoding of it, or one of two refusals.
 use Rattle.std.proofs.Common.{ℕ, ◌<◌, ◌≤◌, Bool, Option, Result, Ok, Err, List, sym, subst}
 use Rattle.aig_circuit.specs.Circuit.{Circuit}
-use Rattle.aig_format.specs.Circuit.{circuit_of}
-use Rattle.aig_format.specs.File.{File}
-use Rattle.aig_format.specs.Fits.{Accepts, Fits}
+use Rattle.aig_format.proofs.Words.{circuit_of, File, Accepts, Fits}
 use Rattle.aig_reader.specs.Reading.{IsReadAs}
 use Rattle.aig_reader.specs.Verdicts.{Accepted, IsOfFile, IsSaidOf, Judges, verdict_by}
 use Rattle.aig_reader.proofs.Verdicts.{said_of_read}

@@ -1,9 +1,7 @@
 -- A wrong refusal, and an answer past the limit, of which the definition is false.
 use Rattle.std.proofs.Common.{◌≡◌, ℕ, None, List, [], ◌∷◌, refl, arith}
 use Rattle.aig_format.specs.declared.FileKind.TheVariants.{Text}
-use Rattle.aig_format.specs.File.{File, GateLine, LatchLine}
-use Rattle.aig_format.specs.Fits.{Accepts}
-use Rattle.aig_format.specs.Circuit.{circuit_of}
+use Rattle.aig_format.proofs.Words.{File, GateLine, LatchLine, Accepts, circuit_of}
 use Rattle.aig_format.specs.Numbering.{node_of_variable, variables_in_order}
 use Rattle.aig_unroll.specs.Places.{unrolled_size}
 use Rattle.aig_circuit.specs.Properties.{no_properties}

@@ -1,9 +1,6 @@
 -- What encoding says of a file, by its size.
-use Rattle.std.proofs.Common.{◌≡◌, ℕ, ◌<◌, ◌≤◌, Bool, ap}
-use Rattle.std.specs.Prelude.{if◌then◌else◌}
-use Rattle.std.proofs.lemmas.Bool.{le-leb, lt-leb}
-use Rattle.aig_format.specs.Circuit.{circuit_of}
-use Rattle.aig_format.specs.File.{File}
+use Rattle.aig_base.proofs.Words.{◌≡◌, ℕ, ◌<◌, ◌≤◌, Bool, ap, if◌then◌else◌, le-leb, lt-leb}
+use Rattle.aig_format.proofs.Words.{circuit_of, File}
 use Rattle.aig_reader.specs.Verdicts.{Accepted, TooLarge}
 use Rattle.aig_unroll.specs.Places.{unrolled_size}
 use Rattle.aig_encode.specs.Encoding.{encoded_verdict}

@@ -1,10 +1,7 @@
 -- Each file passes no tests.
-use Rattle.std.proofs.Common.{◌≡◌, ℕ, true, List, [], ◌∷◌, ◌++◌, Some, refl}
+use Rattle.aig_base.proofs.Words.{◌≡◌, ℕ, true, List, [], ◌∷◌, ◌++◌, Some, refl, AllByRecursion}
 use Rattle.std.specs.Prelude.{IsTrue}
-use Rattle.std.specs.List.{AllByRecursion}
-use Rattle.aig_format.specs.File.{File, defined}
-use Rattle.aig_format.specs.Spells.{Spells}
-use Rattle.aig_format.specs.Fits.{AllPass}
+use Rattle.aig_format.proofs.Words.{File, defined, Spells, AllPass}
 use Rattle.aig_format.proofs.Entries.{rec_all, rec_all_sets}
 use Rattle.aig_format.specs.Parse.{no_tests, parse_file}
 use Rattle.aig_format.proofs.EntryFacts.{AllAfter, Passes}

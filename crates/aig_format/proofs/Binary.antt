@@ -1,7 +1,5 @@
 -- Differences of a binary file are read from the front exactly.
-use Rattle.std.proofs.Common.{◌≡◌, ℕ, zero, suc, ◌+◌, ◌-◌, ◌*◌, ◌^◌, ◌<◌, ◌≤◌, Bool, ltb, List, [], ◌∷◌, ◌++◌, length, Some, refl, ap, subst, arith, inl, inr}
-use Rattle.std.proofs.lemmas.Bool.{ltb-true, ltb-false, lt-ltb, le-ltb}
-use Rattle.std.proofs.lemmas.Option.{same_Some}
+use Rattle.aig_base.proofs.Words.{◌≡◌, ℕ, zero, suc, ◌+◌, ◌-◌, ◌*◌, ◌^◌, ◌<◌, ◌≤◌, Bool, ltb, List, [], ◌∷◌, ◌++◌, length, Some, refl, ap, subst, arith, inl, inr, ltb-true, ltb-false, lt-ltb, le-ltb, same_Some}
 use Rattle.aig_format.specs.Text.{Groups, IsDelta}
 use Rattle.aig_format.specs.Parse.{◌>>=◌, parse_groups, parse_delta}
 use Rattle.aig_format.proofs.Entries.{chosen}

@@ -3,31 +3,18 @@ use Rattle.std.proofs.Common.{◌≡◌, ◌≢◌, ℕ, ◌/◌, ◌%◌, ◌<�
 use Rattle.std.specs.Prelude.{nat_eq, nat_lt, ◌==◌, All, AllPairs, Contains, IfSome, IsTrue, is_some, slice_index, unwrap_or, filter_map, not}
 use Rattle.std.specs.List.{AllByRecursion, IsDistinct, list_any, flat_map, cons_option}
 use Rattle.std.specs.FinMap.{contains_key, find as find_key, get-from_entries}
-use Rattle.std.specs.Ordering.{eq_by_cmp}
-use Rattle.std.proofs.lemmas.Cmp.{nat_cmp_total}
-use Rattle.std.proofs.lemmas.Bool.{eqb-true, eqb-false, eq-eqb, ne_eqb, false≢true, and_parts, ltb-true, or_right}
-use Rattle.std.proofs.lemmas.Bool.Decides.{nat_tests, Decides-eqb}
-use Rattle.std.proofs.lemmas.List.{map-append, length-map}
-use Rattle.std.proofs.lemmas.List.Elements.{All-from_recursion, All-map, All-contains, All-contains_itself}
+use Rattle.aig_base.proofs.Words.{eq_by_cmp, nat_cmp_total, eqb-true, eqb-false, eq-eqb, ne_eqb, false≢true, and_parts, ltb-true, or_right, nat_tests, Decides-eqb, map-append, length-map, All-from_recursion, All-map, All-contains, All-contains_itself, is_utf8}
 use Rattle.std.proofs.lemmas.Map.Made.{AllPairs-from_IsDistinct}
 use Rattle.aig_circuit.specs.declared.node.AigNodeType.TheVariants.{False, Leaf}
-use Rattle.aig_circuit.specs.Edge.{edge_to}
-use Rattle.aig_circuit.specs.Properties.{AllProperties, entries_of}
-use Rattle.aig_circuit.specs.Circuit.{IsInRange, IsLeaf, IsLatch, IsCircuit, latch_leaves}
+use Rattle.aig_circuit.proofs.Words.{edge_to, AllProperties, entries_of, IsInRange, IsLeaf, IsLatch, IsCircuit, latch_leaves}
 use Rattle.aig_circuit.proofs.Listed.{AllProperties-map}
-use Rattle.aig_format.specs.File.{LatchLine, GateLine, NameLine, File, defined, used, header_of}
-use Rattle.aig_format.specs.Variables.{is_defined, IsKnown, gate_of_variable}
-use Rattle.aig_format.specs.Numbering.{node_of_variable}
-use Rattle.aig_format.specs.Fits.{Fits, IsDefinable, AllPass, is_name}
+use Rattle.aig_format.proofs.Words.{LatchLine, GateLine, NameLine, File, defined, used, header_of, is_defined, IsKnown, gate_of_variable, node_of_variable, Fits, IsDefinable, AllPass, is_name, edge_of, kind_of, kind_by, initial_of, latch_of, named_node, circuit_of, count_of, is_kept}
 use Rattle.aig_format.proofs.Rules.{definable_told, even_literal}
-use Rattle.aig_format.specs.Circuit.{edge_of, kind_of, kind_by, initial_of, latch_of, named_node, circuit_of}
 use Rattle.aig_format.proofs.Entries.{rec_entries, rec_map, rec_weaker, rec_both, rec_parts, rec_unmap}
 use Rattle.aig_format.proofs.Searches.{find_none}
 use Rattle.aig_format.proofs.Members.{rec_at}
 use Rattle.aig_format.proofs.Numbers.{half_differs, node_of_variable-one}
 use Rattle.aig_format.proofs.Nodes.{nodes_of, length-nodes, kind_at-number, AreNodes-of_file, HasNode, known_has_node, used_have_nodes}
-use Rattle.aig_format.specs.Letters.{count_of, is_kept}
-use Rattle.std.specs.Str.{is_utf8}
 
 -- ---- lists
 

@@ -1,13 +1,9 @@
 -- Inputs, latches and gates of both kinds of file are read from the front exactly, each beside the literals that are defined before it.
-use Rattle.std.proofs.Common.{◌≡◌, ℕ, ◌+◌, ◌-◌, ◌*◌, ◌≤◌, ◌&&◌, cond, eqb, List, [], ◌∷◌, ◌++◌, length, map, Option, Some, None, refl, sym, ap, subst, ◌∙◌, append_assoc, arith, inl, inr}
+use Rattle.aig_base.proofs.Words.{◌≡◌, ℕ, ◌+◌, ◌-◌, ◌*◌, ◌≤◌, ◌&&◌, cond, eqb, List, [], ◌∷◌, ◌++◌, length, map, Option, Some, None, refl, sym, ap, subst, ◌∙◌, append_assoc, arith, inl, inr, and_parts, and_from, eqb-true, leb-true, le-leb, same_Some}
 use Rattle.std.specs.Prelude.{IsTrue, nat_le, option_to_list}
-use Rattle.std.proofs.lemmas.Bool.{and_parts, and_from, eqb-true, leb-true, le-leb}
-use Rattle.std.proofs.lemmas.Option.{same_Some}
-use Rattle.aig_format.specs.Text.{◌then◌, Just, IsDigit, Ended, IsLine, IsDelta}
+use Rattle.aig_format.proofs.Words.{◌then◌, Just, IsDigit, Ended, IsLine, IsDelta, LatchLine, GateLine, Latch, Gate}
 use Rattle.aig_format.specs.declared.FileKind.{FileKind}
 use Rattle.aig_format.specs.declared.FileKind.TheVariants.{Text, Binary}
-use Rattle.aig_format.specs.File.{LatchLine, GateLine}
-use Rattle.aig_format.specs.Spells.{Latch, Gate}
 use Rattle.aig_format.specs.Parse.{◌>>=◌, LineTests, parse_number, parse_ended, parse_both, parse_if, parse_map, parse_delta, parse_next_and_reset, parse_own, parse_input, latch_line_from, parse_latch, fits_gate, parse_operands, gate_line_from, parse_gate}
 use Rattle.aig_format.proofs.Entries.{chosen}
 use Rattle.aig_format.proofs.NumberReaders.{bind_some, number_sound}

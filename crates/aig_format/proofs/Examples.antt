@@ -1,10 +1,9 @@
 -- Small files and circuits, computed: the definitions give what the format wants of them.
 use Rattle.std.specs.Prelude.{◌≡◌, ℕ, List, [], ◌∷◌, codes, refl}
 use Rattle.std.proofs.Common.{lit<, lit≤, arith}
-use Rattle.aig_format.specs.Text.{IsDelta}
+use Rattle.aig_format.proofs.Words.{IsDelta, File}
 use Rattle.aig_circuit.specs.Properties.{no_properties}
 use Rattle.aig_format.specs.declared.FileKind.TheVariants.{Text}
-use Rattle.aig_format.specs.File.{File}
 use Rattle.aig_format.specs.Written.{file_text, line_text}
 use Rattle.std.specs.Fmt.{digits}
 

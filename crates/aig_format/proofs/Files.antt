@@ -1,11 +1,9 @@
 -- A file is read with tests exactly where the bytes spell it and it passes them.
-use Rattle.std.proofs.Common.{◌≡◌, ◌↔◌, ℕ, suc, List, [], ◌∷◌, ◌++◌, length, Some, refl, sym, ap, subst, ◌∙◌, arith}
+use Rattle.aig_base.proofs.Words.{◌≡◌, ◌↔◌, ℕ, suc, List, [], ◌∷◌, ◌++◌, length, Some, refl, sym, ap, subst, ◌∙◌, arith, same_Some}
 use Rattle.std.specs.Prelude.{IsTrue}
-use Rattle.std.proofs.lemmas.Option.{same_Some}
-use Rattle.aig_format.specs.Text.{◌then◌, Each}
+use Rattle.aig_format.proofs.Words.{◌then◌, Each, NameLine, File, HeaderNumbers, header_of}
 use Rattle.aig_format.specs.declared.FileKind.{FileKind}
 use Rattle.aig_format.specs.declared.FileKind.TheVariants.{Text, Binary}
-use Rattle.aig_format.specs.File.{NameLine, File, HeaderNumbers, header_of}
 use Rattle.aig_format.specs.Spells.{Inputs, PropertyLines, Body, Spells}
 use Rattle.aig_format.specs.Parse.{◌>>=◌, Tests, Parts, parse_header, parse_sections, parse_if, parse_body, parse_tail, file_from, parse_file}
 use Rattle.aig_format.proofs.NumberReaders.{bind_some}

@@ -1,19 +1,14 @@
 -- A file passes the tests of the running reader exactly where it fits.
 use Rattle.std.proofs.Common.{◌≡◌, ◌↔◌, ℕ, ◌+◌, ◌*◌, ◌≤◌, true, List, [], ◌∷◌, ◌++◌, length, map, refl, sym, subst, ◌∙◌, leb-true, le-leb, arith, Some}
 use Rattle.std.specs.Prelude.{IsTrue, nat_eq, nat_le}
-use Rattle.std.specs.List.{AllByRecursion, IsDistinct}
-use Rattle.std.proofs.lemmas.Bool.{and_parts, and_from, eqb-true, lt-ltb, ltb-true}
-use Rattle.aig_format.specs.Text.{Each}
+use Rattle.aig_base.proofs.Words.{AllByRecursion, IsDistinct, and_parts, and_from, eqb-true, lt-ltb, ltb-true}
+use Rattle.aig_format.proofs.Words.{Each, LatchLine, GateLine, File, header_of, defined, Gate, Placed, Spells, is_increasing, is_above_operands, is_compact, file_from}
 use Rattle.aig_format.specs.declared.FileKind.{FileKind}
 use Rattle.aig_format.specs.declared.FileKind.TheVariants.{Text, Binary}
-use Rattle.aig_format.specs.File.{LatchLine, GateLine, File, header_of, defined}
-use Rattle.aig_format.specs.Spells.{Gate, Placed, Spells}
-use Rattle.aig_format.specs.Numbering.{is_increasing, is_above_operands, is_compact}
 use Rattle.aig_format.specs.Fits.{AllPass, IsDefinable, is_literal, has_reset, count_defined, has_enough, is_accepted_order, Fits, Accepts}
 use Rattle.aig_format.proofs.Entries.{rec_append, rec_both, rec_map, rec_weaker, length-defined, on_used}
 use Rattle.aig_format.proofs.Rules.{definable_told, above_from, above_told, compact_from, compact_ordered, rising_distinct}
 use Rattle.aig_format.proofs.Places.{places_definable, places_rise, rising_end}
-use Rattle.aig_format.specs.Parse.{file_from}
 use Rattle.aig_format.specs.ParseTested.{parse_fitting, may_define, has_next, may_use, fitting}
 use Rattle.aig_format.proofs.EntryFacts.{AllAfter, Passes}
 use Rattle.aig_format.proofs.EntryLines.{latch_key, gate_key}

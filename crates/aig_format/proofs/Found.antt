@@ -1,8 +1,6 @@
 -- Lines that are found by the variables that they define.
-use Rattle.std.proofs.Common.{◌≡◌, ℕ, ◌/◌, ◌%◌, false, List, [], ◌∷◌, map, cond, Some, refl, ap, ◌∙◌}
-use Rattle.std.specs.Prelude.{nat_eq, find, ◌==◌}
+use Rattle.aig_base.proofs.Words.{◌≡◌, ℕ, ◌/◌, ◌%◌, false, List, [], ◌∷◌, map, cond, Some, refl, ap, ◌∙◌, nat_eq, find, ◌==◌, eq-eqb}
 use Rattle.std.specs.List.{AllByRecursion, IsDistinct}
-use Rattle.std.proofs.lemmas.Bool.{eq-eqb}
 use Rattle.aig_format.proofs.Entries.{rec_weaker, rec_both, rec_unmap}
 use Rattle.aig_format.proofs.Numbers.{half_differs}
 

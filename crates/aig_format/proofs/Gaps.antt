@@ -1,17 +1,13 @@
 -- Text files with missing variables and unordered gates, computed: which fit, how their variables are numbered, and what is printed of their circuits.
 use Rattle.std.proofs.Common.{◌≡◌, ℕ, true, false, Some, None, List, [], ◌∷◌, map, refl, lit≤, arith}
-use Rattle.std.specs.Prelude.{codes}
+use Rattle.aig_base.proofs.Words.{codes, false≢true}
 use Rattle.std.specs.Fmt.{digits}
-use Rattle.std.proofs.lemmas.Bool.{false≢true}
 use Rattle.std.specs.List.{IsDistinct}
 use Rattle.aig_circuit.specs.Properties.{no_properties}
 use Rattle.aig_format.specs.declared.FileKind.TheVariants.{Text, Binary}
-use Rattle.aig_format.specs.File.{LatchLine, GateLine, File, HeaderNumbers}
+use Rattle.aig_format.proofs.Words.{LatchLine, GateLine, File, HeaderNumbers, level_of, Fits, has_enough, circuit_of, file_of}
 use Rattle.aig_format.specs.Written.{file_text, line_text}
-use Rattle.aig_format.specs.Levels.{level_of}
 use Rattle.aig_format.specs.Numbering.{is_compact, node_of_variable, variables_in_order}
-use Rattle.aig_format.specs.Fits.{Fits, has_enough}
-use Rattle.aig_format.specs.Circuit.{circuit_of, file_of}
 use Rattle.aig_format.proofs.Examples.{and_file}
 
 -- ---- files

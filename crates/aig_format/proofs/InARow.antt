@@ -1,13 +1,10 @@
 -- Readers in a row whose values are the parts of one record.
-use Rattle.std.proofs.Common.{◌≡◌, ℕ, Bool, List, [], ◌++◌, length, map, Option, refl, sym, ap, subst, ◌∙◌, append_assoc}
+use Rattle.aig_base.proofs.Words.{◌≡◌, ℕ, Bool, List, [], ◌++◌, length, map, Option, refl, sym, ap, subst, ◌∙◌, append_assoc, length-map}
 use Rattle.std.specs.Prelude.{IsTrue}
-use Rattle.std.proofs.lemmas.List.{length-map}
 use Rattle.aig_circuit.specs.Properties.{Properties, AllProperties}
-use Rattle.aig_format.specs.Text.{◌then◌, Each, Lines}
+use Rattle.aig_format.proofs.Words.{◌then◌, Each, Lines, LatchLine, GateLine, HeaderNumbers, AllPass}
 use Rattle.aig_format.specs.declared.FileKind.{FileKind}
-use Rattle.aig_format.specs.File.{LatchLine, GateLine, HeaderNumbers}
 use Rattle.aig_format.specs.Spells.{Latch, Gate, JusticeLines}
-use Rattle.aig_format.specs.Fits.{AllPass}
 use Rattle.aig_format.proofs.Entries.{rec_all, rec_all_sets}
 use Rattle.aig_format.specs.Parse.{◌>>=◌, LineTests, Parts, parse_map, parse_entries, parse_input, parse_latch, parse_gate, parse_numbers, parse_tested, parse_sets, parse_justice, parse_properties, parse_sections}
 use Rattle.aig_format.proofs.NumberReaders.{bind_some}

@@ -1,10 +1,7 @@
 -- Readers from the front that read a text exactly, and how they are joined.
-use Rattle.std.proofs.Common.{◌≡◌, ℕ, zero, suc, Bool, true, cond, eqb, List, [], ◌∷◌, ◌++◌, length, Option, Some, None, refl, sym, ap, subst, ◌∙◌, append_assoc}
+use Rattle.aig_base.proofs.Words.{◌≡◌, ℕ, zero, suc, Bool, true, cond, eqb, List, [], ◌∷◌, ◌++◌, length, Option, Some, None, refl, sym, ap, subst, ◌∙◌, append_assoc, AllByRecursion, eqb-true, eq-eqb, same_Some, cond_some}
 use Rattle.std.specs.Prelude.{IsTrue}
-use Rattle.std.specs.List.{AllByRecursion}
-use Rattle.std.proofs.lemmas.Bool.{eqb-true, eq-eqb}
-use Rattle.std.proofs.lemmas.Option.{same_Some, cond_some}
-use Rattle.aig_format.specs.Text.{◌then◌, Each, IsDigit, Ended}
+use Rattle.aig_format.proofs.Words.{◌then◌, Each, IsDigit, Ended}
 use Rattle.aig_format.specs.Parse.{◌>>=◌, parse_number, parse_ended, parse_both, parse_if, parse_map, parse_entries, parse_times}
 use Rattle.aig_format.proofs.EntryFacts.{AllAfter, after_each}
 use Rattle.aig_format.proofs.NumberReaders.{bind_some, number_sound, number_complete}

@@ -1,13 +1,9 @@
 -- The written form of a file spells it.
-use Rattle.std.proofs.Common.{◌≡◌, ℕ, suc, ◌-◌, List, [], ◌∷◌, ◌++◌, length, map, replicate, refl, sym, ap, subst, ◌∙◌, append_assoc, append-nil, arith, inl, inr}
-use Rattle.std.specs.Prelude.{All, option_to_list, ◌==◌, decimal}
-use Rattle.std.specs.List.{AllByRecursion, flat_map}
-use Rattle.std.proofs.lemmas.Bool.{eqb-true}
+use Rattle.aig_base.proofs.Words.{◌≡◌, ℕ, suc, ◌-◌, List, [], ◌∷◌, ◌++◌, length, map, replicate, refl, sym, ap, subst, ◌∙◌, append_assoc, append-nil, arith, inl, inr, All, option_to_list, ◌==◌, decimal, AllByRecursion, flat_map, eqb-true}
 use Rattle.aig_circuit.specs.Properties.{Properties, AllProperties}
-use Rattle.aig_format.specs.Text.{IsLine, Lines}
+use Rattle.aig_format.proofs.Words.{IsLine, Lines, LatchLine, GateLine, NameLine, File, HeaderNumbers, header_of}
 use Rattle.aig_format.specs.declared.FileKind.{FileKind}
 use Rattle.aig_format.specs.declared.FileKind.TheVariants.{Text, Binary}
-use Rattle.aig_format.specs.File.{LatchLine, GateLine, NameLine, File, HeaderNumbers, header_of}
 use Rattle.aig_format.specs.Spells.{magic, numbers_in, IsHeader, Inputs, Latch, Gate, Name, next_and_reset, PropertyLines, Spells}
 use Rattle.aig_format.specs.Written.{line_text, lines_text, in_front, shortened, header_line_of, inputs_text, latch_text, gate_text, name_text, delta_of, properties_text, file_text}
 use Rattle.aig_format.specs.WritableFile.{IsFileNumber, LatchSmall, GateSmall, NameSmall, CanWrite}

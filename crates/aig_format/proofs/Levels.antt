@@ -1,15 +1,9 @@
 -- Levels: one more than those of the operands, and never more than the count of gates.
-use Rattle.std.proofs.Common.{◌≡◌, ◌≢◌, ℕ, zero, suc, ◌+◌, ◌/◌, ◌<◌, ◌≤◌, max, Bool, true, false, cond, eqb, not, List, [], ◌∷◌, length, Option, Some, None, refl, sym, ap, subst, ◌∙◌, arith}
+use Rattle.aig_base.proofs.Words.{◌≡◌, ◌≢◌, ℕ, zero, suc, ◌+◌, ◌/◌, ◌<◌, ◌≤◌, max, Bool, true, false, cond, eqb, not, List, [], ◌∷◌, length, Option, Some, None, refl, sym, ap, subst, ◌∙◌, arith, AllByRecursion, eqb-true, eqb-false, false≢true, nat_tests, same_Some}
 use Rattle.std.specs.Prelude.{◌==◌, nat_lt, IsTrue, is_some}
-use Rattle.std.specs.List.{AllByRecursion}
-use Rattle.std.proofs.lemmas.Bool.{eqb-true, eqb-false, false≢true}
-use Rattle.std.proofs.lemmas.Bool.Decides.{nat_tests}
-use Rattle.std.proofs.lemmas.Option.{same_Some}
-use Rattle.aig_format.specs.File.{GateLine, File}
+use Rattle.aig_format.proofs.Words.{GateLine, File, AllPass, is_above_operands}
 use Rattle.aig_format.specs.Variables.{gate_among, gate_of_variable}
 use Rattle.aig_format.specs.Levels.{level_above, level_by, level_within, level_of, HasLevel}
-use Rattle.aig_format.specs.Fits.{AllPass}
-use Rattle.aig_format.specs.Numbering.{is_above_operands}
 use Rattle.aig_format.proofs.Rules.{above_told}
 use Rattle.aig_format.proofs.Entries.{rec_weaker}
 use Rattle.aig_format.proofs.Searches.{find_some}

@@ -1,8 +1,6 @@
 -- Lines, headers, latches and gates of a text file are read from the front exactly.
-use Rattle.std.proofs.Common.{◌≡◌, ℕ, zero, suc, ◌≤◌, Bool, true, false, cond, eqb, List, [], ◌∷◌, ◌++◌, length, Option, Some, None, refl, sym, ap, subst, ◌∙◌, append_assoc, arith, inl, inr}
-use Rattle.std.proofs.lemmas.Bool.{eqb-true}
-use Rattle.std.proofs.lemmas.Option.{same_Some}
-use Rattle.aig_format.specs.Text.{IsDigit, Ended, IsLine}
+use Rattle.aig_base.proofs.Words.{◌≡◌, ℕ, zero, suc, ◌≤◌, Bool, true, false, cond, eqb, List, [], ◌∷◌, ◌++◌, length, Option, Some, None, refl, sym, ap, subst, ◌∙◌, append_assoc, arith, inl, inr, eqb-true, same_Some}
+use Rattle.aig_format.proofs.Words.{IsDigit, Ended, IsLine}
 use Rattle.aig_format.specs.Parse.{◌>>=◌, parse_number, parse_line}
 use Rattle.aig_format.proofs.Entries.{chosen}
 use Rattle.aig_format.proofs.NumberReaders.{bind_some, number_sound, number_complete, Taken}

@@ -1,8 +1,6 @@
 -- Numbers in lists: whether they are there, and at which place first.
-use Rattle.std.proofs.Common.{◌≡◌, ℕ, zero, suc, ◌+◌, ◌<◌, ◌≤◌, Bool, true, false, cond, eqb, ◌||◌, List, [], ◌∷◌, ◌++◌, length, refl, sym, ap, subst, ◌∙◌, arith}
-use Rattle.std.specs.Prelude.{nat_eq, ◌==◌, slice_index, filter}
+use Rattle.aig_base.proofs.Words.{◌≡◌, ℕ, zero, suc, ◌+◌, ◌<◌, ◌≤◌, Bool, true, false, cond, eqb, ◌||◌, List, [], ◌∷◌, ◌++◌, length, refl, sym, ap, subst, ◌∙◌, arith, nat_eq, ◌==◌, slice_index, filter, eqb-true, eqb-false, eq-eqb, ne_eqb, false≢true}
 use Rattle.std.specs.List.{AllByRecursion, IsDistinct, list_any, flat_map}
-use Rattle.std.proofs.lemmas.Bool.{eqb-true, eqb-false, eq-eqb, ne_eqb, false≢true}
 use Rattle.aig_circuit.specs.Renumber.{position_of}
 use Rattle.aig_format.specs.Numbering.{numbers_from}
 use Rattle.aig_format.proofs.Entries.{rec_append, rec_weaker}

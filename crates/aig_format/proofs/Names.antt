@@ -1,11 +1,7 @@
 -- Names and the comment are read exactly.
-use Rattle.std.proofs.Common.{◌≡◌, ◌≢◌, ℕ, zero, suc, ◌<◌, Bool, true, false, not, ◌&&◌, eqb, List, [], ◌∷◌, ◌++◌, length, Some, refl, sym, ap, subst, ◌∙◌, append_assoc, arith, inl, inr}
-use Rattle.std.specs.List.{AllByRecursion}
-use Rattle.std.proofs.lemmas.Bool.{eqb-true, eqb-false, eq-eqb, ne_eqb}
-use Rattle.std.proofs.lemmas.Option.{same_Some}
+use Rattle.aig_base.proofs.Words.{◌≡◌, ◌≢◌, ℕ, zero, suc, ◌<◌, Bool, true, false, not, ◌&&◌, eqb, List, [], ◌∷◌, ◌++◌, length, Some, refl, sym, ap, subst, ◌∙◌, append_assoc, arith, inl, inr, AllByRecursion, eqb-true, eqb-false, eq-eqb, ne_eqb, same_Some}
 use Rattle.std.proofs.lemmas.List.{length-append}
-use Rattle.aig_format.specs.Text.{◌then◌, Each, Just, IsDigit, Ended}
-use Rattle.aig_format.specs.File.{NameLine}
+use Rattle.aig_format.proofs.Words.{◌then◌, Each, Just, IsDigit, Ended, NameLine}
 use Rattle.aig_format.specs.Spells.{is_letter, Name, IsComment}
 use Rattle.aig_format.specs.Parse.{◌>>=◌, is_digit, parse_ended, parse_both, parse_if, parse_byte, parse_text, name_from, parse_name, is_comment, parse_tail}
 use Rattle.aig_format.proofs.Entries.{chosen}

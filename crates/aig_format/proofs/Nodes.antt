@@ -1,24 +1,13 @@
 -- The nodes of a file's circuit, by their variables.
-use Rattle.std.proofs.Common.{◌≡◌, ℕ, zero, suc, ◌+◌, ◌/◌, ◌<◌, ◌≤◌, Bool, true, false, cond, eqb, ◌||◌, List, [], ◌∷◌, length, Option, Some, None, refl, sym, ap, subst, ◌∙◌, arith}
-use Rattle.std.specs.Prelude.{◌==◌, slice_get}
-use Rattle.std.specs.List.{AllByRecursion}
-use Rattle.std.proofs.lemmas.Bool.{eqb-true, false≢true}
-use Rattle.std.proofs.lemmas.Bool.Decides.{nat_tests}
-use Rattle.std.proofs.lemmas.Option.{same_Some}
+use Rattle.aig_base.proofs.Words.{◌≡◌, ℕ, zero, suc, ◌+◌, ◌/◌, ◌<◌, ◌≤◌, Bool, true, false, cond, eqb, ◌||◌, List, [], ◌∷◌, length, Option, Some, None, refl, sym, ap, subst, ◌∙◌, arith, ◌==◌, slice_get, AllByRecursion, eqb-true, false≢true, nat_tests, same_Some}
 use Rattle.aig_circuit.specs.declared.edge.AigEdge.{AigEdge}
 use Rattle.aig_circuit.specs.declared.node.AigNodeType.{AigNodeType}
 use Rattle.aig_circuit.specs.declared.node.AigNodeType.TheVariants.{False, Leaf, And}
 use Rattle.aig_circuit.specs.declared.node.AigNode.{AigNode}
-use Rattle.aig_circuit.specs.Edge.{literal_of}
+use Rattle.aig_circuit.proofs.Words.{literal_of, AreNodes, position_of}
 use Rattle.aig_circuit.specs.Node.{kind_at, and_of, IsOrdered as AreOrdered}
-use Rattle.aig_circuit.specs.Circuit.{AreNodes}
-use Rattle.aig_circuit.specs.Renumber.{position_of}
 use Rattle.aig_circuit.proofs.Trees.{kind_at-within}
-use Rattle.aig_format.specs.File.{GateLine, File, used}
-use Rattle.aig_format.specs.Variables.{is_known, IsKnown, gate_of_variable}
-use Rattle.aig_format.specs.Numbering.{variables_in_order, node_of_variable}
-use Rattle.aig_format.specs.Fits.{Fits}
-use Rattle.aig_format.specs.Circuit.{edge_of, kind_by, kind_of, nodes_from, circuit_of}
+use Rattle.aig_format.proofs.Words.{GateLine, File, used, is_known, IsKnown, gate_of_variable, variables_in_order, node_of_variable, Fits, edge_of, kind_by, kind_of, nodes_from, circuit_of}
 use Rattle.aig_format.proofs.Entries.{rec_weaker}
 use Rattle.aig_format.proofs.Members.{has}
 use Rattle.aig_format.proofs.Numbers.{few_numbered, known_numbered, node_of_variable-place, node_of_variable-within, node_of_variable-zero, operands_before, used_known, variable_of}

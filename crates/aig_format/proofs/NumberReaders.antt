@@ -1,11 +1,7 @@
 -- Numbers are read from the front exactly.
-use Rattle.std.proofs.Common.{◌≡◌, ℕ, zero, suc, ◌+◌, ◌-◌, ◌*◌, ◌^◌, ◌<◌, ◌≤◌, true, false, cond, ltb, List, [], ◌∷◌, ◌++◌, length, Option, Some, None, refl, sym, ap, subst, ◌∙◌, arith, inl, inr, ◌⊎◌}
-use Rattle.std.specs.List.{AllByRecursion}
+use Rattle.aig_base.proofs.Words.{◌≡◌, ℕ, zero, suc, ◌+◌, ◌-◌, ◌*◌, ◌^◌, ◌<◌, ◌≤◌, true, false, cond, ltb, List, [], ◌∷◌, ◌++◌, length, Option, Some, None, refl, sym, ap, subst, ◌∙◌, arith, inl, inr, ◌⊎◌, AllByRecursion, nat_tests, le-ltb, ltb-true, lt-ltb, same_Some}
 use Rattle.std.proofs.Math.Nat.{pow-succ', mul-le-mul_left}
-use Rattle.std.proofs.lemmas.Bool.Decides.{nat_tests}
-use Rattle.std.proofs.lemmas.Bool.{le-ltb, ltb-true, lt-ltb}
-use Rattle.std.proofs.lemmas.Option.{same_Some}
-use Rattle.aig_format.specs.Text.{IsDigit, value_of, IsNumber}
+use Rattle.aig_format.proofs.Words.{IsDigit, value_of, IsNumber}
 use Rattle.aig_format.proofs.Entries.{chosen}
 use Rattle.aig_format.specs.Parse.{◌>>=◌, is_digit, parse_digits, parse_number}
 

@@ -2,18 +2,12 @@
 use Rattle.std.proofs.Common.{◌≡◌, ℕ, zero, suc, ◌+◌, ◌*◌, ◌/◌, ◌%◌, ◌<◌, ◌≤◌, Bool, true, false, cond, eqb, ◌||◌, List, [], ◌∷◌, ◌++◌, length, map, refl, sym, ap, subst, ◌∙◌, arith, leb-true}
 use Rattle.std.specs.Prelude.{nat_eq, ◌==◌, find, slice_index, Some}
 use Rattle.std.specs.List.{AllByRecursion, IsDistinct, list_any, flat_map, list_all}
-use Rattle.std.proofs.lemmas.Bool.{cond-true, cond-false, eqb-true, eqb-false, ne_eqb, false≢true, true_from_ne_false, or_parts, or_right, and_from}
-use Rattle.std.proofs.lemmas.List.{length-map}
+use Rattle.aig_base.proofs.Words.{cond-true, cond-false, eqb-true, eqb-false, ne_eqb, false≢true, true_from_ne_false, or_parts, or_right, and_from, length-map, length-le_from_distinct_below}
 use Rattle.std.proofs.lemmas.Map.Keys.{IsDistinct-cons}
-use Rattle.std.proofs.lemmas.Map.Steps.{length-le_from_distinct_below}
-use Rattle.aig_circuit.specs.Properties.{entries_of}
-use Rattle.aig_circuit.specs.Renumber.{position_of}
-use Rattle.aig_format.specs.File.{LatchLine, GateLine, File, defined, used}
-use Rattle.aig_format.specs.Variables.{is_defined, is_known, IsKnown, gate_of_variable}
-use Rattle.aig_format.specs.Levels.{level_of, has_level}
+use Rattle.aig_circuit.proofs.Words.{entries_of, position_of}
+use Rattle.aig_format.proofs.Words.{LatchLine, GateLine, File, defined, used, is_defined, is_known, IsKnown, gate_of_variable, level_of, has_level, IsDefinable, is_literal, Fits, uses_known, is_well_founded, is_accepted_order}
 use Rattle.aig_format.specs.Numbering.{is_compact, numbers_from, variables_by_level, variables_in_order, node_of_variable, is_above_operands}
 use Rattle.aig_format.specs.declared.FileKind.TheVariants.{Binary}
-use Rattle.aig_format.specs.Fits.{IsDefinable, is_literal, Fits, uses_known, is_well_founded, is_accepted_order}
 use Rattle.aig_format.proofs.Entries.{rec_both, rec_map, rec_parts, rec_weaker}
 use Rattle.aig_format.proofs.Searches.{find_some}
 use Rattle.aig_format.proofs.Members.{has, has-numbers, index-position_of, position_of-index, position_of-numbers, position_of-one, position_of-within, distinct-numbers, rec_at, rec_numbers}

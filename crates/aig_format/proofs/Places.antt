@@ -1,11 +1,6 @@
 -- Literals in their places: how many there are, and that they may be defined and rise.
-use Rattle.std.proofs.Common.{◌≡◌, ℕ, zero, suc, ◌+◌, ◌*◌, ◌≤◌, true, List, [], ◌∷◌, ◌++◌, length, refl, ap, ◌∙◌, arith}
-use Rattle.std.specs.Prelude.{nat_lt}
-use Rattle.std.specs.List.{AllByRecursion}
-use Rattle.std.proofs.lemmas.Bool.{and_from, and_parts, lt-ltb}
-use Rattle.aig_format.specs.Spells.{places}
-use Rattle.aig_format.specs.Numbering.{is_increasing}
-use Rattle.aig_format.specs.Fits.{IsDefinable}
+use Rattle.aig_base.proofs.Words.{◌≡◌, ℕ, zero, suc, ◌+◌, ◌*◌, ◌≤◌, true, List, [], ◌∷◌, ◌++◌, length, refl, ap, ◌∙◌, arith, nat_lt, AllByRecursion, and_from, and_parts, lt-ltb}
+use Rattle.aig_format.proofs.Words.{places, is_increasing, IsDefinable}
 use Rattle.aig_format.proofs.Rules.{definable_from}
 
 pub length-places : (n v : ℕ) → length (places n v) ≡ n

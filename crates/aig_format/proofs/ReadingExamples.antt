@@ -1,17 +1,13 @@
 -- Small files, computed: they are read and so accepted; and bytes that are none.
 use lib.Utf8.{encode}
-use Rattle.std.proofs.Common.{◌≡◌, ℕ, true, false, List, [], ◌∷◌, ◌++◌, Option, Some, None, refl}
-use Rattle.std.specs.Prelude.{codes}
-use Rattle.std.specs.List.{AllByRecursion}
+use Rattle.aig_base.proofs.Words.{◌≡◌, ℕ, true, false, List, [], ◌∷◌, ◌++◌, Option, Some, None, refl, codes, AllByRecursion}
 use Rattle.std.specs.Str.{is_utf8, chars}
 use Rattle.aig_circuit.specs.Properties.{no_properties}
 use Rattle.aig_format.specs.declared.FileKind.TheVariants.{Text, Binary}
-use Rattle.aig_format.specs.File.{NameLine, File}
-use Rattle.aig_format.specs.Fits.{Accepts}
+use Rattle.aig_format.proofs.Words.{NameLine, File, Accepts, parse_fitting}
 use Rattle.aig_format.proofs.Examples.{and_file, and_text}
 use Rattle.aig_format.proofs.Gaps.{doubled, falling, gapped, mixed, short}
 use Rattle.aig_format.specs.Parse.{parse_number, parse_digits, parse_ended, parse_line, parse_kind, parse_next_and_reset, parse_text, parse_groups, parse_sets, parse_tail, parse_file, too_many_at}
-use Rattle.aig_format.specs.ParseTested.{parse_fitting}
 use Rattle.aig_format.proofs.FittingFiles.{fitting_sound}
 
 -- the limit of the rows

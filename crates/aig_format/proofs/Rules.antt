@@ -1,18 +1,10 @@
 -- What the tests of the rules tell.
-use Rattle.std.proofs.Common.{◌≡◌, ◌↔◌, ℕ, ◌*◌, ◌/◌, ◌%◌, ◌<◌, ◌≤◌, Bool, true, false, ◌&&◌, ◌||◌, List, [], ◌∷◌, length, map, refl, sym, ap, ◌∙◌, arith, not}
-use Rattle.std.specs.Prelude.{nat_le, nat_lt, ◌==◌, nat_eq, IsUtf8}
+use Rattle.aig_base.proofs.Words.{◌≡◌, ◌↔◌, ℕ, ◌*◌, ◌/◌, ◌%◌, ◌<◌, ◌≤◌, Bool, true, false, ◌&&◌, ◌||◌, List, [], ◌∷◌, length, map, refl, sym, ap, ◌∙◌, arith, not, nat_le, nat_lt, ◌==◌, nat_eq, IsUtf8, and_from, and_parts, eqb-true, eq-eqb, leb-true, le-leb, ltb-true, false≢true, ne_eqb, lt-ltb, or_right, is_utf8}
 use Rattle.std.specs.List.{AllByRecursion, list_all, IsDistinct}
-use Rattle.std.proofs.lemmas.Bool.{and_from, and_parts, eqb-true, eq-eqb, leb-true, le-leb, ltb-true, false≢true, ne_eqb, lt-ltb, or_right}
 use Rattle.aig_format.specs.declared.FileKind.{FileKind}
 use Rattle.aig_format.specs.declared.FileKind.TheVariants.{Text, Binary}
-use Rattle.aig_format.specs.File.{GateLine, File, defined, used, NameLine, HeaderNumbers}
-use Rattle.aig_format.specs.Variables.{is_known, IsKnown}
-use Rattle.aig_format.specs.Levels.{has_level, HasLevel}
-use Rattle.aig_format.specs.Numbering.{is_increasing, is_above_operands, are_in_order, is_compact}
-use Rattle.aig_format.specs.Fits.{AllPass, IsDefinable, uses_known, is_well_founded, is_accepted_order, is_name}
-use Rattle.std.specs.Str.{is_utf8}
+use Rattle.aig_format.proofs.Words.{GateLine, File, defined, used, NameLine, HeaderNumbers, is_known, IsKnown, has_level, HasLevel, is_increasing, is_above_operands, are_in_order, is_compact, AllPass, IsDefinable, uses_known, is_well_founded, is_accepted_order, is_name, count_of, is_kept}
 use Rattle.std.proofs.lemmas.Str.{IsUtf8-from_is_utf8, is_utf8-from_IsUtf8}
-use Rattle.aig_format.specs.Letters.{count_of, is_kept}
 
 -- all pass a test exactly if each does
 pub all_pass : {A : Type 0} (test : A → Bool) (xs : List A) → (list_all test xs ≡ true) ↔ AllPass test xs

@@ -1,8 +1,5 @@
 -- What a search in a list finds.
-use Rattle.std.proofs.Common.{◌≡◌, Bool, true, false, List, [], ◌∷◌, cond, Some, None, refl, ap, subst, ◌∙◌, inl, inr}
-use Rattle.std.specs.Prelude.{find}
-use Rattle.std.specs.List.{AllByRecursion}
-use Rattle.std.proofs.lemmas.Option.{same_Some}
+use Rattle.aig_base.proofs.Words.{◌≡◌, Bool, true, false, List, [], ◌∷◌, cond, Some, None, refl, ap, subst, ◌∙◌, inl, inr, find, AllByRecursion, same_Some}
 use Rattle.aig_format.proofs.Entries.{chosen}
 
 module _ {X : Type 0} (P : X → Type 0) where

@@ -1,14 +1,10 @@
 -- What the lines of sections tell of their file, before the rules after the last gate are tested.
-use Rattle.std.proofs.Common.{◌≡◌, ℕ, ◌≤◌, true, List, [], length, Some, refl, arith}
+use Rattle.aig_base.proofs.Words.{◌≡◌, ℕ, ◌≤◌, true, List, [], length, Some, refl, arith, eqb-true, leb-true}
 use Rattle.std.specs.Prelude.{IsTrue}
-use Rattle.std.proofs.lemmas.Bool.{eqb-true, leb-true}
 use Rattle.aig_format.specs.declared.FileKind.{FileKind}
 use Rattle.aig_format.specs.declared.FileKind.TheVariants.{Text, Binary}
-use Rattle.aig_format.specs.File.{File, HeaderNumbers, header_of, defined, used}
-use Rattle.aig_format.specs.Fits.{AllPass, is_literal, has_enough, count_defined}
-use Rattle.aig_format.specs.Spells.{Placed}
+use Rattle.aig_format.proofs.Words.{File, HeaderNumbers, header_of, defined, used, AllPass, is_literal, has_enough, count_defined, Placed, Parts, file_from}
 use Rattle.aig_format.proofs.Entries.{length-defined, on_used}
-use Rattle.aig_format.specs.Parse.{Parts, file_from}
 use Rattle.aig_format.specs.ParseTested.{line_tests, parse_section_lines}
 use Rattle.aig_format.proofs.WholeFile.{file_passes}
 use Rattle.aig_format.proofs.InARow.{Reads-sections}

@@ -1,16 +1,10 @@
 -- The header and the sections of a text file are read from the front exactly.
-use Rattle.std.proofs.Common.{◌≡◌, ℕ, zero, suc, ◌+◌, ◌-◌, ◌≤◌, Bool, eqb, leb, List, [], ◌∷◌, ◌++◌, length, get_or, replicate, map, Option, Some, None, refl, sym, ap, subst, ◌∙◌, append_assoc, arith, inl, inr, ◌⊎◌}
+use Rattle.aig_base.proofs.Words.{◌≡◌, ℕ, zero, suc, ◌+◌, ◌-◌, ◌≤◌, Bool, eqb, leb, List, [], ◌∷◌, ◌++◌, length, get_or, replicate, map, Option, Some, None, refl, sym, ap, subst, ◌∙◌, append_assoc, arith, inl, inr, ◌⊎◌, AllByRecursion, eqb-true, eq-eqb, leb-true, le-leb, same_Some}
 use Rattle.std.specs.Prelude.{IsTrue, option_map}
-use Rattle.std.specs.List.{AllByRecursion}
-use Rattle.aig_format.specs.Fits.{AllPass}
-use Rattle.std.proofs.lemmas.Bool.{eqb-true, eq-eqb, leb-true, le-leb}
-use Rattle.std.proofs.lemmas.Option.{same_Some}
+use Rattle.aig_format.proofs.Words.{AllPass, ◌then◌, Each, Just, Ended, Lines, HeaderNumbers, magic, numbers_in, IsHeader}
 use Rattle.std.proofs.lemmas.List.{length-append, length-replicate}
-use Rattle.aig_format.specs.Text.{◌then◌, Each, Just, Ended, Lines}
 use Rattle.aig_format.specs.declared.FileKind.{FileKind}
 use Rattle.aig_format.specs.declared.FileKind.TheVariants.{Text, Binary}
-use Rattle.aig_format.specs.File.{HeaderNumbers}
-use Rattle.aig_format.specs.Spells.{magic, numbers_in, IsHeader}
 use Rattle.aig_format.specs.Parse.{◌>>=◌, parse_ended, parse_line, strip, or_else, parse_kind, header_from, parse_header_numbers, parse_header, parse_numbers, parse_tested, parse_sets, parse_if}
 use Rattle.aig_format.proofs.Entries.{chosen}
 use Rattle.aig_format.proofs.NumberReaders.{bind_some}

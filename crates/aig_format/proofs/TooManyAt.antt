@@ -1,10 +1,8 @@
 -- The first line alone tells TooMany.
-use Rattle.std.proofs.Common.{◌≡◌, ◌↔◌, ℕ, ◌+◌, true, ltb, List, Option, Some, None, refl, ap, ◌∙◌}
-use Rattle.std.proofs.lemmas.Bool.{and_from, and_parts, ltb-true, lt-ltb}
+use Rattle.aig_base.proofs.Words.{◌≡◌, ◌↔◌, ℕ, ◌+◌, true, ltb, List, Option, Some, None, refl, ap, ◌∙◌, and_from, and_parts, ltb-true, lt-ltb}
 use Rattle.aig_format.specs.declared.FileKind.{FileKind}
-use Rattle.aig_format.specs.File.{HeaderNumbers}
+use Rattle.aig_format.proofs.Words.{HeaderNumbers, parse_header, too_many_of, too_many_at}
 use Rattle.aig_format.specs.Fits.{has_enough, TooMany}
-use Rattle.aig_format.specs.Parse.{parse_header, too_many_of, too_many_at}
 use Rattle.aig_format.proofs.Sections.{Reads-header}
 
 told : (bytes : List ℕ) (limit : ℕ) (h : Option ((FileKind × HeaderNumbers) × List ℕ)) → parse_header bytes ≡ h → too_many_of limit h ≡ true → TooMany bytes limit

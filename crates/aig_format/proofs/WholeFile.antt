@@ -1,15 +1,11 @@
 -- The tests of lines beside those before them, as tests of a whole file.
-use Rattle.std.proofs.Common.{◌≡◌, ◌↔◌, ℕ, ◌+◌, ◌*◌, Bool, not, List, [], ◌∷◌, ◌++◌, length, map, refl, sym, ap, ◌∙◌, length-append, arith}
+use Rattle.aig_base.proofs.Words.{◌≡◌, ◌↔◌, ℕ, ◌+◌, ◌*◌, Bool, not, List, [], ◌∷◌, ◌++◌, length, map, refl, sym, ap, ◌∙◌, length-append, arith, AllByRecursion, IsDistinct, list_any, and_parts, and_from}
 use Rattle.std.specs.Prelude.{nat_eq, ◌==◌, IsTrue}
-use Rattle.std.specs.List.{AllByRecursion, IsDistinct, list_any}
-use Rattle.std.proofs.lemmas.Bool.{and_parts, and_from}
 use Rattle.aig_circuit.specs.Properties.{AllProperties}
 use Rattle.aig_format.specs.declared.FileKind.{FileKind}
 use Rattle.aig_format.specs.declared.FileKind.TheVariants.{Text, Binary}
-use Rattle.aig_format.specs.File.{LatchLine, GateLine, NameLine, File, header_of, defined}
-use Rattle.aig_format.specs.Spells.{Placed, places}
+use Rattle.aig_format.proofs.Words.{LatchLine, GateLine, NameLine, File, header_of, defined, Placed, places, LineTests, Parts}
 use Rattle.aig_format.specs.Fits.{AllPass, IsDefinable, is_definable, is_name, same_place}
-use Rattle.aig_format.specs.Parse.{LineTests, Parts}
 use Rattle.aig_format.specs.ParseTested.{defines, tests_name}
 use Rattle.aig_format.proofs.EntryFacts.{AllAfter, Passes, IsNew, Decides-new, distinct_after, after_and, after_both, after_parts, after_weaker, after_each, after_append, section_keys}
 use Rattle.aig_format.proofs.EntryLines.{IsPlaced, LatchPasses, GatePasses, latch_key, gate_key}

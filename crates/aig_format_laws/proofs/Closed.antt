@@ -1,14 +1,9 @@
 -- No leaf of a file's circuit is free.
-use Rattle.std.proofs.Common.{ℕ, ◌/◌, ◌++◌, subst}
-use Rattle.std.specs.Prelude.{Contains}
-use Rattle.std.proofs.lemmas.List.Elements.{All-contains_itself, recursion_from_All}
+use Rattle.aig_base.proofs.Words.{ℕ, ◌/◌, ◌++◌, subst, Contains, All-contains_itself, recursion_from_All}
 use Rattle.aig_circuit.specs.declared.node.AigNodeType.TheVariants.{Leaf}
 use Rattle.aig_circuit.specs.declared.node.AigLatch.{AigLatch}
 use Rattle.aig_circuit.specs.Circuit.{IsClosed, latch_leaves}
-use Rattle.aig_format.specs.File.{File}
-use Rattle.aig_format.specs.Numbering.{node_of_variable}
-use Rattle.aig_format.specs.Fits.{Fits}
-use Rattle.aig_format.specs.Circuit.{circuit_of, latch_of}
+use Rattle.aig_format.proofs.Words.{File, node_of_variable, Fits, circuit_of, latch_of}
 use Rattle.aig_format.proofs.Entries.{rec_parts, rec_unmap}
 use Rattle.aig_format.proofs.Nodes.{stands_for}
 use Rattle.aig_format_laws.proofs.Leaves.{leaf_is}

@@ -1,16 +1,10 @@
 -- Literals and edges, latch lines and latches: there and back.
-use Rattle.std.proofs.Common.{◌≡◌, ℕ, ◌+◌, ◌*◌, ◌/◌, ◌%◌, ◌<◌, ◌≤◌, Bool, true, false, cond, Option, Some, None, List, [], ◌∷◌, map, refl, ap, ◌∙◌, arith}
-use Rattle.std.specs.Prelude.{IfSome, ◌==◌}
-use Rattle.std.specs.List.{AllByRecursion}
+use Rattle.aig_base.proofs.Words.{◌≡◌, ℕ, ◌+◌, ◌*◌, ◌/◌, ◌%◌, ◌<◌, ◌≤◌, Bool, true, false, cond, Option, Some, None, List, [], ◌∷◌, map, refl, ap, ◌∙◌, arith, IfSome, ◌==◌, AllByRecursion}
 use Rattle.aig_circuit.specs.declared.edge.AigEdge.{AigEdge}
 use Rattle.aig_circuit.specs.declared.node.AigLatch.{AigLatch}
-use Rattle.aig_circuit.specs.Edge.{edge_to, literal_of}
-use Rattle.aig_circuit.specs.Properties.{AllProperties, Properties, map_properties}
+use Rattle.aig_circuit.proofs.Words.{edge_to, literal_of, AllProperties, Properties, map_properties, HasConstantInit}
 use Rattle.aig_circuit.proofs.Listed.{AllProperties-weaker, map_properties-map, map_properties-same}
-use Rattle.aig_format.specs.File.{File}
-use Rattle.aig_format.specs.Numbering.{is_compact, node_of_variable}
-use Rattle.aig_format.specs.Circuit.{edge_of, initial_of, latch_line, latch_of}
-use Rattle.aig_circuit.specs.Edges.{HasConstantInit}
+use Rattle.aig_format.proofs.Words.{File, is_compact, node_of_variable, edge_of, initial_of, latch_line, latch_of}
 use Rattle.aig_format.proofs.Numbers.{node_of_variable-compact}
 
 -- the edge of an edge's literal

@@ -1,6 +1,5 @@
 -- Small files and circuits, computed: the definitions give what the format wants of them.
-use Rattle.std.proofs.Common.{◌≡◌, ℕ, List, [], ◌∷◌, ◌++◌, Option, Some, None, true, false, refl}
-use Rattle.std.specs.Prelude.{codes}
+use Rattle.aig_base.proofs.Words.{◌≡◌, ℕ, List, [], ◌∷◌, ◌++◌, Option, Some, None, true, false, refl, codes}
 use Rattle.std.specs.Fmt.{digits}
 use Rattle.std.specs.FinMap.{empty, gets}
 use Rattle.aig_circuit.specs.declared.edge.AigEdge.{AigEdge}
@@ -8,17 +7,13 @@ use Rattle.aig_circuit.specs.declared.node.AigNodeType.{AigNodeType}
 use Rattle.aig_circuit.specs.declared.node.AigNodeType.TheVariants.{False, Leaf, And}
 use Rattle.aig_circuit.specs.declared.node.AigNode.{AigNode}
 use Rattle.aig_circuit.specs.declared.node.AigLatch.{AigLatch}
-use Rattle.aig_circuit.specs.Edge.{edge_to}
-use Rattle.aig_circuit.specs.Circuit.{Circuit}
-use Rattle.aig_circuit.specs.Properties.{no_properties}
-use Rattle.aig_circuit.specs.Reencode.{reencoded}
+use Rattle.aig_circuit.proofs.Words.{edge_to, Circuit, no_properties, reencoded}
 use Rattle.aig_format.specs.declared.FileKind.{FileKind}
 use Rattle.aig_format.specs.declared.FileKind.TheVariants.{Text, Binary}
-use Rattle.aig_format.specs.File.{LatchLine, File}
+use Rattle.aig_format.proofs.Words.{LatchLine, File, circuit_of, file_of}
 use Rattle.aig_format.specs.Numbering.{node_of_variable, variables_in_order}
 use Rattle.aig_format.specs.Written.{file_text, line_text, delta_of}
 use Rattle.aig_format.proofs.Examples.{and_file}
-use Rattle.aig_format.specs.Circuit.{circuit_of, file_of}
 
 abbrev pub node : ℕ → AigNodeType → AigNode
 node n kind = record { node_id = n; typ = kind }

@@ -1,20 +1,11 @@
 -- The lines of a circuit's gates.
-use Rattle.std.proofs.Common.{◌≡◌, ◌≢◌, ℕ, zero, suc, ◌+◌, ◌*◌, ◌/◌, ◌<◌, ◌≤◌, true, false, cond, Some, None, List, [], ◌∷◌, length, map, refl, sym, ap, subst, ◌∙◌, arith}
-use Rattle.std.specs.Prelude.{◌==◌, find, filter, filter_map, count_by, slice_get, nat_lt}
-use Rattle.std.specs.List.{AllByRecursion, cons_option}
-use Rattle.std.proofs.lemmas.Bool.{eq-eqb, ne_eqb, and_from, lt-ltb}
-use Rattle.std.proofs.lemmas.Option.{same_Some}
-use Rattle.std.proofs.lemmas.List.Sums.{length-filter}
+use Rattle.aig_base.proofs.Words.{◌≡◌, ◌≢◌, ℕ, zero, suc, ◌+◌, ◌*◌, ◌/◌, ◌<◌, ◌≤◌, true, false, cond, Some, None, List, [], ◌∷◌, length, map, refl, sym, ap, subst, ◌∙◌, arith, ◌==◌, find, filter, filter_map, count_by, slice_get, nat_lt, AllByRecursion, cons_option, eq-eqb, ne_eqb, and_from, lt-ltb, same_Some, length-filter}
 use Rattle.aig_circuit.specs.declared.edge.AigEdge.{AigEdge}
 use Rattle.aig_circuit.specs.declared.node.AigNodeType.{AigNodeType}
 use Rattle.aig_circuit.specs.declared.node.AigNodeType.TheVariants.{False, Leaf, And}
 use Rattle.aig_circuit.specs.declared.node.AigNode.{AigNode}
-use Rattle.aig_circuit.specs.Edge.{literal_of}
-use Rattle.aig_circuit.specs.Node.{kind_at}
-use Rattle.aig_circuit.specs.Runs.{is_leaf}
-use Rattle.aig_format.specs.File.{GateLine}
-use Rattle.aig_format.specs.Numbering.{is_increasing}
-use Rattle.aig_format.specs.Circuit.{gate_line}
+use Rattle.aig_circuit.proofs.Words.{literal_of, kind_at, is_leaf}
+use Rattle.aig_format.proofs.Words.{GateLine, is_increasing, gate_line}
 use Rattle.aig_renumber.proofs.Order.{head_numbered, tail_numbered}
 
 -- the line of a gate

@@ -1,24 +1,13 @@
 -- A run of a file's machine and a run of its circuit are one.
-use Rattle.std.proofs.Common.{◌≡◌, ℕ, zero, suc, ◌+◌, ◌/◌, ◌%◌, ◌<◌, ◌≤◌, Bool, true, false, not, ◌&&◌, List, ◌++◌, map, cond, refl, sym, ap, subst, ◌∙◌, arith}
+use Rattle.aig_base.proofs.Words.{◌≡◌, ℕ, zero, suc, ◌+◌, ◌/◌, ◌%◌, ◌<◌, ◌≤◌, Bool, true, false, not, ◌&&◌, List, ◌++◌, map, cond, refl, sym, ap, subst, ◌∙◌, arith, AllByRecursion, IsDistinct, eqb-true, ne_eqb, All-from_recursion, recursion_from_All, All-map}
 use Rattle.std.specs.Prelude.{nat_eq, Some, None, ◌==◌, All, if◌then◌else◌}
-use Rattle.std.specs.List.{AllByRecursion, IsDistinct}
-use Rattle.std.proofs.lemmas.Bool.{eqb-true, ne_eqb}
-use Rattle.std.proofs.lemmas.List.Elements.{All-from_recursion, recursion_from_All, All-map}
 use Rattle.aig_circuit.specs.declared.node.AigLatch.{AigLatch}
 use Rattle.aig_circuit.specs.declared.node.AigNodeType.TheVariants.{False}
-use Rattle.aig_circuit.specs.Edge.{inverted_if}
-use Rattle.aig_circuit.specs.Node.{kind_at}
-use Rattle.aig_circuit.specs.Tree.{node_value, edge_value}
-use Rattle.aig_circuit.specs.Runs.{IsRun}
+use Rattle.aig_circuit.proofs.Words.{inverted_if, kind_at, node_value, edge_value, IsRun}
 use Rattle.aig_circuit.proofs.Building.{node_value-and_of}
 use Rattle.aig_circuit.proofs.Trees.{by_smaller, node_value-false, node_value-leaf}
-use Rattle.aig_format.specs.File.{LatchLine, GateLine, File}
-use Rattle.aig_format.specs.Variables.{is_known, IsKnown, gate_of_variable}
-use Rattle.aig_format.specs.Numbering.{node_of_variable}
-use Rattle.aig_format.specs.Fits.{Fits, IsDefinable}
-use Rattle.aig_format.specs.Machine.{value_of_literal, IsStep, Moves}
+use Rattle.aig_format.proofs.Words.{LatchLine, GateLine, File, is_known, IsKnown, gate_of_variable, node_of_variable, Fits, IsDefinable, value_of_literal, IsStep, Moves, edge_of, kind_by, kind_of, latch_of, circuit_of}
 use Rattle.aig_format.specs.Machine as machine
-use Rattle.aig_format.specs.Circuit.{edge_of, kind_by, kind_of, latch_of, circuit_of}
 use Rattle.aig_format.proofs.Entries.{rec_weaker, rec_both, rec_parts, rec_unmap}
 use Rattle.aig_format.proofs.Searches.{find_some}
 use Rattle.aig_format.proofs.Numbers.{node_of_variable-zero, operands_before, operands_known, used_known, variable_at, variable_at-number}

@@ -1,14 +1,9 @@
 -- A variable that is a leaf is an input's or a latch's.
-use Rattle.std.proofs.Common.{◌≡◌, ℕ, zero, suc, ◌/◌, Bool, true, false, ◌||◌, List, [], ◌∷◌, ◌++◌, map, Some, None, refl, sym, ap, ◌∙◌, subst, arith, inl, inr}
-use Rattle.std.specs.Prelude.{find, ◌==◌}
-use Rattle.std.specs.List.{AllByRecursion, list_any}
-use Rattle.std.proofs.lemmas.Bool.{false≢true, eqb-true, eqb-false, ne_eqb}
+use Rattle.aig_base.proofs.Words.{◌≡◌, ℕ, zero, suc, ◌/◌, Bool, true, false, ◌||◌, List, [], ◌∷◌, ◌++◌, map, Some, None, refl, sym, ap, ◌∙◌, subst, arith, inl, inr, find, ◌==◌, AllByRecursion, list_any, false≢true, eqb-true, eqb-false, ne_eqb}
 use Rattle.aig_circuit.specs.declared.edge.AigEdge.{AigEdge}
 use Rattle.aig_circuit.specs.declared.node.AigNodeType.TheVariants.{False, Leaf, And}
 use Rattle.aig_circuit.proofs.Building.{and_of-cases}
-use Rattle.aig_format.specs.File.{GateLine, LatchLine, File, defined}
-use Rattle.aig_format.specs.Variables.{is_defined, is_known, gate_of_variable}
-use Rattle.aig_format.specs.Circuit.{edge_of, kind_of}
+use Rattle.aig_format.proofs.Words.{GateLine, LatchLine, File, defined, is_defined, is_known, gate_of_variable, edge_of, kind_of}
 use Rattle.aig_format.proofs.Entries.{chosen, rec_append, rec_map, rec_weaker}
 use Rattle.aig_format.proofs.Nodes.{VariableCase, at_gate, at_leaf, at_zero, variable_case}
 

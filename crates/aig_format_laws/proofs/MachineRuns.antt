@@ -1,19 +1,9 @@
 -- The values of inputs at each step and of latches at step 0 determine a run of a file's machine, and each such values have one.
-use Rattle.std.proofs.Common.{◌≡◌, ℕ, zero, suc, ◌+◌, ◌/◌, ◌%◌, ◌<◌, ◌≤◌, Bool, true, false, not, ◌&&◌, Option, Some, None, List, ◌++◌, map, refl, sym, ap, subst, ◌∙◌, arith}
-use Rattle.std.specs.Prelude.{nat_eq, find, ◌==◌, if◌then◌else◌}
-use Rattle.std.specs.List.{AllByRecursion}
-use Rattle.std.proofs.lemmas.Bool.{eqb-true}
-use Rattle.std.proofs.lemmas.List.Elements.{All-from_recursion, All-map}
+use Rattle.aig_base.proofs.Words.{◌≡◌, ℕ, zero, suc, ◌+◌, ◌/◌, ◌%◌, ◌<◌, ◌≤◌, Bool, true, false, not, ◌&&◌, Option, Some, None, List, ◌++◌, map, refl, sym, ap, subst, ◌∙◌, arith, nat_eq, find, ◌==◌, if◌then◌else◌, AllByRecursion, eqb-true, All-from_recursion, All-map}
 use Rattle.aig_circuit.specs.declared.node.AigLatch.{AigLatch}
-use Rattle.aig_circuit.specs.Tree.{edge_value}
-use Rattle.aig_circuit.specs.Runs.{IsRun}
-use Rattle.aig_format.specs.File.{GateLine, LatchLine, File}
-use Rattle.aig_format.specs.Variables.{is_known, IsKnown}
-use Rattle.aig_format.specs.Numbering.{node_of_variable}
-use Rattle.aig_format.specs.Fits.{Fits, IsDefinable}
-use Rattle.aig_format.specs.Machine.{IsStep, value_of_literal}
+use Rattle.aig_circuit.proofs.Words.{edge_value, IsRun}
+use Rattle.aig_format.proofs.Words.{GateLine, LatchLine, File, is_known, IsKnown, node_of_variable, Fits, IsDefinable, IsStep, value_of_literal, circuit_of, edge_of, latch_of}
 use Rattle.aig_format.specs.Machine as machine
-use Rattle.aig_format.specs.Circuit.{circuit_of, edge_of, latch_of}
 use Rattle.aig_format.proofs.Entries.{rec_both, rec_unmap, rec_weaker}
 use Rattle.aig_format.proofs.Searches.{find_none, find_some}
 use Rattle.aig_format.proofs.Numbers.{operands_before, operands_known, variable_at, variable_at-number}

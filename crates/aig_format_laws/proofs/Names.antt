@@ -1,18 +1,9 @@
 -- The name lines of a circuit, and the names that they stand for.
-use Rattle.std.proofs.Common.{◌≡◌, ◌≢◌, ℕ, suc, ◌+◌, ◌<◌, Bool, true, false, cond, ◌&&◌, ◌||◌, Option, Some, None, List, [], ◌∷◌, ◌++◌, length, nat_cmp, refl, sym, ap, subst, ◌∙◌, arith}
-use Rattle.std.specs.Prelude.{◌==◌, filter_map, slice_index, option_map, option_to_list}
+use Rattle.aig_base.proofs.Words.{◌≡◌, ◌≢◌, ℕ, suc, ◌+◌, ◌<◌, Bool, true, false, cond, ◌&&◌, ◌||◌, Option, Some, None, List, [], ◌∷◌, ◌++◌, length, nat_cmp, refl, sym, ap, subst, ◌∙◌, arith, ◌==◌, filter_map, slice_index, option_map, option_to_list, eq_by_cmp, nat_cmp_total, exact_unsigned, eq-eqb, ne_eqb, eqb-true, nat_tests}
 use Rattle.std.specs.List.{AllByRecursion, IsDistinct, cons_option, list_any}
 use Rattle.std.specs.FinMap.{FinMap, find, from_entries, get, get-from_entries, get-retain_keys, nat_cmp-IsAntisymmetric, retain_keys, same_map}
-use Rattle.std.specs.Ordering.{eq_by_cmp}
-use Rattle.std.proofs.lemmas.Cmp.{nat_cmp_total}
-use Rattle.std.proofs.lemmas.Map.Lookups.{exact_unsigned}
-use Rattle.std.proofs.lemmas.Bool.{eq-eqb, ne_eqb, eqb-true}
-use Rattle.std.proofs.lemmas.Bool.Decides.{nat_tests}
 use Rattle.aig_format.proofs.Members.{distinct_append}
-use Rattle.aig_format.specs.File.{File, NameLine}
-use Rattle.aig_format.specs.Letters.{letter_of_inputs, letter_of_latches}
-use Rattle.aig_format.specs.Fits.{same_place}
-use Rattle.aig_format.specs.Circuit.{name_lines, named_node}
+use Rattle.aig_format.proofs.Words.{File, NameLine, letter_of_inputs, letter_of_latches, same_place, name_lines, named_node}
 
 -- the name line of a letter, a position and a name
 abbrev pub line_named : ℕ → ℕ → List ℕ → NameLine

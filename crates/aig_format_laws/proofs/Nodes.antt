@@ -1,22 +1,14 @@
 -- The nodes of a written file's circuit are those of the circuit.
-use Rattle.std.proofs.Common.{◌≡◌, ℕ, zero, suc, ◌+◌, ◌*◌, ◌/◌, ◌≤◌, true, false, cond, Some, None, List, [], ◌∷◌, length, refl, sym, ap, subst, ◌∙◌, arith, inl, inr}
-use Rattle.std.specs.Prelude.{◌==◌, find}
-use Rattle.std.proofs.lemmas.Bool.{ne_eqb}
-use Rattle.std.proofs.lemmas.Option.{same_Some}
+use Rattle.aig_base.proofs.Words.{◌≡◌, ℕ, zero, suc, ◌+◌, ◌*◌, ◌/◌, ◌≤◌, true, false, cond, Some, None, List, [], ◌∷◌, length, refl, sym, ap, subst, ◌∙◌, arith, inl, inr, ◌==◌, find, ne_eqb, same_Some}
 use Rattle.aig_circuit.specs.declared.edge.AigEdge.{AigEdge}
 use Rattle.aig_circuit.specs.declared.node.AigNodeType.{AigNodeType}
 use Rattle.aig_circuit.specs.declared.node.AigNodeType.TheVariants.{False, Leaf, And}
 use Rattle.aig_circuit.specs.declared.node.AigNode.{AigNode}
-use Rattle.aig_circuit.specs.Edge.{literal_of}
-use Rattle.aig_circuit.specs.Node.{kind_at, and_of}
-use Rattle.aig_circuit.specs.Circuit.{AreNodes, Circuit}
+use Rattle.aig_circuit.proofs.Words.{literal_of, kind_at, and_of, AreNodes, Circuit}
 use Rattle.aig_circuit.proofs.Building.{and_of-cases, and_of-turned}
 use Rattle.aig_circuit.proofs.Trees.{kind_at-within}
 use Rattle.aig_format.specs.declared.FileKind.{FileKind}
-use Rattle.aig_format.specs.File.{GateLine, defined}
-use Rattle.aig_format.specs.Circuit.{edge_of, file_of, kind_by, kind_of, nodes_from}
-use Rattle.aig_format.specs.Variables.{gate_of_variable}
-use Rattle.aig_format.specs.Numbering.{is_compact, numbers_from, variables_in_order}
+use Rattle.aig_format.proofs.Words.{GateLine, defined, edge_of, file_of, kind_by, kind_of, nodes_from, gate_of_variable, is_compact, numbers_from, variables_in_order}
 use Rattle.aig_format.proofs.Searches.{find_none}
 use Rattle.aig_format.proofs.Rules.{compact_exact}
 use Rattle.aig_format.proofs.Numbers.{order-compact}

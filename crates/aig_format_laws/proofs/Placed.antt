@@ -1,24 +1,15 @@
 -- A circuit whose inputs, latches and gates are numbered in this order has a binary file: each literal is that of its place.
-use Rattle.std.proofs.Common.{◌≡◌, ℕ, zero, suc, ◌+◌, ◌-◌, ◌*◌, ◌<◌, ◌≤◌, Some, List, [], ◌∷◌, ◌++◌, length, map, refl, sym, ap, subst, ◌∙◌, arith, inl, inr}
+use Rattle.aig_base.proofs.Words.{◌≡◌, ℕ, zero, suc, ◌+◌, ◌-◌, ◌*◌, ◌<◌, ◌≤◌, Some, List, [], ◌∷◌, ◌++◌, length, map, refl, sym, ap, subst, ◌∙◌, arith, inl, inr, same_Some, cases_lt, get_or_default, All-contains}
 use Rattle.std.specs.Prelude.{Contains, EachIndex, slice_index}
-use Rattle.std.proofs.lemmas.Option.{same_Some}
-use Rattle.std.proofs.lemmas.Bool.{cases_lt}
-use Rattle.std.proofs.lemmas.List.{get_or_default}
-use Rattle.std.proofs.lemmas.List.Elements.{All-contains}
 use Rattle.aig_circuit.specs.declared.edge.AigEdge.{AigEdge}
 use Rattle.aig_circuit.specs.declared.node.AigNodeType.{AigNodeType}
 use Rattle.aig_circuit.specs.declared.node.AigNodeType.TheVariants.{False, Leaf, And}
 use Rattle.aig_circuit.specs.declared.node.AigNode.{AigNode}
-use Rattle.aig_circuit.specs.Node.{kind_at}
-use Rattle.aig_circuit.specs.Circuit.{Circuit, IsCircuit, IsLeaf, latch_leaves}
-use Rattle.aig_circuit.specs.Reencode.{IsReencoded}
+use Rattle.aig_circuit.proofs.Words.{kind_at, Circuit, IsCircuit, IsLeaf, latch_leaves, IsReencoded}
 use Rattle.aig_circuit.proofs.Circuits.{AreLeaves-of_circuit}
 use Rattle.aig_circuit.proofs.Trees.{kind_at-there}
 use Rattle.aig_format.specs.declared.FileKind.TheVariants.{Binary}
-use Rattle.aig_format.specs.File.{defined}
-use Rattle.aig_format.specs.Spells.{Placed, places}
-use Rattle.aig_format.specs.Circuit.{file_of}
-use Rattle.aig_format.specs.Writable.{IsWritable}
+use Rattle.aig_format.proofs.Words.{defined, Placed, places, file_of, IsWritable}
 use Rattle.aig_format.proofs.Places.{length-places, places-append}
 use Rattle.aig_format_laws.proofs.Gates.{AreNumbered, LineCase, has_line, lefts, line_case, lines_for, no_line}
 use Rattle.aig_format_laws.proofs.Nodes.{numbered}

@@ -1,22 +1,13 @@
 -- A circuit that has a written form has one when it is re-encoded.
-use Rattle.std.proofs.Common.{◌≡◌, ℕ, ◌<◌, ◌^◌, Option, Some, None, List, ◌++◌, length, map, refl, sym, ap, subst, ◌∙◌, arith}
-use Rattle.std.specs.Prelude.{All, Contains, IfSome, IsSomeAnd, option_map}
-use Rattle.std.specs.FinMap.{entries, get, get-entries, get-from_entries}
-use Rattle.std.proofs.lemmas.Cmp.{nat_cmp_total}
-use Rattle.std.proofs.lemmas.List.{length-map}
-use Rattle.std.proofs.lemmas.List.Elements.{All-contains, All-map, All-weaker, Contains-get_or}
+use Rattle.aig_base.proofs.Words.{◌≡◌, ℕ, ◌<◌, ◌^◌, Option, Some, None, List, ◌++◌, length, map, refl, sym, ap, subst, ◌∙◌, arith, All, Contains, IfSome, IsSomeAnd, option_map, entries, get, get-entries, get-from_entries, nat_cmp_total, length-map, All-contains, All-map, All-weaker, Contains-get_or}
 use Rattle.aig_circuit.specs.declared.edge.AigEdge.{AigEdge}
 use Rattle.aig_circuit.specs.declared.node.AigNodeType.TheVariants.{Leaf}
 use Rattle.aig_circuit.specs.declared.node.AigLatch.{AigLatch}
-use Rattle.aig_circuit.specs.Circuit.{Circuit, IsCircuit, IsLeaf, latch_leaves}
-use Rattle.aig_circuit.specs.Reencode.{new_number, order_of, reencoded}
-use Rattle.aig_circuit.specs.Renumber.{renumbered_edge, renumbered_latch}
+use Rattle.aig_circuit.proofs.Words.{Circuit, IsCircuit, IsLeaf, latch_leaves, new_number, order_of, reencoded, renumbered_edge, renumbered_latch, HasConstantInit}
 use Rattle.aig_circuit.proofs.Circuits.{AreLeaves-of_circuit}
 use Rattle.aig_circuit.proofs.Trees.{kind_at-within}
 use Rattle.aig_format.specs.declared.FileKind.TheVariants.{Binary}
-use Rattle.aig_format.specs.Circuit.{IsReadAgain, file_of}
-use Rattle.aig_format.specs.Writable.{AreTexts, HasLineFeed, IsWritable, list_lengths, named_nodes}
-use Rattle.aig_circuit.specs.Edges.{HasConstantInit}
+use Rattle.aig_format.proofs.Words.{IsReadAgain, file_of, AreTexts, HasLineFeed, IsWritable, list_lengths, named_nodes}
 use Rattle.aig_renumber.proofs.Circuits.{leaves-map}
 use Rattle.aig_renumber.proofs.Names.{found_back, names_in_circuit}
 use Rattle.aig_renumber.proofs.NodesInOrder.{number-apart}

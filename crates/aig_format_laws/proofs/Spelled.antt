@@ -1,11 +1,8 @@
 -- What the bytes of a file tell of its numbers and names: numbers below 2^32, and names without a line feed.
-use Rattle.std.proofs.Common.{◌≢◌, ℕ, zero, suc, ◌^◌, ◌<◌, List, [], ◌∷◌, length, map, sym, subst, arith}
+use Rattle.aig_base.proofs.Words.{◌≢◌, ℕ, zero, suc, ◌^◌, ◌<◌, List, [], ◌∷◌, length, map, sym, subst, arith, AllByRecursion}
 use Rattle.std.specs.Prelude.{replicate}
-use Rattle.std.specs.List.{AllByRecursion}
 use Rattle.aig_format.specs.declared.FileKind.{FileKind}
-use Rattle.aig_format.specs.File.{File, HeaderNumbers, NameLine, header_of}
-use Rattle.aig_format.specs.Text.{Each, IsLine, Lines}
-use Rattle.aig_format.specs.Spells.{numbers_in, IsHeader, Name, Spells}
+use Rattle.aig_format.proofs.Words.{File, HeaderNumbers, NameLine, header_of, Each, IsLine, Lines, numbers_in, IsHeader, Name, Spells}
 use Rattle.aig_format.proofs.Entries.{rec_append}
 
 -- a number as a file can hold it

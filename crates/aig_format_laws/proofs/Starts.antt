@@ -1,26 +1,13 @@
 -- The initial states of a file's machine are those of its circuit.
-use Rattle.std.proofs.Common.{◌≡◌, ◌↔◌, ℕ, zero, suc, ◌/◌, ◌≤◌, Bool, true, false, cond, Option, Some, None, List, sym, ap, ◌∙◌, arith}
-use Rattle.std.specs.Prelude.{IfSome, nat_lt, unwrap_or, ◌==◌}
-use Rattle.std.specs.List.{AllByRecursion}
-use Rattle.std.proofs.lemmas.Bool.{ne_eqb}
-use Rattle.std.proofs.lemmas.Bool.Decides.{nat_tests}
-use Rattle.std.proofs.lemmas.List.Elements.{All-from_recursion, recursion_from_All}
+use Rattle.aig_base.proofs.Words.{◌≡◌, ◌↔◌, ℕ, zero, suc, ◌/◌, ◌≤◌, Bool, true, false, cond, Option, Some, None, List, sym, ap, ◌∙◌, arith, IfSome, nat_lt, unwrap_or, ◌==◌, AllByRecursion, ne_eqb, nat_tests, All-from_recursion, recursion_from_All}
 use Rattle.aig_circuit.specs.declared.edge.AigEdge.{AigEdge}
 use Rattle.aig_circuit.specs.declared.node.AigNode.{AigNode}
 use Rattle.aig_circuit.specs.declared.node.AigNodeType.TheVariants.{False}
 use Rattle.aig_circuit.specs.declared.node.AigLatch.{AigLatch}
-use Rattle.aig_circuit.specs.Edge.{edge_to, inverted_if}
-use Rattle.aig_circuit.specs.Node.{kind_at}
-use Rattle.aig_circuit.specs.Circuit.{IsLatch, IsLeaf}
-use Rattle.aig_circuit.specs.Tree.{edge_value}
-use Rattle.aig_circuit.specs.Runs.{IsInitial}
+use Rattle.aig_circuit.proofs.Words.{edge_to, inverted_if, kind_at, IsLatch, IsLeaf, edge_value, IsInitial}
 use Rattle.aig_circuit.proofs.Trees.{node_value-false, node_value-leaf}
-use Rattle.aig_format.specs.File.{File, LatchLine}
-use Rattle.aig_format.specs.Fits.{Fits}
-use Rattle.aig_format.specs.Variables.{IsKnown}
-use Rattle.aig_format.specs.Numbering.{node_of_variable}
+use Rattle.aig_format.proofs.Words.{File, LatchLine, Fits, IsKnown, node_of_variable, circuit_of, latch_of}
 use Rattle.aig_format.specs.Machine as machine
-use Rattle.aig_format.specs.Circuit.{circuit_of, latch_of}
 use Rattle.aig_format.proofs.Entries.{rec_both, rec_map, rec_unmap, rec_weaker}
 use Rattle.aig_format.proofs.Circuits.{IsCircuit-of_file}
 use Rattle.aig_format_laws.specs.Nodes.{HasNodeValues}

@@ -1,24 +1,10 @@
 -- The circuit of an accepted file has a written form.
-use Rattle.std.proofs.Common.{◌≡◌, ◌≢◌, ℕ, ◌/◌, ◌^◌, ◌<◌, ◌≤◌, Bool, true, false, cond, Option, Some, None, List, [], ◌∷◌, length, map, nat_cmp, refl, sym, subst, ◌∙◌, arith, ◌||◌, ap}
+use Rattle.aig_base.proofs.Words.{◌≡◌, ◌≢◌, ℕ, ◌/◌, ◌^◌, ◌<◌, ◌≤◌, Bool, true, false, cond, Option, Some, None, List, [], ◌∷◌, length, map, nat_cmp, refl, sym, subst, ◌∙◌, arith, ◌||◌, ap, AllByRecursion, cons_option, eq_by_cmp, or_right, nat_cmp_total, length-map, All-contains, All-from_recursion, same_Some}
 use Rattle.std.specs.Prelude.{All, Contains, IfSome, IsSomeAnd, IsUtf8, filter_map, nat_lt, slice_index, unwrap_or, ◌==◌, IsTrue}
-use Rattle.std.specs.List.{AllByRecursion, cons_option}
 use Rattle.std.specs.FinMap.{find, get, get-from_entries}
-use Rattle.std.specs.Ordering.{eq_by_cmp}
-use Rattle.std.proofs.lemmas.Bool.{or_right}
-use Rattle.std.proofs.lemmas.Cmp.{nat_cmp_total}
-use Rattle.std.proofs.lemmas.List.{length-map}
-use Rattle.std.proofs.lemmas.List.Elements.{All-contains, All-from_recursion}
-use Rattle.std.proofs.lemmas.Option.{same_Some}
 use Rattle.aig_circuit.specs.declared.edge.AigEdge.{AigEdge}
-use Rattle.aig_circuit.specs.Edge.{edge_to}
-use Rattle.aig_circuit.specs.Edges.{HasConstantInit}
-use Rattle.aig_format.specs.File.{File, LatchLine, NameLine, header_of}
-use Rattle.aig_format.specs.Letters.{letter_of_inputs, letter_of_latches, is_kept}
-use Rattle.aig_format.specs.Fits.{Accepts, Fits, is_name}
-use Rattle.aig_format.specs.Spells.{Spells}
-use Rattle.aig_format.specs.Circuit.{circuit_of, edge_of, latch_of, named_node}
-use Rattle.aig_format.specs.Numbering.{node_of_variable}
-use Rattle.aig_format.specs.Writable.{AreTexts, HasLineFeed, IsWritable, list_lengths}
+use Rattle.aig_circuit.proofs.Words.{edge_to, HasConstantInit}
+use Rattle.aig_format.proofs.Words.{File, LatchLine, NameLine, header_of, letter_of_inputs, letter_of_latches, is_kept, Accepts, Fits, is_name, Spells, circuit_of, edge_of, latch_of, named_node, node_of_variable, AreTexts, HasLineFeed, IsWritable, list_lengths}
 use Rattle.aig_format.proofs.Entries.{rec_map, rec_weaker}
 use Rattle.aig_format.proofs.Nodes.{few_nodes}
 use Rattle.aig_format_laws.proofs.Closed.{IsClosed-of_file}

@@ -1,38 +1,20 @@
 -- The file of a circuit that has a written form fits, can be written, and stands for the circuit.
 use Rattle.std.proofs.Common.{◌≡◌, ◌≢◌, ℕ, zero, suc, ◌+◌, ◌-◌, ◌*◌, ◌/◌, ◌^◌, ◌<◌, ◌≤◌, Bool, true, false, Option, Some, None, List, [], ◌∷◌, ◌++◌, length, map, refl, sym, ap, subst, ◌∙◌, arith, length-append, nat_cmp, ◌||◌, le-leb}
-use Rattle.std.specs.Prelude.{nat_eq, ◌==◌, slice_index, filter, filter_map, count_by, Contains, IfSome, IsSomeAnd, IsUtf8, option_to_list, nat_le}
+use Rattle.aig_base.proofs.Words.{nat_eq, ◌==◌, slice_index, filter, filter_map, count_by, Contains, IfSome, IsSomeAnd, IsUtf8, option_to_list, nat_le, FinMap, from_entries, get, ne_eqb, eqb-false, eq-eqb, or_right, Decides-eqb, same_Some, get_or-map, length-map, map-append, length-filter, All-contains, All-from_recursion, Contains-append_right, Contains-get_or, filter_map-append, recursion_from_All, IsDistinct-from_AllPairs}
 use Rattle.std.specs.List.{AllByRecursion, IsDistinct}
-use Rattle.std.specs.FinMap.{FinMap, from_entries, get}
-use Rattle.std.proofs.lemmas.Bool.{ne_eqb, eqb-false, eq-eqb, or_right}
-use Rattle.std.proofs.lemmas.Bool.Decides.{Decides-eqb}
-use Rattle.std.proofs.lemmas.Option.{same_Some}
-use Rattle.std.proofs.lemmas.List.{get_or-map, length-map, map-append}
-use Rattle.std.proofs.lemmas.List.Sums.{length-filter}
-use Rattle.std.proofs.lemmas.List.Elements.{All-contains, All-from_recursion, Contains-append_right, Contains-get_or, filter_map-append, recursion_from_All}
-use Rattle.std.proofs.lemmas.Map.Made.{IsDistinct-from_AllPairs}
 use Rattle.aig_circuit.specs.declared.edge.AigEdge.{AigEdge}
 use Rattle.aig_circuit.specs.declared.node.AigNodeType.{AigNodeType}
 use Rattle.aig_circuit.specs.declared.node.AigNodeType.TheVariants.{False, Leaf, And}
 use Rattle.aig_circuit.specs.declared.node.AigNode.{AigNode}
 use Rattle.aig_circuit.specs.declared.node.AigLatch.{AigLatch}
-use Rattle.aig_circuit.specs.Edge.{edge_to, literal_of}
-use Rattle.aig_circuit.specs.Node.{kind_at}
-use Rattle.aig_circuit.specs.Circuit.{Circuit, IsCircuit, IsInRange, IsLatch, IsLeaf, latch_leaves}
-use Rattle.aig_circuit.specs.Properties.{AllProperties, Properties}
-use Rattle.aig_circuit.specs.Runs.{is_leaf}
+use Rattle.aig_circuit.proofs.Words.{edge_to, literal_of, kind_at, Circuit, IsCircuit, IsInRange, IsLatch, IsLeaf, latch_leaves, AllProperties, Properties, is_leaf, HasConstantInit}
 use Rattle.aig_circuit.proofs.Listed.{AllProperties-map, AllProperties-weaker}
 use Rattle.aig_circuit.proofs.Trees.{kind_at-within}
 use Rattle.aig_circuit.proofs.Circuits.{AreLeaves-of_circuit}
 use Rattle.aig_circuit.proofs.Counting.{closed-count}
 use Rattle.aig_format.specs.declared.FileKind.{FileKind}
-use Rattle.aig_format.specs.File.{File, GateLine, LatchLine, defined, header_of, NameLine}
+use Rattle.aig_format.proofs.Words.{File, GateLine, LatchLine, defined, header_of, NameLine, letter_of_inputs, letter_of_latches, is_above_operands, is_compact, node_of_variable, numbers_in, Placed, IsReadAgain, circuit_of, file_of, latch_line, latch_of, named_node, name_lines, without_other_names, AreTexts, HasLineFeed, IsWritable, list_lengths}
 use Rattle.aig_format.specs.Fits.{Fits, AllPass, IsDefinable, count_defined, has_enough, has_reset, is_accepted_order, is_literal, is_name, is_well_founded}
-use Rattle.aig_format.specs.Letters.{letter_of_inputs, letter_of_latches}
-use Rattle.aig_format.specs.Numbering.{is_above_operands, is_compact, node_of_variable}
-use Rattle.aig_format.specs.Spells.{numbers_in, Placed}
-use Rattle.aig_format.specs.Circuit.{IsReadAgain, circuit_of, file_of, latch_line, latch_of, named_node, name_lines, without_other_names}
-use Rattle.aig_format.specs.Writable.{AreTexts, HasLineFeed, IsWritable, list_lengths}
-use Rattle.aig_circuit.specs.Edges.{HasConstantInit}
 use Rattle.aig_format.proofs.Numbers.{node_of_variable-compact}
 use Rattle.aig_format.proofs.Members.{distinct_append}
 use Rattle.aig_format.proofs.Rules.{above_from, compact_from, definable_from, name_from, rising_distinct}

@@ -1,17 +1,11 @@
 -- Two functions that agree on every number of the second circuit join alike.
-use Rattle.std.proofs.Common.{◌≡◌, ℕ, ◌+◌, ◌<◌, Option, Some, None, List, [], ◌∷◌, ◌++◌, length, drop, get_or, refl, ap, ◌∙◌, arith}
-use Rattle.std.specs.Prelude.{IfSome, option_map}
-use Rattle.std.proofs.lemmas.List.Elements.{All-append, All-drop, All-map}
+use Rattle.aig_base.proofs.Words.{◌≡◌, ℕ, ◌+◌, ◌<◌, Option, Some, None, List, [], ◌∷◌, ◌++◌, length, drop, get_or, refl, ap, ◌∙◌, arith, IfSome, option_map, All-append, All-drop, All-map}
 use Rattle.aig_circuit.specs.declared.edge.AigEdge.{AigEdge}
 use Rattle.aig_circuit.specs.declared.node.AigNodeType.{AigNodeType}
 use Rattle.aig_circuit.specs.declared.node.AigNodeType.TheVariants.{False, Leaf, And}
 use Rattle.aig_circuit.specs.declared.node.AigNode.{AigNode}
 use Rattle.aig_circuit.specs.declared.node.AigLatch.{AigLatch}
-use Rattle.aig_circuit.specs.Edge.{edge_to}
-use Rattle.aig_circuit.specs.Node.{kind_at, and_of}
-use Rattle.aig_circuit.specs.Circuit.{Circuit, IsCircuit, latch_leaves}
-use Rattle.aig_circuit.specs.Properties.{append_properties}
-use Rattle.aig_circuit.specs.Renumber.{nodes_in_order, renumbered_edge, renumbered_kind, renumbered_latch}
+use Rattle.aig_circuit.proofs.Words.{edge_to, kind_at, and_of, Circuit, IsCircuit, latch_leaves, append_properties, nodes_in_order, renumbered_edge, renumbered_kind, renumbered_latch}
 use Rattle.aig_circuit.proofs.Listed.{AllProperties-weaker, map_properties-agree}
 use Rattle.aig_circuit.proofs.Lists.{map-agrees}
 use Rattle.aig_circuit.proofs.Trees.{kind_at-within}

@@ -1,16 +1,11 @@
 -- Small circuits, joined.
-use Rattle.std.proofs.Common.{◌≡◌, ℕ, Bool, true, false, Some, None, List, [], ◌∷◌, refl, ap, nat_cmp}
-use Rattle.std.specs.Prelude.{codes}
-use Rattle.std.specs.FinMap.{empty, get-empty}
-use Rattle.std.specs.Str.{bytes_eq}
+use Rattle.aig_base.proofs.Words.{◌≡◌, ℕ, Bool, true, false, Some, None, List, [], ◌∷◌, refl, ap, nat_cmp, codes, empty, get-empty, bytes_eq}
 use Rattle.aig_circuit.specs.declared.edge.AigEdge.{AigEdge}
 use Rattle.aig_circuit.specs.declared.node.AigNodeType.{AigNodeType}
 use Rattle.aig_circuit.specs.declared.node.AigNodeType.TheVariants.{False, Leaf, And}
 use Rattle.aig_circuit.specs.declared.node.AigNode.{AigNode}
 use Rattle.aig_circuit.specs.declared.node.AigLatch.{AigLatch}
-use Rattle.aig_circuit.specs.Edge.{edge_to}
-use Rattle.aig_circuit.specs.Circuit.{Circuit}
-use Rattle.aig_circuit.specs.Properties.{Properties, no_properties}
+use Rattle.aig_circuit.proofs.Words.{edge_to, Circuit, Properties, no_properties}
 use Rattle.aig_join.specs.Joined.{joined, number_in_joint}
 use Rattle.aig_join.specs.Names.{is_taken, other_name, with_name, with_names}
 use Rattle.aig_join.proofs.Naming.{Names}

@@ -1,25 +1,12 @@
 -- What a miter and a certified circuit say of the machines of files.
-use Rattle.std.proofs.Common.{◌≡◌, ◌↔◌, ℕ, ◌/◌, ◌≤◌, suc, Bool, List, [], ◌∷◌, ◌++◌, length, map, get_or, refl, sym, subst, ◌∙◌, arith, IsTrue}
-use Rattle.std.specs.Prelude.{All}
-use Rattle.std.specs.List.{AllZip}
-use Rattle.std.proofs.lemmas.List.{length-map, map-append}
-use Rattle.std.proofs.lemmas.List.Elements.{All-append, All-drop, All-from_recursion, All-map, recursion_from_All}
+use Rattle.aig_base.proofs.Words.{◌≡◌, ◌↔◌, ℕ, ◌/◌, ◌≤◌, suc, Bool, List, [], ◌∷◌, ◌++◌, length, map, get_or, refl, sym, subst, ◌∙◌, arith, IsTrue, All, AllZip, length-map, map-append, All-append, All-drop, All-from_recursion, All-map, recursion_from_All}
 use Rattle.aig_circuit.specs.declared.edge.AigEdge.{AigEdge}
-use Rattle.aig_circuit.specs.Circuit.{Circuit, IsLeaf}
-use Rattle.aig_circuit.specs.Edges.{HasConstantInit}
-use Rattle.aig_circuit.specs.Properties.{AllProperties}
-use Rattle.aig_circuit.specs.Runs.{IsRun}
-use Rattle.aig_circuit.specs.Tree.{edge_value}
+use Rattle.aig_circuit.proofs.Words.{Circuit, IsLeaf, HasConstantInit, AllProperties, IsRun, edge_value}
 use Rattle.aig_circuit.proofs.Listed.{AllProperties-weaker}
 use Rattle.aig_circuit.proofs.Lists.{All-from_map}
 use Rattle.aig_circuit.proofs.Trees.{node_value-leaf}
 use Rattle.aig_change.specs.Runs.{IsAllowedRun}
-use Rattle.aig_format.specs.Circuit.{circuit_of, edge_of, latch_of}
-use Rattle.aig_format.specs.File.{File}
-use Rattle.aig_format.specs.Fits.{Fits}
-use Rattle.aig_format.specs.Machine.{IsMachineRun, value_of_literal}
-use Rattle.aig_format.specs.Numbering.{node_of_variable}
-use Rattle.aig_format.specs.Variables.{IsKnown}
+use Rattle.aig_format.proofs.Words.{circuit_of, edge_of, latch_of, File, Fits, IsMachineRun, value_of_literal, node_of_variable, IsKnown}
 use Rattle.aig_format.proofs.Circuits.{IsCircuit-of_file, used_by_section}
 use Rattle.aig_format.proofs.Numbers.{used_known}
 use Rattle.aig_format_laws.specs.Nodes.{HasNodeValues, values_over}

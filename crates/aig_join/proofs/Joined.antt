@@ -1,21 +1,13 @@
 -- Two circuits joined are a circuit, and its runs are pairs of runs.
-use Rattle.std.proofs.Common.{◌≡◌, ◌≢◌, ◌↔◌, ℕ, suc, ◌+◌, ◌-◌, ◌<◌, ◌≤◌, Bool, cond, ltb, Option, Some, None, List, [], ◌∷◌, ◌++◌, length, map, take, drop, get_or, refl, sym, ap, subst, ◌∙◌, arith, inl, inr, length-append, length-drop}
+use Rattle.aig_base.proofs.Words.{◌≡◌, ◌≢◌, ◌↔◌, ℕ, suc, ◌+◌, ◌-◌, ◌<◌, ◌≤◌, Bool, cond, ltb, Option, Some, None, List, [], ◌∷◌, ◌++◌, length, map, take, drop, get_or, refl, sym, ap, subst, ◌∙◌, arith, inl, inr, length-append, length-drop, contains_key, get, AllZip, le-ltb, lt-ltb}
 use Rattle.std.specs.Prelude.{All, AllPairs, Contains, IfSome, IsTrue, option_map}
-use Rattle.std.specs.FinMap.{contains_key, get}
-use Rattle.std.specs.List.{AllZip}
-use Rattle.std.proofs.lemmas.Bool.{le-ltb, lt-ltb}
 use Rattle.std.proofs.lemmas.List.{get_or-drop, get_or-take, get_or_default, length-map, length-take, length-take-le, map-append, take-map, drop-map}
 use Rattle.std.proofs.lemmas.List.Elements.{All-append, All-contains, All-drop, All-map, All-take, All-weaker, AllZip-get_or, Contains-append_cases, Contains-get_or}
 use Rattle.aig_circuit.specs.declared.edge.AigEdge.{AigEdge}
 use Rattle.aig_circuit.specs.declared.node.AigNode.{AigNode}
 use Rattle.aig_circuit.specs.declared.node.AigNodeType.TheVariants.{Leaf}
 use Rattle.aig_circuit.specs.declared.node.AigLatch.{AigLatch}
-use Rattle.aig_circuit.specs.Build.{Grows}
-use Rattle.aig_circuit.specs.Tree.{edge_value}
-use Rattle.aig_circuit.specs.Circuit.{Circuit, IsCircuit, IsInRange, IsLatch, IsLeaf, latch_leaves}
-use Rattle.aig_circuit.specs.Properties.{AllProperties, append_properties, map_properties}
-use Rattle.aig_circuit.specs.Runs.{IsRun, IsInitial}
-use Rattle.aig_circuit.specs.Renumber.{renumbered_edge, renumbered_latch}
+use Rattle.aig_circuit.proofs.Words.{Grows, edge_value, Circuit, IsCircuit, IsInRange, IsLatch, IsLeaf, latch_leaves, AllProperties, append_properties, map_properties, IsRun, IsInitial, renumbered_edge, renumbered_latch}
 use Rattle.aig_circuit.proofs.Building.{Grows-kept, Grows-longer, edge_value-Grows}
 use Rattle.aig_circuit.proofs.Circuits.{AllPairs-append, init_grown, latch_leaves-leaves}
 use Rattle.aig_circuit.proofs.Listed.{AllProperties-append, AllProperties-map, AllProperties-weaker}

@@ -1,17 +1,9 @@
 -- What the functions make is what the definitions say.
-use Rattle.std.proofs.Common.{◌≡◌, ◌≢◌, ℕ, ◌+◌, ◌-◌, ◌<◌, ◌≤◌, ◌^◌, List, [], ◌∷◌, ◌++◌, length, map, take, drop, get_or, replicate, sym, ap, subst, ◌∙◌, arith, length-append}
-use Rattle.std.specs.Prelude.{All, AllPairs, slice_index}
-use Rattle.std.proofs.lemmas.List.{drop_at, length-map, take_at, take_rest}
-use Rattle.std.proofs.lemmas.List.Elements.{All-append, All-drop, All-map, All-nil, All-take, All-weaker, Contains-get_or}
-use Rattle.std.proofs.lemmas.Simd.{map-map}
+use Rattle.aig_base.proofs.Words.{◌≡◌, ◌≢◌, ℕ, ◌+◌, ◌-◌, ◌<◌, ◌≤◌, ◌^◌, List, [], ◌∷◌, ◌++◌, length, map, take, drop, get_or, replicate, sym, ap, subst, ◌∙◌, arith, length-append, All, AllPairs, slice_index, drop_at, length-map, take_at, take_rest, All-append, All-drop, All-map, All-nil, All-take, All-weaker, Contains-get_or, map-map}
 use Rattle.aig_circuit.specs.declared.edge.AigEdge.{AigEdge}
 use Rattle.aig_circuit.specs.declared.node.AigNode.{AigNode}
 use Rattle.aig_circuit.specs.declared.node.AigLatch.{AigLatch}
-use Rattle.aig_circuit.specs.Build.{AddsGates}
-use Rattle.aig_circuit.specs.Circuit.{AreNodes, Circuit, IsCircuit, IsInRange, latch_leaves}
-use Rattle.aig_circuit.specs.Edge.{inverse}
-use Rattle.aig_circuit.specs.Properties.{AllProperties, Properties, append_properties, map_properties, no_properties}
-use Rattle.aig_circuit.specs.Renumber.{nodes_in_order, renumbered_edge, renumbered_latch}
+use Rattle.aig_circuit.proofs.Words.{AddsGates, AreNodes, Circuit, IsCircuit, IsInRange, latch_leaves, inverse, AllProperties, Properties, append_properties, map_properties, no_properties, nodes_in_order, renumbered_edge, renumbered_latch}
 use Rattle.aig_circuit.proofs.Joining.{All-inverse}
 use Rattle.aig_renumber.specs.Numbers.{IsEdgeIn, IsLatchIn}
 use Rattle.aig_renumber.proofs.Circuits.{SpeaksOf-nodes}

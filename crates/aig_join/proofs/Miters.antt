@@ -1,19 +1,8 @@
 -- The runs of a miter, and what its safety says.
-use Rattle.std.proofs.Common.{◌≡◌, ◌≢◌, ◌↔◌, ◌⊎◌, ℕ, zero, suc, ◌<◌, ◌≤◌, Bool, true, false, Some, List, [], ◌∷◌, length, map, take, get_or, refl, sym, ap, subst, ◌∙◌, arith, inl, inr, append-nil, length-append, IsTrue}
-use Rattle.std.specs.Prelude.{All, slice_get}
-use Rattle.std.specs.List.{AllZip}
-use Rattle.std.proofs.lemmas.Bool.{cases_lt, false≢true}
-use Rattle.std.proofs.lemmas.List.{map-append, take_all}
+use Rattle.aig_base.proofs.Words.{◌≡◌, ◌≢◌, ◌↔◌, ◌⊎◌, ℕ, zero, suc, ◌<◌, ◌≤◌, Bool, true, false, Some, List, [], ◌∷◌, length, map, take, get_or, refl, sym, ap, subst, ◌∙◌, arith, inl, inr, append-nil, length-append, IsTrue, All, slice_get, AllZip, cases_lt, false≢true, map-append, take_all, Any-from_list_any, list_any_at, same_Some, slice_get-get_or, slice_get_within}
 use Rattle.std.proofs.lemmas.List.Elements.{All-append, All-map, All-nil, All-weaker, AllZip-get_or}
-use Rattle.std.proofs.lemmas.List.Folds.{Any-from_list_any, list_any_at}
-use Rattle.std.proofs.lemmas.Option.{same_Some, slice_get-get_or, slice_get_within}
 use Rattle.aig_circuit.specs.declared.edge.AigEdge.{AigEdge}
-use Rattle.aig_circuit.specs.Build.{Grows}
-use Rattle.aig_circuit.specs.Circuit.{Circuit, IsCircuit, IsInRange, IsLeaf}
-use Rattle.aig_circuit.specs.Properties.{Properties, no_properties}
-use Rattle.aig_circuit.specs.Renumber.{renumbered_edge}
-use Rattle.aig_circuit.specs.Runs.{IsRun, IsInitial}
-use Rattle.aig_circuit.specs.Tree.{edge_value}
+use Rattle.aig_circuit.proofs.Words.{Grows, Circuit, IsCircuit, IsInRange, IsLeaf, Properties, no_properties, renumbered_edge, IsRun, IsInitial, edge_value}
 use Rattle.aig_circuit.proofs.Lists.{All-first, All-from_map, All-second}
 use Rattle.aig_change.specs.Runs.{IsAllowedRun}
 use Rattle.aig_runs.specs.CircuitQueries.{IsCircuitWitness}

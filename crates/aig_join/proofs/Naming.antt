@@ -1,14 +1,7 @@
 -- Names of the second circuit's nodes among those of the first.
 use Rattle.std.proofs.Common.{◌≡◌, ◌≢◌, ℕ, zero, suc, ◌+◌, ◌<◌, Bool, true, false, cond, Option, Some, None, List, [], ◌∷◌, ◌++◌, ◌||◌, String, Global, length, get_or, take, nat_cmp, nat_eq, refl, sym, ap, subst, ◌∙◌, arith, IsTrue}
-use Rattle.std.specs.Prelude.{All, AllPairs, IfSome, is_some, option_map, string_bytes}
-use Rattle.std.specs.FinMap.{FinMap, contains_key, get, get-insert, insert}
-use Rattle.std.specs.Map.{lookup}
-use Rattle.std.proofs.lemmas.Bool.{eqb-true, eq-eqb, false≢true, ne_eqb}
-use Rattle.std.proofs.lemmas.Cmp.{nat_cmp_total}
+use Rattle.aig_base.proofs.Words.{All, AllPairs, IfSome, is_some, option_map, string_bytes, FinMap, contains_key, get, get-insert, insert, lookup, eqb-true, eq-eqb, false≢true, ne_eqb, nat_cmp_total, take_more, All-head, All-tail, list_any_more}
 use Rattle.std.proofs.Math.Bool.{or-false, or-true}
-use Rattle.std.proofs.lemmas.List.{take_more}
-use Rattle.std.proofs.lemmas.List.Elements.{All-head, All-tail}
-use Rattle.std.proofs.lemmas.List.Folds.{list_any_more}
 use Rattle.aig_base.proofs.Mapping.{same_test}
 use Rattle.aig_circuit.specs.View.{names_of}
 use Rattle.aig_circuit.proofs.Names.{get_names, names_insert}

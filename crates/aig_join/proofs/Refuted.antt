@@ -1,14 +1,10 @@
 -- Wrong results, which the definitions refuse.
-use Rattle.std.proofs.Common.{◌≡◌, ◌↔◌, ℕ, Bool, true, false, not, ◌&&◌, Option, None, Some, List, [], ◌∷◌, length, refl, sym, ap, ◌∙◌, arith, IsTrue, length-append}
-use Rattle.std.specs.Prelude.{codes, slice_index_or}
-use Rattle.std.proofs.lemmas.Bool.{false≢true}
+use Rattle.aig_base.proofs.Words.{◌≡◌, ◌↔◌, ℕ, Bool, true, false, not, ◌&&◌, Option, None, Some, List, [], ◌∷◌, length, refl, sym, ap, ◌∙◌, arith, IsTrue, length-append, codes, slice_index_or, false≢true}
 use Rattle.aig_circuit.specs.declared.edge.AigEdge.{AigEdge}
 use Rattle.aig_circuit.specs.declared.node.AigLatch.{AigLatch}
 use Rattle.aig_circuit.specs.declared.node.AigNode.{AigNode}
 use Rattle.aig_circuit.specs.declared.node.AigNodeType.TheVariants.{False, Leaf}
-use Rattle.aig_circuit.specs.Circuit.{Circuit}
-use Rattle.aig_circuit.specs.Edge.{edge_to, inverse}
-use Rattle.aig_circuit.specs.Properties.{no_properties}
+use Rattle.aig_circuit.proofs.Words.{Circuit, edge_to, inverse, no_properties}
 use Rattle.aig_circuit.specs.Tree.{edge_value, node_value, tree_of}
 use Rattle.aig_circuit.proofs.Joining.{edge_value-inverse}
 use Rattle.aig_change.specs.Merge.{merged}

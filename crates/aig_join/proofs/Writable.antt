@@ -1,24 +1,15 @@
 -- What is joined of circuits that have a written form has one, where it isn't too large.
 use lib.Utf8.{encode}
-use Rattle.std.proofs.Common.{◌≡◌, ◌⊎◌, ℕ, ◌<◌, eqb, Option, Some, None, List, ◌++◌, length, map, take, drop, get_or, refl, sym, ap, subst, ◌∙◌, inl, inr}
-use Rattle.std.specs.Prelude.{All, Contains, IfSome, IsSomeAnd, IsUtf8, is_some, option_map}
-use Rattle.std.specs.FinMap.{get}
+use Rattle.aig_base.proofs.Words.{◌≡◌, ◌⊎◌, ℕ, ◌<◌, eqb, Option, Some, None, List, ◌++◌, length, map, take, drop, get_or, refl, sym, ap, subst, ◌∙◌, inl, inr, All, Contains, IfSome, IsSomeAnd, IsUtf8, is_some, option_map, get, cases_lt, eq-eqb, false≢true, All-append, All-contains, All-drop, All-map, Contains-append_cases, Contains-append_left, Contains-append_right, Contains-get_or, list_any_at}
 use Rattle.std.specs.Str.{chars, is_utf8}
-use Rattle.std.proofs.lemmas.Bool.{cases_lt, eq-eqb, false≢true}
 use Rattle.std.proofs.lemmas.List.{drop-map, map-append, take-append-drop, take-map}
-use Rattle.std.proofs.lemmas.List.Elements.{All-append, All-contains, All-drop, All-map, Contains-append_cases, Contains-append_left, Contains-append_right, Contains-get_or}
-use Rattle.std.proofs.lemmas.List.Folds.{list_any_at}
 use Rattle.std.proofs.lemmas.Str.{IsUtf8-append, IsUtf8-from_is_utf8}
 use Rattle.aig_circuit.specs.declared.edge.AigEdge.{AigEdge}
 use Rattle.aig_circuit.specs.declared.node.AigLatch.{AigLatch}
 use Rattle.aig_circuit.specs.declared.node.AigNode.{AigNode}
 use Rattle.aig_circuit.specs.declared.node.AigNodeType.{AigNodeType}
 use Rattle.aig_circuit.specs.declared.node.AigNodeType.TheVariants.{False, Leaf, And}
-use Rattle.aig_circuit.specs.Build.{AddsGates}
-use Rattle.aig_circuit.specs.Circuit.{Circuit, IsCircuit, IsClosed, IsLeaf, latch_leaves}
-use Rattle.aig_circuit.specs.Edges.{HasConstantInit}
-use Rattle.aig_circuit.specs.Properties.{Properties, no_properties}
-use Rattle.aig_circuit.specs.Renumber.{renumbered_edge, renumbered_kind, renumbered_latch}
+use Rattle.aig_circuit.proofs.Words.{AddsGates, Circuit, IsCircuit, IsClosed, IsLeaf, latch_leaves, HasConstantInit, Properties, no_properties, renumbered_edge, renumbered_kind, renumbered_latch}
 use Rattle.aig_circuit.proofs.Building.{Grows-kept, and_of-cases}
 use Rattle.aig_circuit.proofs.Circuits.{AreLeaves-of_circuit}
 use Rattle.aig_circuit.proofs.Trees.{kind_at-within}

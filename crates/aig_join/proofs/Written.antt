@@ -1,11 +1,8 @@
 -- The text of a miter, and of a model beside a witness circuit, as a file.
 use Rattle.std.proofs.Common.{◌↔◌, ℕ, ◌^◌, ◌≤◌, Bool, List, length, sym, ap, subst, arith}
 use Rattle.aig_circuit.specs.Circuit.{Circuit}
-use Rattle.aig_format.specs.Circuit.{IsReadAgain, circuit_of, file_of, without_other_names}
+use Rattle.aig_format.proofs.Words.{IsReadAgain, circuit_of, file_of, without_other_names, File, Accepts, Fits, AreTexts, FitsFormat}
 use Rattle.aig_format.specs.declared.FileKind.TheVariants.{Text}
-use Rattle.aig_format.specs.File.{File}
-use Rattle.aig_format.specs.Fits.{Accepts, Fits}
-use Rattle.aig_format.specs.Writable.{AreTexts, FitsFormat}
 use Rattle.aig_format.proofs.Circuits.{IsCircuit-of_file}
 use Rattle.aig_format_laws.specs.Nodes.{values_over}
 use Rattle.aig_format_laws.proofs.Writable.{IsWritable-of_file, names_are_texts}

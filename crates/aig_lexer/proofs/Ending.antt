@@ -1,6 +1,5 @@
 -- A source with a buffer before it at its end: nothing is held, nor left in the source.
-use Rattle.std.proofs.Common.{◌≡◌, List, ℕ, [], ◌∷◌, ◌++◌, Option, Some, None, refl, ap, ◌∙◌}
-use Rattle.std.specs.Io.KnownBytes.{Consumes, IsAtEnd, prepend_known}
+use Rattle.aig_base.proofs.Words.{◌≡◌, List, ℕ, [], ◌∷◌, ◌++◌, Option, Some, None, refl, ap, ◌∙◌, Consumes, IsAtEnd, prepend_known}
 
 both_empty : (ws ys : List ℕ) → ws ++ ys ≡ [] → (ws ≡ []) × (ys ≡ [])
 both_empty [] ys e = (refl, e)

@@ -1,5 +1,5 @@
 -- Wrong answers of a lexer, of which the definitions are false.
-use Rattle.std.proofs.Common.{◌≡◌, ℕ, false, List, [], ◌∷◌, Option, None, Some, Ok, Err, ap, ◌∙◌, arith}
+use Rattle.aig_base.proofs.Words.{◌≡◌, ℕ, false, List, [], ◌∷◌, Option, None, Some, Ok, Err, ap, ◌∙◌, arith}
 use Rattle.std.specs.Prelude.{codes, length, option_map}
 use Rattle.aig_format.specs.declared.FileKind.TheVariants.{Binary, Text}
 use Rattle.aig_format.specs.Parse.{parse_delta, parse_digits, parse_groups, parse_kind, parse_number}

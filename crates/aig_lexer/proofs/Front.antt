@@ -1,7 +1,7 @@
 -- What is read at the front of a list of bytes, byte after byte.
 use Rattle.std.proofs.Common.{◌≡◌, ℕ, ◌+◌, ◌<◌, List, [], ◌∷◌, ◌++◌, Option, length, take, slice_index_or, ap, ◌∙◌, append_assoc, arith}
 use Rattle.std.specs.Char.{IsNotAsciiDigit}
-use Rattle.std.proofs.lemmas.List.{take_more}
+use Rattle.aig_base.proofs.Words.{take_more}
 use Rattle.aig_format.proofs.NumberReaders.{OtherThanDigit}
 
 -- one byte more is read, after those before it

@@ -1,6 +1,6 @@
 -- How reading goes on: reading what was taken and whatever follows, by one reader, is reading what follows by another.
 use Rattle.std.proofs.Common.{◌≡◌, ℕ, List, [], ◌∷◌, ◌++◌, Option, Some, None, IfSome, refl, sym, ap, subst, ◌∙◌, append_assoc}
-use Rattle.std.specs.Io.KnownBytes.{Consumes}
+use Rattle.aig_base.proofs.Words.{Consumes}
 use Rattle.std.proofs.KnownBytes.{Consumes-nil, Consumes-whole}
 use Rattle.aig_lexer.specs.Takes.{Feed, Advances, Steps, Takes, Misses}
 use Rattle.aig_lexer.proofs.Feeds.{advances_none, advances_on, ends_on, steps_byte, steps_end}

@@ -1,9 +1,8 @@
 -- The header's numbers, one by one.
-use Rattle.std.proofs.Common.{◌≡◌, ℕ, suc, ◌+◌, ◌-◌, ◌≤◌, ◌<◌, Bool, true, false, cond, eqb, leb, List, [], ◌∷◌, ◌++◌, length, set, replicate, Option, Some, None, refl, sym, ap, ◌∙◌, append_assoc, arith}
-use Rattle.std.proofs.lemmas.Bool.{ne_eqb, eqb-true, le-leb, lt-leb}
+use Rattle.aig_base.proofs.Words.{◌≡◌, ℕ, suc, ◌+◌, ◌-◌, ◌≤◌, ◌<◌, Bool, true, false, cond, eqb, leb, List, [], ◌∷◌, ◌++◌, length, set, replicate, Option, Some, None, refl, sym, ap, ◌∙◌, append_assoc, arith, ne_eqb, eqb-true, le-leb, lt-leb}
 use Rattle.std.proofs.Math.Seq.{set-append_seam}
 use Rattle.aig_format.specs.Parse.{◌>>=◌, parse_number, parse_line, parse_map, header_from, parse_header_numbers, parse_if}
-use Rattle.aig_format.specs.File.{HeaderNumbers}
+use Rattle.aig_format.proofs.Words.{HeaderNumbers}
 use Rattle.aig_format.proofs.Sections.{header_from-zeros}
 
 -- at most k numbers after these, in a line

@@ -1,9 +1,8 @@
 -- The kind's word.
-use Rattle.std.proofs.Common.{◌≡◌, ◌≢◌, ℕ, ◌<◌, List, [], ◌∷◌, ◌++◌, length, take, Option, Some, None, refl, sym, ap, ◌∙◌, length-append, arith}
-use Rattle.std.proofs.Math.Seq.{take-append_seam}
+use Rattle.aig_base.proofs.Words.{◌≡◌, ◌≢◌, ℕ, ◌<◌, List, [], ◌∷◌, ◌++◌, length, take, Option, Some, None, refl, sym, ap, ◌∙◌, length-append, arith, take-append_seam}
 use Rattle.aig_format.specs.declared.FileKind.{FileKind}
 use Rattle.aig_format.specs.declared.FileKind.TheVariants.{Text, Binary}
-use Rattle.aig_format.specs.Spells.{magic}
+use Rattle.aig_format.proofs.Words.{magic}
 use Rattle.aig_format.specs.Parse.{parse_byte, parse_kind}
 use Rattle.aig_format.proofs.Sections.{Reads-kind}
 use Rattle.aig_lexer.specs.Takes.{Feed, Advances, Takes, Misses}

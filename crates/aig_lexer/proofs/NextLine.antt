@@ -1,6 +1,5 @@
 -- A latch's next literal, and its reset if one is written.
-use Rattle.std.proofs.Common.{◌≡◌, ℕ, cond, eqb, List, Option, Some, None, refl}
-use Rattle.std.proofs.lemmas.Bool.{ne_eqb}
+use Rattle.aig_base.proofs.Words.{◌≡◌, ℕ, cond, eqb, List, Option, Some, None, refl, ne_eqb}
 use Rattle.aig_format.specs.Parse.{◌>>=◌, parse_number, parse_ended, parse_next_and_reset}
 use Rattle.aig_lexer.specs.Takes.{Feed, Takes, Misses}
 use Rattle.aig_lexer.proofs.Going.{misses_all}

@@ -1,7 +1,6 @@
 -- Numbers that may have a minus in front, at the front of bytes.
-use Rattle.std.proofs.Common.{◌≡◌, ℕ, zero, suc, ◌+◌, ◌-◌, Bool, true, false, List, [], ◌∷◌, ◌++◌, length, take, Option, Some, refl, sym, ap, subst, arith}
+use Rattle.aig_base.proofs.Words.{◌≡◌, ℕ, zero, suc, ◌+◌, ◌-◌, Bool, true, false, List, [], ◌∷◌, ◌++◌, length, take, Option, Some, refl, sym, ap, subst, arith, take_all}
 use Rattle.std.specs.Prelude.{◌==◌, slice_range}
-use Rattle.std.proofs.lemmas.List.{take_all}
 use Rattle.aig_format.specs.Parse.{parse_map, parse_number}
 use Rattle.aig_lexer.specs.SignedNumbers.{minus_at, parse_signed}
 

@@ -1,6 +1,5 @@
 -- What readers that are joined take, from what their parts take.
-use Rattle.std.proofs.Common.{◌≡◌, ℕ, ◌+◌, ◌≤◌, ◌<◌, Bool, true, false, cond, List, [], ◌∷◌, ◌++◌, length, take, drop, Option, Some, None, refl, sym, ap, subst, ◌∙◌, append_assoc, append-nil, arith}
-use Rattle.std.proofs.lemmas.Option.{IfSome_then, same_Some}
+use Rattle.aig_base.proofs.Words.{◌≡◌, ℕ, ◌+◌, ◌≤◌, ◌<◌, Bool, true, false, cond, List, [], ◌∷◌, ◌++◌, length, take, drop, Option, Some, None, refl, sym, ap, subst, ◌∙◌, append_assoc, append-nil, arith, IfSome_then, same_Some}
 use Rattle.aig_format.specs.Parse.{◌>>=◌, parse_both, parse_byte, parse_if, parse_map}
 use Rattle.aig_lexer.specs.Takes.{Feed, feed, Advances, Takes, Misses}
 use Rattle.aig_lexer.proofs.Feeds.{advances_none, advances_on, advances_front}

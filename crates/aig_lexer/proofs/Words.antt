@@ -1,6 +1,5 @@
 -- The words of the format: numbers that a byte ends, and lines of two of them.
-use Rattle.std.proofs.Common.{◌≡◌, ℕ, cond, eqb, List, [], ◌∷◌, Option, Some, None, Result, Ok, Err, refl}
-use Rattle.std.proofs.lemmas.Bool.{eq-eqb, ne_eqb}
+use Rattle.aig_base.proofs.Words.{◌≡◌, ℕ, cond, eqb, List, [], ◌∷◌, Option, Some, None, Result, Ok, Err, refl, eq-eqb, ne_eqb}
 use Rattle.aig_format.specs.Parse.{◌>>=◌, parse_byte, parse_number, parse_ended, parse_pair}
 use Rattle.aig_lexer.specs.declared.error.LexError.{LexError}
 use Rattle.aig_lexer.specs.Faults.{word_cause}

@@ -1,11 +1,9 @@
 -- Levels of small files, computed, and wrong answers, of which the definitions are false.
 use Rattle.std.specs.Prelude.{◌≡◌, ℕ, List, [], ◌∷◌, Some, None, Ok, refl}
-use Rattle.std.proofs.Common.{arith}
-use Rattle.std.proofs.lemmas.Bool.{false≢true}
+use Rattle.aig_base.proofs.Words.{arith, false≢true}
 use Rattle.aig_circuit.specs.Properties.{no_properties}
 use Rattle.aig_format.specs.declared.FileKind.TheVariants.{Text}
-use Rattle.aig_format.specs.File.{GateLine, File}
-use Rattle.aig_format.specs.Levels.{level_of}
+use Rattle.aig_format.proofs.Words.{GateLine, File, level_of}
 use Rattle.aig_lexer.specs.Faults.{Tested}
 use Rattle.aig_ordering.specs.Tables.{AreLevelsOf, all_have_levels, order_cause}
 

@@ -1,15 +1,10 @@
 -- Operands in order, and as they are written.
-use Rattle.std.proofs.Common.{◌≡◌, ℕ, ◌+◌, ◌/◌, ◌%◌, max, true, ◌&&◌, List, Option, Some, None, refl, sym, ap, subst, ◌∙◌, arith, inl, inr}
-use Rattle.std.specs.Prelude.{◌==◌, is_some, option_map, unwrap_or}
-use Rattle.std.proofs.Math.Bool.{and_comm}
-use Rattle.std.proofs.lemmas.Option.{same_Some}
+use Rattle.aig_base.proofs.Words.{◌≡◌, ℕ, ◌+◌, ◌/◌, ◌%◌, max, true, ◌&&◌, List, Option, Some, None, refl, sym, ap, subst, ◌∙◌, arith, inl, inr, ◌==◌, is_some, option_map, unwrap_or, and_comm, same_Some}
 use Rattle.aig_circuit.specs.declared.edge.AigEdge.{AigEdge}
 use Rattle.aig_circuit.specs.declared.node.AigNodeType.{AigNodeType}
 use Rattle.aig_circuit.specs.declared.node.AigNodeType.TheVariants.{And}
 use Rattle.aig_circuit.specs.declared.node.AigNode.{AigNode}
-use Rattle.aig_circuit.specs.Edge.{edge_to}
-use Rattle.aig_circuit.specs.Node.{IfAnd, and_of}
-use Rattle.aig_circuit.specs.Renumber.{renumbered_edge, renumbered_kind}
+use Rattle.aig_circuit.proofs.Words.{edge_to, IfAnd, and_of, renumbered_edge, renumbered_kind}
 use Rattle.aig_circuit.proofs.Building.{and_of-cases, and_of-turned}
 use Rattle.aig_ordering.specs.declared.gates.Operands.{Operands}
 use Rattle.aig_ordering.specs.Gates.{kind_of_operands, node_in}

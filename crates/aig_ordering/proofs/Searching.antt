@@ -1,16 +1,14 @@
 -- The steps of a search for levels.
 use Rattle.std.proofs.Common.{◌≡◌, ◌≢◌, ℕ, zero, suc, ◌+◌, ◌<◌, ◌≤◌, Bool, true, false, not, List, [], ◌∷◌, ◌++◌, length, get_or, set, Option, Some, None, refl, sym, ap, subst, ◌∙◌, arith, inl, inr, ◌⊎◌, length-set, get_or-set_other, get_or-set_same}
 use Rattle.std.specs.Prelude.{All, Contains, IsSome, MatchOption, filter, option_to_list}
-use Rattle.std.proofs.lemmas.Bool.{cases_eq, false≢true}
-use Rattle.std.proofs.lemmas.Option.{same_Some}
+use Rattle.aig_base.proofs.Words.{cases_eq, false≢true, same_Some}
 use Rattle.std.proofs.lemmas.List.{append-nil, length_push}
 use Rattle.std.proofs.lemmas.List.Elements.{All-nil, All-push, All-pop, Contains-append_cases, Contains-append_left, Contains-push, Contains-push_cases}
 use Rattle.aig_circuit.specs.declared.node.AigNode.{AigNode}
 use Rattle.aig_circuit.specs.declared.node.AigNodeType.{AigNodeType}
 use Rattle.aig_circuit.specs.declared.node.AigNodeType.TheVariants.{False, Leaf, And}
 use Rattle.aig_circuit.specs.Node.{IfAnd}
-use Rattle.aig_format.specs.File.{File}
-use Rattle.aig_format.specs.Levels.{level_of}
+use Rattle.aig_format.proofs.Words.{File, level_of}
 use Rattle.aig_format.proofs.Levels.{level_of-le}
 use Rattle.aig_ordering.specs.declared.levels.Search.{Search}
 use Rattle.aig_ordering.specs.Lists.{kind_among}

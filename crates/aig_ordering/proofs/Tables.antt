@@ -1,21 +1,12 @@
 -- The nodes of a file's variables, and what they tell of its gates.
-use Rattle.std.proofs.Common.{◌≡◌, ℕ, zero, suc, ◌+◌, ◌/◌, ◌<◌, ◌≤◌, max, Bool, true, false, cond, List, [], ◌∷◌, ◌++◌, length, map, get_or, replicate, Option, Some, None, refl, sym, ap, ◌∙◌, arith, inl, inr, ◌⊎◌}
+use Rattle.aig_base.proofs.Words.{◌≡◌, ℕ, zero, suc, ◌+◌, ◌/◌, ◌<◌, ◌≤◌, max, Bool, true, false, cond, List, [], ◌∷◌, ◌++◌, length, map, get_or, replicate, Option, Some, None, refl, sym, ap, ◌∙◌, arith, inl, inr, ◌⊎◌, AllByRecursion, list_all, and_parts, eqb-true, ne_eqb, same_Some, length-map}
 use Rattle.std.specs.Prelude.{◌==◌, ◌&&◌, is_some, nat_lt}
-use Rattle.std.specs.List.{AllByRecursion, list_all}
-use Rattle.std.proofs.lemmas.Bool.{and_parts, eqb-true, ne_eqb}
-use Rattle.std.proofs.lemmas.Option.{same_Some}
-use Rattle.std.proofs.lemmas.List.{length-map}
 use Rattle.aig_circuit.specs.declared.edge.AigEdge.{AigEdge}
 use Rattle.aig_circuit.specs.declared.node.AigNode.{AigNode}
 use Rattle.aig_circuit.specs.declared.node.AigNodeType.{AigNodeType}
 use Rattle.aig_circuit.specs.declared.node.AigNodeType.TheVariants.{False, Leaf, And}
-use Rattle.aig_circuit.specs.Edge.{literal_of}
-use Rattle.aig_circuit.specs.Node.{and_of}
-use Rattle.aig_format.specs.File.{LatchLine, GateLine, File}
-use Rattle.aig_format.specs.Variables.{gate_of_variable}
-use Rattle.aig_format.specs.Levels.{has_level, level_of, HasLevel}
-use Rattle.aig_format.specs.Numbering.{numbers_from}
-use Rattle.aig_format.specs.Fits.{IsDefinable}
+use Rattle.aig_circuit.proofs.Words.{literal_of, and_of}
+use Rattle.aig_format.proofs.Words.{LatchLine, GateLine, File, gate_of_variable, has_level, level_of, HasLevel, numbers_from, IsDefinable}
 use Rattle.aig_format.proofs.Entries.{rec_parts, rec_unmap, rec_weaker}
 use Rattle.aig_format.proofs.Searches.{find_some, find_none}
 use Rattle.aig_format.proofs.Members.{length-numbers}

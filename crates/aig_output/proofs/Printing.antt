@@ -1,10 +1,8 @@
 -- A text that goes to a formatter.
-use Rattle.std.proofs.Common.{List, ℕ, Result, Ok, Err, sym, subst}
-use Rattle.std.specs.Prelude.{OnOk}
+use Rattle.aig_base.proofs.Words.{List, ℕ, Result, Ok, Err, sym, subst, OnOk, false≢true}
 use Rattle.std.specs.Fmt.{HasWrittenStyled, IsDefaultSpec, IsFlush, WritesInCalls, WritesOnOk, WritesStyledOnOk}
 use Rattle.std.specs.declared.fmt.Error.{Error}
 use Rattle.std.specs.declared.fmt.Formatter.{Formatter}
-use Rattle.std.proofs.lemmas.Bool.{false≢true}
 use Rattle.std.proofs.Output.{has_written_styled_append, has_written_styled_nil}
 use Rattle.aig_output.proofs.Writing.{WritingLaws, all_written}
 

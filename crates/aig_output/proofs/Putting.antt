@@ -1,11 +1,7 @@
 -- A text that goes to a sink piece by piece.
-use Rattle.std.proofs.Common.{◌≡◌, ℕ, ◌+◌, ◌-◌, ◌<◌, ◌≤◌, List, [], ◌++◌, Option, Bool, Result, Ok, Err, IsTrue, length, take, drop, get_or, refl, sym, ap, subst, ◌∙◌, append_assoc, append-nil, take-append-drop, zero, suc, arith}
+use Rattle.aig_base.proofs.Words.{◌≡◌, ℕ, ◌+◌, ◌-◌, ◌<◌, ◌≤◌, List, [], ◌++◌, Option, Bool, Result, Ok, Err, IsTrue, length, take, drop, get_or, refl, sym, ap, subst, ◌∙◌, append_assoc, append-nil, take-append-drop, zero, suc, arith, flat_map, IfOk-from_err, on_ok_weaker, on_err_weaker, take_all, take_rest, Appends, Keeps}
 use Rattle.std.specs.Prelude.{IsErr}
-use Rattle.std.specs.List.{flat_map}
-use Rattle.std.proofs.lemmas.Result.{IfOk-from_err, on_ok_weaker, on_err_weaker}
-use Rattle.std.proofs.lemmas.List.{take_all, take_rest}
 use Rattle.std.proofs.Math.Seq.{take-add}
-use Rattle.std.specs.Io.KnownBytes.{Appends, Keeps}
 use Rattle.std.proofs.KnownBytes.{Appends-nil, Appends-trans, Appends-kept}
 use Rattle.aig_output.specs.declared.sink.BufferedSink.{BufferedSink}
 use Rattle.aig_output.specs.Sinks.{Buffers, BuffersOrStops, Stops, WritesOrStops}

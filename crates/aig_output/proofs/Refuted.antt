@@ -1,6 +1,5 @@
 -- Wrong writes, of which the definition is false.
-use Rattle.std.proofs.Common.{◌≡◌, ℕ, Bool, false, true, List, [], ◌∷◌, Some, Result, Ok, Err, sym, ap, length, arith}
-use Rattle.std.proofs.lemmas.Bool.{false≢true}
+use Rattle.aig_base.proofs.Words.{◌≡◌, ℕ, Bool, false, true, List, [], ◌∷◌, Some, Result, Ok, Err, sym, ap, length, arith, false≢true}
 use Rattle.aig_output.specs.Sinks.{WritesOrStops}
 
 -- a sink of these bytes, and whether it has failed

@@ -1,12 +1,7 @@
 -- A text that is written piece by piece.
-use Rattle.std.proofs.Common.{ℕ, ◌+◌, ◌<◌, ◌≤◌, List, [], ◌∷◌, ◌++◌, Result, Ok, Err, length, take, drop, get_or, refl, sym, ap, subst, ◌∙◌, append-nil, append_assoc, take-append-drop, ◌≡◌}
+use Rattle.aig_base.proofs.Words.{ℕ, ◌+◌, ◌<◌, ◌≤◌, List, [], ◌∷◌, ◌++◌, Result, Ok, Err, length, take, drop, get_or, refl, sym, ap, subst, ◌∙◌, append-nil, append_assoc, take-append-drop, ◌≡◌, flat_map, take_all, take_more, flat_map-append, IfOk-from_err, on_ok_weaker, on_err_weaker, WritesInCalls}
 use Rattle.std.specs.Prelude.{IsErr, OnErr, OnOk}
-use Rattle.std.specs.List.{flat_map}
-use Rattle.std.proofs.lemmas.List.{take_all, take_more}
-use Rattle.std.proofs.lemmas.List.Concat.{flat_map-append}
-use Rattle.std.proofs.lemmas.Result.{IfOk-from_err, on_ok_weaker, on_err_weaker}
 use Rattle.std.specs.List.{FoldsTo, concat}
-use Rattle.std.specs.Fmt.{WritesInCalls}
 use Rattle.std.proofs.Output.{writes_in_calls_append, writes_in_calls_nil, writes_in_calls_single}
 use Rattle.aig_output.specs.Writing.{StopsInCalls, WroteOrStopped, WritesPieces}
 

@@ -1,12 +1,8 @@
 -- What reading says of the bytes, by the laws of readers on lists.
 use Rattle.std.proofs.Common.{◌≡◌, ◌≢◌, ◌↔◌, ℕ, Bool, true, false, List, ◌++◌, Option, Some, None, Err, IfSome, refl, sym, ap, subst, ◌∙◌}
-use Rattle.std.specs.Io.KnownBytes.{IsAtEnd}
-use Rattle.std.proofs.lemmas.Bool.{false≢true}
-use Rattle.std.proofs.lemmas.Option.{IfSome_then}
-use Rattle.std.proofs.KnownBytes.{Consumes-whole}
+use Rattle.aig_base.proofs.Words.{IsAtEnd, false≢true, IfSome_then, Consumes-whole}
 use Rattle.aig_format.specs.declared.FileKind.{FileKind}
-use Rattle.aig_format.specs.File.{NameLine, File, HeaderNumbers}
-use Rattle.aig_format.specs.Fits.{Accepts}
+use Rattle.aig_format.proofs.Words.{NameLine, File, HeaderNumbers, Accepts}
 use Rattle.aig_format.proofs.FittingFiles.{fitting_sound, fitting_complete}
 use Rattle.aig_format.proofs.TooManyAt.{too_many_exact}
 use Rattle.aig_format.specs.Parse.{◌>>=◌, Parts, file_from, too_many_at, parse_file}

@@ -3,8 +3,7 @@ use Rattle.std.proofs.Common.{◌≡◌, ℕ, ◌++◌, Bool, List, map, Option,
 use Rattle.aig_circuit.specs.Properties.{Properties}
 use Rattle.aig_format.specs.declared.FileKind.{FileKind}
 use Rattle.aig_format.specs.declared.FileKind.TheVariants.{Text, Binary}
-use Rattle.aig_format.specs.File.{LatchLine, GateLine, HeaderNumbers}
-use Rattle.aig_format.specs.Parse.{◌>>=◌, Parts, parse_map}
+use Rattle.aig_format.proofs.Words.{LatchLine, GateLine, HeaderNumbers, ◌>>=◌, Parts, parse_map}
 use Rattle.aig_format.specs.ParseTested.{parse_fitting_gates, parse_fitting_inputs, parse_fitting_latches, parse_fitting_properties, parse_section_lines, parse_literal_justice, parse_literals}
 use Rattle.aig_reader.specs.declared.error.Section.{Section}
 use Rattle.aig_lexer.specs.declared.error.LineError.{LineError}

@@ -1,30 +1,16 @@
 -- The numbers of variables by level, and lists under them.
-use Rattle.std.proofs.Common.{◌≡◌, ℕ, zero, suc, ◌+◌, ◌/◌, ◌%◌, ◌<◌, ◌≤◌, Bool, true, false, cond, eqb, ltb, ◌||◌, ◌&&◌, List, [], ◌∷◌, ◌++◌, length, map, Option, Some, None, Vec, refl, sym, ap, subst, ◌∙◌, arith, inl, inr}
-use Rattle.std.specs.Prelude.{◌==◌, All, IfSome, is_some, nat_lt, option_map, unwrap_or}
-use Rattle.std.specs.List.{AllByRecursion, list_all, flat_map}
+use Rattle.aig_base.proofs.Words.{◌≡◌, ℕ, zero, suc, ◌+◌, ◌/◌, ◌%◌, ◌<◌, ◌≤◌, Bool, true, false, cond, eqb, ltb, ◌||◌, ◌&&◌, List, [], ◌∷◌, ◌++◌, length, map, Option, Some, None, Vec, refl, sym, ap, subst, ◌∙◌, arith, inl, inr, ◌==◌, All, IfSome, is_some, nat_lt, option_map, unwrap_or, AllByRecursion, list_all, flat_map, and_assoc, ltb-true, ltb-false, ne_eqb, false≢true, or_right, and_parts, All-from_recursion, All-map}
 use Rattle.std.specs.declared.alloc.Global.{Global}
-use Rattle.std.proofs.Math.Bool.{and_assoc}
-use Rattle.std.proofs.lemmas.Bool.{ltb-true, ltb-false, ne_eqb, false≢true, or_right, and_parts}
 use Rattle.std.proofs.lemmas.List.{get_or_past}
-use Rattle.std.proofs.lemmas.List.Elements.{All-from_recursion, All-map}
 use Rattle.std.proofs.lemmas.List.Folds.{list_all-append, list_all-map}
 use Rattle.aig_circuit.specs.declared.edge.AigEdge.{AigEdge}
 use Rattle.aig_circuit.specs.declared.node.AigNode.{AigNode}
 use Rattle.aig_circuit.specs.declared.node.AigNodeType.{AigNodeType}
 use Rattle.aig_circuit.specs.declared.node.AigNodeType.TheVariants.{False}
 use Rattle.aig_circuit.specs.declared.node.AigLatch.{AigLatch}
-use Rattle.aig_circuit.specs.Edge.{edge_to}
-use Rattle.aig_circuit.specs.Node.{and_of}
-use Rattle.aig_circuit.specs.Properties.{AllProperties, Properties, map_properties}
-use Rattle.aig_circuit.specs.Renumber.{position_of, renumbered_edge, renumbered_kind, renumbered_latch}
-use Rattle.aig_circuit.specs.View.{properties_of}
+use Rattle.aig_circuit.proofs.Words.{edge_to, and_of, AllProperties, Properties, map_properties, position_of, renumbered_edge, renumbered_kind, renumbered_latch, properties_of}
 use Rattle.aig_circuit.proofs.Building.{and_of-cases, and_of-turned}
-use Rattle.aig_format.specs.File.{LatchLine, GateLine, File, defined}
-use Rattle.aig_format.specs.Variables.{is_defined, is_known, IsKnown, gate_of_variable}
-use Rattle.aig_format.specs.Levels.{has_level, HasLevel}
-use Rattle.aig_format.specs.Numbering.{is_compact, node_of_variable, variables_by_level, variables_in_order}
-use Rattle.aig_format.specs.Circuit.{circuit_of, edge_of, kind_of, latch_of, nodes_from}
-use Rattle.aig_format.specs.Fits.{IsDefinable}
+use Rattle.aig_format.proofs.Words.{LatchLine, GateLine, File, defined, is_defined, is_known, IsKnown, gate_of_variable, has_level, HasLevel, is_compact, node_of_variable, variables_by_level, variables_in_order, circuit_of, edge_of, kind_of, latch_of, nodes_from, IsDefinable}
 use Rattle.aig_format.proofs.Circuits.{defined_known, differ_from}
 use Rattle.aig_format.proofs.Entries.{rec_both, rec_parts, rec_unmap, rec_weaker}
 use Rattle.aig_format.proofs.Found.{found_all}

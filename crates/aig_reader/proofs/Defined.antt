@@ -1,12 +1,8 @@
 -- The variables that are defined so far.
-use Rattle.std.proofs.Common.{◌≡◌, ◌≢◌, ℕ, ◌+◌, ◌*◌, ◌/◌, ◌%◌, ◌^◌, ◌<◌, ◌≤◌, Bool, true, false, ◌||◌, List, [], ◌∷◌, ◌++◌, length, Result, Ok, Err, refl, subst, sym, ap, ◌∙◌, arith}
+use Rattle.aig_base.proofs.Words.{◌≡◌, ◌≢◌, ℕ, ◌+◌, ◌*◌, ◌/◌, ◌%◌, ◌^◌, ◌<◌, ◌≤◌, Bool, true, false, ◌||◌, List, [], ◌∷◌, ◌++◌, length, Result, Ok, Err, refl, subst, sym, ap, ◌∙◌, arith, AllByRecursion, list_any, or-false, nat_tests, list_any-append}
 use Rattle.std.specs.Prelude.{◌==◌, nat_eq, not}
-use Rattle.std.specs.List.{AllByRecursion, list_any}
 use Rattle.std.proofs.lemmas.Bool.{and_from, and_parts, and_right, eqb-false, leb-false, ne_eqb}
-use Rattle.std.proofs.Math.Bool.{or-false}
-use Rattle.std.proofs.lemmas.Bool.Decides.{nat_tests}
-use Rattle.std.proofs.lemmas.List.Folds.{list_any-append}
-use Rattle.aig_format.specs.File.{File, defined}
+use Rattle.aig_format.proofs.Words.{File, defined}
 use Rattle.aig_format.specs.Fits.{IsDefinable, is_definable}
 use Rattle.aig_format.proofs.Entries.{rec_append, rec_both, rec_parts, rec_weaker}
 use Rattle.aig_format.proofs.Numbers.{half_differs}

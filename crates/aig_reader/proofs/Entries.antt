@@ -1,8 +1,5 @@
 -- Entries that are read one after the other, each beside those before it.
-use Rattle.std.proofs.Common.{◌≡◌, ℕ, zero, suc, ◌+◌, ◌<◌, List, [], ◌∷◌, ◌++◌, Option, Some, None, refl, sym, ap, subst, ◌∙◌, append_assoc, append-nil, add-one, length, length-append, map, get_or, arith}
-use Rattle.std.proofs.lemmas.Option.{same_Some}
-use Rattle.std.proofs.lemmas.List.{map_push}
-use Rattle.std.proofs.Math.Seq.{get_or-append_seam}
+use Rattle.aig_base.proofs.Words.{◌≡◌, ℕ, zero, suc, ◌+◌, ◌<◌, List, [], ◌∷◌, ◌++◌, Option, Some, None, refl, sym, ap, subst, ◌∙◌, append_assoc, append-nil, add-one, length, length-append, map, get_or, arith, same_Some, map_push, get_or-append_seam}
 use Rattle.aig_format.specs.Parse.{◌>>=◌, parse_entries, parse_sets}
 use Rattle.aig_format.specs.ParseTested.{parse_literals, parse_literal_sets}
 use Rattle.aig_format.proofs.NumberReaders.{bind_some}

@@ -2,25 +2,18 @@
 use Rattle.std.proofs.Common.{◌≡◌, ◌≢◌, ℕ, zero, suc, ◌+◌, ◌*◌, ◌/◌, ◌%◌, ◌≤◌, true, cond, List, [], ◌∷◌, ◌++◌, map, slice_index, Option, Some, None, refl, sym, ap, ◌∙◌, arith, leb-true}
 use Rattle.std.specs.Prelude.{filter_map, AllPairs, ◌==◌, option_map, Bool, false}
 use Rattle.std.specs.Ordering.{nat_cmp}
-use Rattle.std.specs.FinMap.{FinMap, from_entries}
-use Rattle.std.specs.List.{AllByRecursion, flat_map}
-use Rattle.aig_circuit.specs.Circuit.{Circuit, latch_leaves}
+use Rattle.aig_base.proofs.Words.{FinMap, from_entries, AllByRecursion, flat_map}
+use Rattle.aig_circuit.proofs.Words.{Circuit, latch_leaves, edge_to, and_of}
 use Rattle.aig_circuit.specs.declared.node.AigNodeType.{AigNodeType}
 use Rattle.aig_circuit.specs.declared.node.AigNodeType.TheVariants.{False}
 use Rattle.aig_circuit.specs.declared.edge.AigEdge.{AigEdge}
 use Rattle.aig_circuit.specs.declared.node.AigNode.{AigNode}
 use Rattle.aig_circuit.specs.declared.node.AigLatch.{AigLatch}
-use Rattle.aig_circuit.specs.Edge.{edge_to}
-use Rattle.aig_circuit.specs.Node.{and_of}
 use Rattle.aig_circuit.proofs.Listed.{AllProperties-weaker, map_properties-agree}
-use Rattle.aig_format.specs.Parse.{Parts, file_from}
+use Rattle.aig_format.proofs.Words.{Parts, file_from, circuit_of, edge_of, initial_of, kind_of, latch_of, named_node, nodes_from, LatchLine, GateLine, NameLine, File, defined, used, HeaderNumbers, Fits, IsDefinable, is_literal, gate_of_variable}
 use Rattle.aig_format.specs.Circuit as of_file
-use Rattle.aig_format.specs.Circuit.{circuit_of, edge_of, initial_of, kind_of, latch_of, named_node, nodes_from}
 use Rattle.aig_format.specs.declared.FileKind.{FileKind}
-use Rattle.aig_format.specs.File.{LatchLine, GateLine, NameLine, File, defined, used, HeaderNumbers}
-use Rattle.aig_format.specs.Fits.{Fits, IsDefinable, is_literal}
 use Rattle.aig_format.specs.Numbering.{is_compact, node_of_variable, numbers_from, variables_in_order}
-use Rattle.aig_format.specs.Variables.{gate_of_variable}
 use Rattle.aig_format.proofs.Circuits.{UsedHave, distinct_pairs, leaves_distinct, leaves_of_latches, numbers, used_by_section}
 use Rattle.aig_format.proofs.Entries.{rec_both, rec_flat_map, rec_parts, rec_unmap, rec_weaker}
 use Rattle.aig_format.proofs.Numbers.{node_of_variable-compact, node_of_variable-zero, order-compact}

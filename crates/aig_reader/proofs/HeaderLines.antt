@@ -1,12 +1,9 @@
 -- The header line, with its tests.
 use Rattle.std.proofs.Common.{◌≡◌, ◌∙◌, ℕ, ◌+◌, ◌≤◌, Bool, true, false, cond, List, [], ◌++◌, Option, Some, None, Err, IfSome, ap, subst, ltb, leb, refl}
 use Rattle.std.specs.Prelude.{◌&&◌}
-use Rattle.std.proofs.lemmas.Bool.{and_parts, leb-true, le-ltb}
-use Rattle.std.proofs.lemmas.Option.{IfSome_then, same_Some}
+use Rattle.aig_base.proofs.Words.{and_parts, leb-true, le-ltb, IfSome_then, same_Some}
 use Rattle.aig_format.specs.declared.FileKind.{FileKind}
-use Rattle.aig_format.specs.File.{HeaderNumbers}
-use Rattle.aig_format.specs.Fits.{has_enough}
-use Rattle.aig_format.specs.Parse.{◌>>=◌, parse_header, too_many_at, too_many_of}
+use Rattle.aig_format.proofs.Words.{HeaderNumbers, has_enough, ◌>>=◌, parse_header, too_many_at, too_many_of}
 use Rattle.aig_format.specs.ParseTested.{fits_header, parse_fitting_header}
 use Rattle.aig_format.proofs.NumberReaders.{bind_some}
 use Rattle.aig_lexer.specs.declared.error.LexError.{LexError}

@@ -1,11 +1,7 @@
 -- What the numbering of variables answers, and the tests of sections, joined.
-use Rattle.std.proofs.Common.{◌≡◌, ℕ, ◌/◌, Bool, true, false, ◌&&◌, List, [], ◌∷◌, ◌++◌, map, Result, Ok, Err, refl, sym, ap, subst, ◌∙◌}
-use Rattle.std.specs.List.{flat_map}
-use Rattle.std.proofs.lemmas.Bool.{and_right}
-use Rattle.std.proofs.lemmas.List.Folds.{list_all-append}
+use Rattle.aig_base.proofs.Words.{◌≡◌, ℕ, ◌/◌, Bool, true, false, ◌&&◌, List, [], ◌∷◌, ◌++◌, map, Result, Ok, Err, refl, sym, ap, subst, ◌∙◌, flat_map, and_right, list_all-append}
 use Rattle.aig_circuit.specs.Properties.{Properties, entries_of}
-use Rattle.aig_format.specs.File.{LatchLine, GateLine, File}
-use Rattle.aig_format.specs.Variables.{is_known}
+use Rattle.aig_format.proofs.Words.{LatchLine, GateLine, File, is_known, uses_known}
 use Rattle.aig_lexer.specs.declared.error.LineError.{LineError}
 use Rattle.aig_lexer.specs.declared.error.LineError.TheVariants as line
 use Rattle.aig_lexer.specs.Faults.{Tested}
@@ -14,7 +10,6 @@ use Rattle.aig_ordering.specs.Tables.{order_cause}
 use Rattle.aig_reader.specs.declared.error.ReadError.{ReadError}
 use Rattle.aig_reader.specs.declared.error.Section.TheVariants.{Gates}
 use Rattle.aig_reader.specs.Faults.{error_in, result_by, section_cause}
-use Rattle.aig_format.specs.Fits.{uses_known}
 use Rattle.aig_reader.specs.Numbered.{have_operands, knows, knows_lists, knows_properties}
 
 -- ---- answers

@@ -1,10 +1,7 @@
 -- What is known once the inputs and the latches were read.
-use Rattle.std.proofs.Common.{◌≡◌, ◌++◌, ◌+◌, [], ℕ, List, Result, Ok, length, map, ap, length-append, ◌∙◌}
-use Rattle.std.proofs.lemmas.List.{length-map}
+use Rattle.aig_base.proofs.Words.{◌≡◌, ◌++◌, ◌+◌, [], ℕ, List, Result, Ok, length, map, ap, length-append, ◌∙◌, length-map}
 use Rattle.aig_circuit.specs.declared.node.AigLatch.{AigLatch}
-use Rattle.aig_format.specs.Parse.{parse_entries}
-use Rattle.aig_format.specs.ParseTested.{parse_input_entry, parse_latch_entry}
-use Rattle.aig_format.specs.File.{LatchLine}
+use Rattle.aig_format.proofs.Words.{parse_entries, parse_input_entry, parse_latch_entry, LatchLine}
 use Rattle.aig_lexer.specs.declared.header.Header.{Header}
 use Rattle.aig_lexer.specs.Faults.{line_cause}
 use Rattle.aig_lexer.specs.Takes.{Feed, Makes, Takes}

@@ -1,7 +1,5 @@
 -- Wrong verdicts of a reader, of which the definition is false.
-use Rattle.std.proofs.Common.{◌≡◌, ℕ, true, false, List, [], ◌∷◌, ◌++◌, Option, None, refl, sym, subst}
-use Rattle.std.specs.Prelude.{codes}
-use Rattle.std.proofs.lemmas.Bool.{false≢true}
+use Rattle.aig_base.proofs.Words.{◌≡◌, ℕ, true, false, List, [], ◌∷◌, ◌++◌, Option, None, refl, sym, subst, codes, false≢true}
 use Rattle.aig_format.specs.ParseTested.{parse_fitting}
 use Rattle.aig_format.proofs.ReadingExamples.{and_file-accepted, binary-read, no_differences, no_gates, no_inputs, no_names}
 use Rattle.aig_format.proofs.FittingFiles.{fitting_complete, fitting_sound}

@@ -1,15 +1,9 @@
 -- The sections that were read, as those of the file's circuit.
 use Rattle.std.proofs.Common.{◌≡◌, ◌+◌, ◌*◌, ◌/◌, ◌≤◌, Bool, true, false, ◌||◌, ◌&&◌, List, [], ◌++◌, length, Result, Ok, Err, vec_len, ap, sym, subst, ◌∙◌, arith, leb-true}
-use Rattle.std.specs.List.{list_all}
-use Rattle.std.proofs.lemmas.List.{length-map}
+use Rattle.aig_base.proofs.Words.{list_all, length-map}
 use Rattle.aig_format.specs.declared.FileKind.{FileKind}
 use Rattle.aig_format.specs.declared.FileKind.TheVariants.{Text, Binary}
-use Rattle.aig_format.specs.Circuit.{circuit_of, latch_of}
-use Rattle.aig_format.specs.File.{File}
-use Rattle.aig_format.specs.Levels.{has_level}
-use Rattle.aig_format.specs.Numbering.{is_compact, node_of_variable}
-use Rattle.aig_format.specs.Parse.{Parts}
-use Rattle.aig_format.specs.ParseTested.{parse_fitting_sections, parse_section_lines}
+use Rattle.aig_format.proofs.Words.{circuit_of, latch_of, File, has_level, is_compact, node_of_variable, Parts, parse_fitting_sections, parse_section_lines, has_enough, is_accepted_order, is_literal, uses_known}
 use Rattle.aig_format.proofs.FittingFiles.{HasOperands}
 use Rattle.aig_format.proofs.SectionFacts.{lines_tell}
 use Rattle.aig_ordering.specs.Tables.{AreNodesOf}
@@ -28,7 +22,6 @@ use Rattle.aig_reader.specs.Gates.{AreFirstNodes}
 use Rattle.aig_reader.specs.Sections.{AreListsByVariable, HasGoodLines, file_by}
 use Rattle.aig_reader.proofs.FileCircuit.{inputs_is, latchs_is, compact_circuit}
 use Rattle.aig_reader.proofs.PlacedNodes.{first_all}
-use Rattle.aig_format.specs.Fits.{has_enough, is_accepted_order, is_literal, uses_known}
 use Rattle.aig_format.proofs.Entries.{rec_weaker, length-defined, on_used}
 
 module _ (header : Header) (good : has_enough header.kind (numbers_of header) ≡ true) (x : Parts) (b a : Feed) (taken : Takes (parse_section_lines header.kind (numbers_of header)) b a x) where

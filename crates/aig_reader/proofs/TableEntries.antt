@@ -1,18 +1,13 @@
 -- The nodes that a table of gates records, as gates are put in it.
-use Rattle.std.proofs.Common.{◌≡◌, ◌≢◌, ℕ, zero, suc, ◌+◌, ◌*◌, ◌/◌, ◌%◌, ◌<◌, ◌≤◌, Bool, true, false, cond, List, [], ◌∷◌, ◌++◌, length, map, set, replicate, Option, Some, None, refl, sym, ap, subst, ◌∙◌, append_assoc, arith, inl, inr}
+use Rattle.aig_base.proofs.Words.{◌≡◌, ◌≢◌, ℕ, zero, suc, ◌+◌, ◌*◌, ◌/◌, ◌%◌, ◌<◌, ◌≤◌, Bool, true, false, cond, List, [], ◌∷◌, ◌++◌, length, map, set, replicate, Option, Some, None, refl, sym, ap, subst, ◌∙◌, append_assoc, arith, inl, inr, AllByRecursion, eqb-true, eqb-false, ne_eqb, All-map}
 use Rattle.std.specs.Prelude.{◌^◌, ◌==◌, All}
-use Rattle.std.specs.List.{AllByRecursion}
-use Rattle.std.proofs.lemmas.Bool.{eqb-true, eqb-false, ne_eqb}
 use Rattle.std.proofs.lemmas.List.{append-nil}
-use Rattle.std.proofs.lemmas.List.Elements.{All-map}
 use Rattle.aig_circuit.specs.declared.node.AigNode.{AigNode}
 use Rattle.aig_circuit.specs.declared.node.AigNodeType.{AigNodeType}
 use Rattle.aig_circuit.specs.declared.node.AigNodeType.TheVariants.{False, Leaf}
-use Rattle.aig_circuit.specs.Edge.{literal_of}
-use Rattle.aig_circuit.specs.Node.{IfAnd, and_of}
+use Rattle.aig_circuit.proofs.Words.{literal_of, IfAnd, and_of}
 use Rattle.aig_circuit.proofs.Building.{and_of-cases, and_of-turned}
-use Rattle.aig_format.specs.File.{GateLine}
-use Rattle.aig_format.specs.Numbering.{numbers_from}
+use Rattle.aig_format.proofs.Words.{GateLine, numbers_from}
 use Rattle.aig_format.specs.Variables.{gate_among}
 use Rattle.aig_format.proofs.Searches.{find_some}
 use Rattle.aig_ordering.specs.declared.gates.Operands.{Operands}

@@ -1,14 +1,7 @@
 -- Gates that no compact file begins with.
-use Rattle.std.proofs.Common.{◌≡◌, ℕ, ◌/◌, ◌<◌, ◌≤◌, Bool, true, false, ◌&&◌, List, [], ◌∷◌, ◌++◌, length, map, refl, sym, ap, subst, ◌∙◌, append_assoc, arith}
-use Rattle.std.specs.Prelude.{◌==◌, nat_lt}
-use Rattle.std.specs.List.{AllByRecursion, IsDistinct, list_all, list_any}
-use Rattle.std.specs.Prelude.{nat_eq}
-use Rattle.std.proofs.lemmas.Bool.{and_from, and_parts, eqb-true, false≢true, ltb-true, ne_eqb}
+use Rattle.aig_base.proofs.Words.{◌≡◌, ℕ, ◌/◌, ◌<◌, ◌≤◌, Bool, true, false, ◌&&◌, List, [], ◌∷◌, ◌++◌, length, map, refl, sym, ap, subst, ◌∙◌, append_assoc, arith, ◌==◌, nat_lt, AllByRecursion, IsDistinct, list_all, list_any, nat_eq, and_from, and_parts, eqb-true, false≢true, ltb-true, ne_eqb, list_all-append, list_any-append}
 use Rattle.std.proofs.lemmas.List.{append-nil, map-append}
-use Rattle.std.proofs.lemmas.List.Folds.{list_all-append, list_any-append}
-use Rattle.aig_format.specs.File.{GateLine, File, defined}
-use Rattle.aig_format.specs.Fits.{IsDefinable}
-use Rattle.aig_format.specs.Numbering.{are_in_order, is_compact, is_above_operands, is_increasing}
+use Rattle.aig_format.proofs.Words.{GateLine, File, defined, IsDefinable, are_in_order, is_compact, is_above_operands, is_increasing}
 use Rattle.aig_format.proofs.Entries.{rec_parts}
 use Rattle.aig_format.proofs.Numbers.{all_there}
 use Rattle.aig_reader.specs.declared.gate_store.GateStore.{GateStore}

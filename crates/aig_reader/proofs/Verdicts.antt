@@ -1,10 +1,7 @@
 -- What is said of the bytes by a call that goes on from what another said.
 use Rattle.std.proofs.Common.{◌≡◌, ℕ, Bool, List, Option, Some, None, Result, Ok, Err, IfOk, IfSome, sym, ap, subst, ◌∙◌}
-use Rattle.std.specs.Io.KnownBytes.{IsAtEnd, prepend_known}
-use Rattle.std.proofs.lemmas.Option.{IfSome_then, same_Some}
-use Rattle.std.proofs.KnownBytes.{Consumes-whole}
-use Rattle.aig_format.specs.File.{File}
-use Rattle.aig_format.specs.Fits.{Accepts}
+use Rattle.aig_base.proofs.Words.{IsAtEnd, prepend_known, IfSome_then, same_Some, Consumes-whole}
+use Rattle.aig_format.proofs.Words.{File, Accepts}
 use Rattle.aig_format.proofs.FittingFiles.{fitting_complete}
 use Rattle.aig_lexer.proofs.Ending.{none_left, took_all}
 use Rattle.aig_reader.specs.Reading.{IsReadAs}

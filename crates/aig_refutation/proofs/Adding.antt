@@ -1,6 +1,6 @@
 -- Steps that are taken, case by case.
 use Rattle.std.proofs.Common.{◌≡◌, ℕ, Bool, true, false, cond, List, [], ◌∷◌, Result, Ok, Err, OnOk, refl, ap}
-use Rattle.std.specs.List.{list_all}
+use Rattle.aig_base.proofs.Words.{list_all}
 use Rattle.aig_base.specs.declared.logic.literal.Lit.{Lit}
 use Rattle.aig_refutation.specs.declared.error.RefutationError.{RefutationError}
 use Rattle.aig_refutation.specs.declared.error.RefutationError.TheVariants as errors

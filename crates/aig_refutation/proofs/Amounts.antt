@@ -1,9 +1,6 @@
 -- How many clauses of the same literals are there.
 use Rattle.std.proofs.Common.{◌≡◌, ℕ, zero, suc, ◌+◌, ◌-◌, ◌<◌, ◌≤◌, Bool, true, false, cond, List, [], ◌∷◌, length, slice_get, Some, None, refl, sym, ap, subst, ◌∙◌, arith}
-use Rattle.std.specs.Prelude.{◌==◌}
-use Rattle.std.specs.List.{fold}
-use Rattle.std.proofs.lemmas.Option.{same_Some}
-use Rattle.std.proofs.lemmas.Bool.{cond-false, eq-eqb, eqb-true, false≢true, ne_eqb}
+use Rattle.aig_base.proofs.Words.{◌==◌, fold, same_Some, cond-false, eq-eqb, eqb-true, false≢true, ne_eqb}
 use Rattle.aig_base.specs.declared.logic.literal.Lit.{Lit}
 use Rattle.aig_refutation.specs.Ahead.{IsEnough, IsRow, amount, copies, is_same_if, names}
 use Rattle.aig_refutation.specs.Checking.{Live, clause_at, with_next, without_clause}

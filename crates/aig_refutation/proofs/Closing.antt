@@ -1,9 +1,6 @@
 -- What is found along clauses, one after another.
 use Rattle.std.proofs.Common.{◌≡◌, inr, ℕ, zero, suc, ◌+◌, ◌-◌, ◌*◌, ◌<◌, Bool, true, false, cond, Option, Some, None, List, [], ◌∷◌, length, slice_get, refl, sym, ap, subst, ◌∙◌, arith}
-use Rattle.std.specs.Prelude.{◌==◌, All, is_some, nat_lt, slice_index_or, slice_set}
-use Rattle.std.proofs.lemmas.Bool.{false≢true, true_from_ne_false, or_right}
-use Rattle.std.proofs.lemmas.Option.{same_Some}
-use Rattle.std.proofs.lemmas.List.Sums.{AllPass-from_list_all}
+use Rattle.aig_base.proofs.Words.{◌==◌, All, is_some, nat_lt, slice_index_or, slice_set, false≢true, true_from_ne_false, or_right, same_Some, AllPass-from_list_all}
 use Rattle.aig_base.specs.declared.logic.literal.Lit.{Lit}
 use Rattle.aig_base.specs.Clauses.{are_true, is_true_clause, number_of_lit, variable_of}
 use Rattle.aig_refutation.specs.declared.propagation.Reading.TheVariants.{Conflict, Implied}

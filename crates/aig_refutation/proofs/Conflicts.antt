@@ -1,12 +1,7 @@
 -- Clauses that are in conflict at once: how they are found, and that the empty clause follows.
 use Rattle.std.proofs.Common.{◌≡◌, ◌≢◌, ℕ, zero, suc, ◌+◌, ◌-◌, ◌<◌, ◌≤◌, ◌^◌, Bool, true, false, inl, inr, List, [], ◌∷◌, length, slice_get, Some, Err, refl, sym, ap, subst, ◌∙◌, arith}
-use Rattle.std.specs.Prelude.{◌==◌, slice_set}
+use Rattle.aig_base.proofs.Words.{◌==◌, slice_set, eqb-true, eq-eqb, false≢true, ne_eqb, cond-true, cond-false, nat_tests, nat_eq_equiv, common_steps, same_Some, slice_get-get_or}
 use Rattle.std.specs.List.{Contains, fold}
-use Rattle.std.proofs.lemmas.Bool.{eqb-true, eq-eqb, false≢true, ne_eqb, cond-true, cond-false}
-use Rattle.std.proofs.lemmas.Bool.Decides.{nat_tests}
-use Rattle.std.proofs.lemmas.Cmp.{nat_eq_equiv}
-use Rattle.std.proofs.lemmas.Grind.{common_steps}
-use Rattle.std.proofs.lemmas.Option.{same_Some, slice_get-get_or}
 use Rattle.aig_base.specs.declared.logic.literal.Lit.{Lit}
 use Rattle.aig_base.specs.Clauses.{inverse_lit, number_of_lit, variable_of}
 use Rattle.aig_refutation.specs.declared.error.RefutationError.{RefutationError}

@@ -1,10 +1,6 @@
 -- The first bytes of a proof, which tell whether it is binary.
-use Rattle.std.proofs.Common.{◌≡◌, ◌⊎◌, inl, inr, ℕ, ◌<◌, ◌≤◌, Bool, true, false, ◌&&◌, ◌||◌, List, [], ◌∷◌, ◌++◌, length, take, Option, Some, refl, sym, ap, ◌∙◌, append-nil, arith}
-use Rattle.std.proofs.lemmas.List.{take-append-le}
-use Rattle.std.specs.List.{list_any}
-use Rattle.std.specs.Prelude.{◌==◌, nat_lt}
+use Rattle.aig_base.proofs.Words.{◌≡◌, ◌⊎◌, inl, inr, ℕ, ◌<◌, ◌≤◌, Bool, true, false, ◌&&◌, ◌||◌, List, [], ◌∷◌, ◌++◌, length, take, Option, Some, refl, sym, ap, ◌∙◌, append-nil, arith, take-append-le, list_any, ◌==◌, nat_lt, Consumes, IsAtEnd, prepend_known}
 use borrow.Author.Tests.{ltb-true, ltb-false}
-use Rattle.std.specs.Io.KnownBytes.{Consumes, IsAtEnd, prepend_known}
 use Rattle.aig_refutation.specs.Forms.{is_binary, telling}
 use Rattle.aig_refutation.specs.Text.{begins}
 use Rattle.aig_refutation.proofs.Known.{at_end, consumed}

@@ -1,7 +1,6 @@
 -- Numbers in groups of seven bits, and the words that they are.
 use Rattle.std.proofs.Common.{◌≡◌, ℕ, zero, suc, ◌+◌, ◌-◌, ◌*◌, ◌^◌, Bool, true, false, cond, List, [], ◌∷◌, Option, Some, None, IfSome, Ok, Err, refl, sym, ap, subst, ◌∙◌}
-use Rattle.std.specs.Prelude.{nat_lt}
-use Rattle.std.proofs.lemmas.Option.{same_Some}
+use Rattle.aig_base.proofs.Words.{nat_lt, same_Some}
 use Rattle.aig_format.specs.Parse as parsing
 use Rattle.aig_format.specs.Parse.{parse_delta, parse_groups}
 use Rattle.aig_lexer.specs.Takes.{Feed, Misses, Takes}

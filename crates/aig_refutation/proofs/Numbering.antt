@@ -1,13 +1,8 @@
 -- A table of numbers, beside the clauses that are there.
 use Rattle.std.proofs.Common.{◌≡◌, ◌≢◌, inl, inr, ℕ, zero, suc, ◌+◌, ◌-◌, ◌*◌, ◌<◌, ◌≤◌, ◌^◌, Bool, true, false, cond, not, ◌||◌, List, [], ◌∷◌, ◌++◌, length, length-append, slice_get, Option, Some, None, refl, sym, ap, subst, ◌∙◌, arith}
 use Rattle.std.specs.Prelude.{◌==◌, ◌/◌, OnOk, min, nat_le, nat_lt, slice_index_or, is_some, Result, Ok, Err}
-use Rattle.std.specs.Map.{lookup}
-use Rattle.std.proofs.lemmas.Bool.{false≢true, eqb-true, ne_eqb, cond-true, cond-false}
-use Rattle.std.proofs.lemmas.Bool.Decides.{nat_tests}
-use Rattle.std.proofs.lemmas.Cmp.{nat_eq_equiv}
+use Rattle.aig_base.proofs.Words.{lookup, false≢true, eqb-true, ne_eqb, cond-true, cond-false, nat_tests, nat_eq_equiv, common_steps, slice_get-get_or, slice_get_past}
 use borrow.Author.Tests.{ltb-true}
-use Rattle.std.proofs.lemmas.Grind.{common_steps}
-use Rattle.std.proofs.lemmas.Option.{slice_get-get_or, slice_get_past}
 use Rattle.aig_base.specs.declared.logic.literal.Lit.{Lit}
 use Rattle.aig_refutation.specs.Checking.{Live, all_live, are_in, clause_at, is_named, is_too_large, is_used, numbered_clause, with_clause, with_next, without_clause}
 use Rattle.aig_refutation.specs.declared.error.RefutationError.{RefutationError}

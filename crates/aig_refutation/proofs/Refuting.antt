@@ -1,9 +1,6 @@
 -- Steps that refute clauses show that no assignment satisfies them.
-use Rattle.std.proofs.Common.{◌≡◌, ℕ, ◌+◌, Bool, true, false, cond, not, ◌||◌, inl, inr, Some, List, [], ◌∷◌, sym, ap, ◌∙◌}
-use Rattle.std.specs.Prelude.{◌==◌}
+use Rattle.aig_base.proofs.Words.{◌≡◌, ℕ, ◌+◌, Bool, true, false, cond, not, ◌||◌, inl, inr, Some, List, [], ◌∷◌, sym, ap, ◌∙◌, ◌==◌, lookup, false≢true, and_parts, or_cases}
 use Rattle.std.specs.List.{AllByRecursion, filter, list_any}
-use Rattle.std.specs.Map.{lookup}
-use Rattle.std.proofs.lemmas.Bool.{false≢true, and_parts, or_cases}
 use Rattle.aig_base.specs.declared.logic.literal.Lit.{Lit}
 use Rattle.aig_base.specs.Clauses.{are_true, is_true_clause}
 use Rattle.aig_base.specs.Formula.{IsSatisfiable}

@@ -1,6 +1,5 @@
 -- What follows by reverse unit propagation is implied.
-use Rattle.std.proofs.Common.{◌≡◌, ◌⊎◌, ℕ, Bool, true, false, cond, Option, Some, None, List, [], ◌∷◌, inl, inr, refl, sym, ap, ◌∙◌}
-use Rattle.std.specs.List.{fold}
+use Rattle.aig_base.proofs.Words.{◌≡◌, ◌⊎◌, ℕ, Bool, true, false, cond, Option, Some, None, List, [], ◌∷◌, inl, inr, refl, sym, ap, ◌∙◌, fold}
 use Rattle.std.proofs.lemmas.Bool.{false≢true, or_cases, or_parts, eqb-true, not_from_true, not_from_false, true_from_ne_false}
 use Rattle.aig_base.specs.declared.logic.literal.Lit.{Lit}
 use Rattle.aig_base.specs.Clauses.{inverse_lit, literal_value, is_true_clause}

@@ -1,9 +1,7 @@
 -- Clauses of the same literals.
-use Rattle.std.proofs.Common.{◌≡◌, inl, inr, Bool, true, false, cond, ◌||◌, List, [], ◌∷◌, refl, sym, ap, subst, ◌∙◌}
+use Rattle.aig_base.proofs.Words.{◌≡◌, inl, inr, Bool, true, false, cond, ◌||◌, List, [], ◌∷◌, refl, sym, ap, subst, ◌∙◌, fold, list_all, and_from, and_parts, cond-true, false≢true, or_cases, or_right}
 use Rattle.std.specs.Prelude.{not}
 use Rattle.std.specs.Cmp.{IsEquivalence}
-use Rattle.std.specs.List.{fold, list_all}
-use Rattle.std.proofs.lemmas.Bool.{and_from, and_parts, cond-true, false≢true, or_cases, or_right}
 use Rattle.aig_base.specs.declared.logic.literal.Lit.{Lit}
 use Rattle.aig_base.specs.Clauses.{inverse_lit}
 use Rattle.aig_refutation.specs.declared.propagation.Reading.{Reading}

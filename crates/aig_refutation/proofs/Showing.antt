@@ -1,8 +1,5 @@
 -- What a proof's text shows: no assignment satisfies the clauses.
-use Rattle.std.proofs.Common.{◌≡◌, ℕ, Bool, true, false, cond, not, inl, inr, Option, Some, None, Result, Ok, Err, List, [], ◌∷◌, refl, sym, subst}
-use Rattle.std.specs.Prelude.{option_map}
-use Rattle.std.specs.List.{fold, list_all}
-use Rattle.std.proofs.lemmas.Bool.{and_parts, or_cases}
+use Rattle.aig_base.proofs.Words.{◌≡◌, ℕ, Bool, true, false, cond, not, inl, inr, Option, Some, None, Result, Ok, Err, List, [], ◌∷◌, refl, sym, subst, option_map, fold, list_all, and_parts, or_cases}
 use Rattle.aig_base.specs.declared.logic.literal.Lit.{Lit}
 use Rattle.aig_base.specs.Clauses.{are_true, is_true_clause}
 use Rattle.aig_base.specs.Formula.{IsSatisfiable}

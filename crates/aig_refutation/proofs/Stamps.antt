@@ -1,8 +1,5 @@
 -- Literals that are marked by stamps.
-use Rattle.std.proofs.Common.{◌≡◌, ℕ, zero, suc, ◌<◌, Bool, false, List, [], ◌∷◌, length, map, replicate, refl, ap, arith}
-use Rattle.std.specs.Prelude.{◌==◌, All}
-use Rattle.std.proofs.lemmas.Bool.{ne_eqb}
-use Rattle.std.proofs.lemmas.List.Elements.{All-tail}
+use Rattle.aig_base.proofs.Words.{◌≡◌, ℕ, zero, suc, ◌<◌, Bool, false, List, [], ◌∷◌, length, map, replicate, refl, ap, arith, ◌==◌, All, ne_eqb, All-tail}
 
 -- no stamp is one that is above all of them
 pub none_stamped : (stamps : List ℕ) (stamp : ℕ) → All (λ s. s < stamp) stamps → map (λ s. s == stamp) stamps ≡ replicate (length stamps) false

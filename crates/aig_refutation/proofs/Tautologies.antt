@@ -1,7 +1,6 @@
 -- A clause with a literal and its inverse is true.
-use Rattle.std.proofs.Common.{◌≡◌, ℕ, Bool, true, false, not, List, refl, sym, ap, ◌∙◌}
+use Rattle.aig_base.proofs.Words.{◌≡◌, ℕ, Bool, true, false, not, List, refl, sym, ap, ◌∙◌, Any-from_list_any, list_any_at}
 use Rattle.std.specs.List.{Any}
-use Rattle.std.proofs.lemmas.List.Folds.{Any-from_list_any, list_any_at}
 use Rattle.aig_base.specs.declared.logic.literal.Lit.{Lit}
 use Rattle.aig_base.specs.Clauses.{inverse_lit, is_true_clause, literal_value}
 use Rattle.aig_base.proofs.Literals.{literal_value-inverse_lit}

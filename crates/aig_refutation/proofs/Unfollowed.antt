@@ -1,7 +1,6 @@
 -- A clause whose inverses unit propagation doesn't refute: no hints show it.
 use Rattle.std.proofs.Common.{◌≡◌, ◌⊎◌, inl, inr, ℕ, suc, ◌+◌, ◌<◌, ◌^◌, Bool, true, false, ◌||◌, cond, Option, Some, None, List, [], ◌∷◌, length, slice_get, refl, sym, ap, subst, ◌∙◌, arith}
-use Rattle.std.specs.List.{fold}
-use Rattle.std.proofs.lemmas.Bool.{cond-true, false≢true, or_cases, or_right}
+use Rattle.aig_base.proofs.Words.{fold, cond-true, false≢true, or_cases, or_right}
 use Rattle.aig_base.specs.declared.logic.literal.Lit.{Lit}
 use Rattle.aig_base.specs.Clauses.{inverse_lit}
 use Rattle.aig_refutation.specs.declared.propagation.Reading.{Reading}

@@ -1,16 +1,11 @@
 -- Two functions that agree on every number of a circuit renumber it alike.
-use Rattle.std.proofs.Common.{◌≡◌, ℕ, suc, ◌+◌, Option, Some, None, List, [], ◌∷◌, get_or, refl, ap, ◌∙◌, arith}
-use Rattle.std.specs.Prelude.{All, IfSome, option_map}
-use Rattle.std.specs.FinMap.{entries, from_entries}
+use Rattle.aig_base.proofs.Words.{◌≡◌, ℕ, suc, ◌+◌, Option, Some, None, List, [], ◌∷◌, get_or, refl, ap, ◌∙◌, arith, All, IfSome, option_map, entries, from_entries}
 use Rattle.aig_circuit.specs.declared.edge.AigEdge.{AigEdge}
 use Rattle.aig_circuit.specs.declared.node.AigNodeType.{AigNodeType}
 use Rattle.aig_circuit.specs.declared.node.AigNodeType.TheVariants.{False, Leaf, And}
 use Rattle.aig_circuit.specs.declared.node.AigNode.{AigNode}
 use Rattle.aig_circuit.specs.declared.node.AigLatch.{AigLatch}
-use Rattle.aig_circuit.specs.Edge.{edge_to}
-use Rattle.aig_circuit.specs.Node.{kind_at, and_of}
-use Rattle.aig_circuit.specs.Circuit.{Circuit}
-use Rattle.aig_circuit.specs.Renumber.{nodes_in_order, renumbered_circuit, renumbered_edge, renumbered_kind, renumbered_latch}
+use Rattle.aig_circuit.proofs.Words.{edge_to, kind_at, and_of, Circuit, nodes_in_order, renumbered_circuit, renumbered_edge, renumbered_kind, renumbered_latch}
 use Rattle.aig_renumber.specs.Numbers.{IsEdgeIn, IsLatchIn, SpeaksOf}
 use Rattle.aig_circuit.proofs.Listed.{AllProperties-weaker, map_properties-agree}
 use Rattle.aig_circuit.proofs.Lists.{map-agrees}

@@ -1,18 +1,11 @@
 -- A circuit under other numbers is a circuit, with the runs and values of the old one.
-use Rattle.std.proofs.Common.{◌≡◌, ◌≢◌, ◌↔◌, ℕ, ◌+◌, ◌<◌, Bool, Option, Some, None, List, [], ◌∷◌, ◌++◌, length, map, get_or, refl, sym, ap, subst, ◌∙◌, arith, suc}
-use Rattle.std.specs.Prelude.{All, AllPairs, Contains, IfSome, option_map, option_to_list}
-use Rattle.std.specs.FinMap.{entries}
-use Rattle.std.proofs.lemmas.List.{length-map, map-append}
-use Rattle.std.proofs.lemmas.List.Elements.{All-cons, All-map, All-nil, All-weaker, All-contains}
+use Rattle.aig_base.proofs.Words.{◌≡◌, ◌≢◌, ◌↔◌, ℕ, ◌+◌, ◌<◌, Bool, Option, Some, None, List, [], ◌∷◌, ◌++◌, length, map, get_or, refl, sym, ap, subst, ◌∙◌, arith, suc, All, AllPairs, Contains, IfSome, option_map, option_to_list, entries, length-map, map-append, All-cons, All-map, All-nil, All-weaker, All-contains}
 use Rattle.aig_circuit.specs.declared.edge.AigEdge.{AigEdge}
 use Rattle.aig_circuit.specs.declared.node.AigNode.{AigNode}
 use Rattle.aig_circuit.specs.declared.node.AigNodeType.TheVariants.{Leaf}
 use Rattle.aig_circuit.specs.declared.node.AigLatch.{AigLatch}
-use Rattle.aig_circuit.specs.Tree.{edge_value}
-use Rattle.aig_circuit.specs.Circuit.{Circuit, IsCircuit, IsClosed, IsInRange, IsLatch, IsLeaf, latch_leaves}
-use Rattle.aig_circuit.specs.Edges.{initial_edges}
+use Rattle.aig_circuit.proofs.Words.{edge_value, Circuit, IsCircuit, IsClosed, IsInRange, IsLatch, IsLeaf, latch_leaves, initial_edges, nodes_in_order, renumbered_circuit, renumbered_edge, renumbered_latch}
 use Rattle.aig_circuit.specs.Runs.{AreAsLong, HaveSameProperties, HaveSameValues, IsRun, IsInitial, KeepsRuns, next_edges}
-use Rattle.aig_circuit.specs.Renumber.{nodes_in_order, renumbered_circuit, renumbered_edge, renumbered_latch}
 use Rattle.aig_circuit.proofs.Trees.{kind_at-within}
 use Rattle.aig_renumber.specs.Numbers.{IsEdgeIn, IsLatchIn, SpeaksOf}
 use Rattle.aig_circuit.proofs.Listed.{AllProperties-always, AllProperties-map, AllProperties-weaker, AreProperties-map}

@@ -1,9 +1,5 @@
 -- Which nodes are kept: those that stand in the list, at the places of their new numbers.
-use Rattle.std.proofs.Common.{◌≡◌, ℕ, suc, Bool, true, false, eqb, List, [], ◌∷◌, get_or, refl, sym, ap, ◌∙◌, arith}
-use Rattle.std.specs.Prelude.{Contains}
-use Rattle.std.proofs.lemmas.Bool.{eqb-true, eqb-false, eq-eqb, false≢true}
-use Rattle.std.proofs.lemmas.List.Folds.{list_any_at}
-use Rattle.std.proofs.lemmas.List.{get_or_default}
+use Rattle.aig_base.proofs.Words.{◌≡◌, ℕ, suc, Bool, true, false, eqb, List, [], ◌∷◌, get_or, refl, sym, ap, ◌∙◌, arith, Contains, eqb-true, eqb-false, eq-eqb, false≢true, list_any_at, get_or_default}
 use Rattle.aig_circuit.specs.Renumber.{is_in}
 use Rattle.aig_renumber.specs.Numbers.{HavePlaces, IsIndex}
 

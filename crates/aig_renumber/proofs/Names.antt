@@ -1,20 +1,15 @@
 -- Names under other numbers.
 use Rattle.std.proofs.Common.{◌≡◌, ℕ, zero, suc, ◌<◌, Bool, true, false, cond, eqb, nat_cmp, Option, Some, None, List, [], ◌∷◌, length, map, get_or, refl, sym, ap, subst, ◌∙◌, arith, IsTrue, ◌++◌, nat_eq, String, Global, length-append, append_assoc, append-nil}
-use Rattle.std.specs.Prelude.{All, filter, is_some, slice_index, string_bytes}
+use Rattle.aig_base.proofs.Words.{All, filter, is_some, slice_index, string_bytes, eq_by_cmp, All-filter, All-map, filter-append, filter_passes, nat_cmp_total, eqb-true, eqb-false, eq-eqb, ne_eqb, false≢true}
 use Rattle.std.specs.List.{AllByRecursion, IsDistinct}
 use Rattle.std.specs.Map.{keys_of, lookup}
-use Rattle.std.specs.Ordering.{eq_by_cmp}
 use Rattle.std.proofs.lemmas.List.{get_or_append_left, get_or_at, map-id}
-use Rattle.std.proofs.lemmas.List.Elements.{All-filter, All-map, filter-append, filter_passes}
 use Rattle.std.specs.FinMap.{FinMap, find, contains_key, entries, from_entries, get-from_entries, get-entries, same_map, nat_cmp-IsAntisymmetric, insert, from_entries_push, retain_keys, get-retain_keys}
-use Rattle.std.proofs.lemmas.Cmp.{nat_cmp_total}
-use Rattle.std.proofs.lemmas.Bool.{eqb-true, eqb-false, eq-eqb, ne_eqb, false≢true}
 use Rattle.std.proofs.lemmas.Option.{none-some}
 use Rattle.std.proofs.lemmas.Map.Lookups.{exact_unsigned, map_keys}
-use Rattle.aig_circuit.specs.View.{names_of}
+use Rattle.aig_circuit.proofs.Words.{names_of, renumbered_names}
 use Rattle.aig_base.proofs.Mapping.{same_test}
 use Rattle.aig_circuit.proofs.Names.{names_insert}
-use Rattle.aig_circuit.specs.Renumber.{renumbered_names}
 use Rattle.aig_renumber.specs.Numbers.{IsIndex}
 use Rattle.aig_circuit.proofs.Lists.{All-from_map, map-same}
 

@@ -1,15 +1,10 @@
 -- The nodes of a list of numbers, in its order.
-use Rattle.std.proofs.Common.{◌≡◌, ℕ, zero, suc, ◌+◌, ◌<◌, Option, Some, List, [], ◌∷◌, ◌++◌, length, get_or, refl, sym, ap, subst, ◌∙◌, arith, inl, inr, take}
-use Rattle.std.specs.Prelude.{option_map, slice_get}
-use Rattle.std.proofs.lemmas.Option.{same_Some, slice_get-get_or, slice_get_within}
-use Rattle.std.proofs.lemmas.List.{length-take-le, take_more}
+use Rattle.aig_base.proofs.Words.{◌≡◌, ℕ, zero, suc, ◌+◌, ◌<◌, Option, Some, List, [], ◌∷◌, ◌++◌, length, get_or, refl, sym, ap, subst, ◌∙◌, arith, inl, inr, take, option_map, slice_get, same_Some, slice_get-get_or, slice_get_within, length-take-le, take_more}
 use Rattle.aig_circuit.specs.declared.edge.AigEdge.{AigEdge}
 use Rattle.aig_circuit.specs.declared.node.AigNodeType.{AigNodeType}
 use Rattle.aig_circuit.specs.declared.node.AigNodeType.TheVariants.{False, Leaf, And}
 use Rattle.aig_circuit.specs.declared.node.AigNode.{AigNode}
-use Rattle.aig_circuit.specs.Node.{kind_at, FitsBelow, IsOrdered, and_of}
-use Rattle.aig_circuit.specs.Circuit.{AreNodes, IsLeaf}
-use Rattle.aig_circuit.specs.Renumber.{nodes_in_order, renumbered_edge, renumbered_kind}
+use Rattle.aig_circuit.proofs.Words.{kind_at, FitsBelow, IsOrdered, and_of, AreNodes, IsLeaf, nodes_in_order, renumbered_edge, renumbered_kind}
 use Rattle.aig_circuit.proofs.Trees.{kind_at-there, kind_at-within}
 use Rattle.aig_circuit.proofs.Building.{and_of-cases, and_of-not_false, FitsBelow-and_of}
 use Rattle.aig_circuit.proofs.Values.{Renumbers}

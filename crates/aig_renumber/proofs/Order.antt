@@ -1,22 +1,14 @@
 -- The order of a closed circuit's nodes for the binary form: false, inputs, leaves of latches, gates in rising number.
-use Rattle.std.proofs.Common.{◌≡◌, ◌≢◌, ℕ, zero, suc, ◌+◌, ◌<◌, Bool, true, false, eqb, Some, None, List, [], ◌∷◌, ◌++◌, length, map, get_or, refl, sym, ap, subst, ◌∙◌, arith, inl, inr, take, append_assoc, ◌⊎◌, ◌↔◌}
+use Rattle.aig_base.proofs.Words.{◌≡◌, ◌≢◌, ℕ, zero, suc, ◌+◌, ◌<◌, Bool, true, false, eqb, Some, None, List, [], ◌∷◌, ◌++◌, length, map, get_or, refl, sym, ap, subst, ◌∙◌, arith, inl, inr, take, append_assoc, ◌⊎◌, ◌↔◌, is_member, false≢true, cases_lt, Decides-eqb, same_Some, slice_get-get_or, All-nil, All-cons, All-append, All-weaker, All-contains, Contains-append_left, Contains-append_right, filter_map-append, length-le_from_is_member, is_member-Decides, IsDistinct-from_AllPairs}
 use Rattle.std.specs.Prelude.{All, AllPairs, Contains, slice_get, filter_map, IsTrue}
-use Rattle.std.specs.Set.{is_member}
 use Rattle.std.specs.Cmp.{nat_eq_equiv}
-use Rattle.std.proofs.lemmas.Bool.{false≢true, cases_lt}
-use Rattle.std.proofs.lemmas.Bool.Decides.{Decides-eqb}
-use Rattle.std.proofs.lemmas.Option.{same_Some, slice_get-get_or}
 use Rattle.std.proofs.lemmas.List.{append-nil, get_or-map, length-map, take_more}
-use Rattle.std.proofs.lemmas.List.Elements.{All-nil, All-cons, All-append, All-weaker, All-contains, Contains-append_left, Contains-append_right, filter_map-append}
 use Rattle.std.proofs.lemmas.List.Kept.{AllPairs-cons}
-use Rattle.std.proofs.lemmas.Map.Made.{length-le_from_is_member, is_member-Decides, IsDistinct-from_AllPairs}
 use Rattle.aig_circuit.specs.declared.edge.AigEdge.{AigEdge}
 use Rattle.aig_circuit.specs.declared.node.AigNodeType.{AigNodeType}
 use Rattle.aig_circuit.specs.declared.node.AigNodeType.TheVariants.{False, Leaf, And}
 use Rattle.aig_circuit.specs.declared.node.AigNode.{AigNode}
-use Rattle.aig_circuit.specs.Node.{IsAnd, kind_at, is_gate}
-use Rattle.aig_circuit.specs.Circuit.{Circuit, IsCircuit, IsClosed, IsLeaf, latch_leaves}
-use Rattle.aig_circuit.specs.Reencode.{gate_number, new_number, order_of}
+use Rattle.aig_circuit.proofs.Words.{IsAnd, kind_at, is_gate, Circuit, IsCircuit, IsClosed, IsLeaf, latch_leaves, gate_number, new_number, order_of}
 use Rattle.aig_circuit.proofs.Trees.{kind_at-there, kind_at-within}
 use Rattle.aig_circuit.proofs.Circuits.{AllPairs-append, AreLeaves-of_circuit}
 use Rattle.aig_renumber.proofs.Places.{AllPairs-weaker, position_of-within, get_or-position_of, position_of-get_or}

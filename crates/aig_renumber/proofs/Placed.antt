@@ -1,12 +1,8 @@
 -- The re-encoded circuit is placed, and a placed circuit is its own re-encoding.
-use Rattle.std.proofs.Common.{◌≡◌, ℕ, zero, suc, ◌+◌, ◌<◌, ◌≤◌, List, ◌∷◌, ◌++◌, length, get_or, sym, ap, subst, ◌∙◌, arith, inl, inr, add-one, length-append}
+use Rattle.aig_base.proofs.Words.{◌≡◌, ℕ, zero, suc, ◌+◌, ◌<◌, ◌≤◌, List, ◌∷◌, ◌++◌, length, get_or, sym, ap, subst, ◌∙◌, arith, inl, inr, add-one, length-append, cases_lt, get_or-map, length-map, get_or_append_left, get_or_default}
 use Rattle.std.specs.Prelude.{All, AllPairs, EachIndex, slice_index, filter_map}
-use Rattle.std.proofs.lemmas.Bool.{cases_lt}
-use Rattle.std.proofs.lemmas.List.{get_or-map, length-map, get_or_append_left, get_or_default}
 use Rattle.std.proofs.lemmas.List.Kept.{AllPairs-cons}
-use Rattle.aig_circuit.specs.Circuit.{Circuit, IsCircuit, IsClosed, latch_leaves}
-use Rattle.aig_circuit.specs.Runs.{AreAsLong, KeepsRuns}
-use Rattle.aig_circuit.specs.Reencode.{IsReencoded, gate_number, new_number, order_of, reencoded}
+use Rattle.aig_circuit.proofs.Words.{Circuit, IsCircuit, IsClosed, latch_leaves, AreAsLong, KeepsRuns, IsReencoded, gate_number, new_number, order_of, reencoded}
 use Rattle.aig_circuit.proofs.Circuits.{AllPairs-append}
 use Rattle.aig_circuit.proofs.Trees.{by_smaller}
 use Rattle.aig_renumber.proofs.Places.{rising_from}

@@ -1,20 +1,11 @@
 -- A circuit under its own numbers is itself.
-use Rattle.std.proofs.Common.{◌≡◌, ℕ, ◌+◌, ◌<◌, Bool, true, false, cond, nat_cmp, Option, Some, None, List, length, get_or, refl, sym, ap, ◌∙◌, arith, inl, inr, IsTrue}
-use Rattle.std.specs.Prelude.{IfSome, is_some, option_map}
-use Rattle.std.specs.FinMap.{FinMap, contains_key, entries, get, get-retain_keys, nat_cmp-IsAntisymmetric, retain_keys, same_map}
-use Rattle.std.proofs.lemmas.Bool.{false≢true}
-use Rattle.std.proofs.lemmas.Cmp.{nat_cmp_total}
-use Rattle.std.proofs.lemmas.List.{same_lists}
-use Rattle.std.proofs.lemmas.Map.Lookups.{exact_unsigned}
-use Rattle.std.proofs.lemmas.Option.{get_or_from_slice_get, slice_get-get_or}
+use Rattle.aig_base.proofs.Words.{◌≡◌, ℕ, ◌+◌, ◌<◌, Bool, true, false, cond, nat_cmp, Option, Some, None, List, length, get_or, refl, sym, ap, ◌∙◌, arith, inl, inr, IsTrue, IfSome, is_some, option_map, FinMap, contains_key, entries, get, get-retain_keys, nat_cmp-IsAntisymmetric, retain_keys, same_map, false≢true, nat_cmp_total, same_lists, exact_unsigned, get_or_from_slice_get, slice_get-get_or}
 use Rattle.aig_circuit.specs.declared.edge.AigEdge.{AigEdge}
 use Rattle.aig_circuit.specs.declared.node.AigNodeType.{AigNodeType}
 use Rattle.aig_circuit.specs.declared.node.AigNodeType.TheVariants.{False, Leaf, And}
 use Rattle.aig_circuit.specs.declared.node.AigNode.{AigNode}
 use Rattle.aig_circuit.specs.declared.node.AigLatch.{AigLatch}
-use Rattle.aig_circuit.specs.Node.{kind_at, and_of}
-use Rattle.aig_circuit.specs.Circuit.{Circuit, IsCircuit, IsInRange, IsLatch}
-use Rattle.aig_circuit.specs.Renumber.{nodes_in_order, renumbered_circuit, renumbered_edge, renumbered_kind, renumbered_latch}
+use Rattle.aig_circuit.proofs.Words.{kind_at, and_of, Circuit, IsCircuit, IsInRange, IsLatch, nodes_in_order, renumbered_circuit, renumbered_edge, renumbered_kind, renumbered_latch}
 use Rattle.aig_circuit.proofs.Building.{and_of-cases}
 use Rattle.aig_circuit.proofs.Trees.{kind_at-within}
 use Rattle.aig_renumber.proofs.Names.{names-kept, names_in_circuit}

@@ -1,11 +1,7 @@
 -- The table of new numbers that re-encoding makes.
-use Rattle.std.proofs.Common.{◌≡◌, ℕ, ◌<◌, true, List, length, get_or, sym, ap, subst, ◌∙◌, arith}
-use Rattle.std.specs.Prelude.{All, filter, slice_index}
-use Rattle.std.proofs.lemmas.List.{get_or_default}
+use Rattle.aig_base.proofs.Words.{◌≡◌, ℕ, ◌<◌, true, List, length, get_or, sym, ap, subst, ◌∙◌, arith, All, filter, slice_index, get_or_default}
 use Rattle.aig_circuit.specs.declared.node.AigNodeType.TheVariants.{And, Leaf}
-use Rattle.aig_circuit.specs.Circuit.{Circuit, IsCircuit, IsClosed}
-use Rattle.aig_circuit.specs.Reencode.{new_number, order_of, reencoded}
-use Rattle.aig_circuit.specs.Renumber.{is_in, kept_circuit, only_kept, renumbered_circuit}
+use Rattle.aig_circuit.proofs.Words.{Circuit, IsCircuit, IsClosed, new_number, order_of, reencoded, is_in, kept_circuit, only_kept, renumbered_circuit}
 use Rattle.aig_circuit.proofs.Trees.{kind_at-within}
 use Rattle.aig_renumber.proofs.Agreeing.{circuits-agree}
 use Rattle.aig_renumber.proofs.Circuits.{SpeaksOf-nodes}

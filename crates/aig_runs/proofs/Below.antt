@@ -1,10 +1,8 @@
 -- The clauses of a query and of a window are of variables that are there.
 use Rattle.std.proofs.Common.{◌≡◌, ℕ, ◌+◌, ◌*◌, ◌<◌, ◌≤◌, ◌==◌, Bool, true, false, cond, not, Option, Some, None, List, [], ◌∷◌, ◌++◌, length, map, drop, sym, ap, subst, ◌∙◌, arith, length-drop, length-append}
 use Rattle.std.specs.Prelude.{All, IfSome, replicate}
-use Rattle.std.specs.List.{flat_map}
-use Rattle.std.proofs.Math.Nat.{add-mul, mul-le-mul_right}
+use Rattle.aig_base.proofs.Words.{flat_map, add-mul, mul-le-mul_right, All-append, All-drop, All-from_recursion, All-tail, All-take, All-weaker, recursion_from_All}
 use Rattle.std.proofs.lemmas.List.{append-nil, length-take-le, length-replicate, length-map}
-use Rattle.std.proofs.lemmas.List.Elements.{All-append, All-drop, All-from_recursion, All-tail, All-take, All-weaker, recursion_from_All}
 use Rattle.aig_base.specs.declared.logic.literal.Lit.{Lit}
 use Rattle.aig_base.specs.Clauses as clauses
 use Rattle.aig_base.specs.Clauses.{lit_to, variable_of}
@@ -13,8 +11,7 @@ use Rattle.aig_circuit.specs.declared.edge.AigEdge.{AigEdge}
 use Rattle.aig_circuit.specs.declared.node.AigLatch.{AigLatch}
 use Rattle.aig_circuit.specs.declared.node.AigNode.{AigNode}
 use Rattle.aig_circuit.specs.declared.node.AigNodeType.TheVariants.{Leaf}
-use Rattle.aig_circuit.specs.Edge.{inverse, lit_of}
-use Rattle.aig_circuit.specs.Circuit.{Circuit, IsCircuit, IsInRange, IsLatch}
+use Rattle.aig_circuit.proofs.Words.{inverse, lit_of, Circuit, IsCircuit, IsInRange, IsLatch}
 use Rattle.aig_circuit.proofs.Trees.{kind_at-within}
 use Rattle.aig_format.proofs.Entries.{rec_append}
 use Rattle.aig_unroll.specs.Unroll.{UnrollsTo}
@@ -64,9 +61,11 @@ induction_below c u k n has is =
     (in_order n (last_bads c (k + 1) u) (All-drop Below ((k + 1) * length c.properties.bads)
     u.properties.bads (range u.properties.bads is.properties.bads))) in
     (rec_append (IsBelow n) (unit_clauses u.properties.constraints ++ unit_clauses
-    (map inverse early)) (map lit_of (last_bads c (k + 1) u) ∷ [])).1
-    ((rec_append (IsBelow n) (unit_clauses u.properties.constraints)
-    (unit_clauses (map inverse early))).1 (first, second), (third, tt))
+    (map inverse early)) (map lit_of (last_bads c (k + 1) u) ∷ [])).1 (
+      (rec_append (IsBelow n) (unit_clauses u.properties.constraints)
+          (unit_clauses (map inverse early))).1 (first, second),
+      (third, tt),
+    )
 
 -- ---- queries
 
@@ -151,10 +150,11 @@ pub states_below : (es : List AigEdge) (l n steps : ℕ) → length es ≡ steps
 states_below es l n steps count all t low =
     let Below = λ (e : AigEdge). e.node_id < n in
     let less : (t + 1) * l ≤ steps * l = mul-le-mul_right l (omega arith) in
-    let row : (t + 1) * l ≡ t * l + l = omega (arith, add-mul t 1 l) in
-    (length-take-le l (drop (t * l) es) (simp length-drop (omega (arith, less, row, count))),
-    in_order n (state_at l es t) (All-take Below l (drop (t * l) es)
-    (All-drop Below (t * l) es all)))
+    let row : (t + 1) * l ≡ t * l + l = omega (arith, add-mul t 1 l) in (
+      length-take-le l (drop (t * l) es) (simp length-drop (omega (arith, less, row, count))),
+      in_order n (state_at l es t) (All-take Below l (drop (t * l) es)
+          (All-drop Below (t * l) es all)),
+    )
 
 -- ---- windows
 

@@ -1,14 +1,8 @@
 -- What holds of a file's certificate holds of the file.
-use Rattle.std.proofs.Common.{◌≡◌, ℕ, zero, suc, ◌+◌, ◌/◌, ◌%◌, ◌≤◌, Bool, true, false, not, ◌&&◌, Option, Some, None, List, ◌++◌, get_or, map, refl, sym, ap, subst, ◌∙◌, arith}
-use Rattle.std.specs.Prelude.{All, Contains, IfSome, find, nat_eq, unwrap_or, ◌==◌, if◌then◌else◌}
-use Rattle.std.specs.List.{AllByRecursion}
+use Rattle.aig_base.proofs.Words.{◌≡◌, ℕ, zero, suc, ◌+◌, ◌/◌, ◌%◌, ◌≤◌, Bool, true, false, not, ◌&&◌, Option, Some, None, List, ◌++◌, get_or, map, refl, sym, ap, subst, ◌∙◌, arith, All, Contains, IfSome, find, nat_eq, unwrap_or, ◌==◌, if◌then◌else◌, AllByRecursion, All-contains, All-from_recursion, All-weaker, recursion_from_All}
 use Rattle.std.specs.Option.{option_and_then}
-use Rattle.std.proofs.lemmas.List.Elements.{All-contains, All-from_recursion, All-weaker, recursion_from_All}
 use Rattle.aig_circuit.specs.Properties.{AllProperties}
-use Rattle.aig_format.specs.File.{File, GateLine, LatchLine}
-use Rattle.aig_format.specs.Fits.{Fits, IsDefinable}
-use Rattle.aig_format.specs.Machine.{IsMachineRun, IsMachineInitial, IsStep, value_of_literal, initial_value_of}
-use Rattle.aig_format.specs.Variables.{IsKnown}
+use Rattle.aig_format.proofs.Words.{File, GateLine, LatchLine, Fits, IsDefinable, IsMachineRun, IsMachineInitial, IsStep, value_of_literal, initial_value_of, IsKnown}
 use Rattle.aig_format.proofs.Circuits.{differ_from, differs_half, distinct_front, used_by_section}
 use Rattle.aig_format.proofs.Entries.{rec_both, rec_unmap, rec_weaker}
 use Rattle.aig_format.proofs.Found.{found_all}

@@ -1,16 +1,9 @@
 -- The query clauses ask for the witnesses of a circuit.
-use Rattle.std.proofs.Common.{◌≡◌, ◌↔◌, ℕ, ◌≤◌, Bool, List, [], ◌∷◌, ◌++◌, map, IsTrue, refl, sym, subst, ◌∙◌}
-use Rattle.std.specs.Prelude.{All}
-use Rattle.std.specs.List.{AllByRecursion, flat_map, list_any}
-use Rattle.std.proofs.lemmas.List.Elements.{All-from_recursion, All-weaker, recursion_from_All}
+use Rattle.aig_base.proofs.Words.{◌≡◌, ◌↔◌, ℕ, ◌≤◌, Bool, List, [], ◌∷◌, ◌++◌, map, IsTrue, refl, sym, subst, ◌∙◌, All, AllByRecursion, flat_map, list_any, All-from_recursion, All-weaker, recursion_from_All}
 use Rattle.aig_base.specs.declared.logic.literal.Lit.{Lit}
 use Rattle.aig_base.specs.Clauses.{Satisfies, are_true, is_true_clause}
 use Rattle.aig_circuit.specs.declared.edge.AigEdge.{AigEdge}
-use Rattle.aig_circuit.specs.Circuit.{Circuit, IsCircuit}
-use Rattle.aig_circuit.specs.Edge.{lit_of}
-use Rattle.aig_circuit.specs.Edges.{initial_edges}
-use Rattle.aig_circuit.specs.Runs.{IsRun, IsInitial}
-use Rattle.aig_circuit.specs.Tree.{edge_value}
+use Rattle.aig_circuit.proofs.Words.{Circuit, IsCircuit, lit_of, initial_edges, IsRun, IsInitial, edge_value}
 use Rattle.aig_circuit.proofs.Trees.{node_value-false}
 use Rattle.aig_cnf.specs.Cnf.{FixesRoots, IsFixed, NodeValuesSatisfy, edge_in}
 use Rattle.aig_format.proofs.Entries.{rec_append}

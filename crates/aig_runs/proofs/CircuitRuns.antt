@@ -1,14 +1,10 @@
 -- From what unrolling and clauses promise: a satisfying assignment is a run of the circuit, and a run is a satisfying assignment.
-use Rattle.std.proofs.Common.{◌≡◌, ℕ, Bool, List, refl, subst, ◌∙◌}
-use Rattle.std.proofs.lemmas.List.Elements.{All-weaker}
+use Rattle.aig_base.proofs.Words.{◌≡◌, ℕ, Bool, List, refl, subst, ◌∙◌, All-weaker}
 use Rattle.aig_base.specs.declared.logic.literal.Lit.{Lit}
 use Rattle.aig_base.specs.Clauses.{Satisfies}
 use Rattle.aig_circuit.specs.declared.edge.AigEdge.{AigEdge}
 use Rattle.aig_circuit.specs.declared.node.AigLatch.{AigLatch}
-use Rattle.aig_circuit.specs.Circuit.{Circuit, IsCircuit}
-use Rattle.aig_circuit.specs.Properties.{AreProperties}
-use Rattle.aig_circuit.specs.Tree.{edge_value, node_value}
-use Rattle.aig_circuit.specs.Runs.{next_edges}
+use Rattle.aig_circuit.proofs.Words.{Circuit, IsCircuit, AreProperties, edge_value, node_value, next_edges}
 use Rattle.aig_circuit.proofs.Listed.{AllProperties-always, AllProperties-weaker, AreProperties-map, map_properties-same}
 use Rattle.aig_circuit.proofs.Lists.{All-from_map}
 use Rattle.aig_cnf.specs.Cnf.{FixesRoots, IsFixed, NodeValuesSatisfy, edge_in}

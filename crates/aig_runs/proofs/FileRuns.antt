@@ -1,21 +1,13 @@
 -- From the runs of a file's circuit to the runs of its machine.
-use Rattle.std.proofs.Common.{◌≡◌, ℕ, ◌/◌, ◌≤◌, Bool, List, map, refl, sym, ◌∙◌, inl, inr, arith}
-use Rattle.std.specs.Prelude.{All, Contains}
-use Rattle.std.specs.List.{AllZip}
-use Rattle.std.proofs.lemmas.List.Elements.{All-contains, All-from_recursion, All-map, All-weaker, Contains-append_cases, Contains-get_or, recursion_from_All}
+use Rattle.aig_base.proofs.Words.{◌≡◌, ℕ, ◌/◌, ◌≤◌, Bool, List, map, refl, sym, ◌∙◌, inl, inr, arith, All, Contains, AllZip, All-contains, All-from_recursion, All-map, All-weaker, Contains-append_cases, Contains-get_or, recursion_from_All}
 use Rattle.aig_base.specs.declared.logic.literal.Lit.{Lit}
 use Rattle.aig_circuit.specs.declared.edge.AigEdge.{AigEdge}
 use Rattle.aig_circuit.specs.declared.node.AigLatch.{AigLatch}
-use Rattle.aig_circuit.specs.Circuit.{Circuit, IsCircuit, IsLatch, IsLeaf, latch_leaves}
-use Rattle.aig_circuit.specs.Tree.{edge_value, node_value}
+use Rattle.aig_circuit.proofs.Words.{Circuit, IsCircuit, IsLatch, IsLeaf, latch_leaves, edge_value, node_value}
 use Rattle.aig_circuit.proofs.Trees.{node_value-leaf}
 use Rattle.aig_cnf.specs.Cnf.{FixesRoots, HasClauses, NodeValuesSatisfy, edge_in}
-use Rattle.aig_format.specs.File.{File, LatchLine}
-use Rattle.aig_format.specs.Fits.{Fits}
+use Rattle.aig_format.proofs.Words.{File, LatchLine, Fits, circuit_of, edge_of, latch_of, node_of_variable, IsKnown}
 use Rattle.aig_format.specs.Machine as machine
-use Rattle.aig_format.specs.Circuit.{circuit_of, edge_of, latch_of}
-use Rattle.aig_format.specs.Numbering.{node_of_variable}
-use Rattle.aig_format.specs.Variables.{IsKnown}
 use Rattle.aig_format.proofs.Circuits.{IsCircuit-of_file, used_by_section}
 use Rattle.aig_format.proofs.Numbers.{used_known}
 use Rattle.aig_format_laws.specs.MachineRuns.{AgreeOnInputs}

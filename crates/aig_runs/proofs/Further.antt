@@ -1,8 +1,5 @@
 -- What the query clauses say, part by part, of the run that an assignment shows.
-use Rattle.std.proofs.Common.{◌≡◌, ◌↔◌, ℕ, ◌+◌, ◌*◌, ◌<◌, ◌≤◌, Bool, true, false, ◌||◌, List, [], ◌∷◌, length, map, drop, IsTrue, refl, sym, ap, subst, ◌∙◌, arith, length-drop}
-use Rattle.std.specs.Prelude.{slice_get}
-use Rattle.std.specs.List.{AllByRecursion, AllZip, list_any}
-use Rattle.std.proofs.lemmas.Option.{same_Some, slice_get_within}
+use Rattle.aig_base.proofs.Words.{◌≡◌, ◌↔◌, ℕ, ◌+◌, ◌*◌, ◌<◌, ◌≤◌, Bool, true, false, ◌||◌, List, [], ◌∷◌, length, map, drop, IsTrue, refl, sym, ap, subst, ◌∙◌, arith, length-drop, slice_get, AllByRecursion, AllZip, list_any, same_Some, slice_get_within}
 use Rattle.aig_base.specs.declared.logic.literal.Lit.{Lit}
 use Rattle.aig_base.specs.Clauses.{is_true_clause, literal_value}
 use Rattle.aig_circuit.specs.declared.edge.AigEdge.{AigEdge}

@@ -1,8 +1,6 @@
 -- A machine that is safe for some steps, and kept safe by each window of steps, is safe.
-use Rattle.std.proofs.Common.{◌≡◌, ℕ, zero, suc, ◌+◌, ◌-◌, ◌<◌, ◌≤◌, Bool, subst, inl, inr, arith}
-use Rattle.std.proofs.lemmas.Bool.{cases_lt}
-use Rattle.aig_format.specs.File.{File}
-use Rattle.aig_format.specs.Machine.{IsMachineRun, IsMachineInitial, Moves}
+use Rattle.aig_base.proofs.Words.{◌≡◌, ℕ, zero, suc, ◌+◌, ◌-◌, ◌<◌, ◌≤◌, Bool, subst, inl, inr, arith, cases_lt}
+use Rattle.aig_format.proofs.Words.{File, IsMachineRun, IsMachineInitial, Moves}
 use Rattle.aig_runs.specs.Queries.{IsSafeTo}
 use Rattle.aig_runs.proofs.SafeSteps.{run_cut}
 use Rattle.aig_runs.specs.declared.window.Window.{Window}

@@ -1,8 +1,7 @@
 -- An inductive invariant holds at each step of a run from an initial state, and one that says that nothing is
 -- bad is kept by each window of two steps.
 use Rattle.std.proofs.Common.{◌≡◌, ◌↔◌, ℕ, zero, suc, ◌+◌, ◌<◌, ◌≤◌, Bool, IsTrue, subst, arith}
-use Rattle.aig_format.specs.File.{File}
-use Rattle.aig_format.specs.Machine.{IsMachineRun, IsMachineInitial, IsStep, Moves}
+use Rattle.aig_format.proofs.Words.{File, IsMachineRun, IsMachineInitial, IsStep, Moves}
 use Rattle.aig_runs.specs.Queries.{IsSafeTo}
 use Rattle.aig_runs.specs.declared.window.Window.TheVariants.{Plain}
 use Rattle.aig_runs.specs.Induction.{IsKInductive, IsWindow}

@@ -1,15 +1,11 @@
 -- The places of a run are leaves of the unrolled circuit.
-use Rattle.std.proofs.Common.{ℕ, zero, suc, ◌+◌, ◌*◌, ◌<◌, ◌≤◌, Bool, ◌++◌, length, sym, ◌∙◌, arith}
-use Rattle.std.specs.Prelude.{All, Contains}
+use Rattle.aig_base.proofs.Words.{ℕ, zero, suc, ◌+◌, ◌*◌, ◌<◌, ◌≤◌, Bool, ◌++◌, length, sym, ◌∙◌, arith, All, Contains, All-append, All-contains, All-same, All-weaker, Contains-get_or}
 use Rattle.std.proofs.lemmas.Nat.{mul-add-lt}
-use Rattle.std.proofs.lemmas.List.Elements.{All-append, All-contains, All-same, All-weaker, Contains-get_or}
 use Rattle.aig_circuit.specs.declared.node.AigNodeType.TheVariants.{Leaf}
-use Rattle.aig_circuit.specs.Circuit.{Circuit, IsCircuit, IsLeaf, latch_leaves}
-use Rattle.aig_circuit.specs.Tree.{node_value}
+use Rattle.aig_circuit.proofs.Words.{Circuit, IsCircuit, IsLeaf, latch_leaves, node_value, position_of}
 use Rattle.aig_circuit.proofs.Building.{Grows-kept}
 use Rattle.aig_circuit.proofs.Trees.{kind_at-within, node_value-leaf}
 use Rattle.aig_renumber.proofs.Places.{position_of-within}
-use Rattle.aig_circuit.specs.Renumber.{position_of}
 use Rattle.aig_unroll.specs.Places.{Reads, leaves_after, other_leaves, place_at}
 use Rattle.aig_unroll.specs.Unroll.{UnrollsTo}
 use Rattle.aig_unroll.proofs.Added.{following-are}

@@ -2,9 +2,7 @@
 use Rattle.std.proofs.Common.{ℕ, Bool, List, sym, subst}
 use Rattle.aig_base.specs.declared.logic.literal.Lit.{Lit}
 use Rattle.aig_circuit.specs.Circuit.{Circuit}
-use Rattle.aig_format.specs.Circuit.{circuit_of}
-use Rattle.aig_format.specs.File.{File}
-use Rattle.aig_format.specs.Fits.{Fits}
+use Rattle.aig_format.proofs.Words.{circuit_of, File, Fits}
 use Rattle.aig_format.proofs.Circuits.{IsCircuit-of_file}
 use Rattle.aig_format_laws.specs.Nodes.{values_over}
 use Rattle.aig_format_laws.proofs.Joining.{forth_run, forth_values, leaves_of}

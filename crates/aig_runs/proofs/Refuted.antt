@@ -1,18 +1,12 @@
 -- Small machines: runs that are and aren't witnesses, and query clauses that a query doesn't ask for.
-use Rattle.std.proofs.Common.{◌≡◌, ◌≢◌, ℕ, Bool, true, false, not, ◌&&◌, ◌||◌, ◌+◌, Option, Some, None, List, [], ◌∷◌, map, refl, sym, subst, ◌∙◌, arith}
-use Rattle.std.specs.Prelude.{◌==◌}
-use Rattle.std.proofs.lemmas.Bool.{false≢true}
+use Rattle.aig_base.proofs.Words.{◌≡◌, ◌≢◌, ℕ, Bool, true, false, not, ◌&&◌, ◌||◌, ◌+◌, Option, Some, None, List, [], ◌∷◌, map, refl, sym, subst, ◌∙◌, arith, ◌==◌, false≢true}
 use Rattle.aig_base.specs.declared.logic.literal.Lit.{Lit}
 use Rattle.aig_circuit.specs.declared.edge.AigEdge.{AigEdge}
 use Rattle.aig_circuit.specs.declared.node.AigNodeType.TheVariants.{False, Leaf}
-use Rattle.aig_circuit.specs.Circuit.{Circuit, only_false}
-use Rattle.aig_circuit.specs.Properties.{no_properties}
-use Rattle.aig_circuit.specs.Tree.{node_value}
+use Rattle.aig_circuit.proofs.Words.{Circuit, only_false, no_properties, node_value, edge_to}
 use Rattle.aig_circuit.proofs.Trees.{node_value-leaf}
-use Rattle.aig_circuit.specs.Edge.{edge_to}
 use Rattle.aig_format.specs.declared.FileKind.TheVariants.{Text}
-use Rattle.aig_format.specs.File.{File, LatchLine, GateLine}
-use Rattle.aig_format.specs.Machine.{IsMachineRun, Moves, initial_value_of}
+use Rattle.aig_format.proofs.Words.{File, LatchLine, GateLine, IsMachineRun, Moves, initial_value_of}
 use Rattle.aig_runs.specs.Queries.{IsWitness, IsSafeTo, query_clauses, start_clauses}
 use Rattle.aig_runs.specs.CircuitQueries.{HasCircuitWitness}
 

@@ -1,10 +1,5 @@
 -- Lists in rows, and tests of their entries.
-use Rattle.std.proofs.Common.{◌≡◌, ◌↔◌, ℕ, zero, suc, ◌+◌, ◌-◌, ◌*◌, ◌<◌, ◌≤◌, Bool, false, ◌||◌, Some, List, [], ◌∷◌, length, drop, IsTrue, refl, sym, ap, subst, ◌∙◌, arith, inl, inr}
-use Rattle.std.specs.Prelude.{slice_get}
-use Rattle.std.specs.List.{AllByRecursion, AllZip, list_all, list_any}
-use Rattle.std.proofs.Math.Nat.{add-mul, suc-mul}
-use Rattle.std.proofs.lemmas.Bool.{and_from, and_parts, cases_lt, or_parts}
-use Rattle.std.proofs.lemmas.Option.{same_Some}
+use Rattle.aig_base.proofs.Words.{◌≡◌, ◌↔◌, ℕ, zero, suc, ◌+◌, ◌-◌, ◌*◌, ◌<◌, ◌≤◌, Bool, false, ◌||◌, Some, List, [], ◌∷◌, length, drop, IsTrue, refl, sym, ap, subst, ◌∙◌, arith, inl, inr, slice_get, AllByRecursion, AllZip, list_all, list_any, add-mul, suc-mul, and_from, and_parts, cases_lt, or_parts, same_Some}
 
 -- ---- by place
 

@@ -1,11 +1,8 @@
 -- What it says of the machine that no query up to a step can be satisfied.
-use Rattle.std.proofs.Common.{◌↔◌, ℕ, ◌≤◌, Bool, List, sym, ◌∙◌, arith}
-use Rattle.std.specs.List.{list_any}
-use Rattle.std.proofs.lemmas.Bool.{false≢true, false_from_ne_true}
+use Rattle.aig_base.proofs.Words.{◌↔◌, ℕ, ◌≤◌, Bool, List, sym, ◌∙◌, arith, list_any, false≢true, false_from_ne_true}
 use Rattle.aig_base.specs.declared.logic.literal.Lit.{Lit}
 use Rattle.aig_circuit.specs.Circuit.{Circuit}
-use Rattle.aig_format.specs.File.{File}
-use Rattle.aig_format.specs.Machine.{IsMachineRun, value_of_literal}
+use Rattle.aig_format.proofs.Words.{File, IsMachineRun, value_of_literal}
 use Rattle.aig_runs.specs.Queries.{IsQueryOf, IsRefuted, IsSafeTo, IsWitness}
 use Rattle.aig_runs.proofs.Rows.{any_none}
 

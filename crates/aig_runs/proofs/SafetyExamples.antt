@@ -1,20 +1,13 @@
 -- The window clauses of small windows, computed, with the numbers of literals worked by hand: twice the variable, and one more where it is inverted.
 -- And a file that a certificate shows safe.
-use Rattle.std.proofs.Common.{◌≡◌, ℕ, zero, suc, ◌+◌, ◌<◌, ◌≤◌, Bool, true, false, eqb, not, ◌&&◌, None, List, [], ◌∷◌, map, refl, sym, ap, subst, ◌∙◌, arith}
-use Rattle.std.specs.Prelude.{Contains}
+use Rattle.aig_base.proofs.Words.{◌≡◌, ℕ, zero, suc, ◌+◌, ◌<◌, ◌≤◌, Bool, true, false, eqb, not, ◌&&◌, None, List, [], ◌∷◌, map, refl, sym, ap, subst, ◌∙◌, arith, Contains, false≢true, All-contains, All-contains_itself, All-from_recursion, All-nil}
 use Rattle.std.specs.List.{IsDistinct}
-use Rattle.std.proofs.lemmas.Bool.{false≢true}
-use Rattle.std.proofs.lemmas.List.Elements.{All-contains, All-contains_itself, All-from_recursion, All-nil}
 use Rattle.aig_base.specs.declared.logic.literal.Lit.{Lit}
 use Rattle.aig_circuit.specs.declared.edge.AigEdge.{AigEdge}
 use Rattle.aig_circuit.specs.declared.node.AigLatch.{AigLatch}
-use Rattle.aig_circuit.specs.Circuit.{Circuit, only_false}
-use Rattle.aig_circuit.specs.Edge.{edge_to}
-use Rattle.aig_circuit.specs.Properties.{no_properties}
+use Rattle.aig_circuit.proofs.Words.{Circuit, only_false, edge_to, no_properties}
 use Rattle.aig_format.specs.declared.FileKind.TheVariants.{Text}
-use Rattle.aig_format.specs.File.{File, LatchLine}
-use Rattle.aig_format.specs.Fits.{Fits}
-use Rattle.aig_format.specs.Machine.{IsStep, Moves}
+use Rattle.aig_format.proofs.Words.{File, LatchLine, Fits, IsStep, Moves}
 use Rattle.aig_runs.specs.Queries.{IsSafeTo}
 use Rattle.aig_runs.specs.declared.window.Window.TheVariants.{Plain, Distinct}
 use Rattle.aig_runs.specs.Certificate.{Extends, IsCertificateOf}

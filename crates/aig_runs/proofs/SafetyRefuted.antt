@@ -1,8 +1,5 @@
 -- Both lists of clauses as one.
-use Rattle.std.proofs.Common.{ℕ, Bool, IsTrue, List, [], ◌∷◌, ◌++◌, refl, ◌∙◌}
-use Rattle.std.proofs.lemmas.Bool.{and_from}
-use Rattle.std.proofs.lemmas.List.Elements.{All-head, All-tail}
-use Rattle.std.proofs.lemmas.List.Folds.{list_all-append}
+use Rattle.aig_base.proofs.Words.{ℕ, Bool, IsTrue, List, [], ◌∷◌, ◌++◌, refl, ◌∙◌, and_from, All-head, All-tail, list_all-append}
 use Rattle.aig_base.specs.declared.logic.literal.Lit.{Lit}
 use Rattle.aig_base.specs.Clauses.{Satisfies, are_true, is_true_clause}
 use Rattle.aig_circuit.specs.Circuit.{Circuit}

@@ -1,11 +1,6 @@
 -- A run on which a state comes twice, without the steps in between.
-use Rattle.std.proofs.Common.{◌≡◌, ◌⊎◌, ℕ, zero, suc, ◌+◌, ◌/◌, ◌<◌, ◌≤◌, Bool, true, false, cond, List, [], ◌∷◌, refl, sym, ap, subst, ◌∙◌, inl, inr, arith}
-use Rattle.std.specs.Prelude.{nat_lt, IfSome}
-use Rattle.std.specs.List.{AllByRecursion}
-use Rattle.std.proofs.lemmas.Bool.{cases_lt}
-use Rattle.std.proofs.lemmas.Bool.Decides.{nat_tests}
-use Rattle.aig_format.specs.File.{File, LatchLine}
-use Rattle.aig_format.specs.Machine.{IsMachineRun, IsMachineInitial, IsStep, Moves, value_of_literal, initial_value_of}
+use Rattle.aig_base.proofs.Words.{◌≡◌, ◌⊎◌, ℕ, zero, suc, ◌+◌, ◌/◌, ◌<◌, ◌≤◌, Bool, true, false, cond, List, [], ◌∷◌, refl, sym, ap, subst, ◌∙◌, inl, inr, arith, nat_lt, IfSome, AllByRecursion, cases_lt, nat_tests}
+use Rattle.aig_format.proofs.Words.{File, LatchLine, IsMachineRun, IsMachineInitial, IsStep, Moves, value_of_literal, initial_value_of}
 use Rattle.aig_runs.specs.Induction.{HasDistinctStates, IsSameState}
 
 -- ---- states

@@ -1,9 +1,5 @@
 -- Entries at steps, and others with the same values.
-use Rattle.std.proofs.Common.{◌≡◌, ℕ, ◌+◌, ◌*◌, ◌≤◌, Bool, Some, List, [], ◌∷◌, length, subst, ◌∙◌}
-use Rattle.std.specs.Prelude.{All, slice_get}
-use Rattle.std.specs.List.{AllZip}
-use Rattle.std.proofs.lemmas.List.Elements.{All-head, All-tail}
-use Rattle.std.proofs.lemmas.Slice.Zip.{AllZip-long}
+use Rattle.aig_base.proofs.Words.{◌≡◌, ℕ, ◌+◌, ◌*◌, ◌≤◌, Bool, Some, List, [], ◌∷◌, length, subst, ◌∙◌, All, slice_get, AllZip, All-head, All-tail, AllZip-long}
 use Rattle.aig_circuit.specs.declared.edge.AigEdge.{AigEdge}
 use Rattle.aig_circuit.specs.Properties.{Properties, AllProperties, AreProperties}
 use Rattle.aig_unroll.specs.Unroll.{HasValuesAtSteps, PropertiesStandAtSteps, SetsStandAtSteps}

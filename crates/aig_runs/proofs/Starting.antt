@@ -1,20 +1,12 @@
 -- The clauses of initial edges hold exactly where the leaf values are an initial state.
-use Rattle.std.proofs.Common.{◌≡◌, ◌↔◌, ℕ, Bool, true, false, cond, not, ◌||◌, Option, Some, None, List, [], ◌∷◌, ◌++◌, IsTrue, refl, ap, ◌∙◌}
-use Rattle.std.specs.Prelude.{IfSome, option_to_list, ◌==◌}
-use Rattle.std.specs.List.{AllByRecursion, flat_map}
-use Rattle.std.proofs.lemmas.Bool.{eqb-true}
-use Rattle.std.proofs.lemmas.List.Elements.{All-from_recursion, recursion_from_All}
+use Rattle.aig_base.proofs.Words.{◌≡◌, ◌↔◌, ℕ, Bool, true, false, cond, not, ◌||◌, Option, Some, None, List, [], ◌∷◌, ◌++◌, IsTrue, refl, ap, ◌∙◌, IfSome, option_to_list, ◌==◌, AllByRecursion, flat_map, eqb-true, All-from_recursion, recursion_from_All}
 use Rattle.aig_base.specs.declared.logic.literal.Lit.{Lit}
 use Rattle.aig_base.specs.Clauses.{lit_to, with_polarity}
 use Rattle.aig_base.proofs.Literals.{literal_value-lit_to}
 use Rattle.aig_circuit.specs.declared.edge.AigEdge.{AigEdge}
 use Rattle.aig_circuit.specs.declared.node.AigLatch.{AigLatch}
 use Rattle.aig_circuit.specs.declared.node.AigNode.{AigNode}
-use Rattle.aig_circuit.specs.Circuit.{Circuit, latch_leaves}
-use Rattle.aig_circuit.specs.Edge.{edge_to, inverse, inverted_if, lit_of}
-use Rattle.aig_circuit.specs.Edges.{initial_edges}
-use Rattle.aig_circuit.specs.Runs.{IsInitial}
-use Rattle.aig_circuit.specs.Tree.{edge_value, node_value}
+use Rattle.aig_circuit.proofs.Words.{Circuit, latch_leaves, edge_to, inverse, inverted_if, lit_of, initial_edges, IsInitial, edge_value, node_value}
 use Rattle.aig_cnf.specs.Cnf.{edge_in}
 use Rattle.aig_cnf.proofs.Forms.{edge_in-inverse, literal_value-lit_of}
 use Rattle.aig_format.proofs.Entries.{rec_append, rec_flat_map}

@@ -1,33 +1,20 @@
 -- The clauses of a window, which a window that ends badly satisfies.
-use Rattle.std.proofs.Common.{◌≡◌, ℕ, zero, suc, ◌+◌, ◌*◌, ◌/◌, ◌<◌, ◌≤◌, Bool, false, not, Some, List, [], ◌∷◌, ◌++◌, length, map, take, drop, get_or, IsTrue, refl, sym, ap, subst, ◌∙◌, arith, length-drop}
+use Rattle.aig_base.proofs.Words.{◌≡◌, ℕ, zero, suc, ◌+◌, ◌*◌, ◌/◌, ◌<◌, ◌≤◌, Bool, false, not, Some, List, [], ◌∷◌, ◌++◌, length, map, take, drop, get_or, IsTrue, refl, sym, ap, subst, ◌∙◌, arith, length-drop, AllByRecursion, AllZip, list_any, false_from_ne_true, mul-le-mul_right, same_Some, slice_get_within, map-map}
 use Rattle.std.specs.Prelude.{All, replicate, slice_get}
-use Rattle.std.specs.List.{AllByRecursion, AllZip, list_any}
-use Rattle.std.proofs.lemmas.Bool.{false_from_ne_true}
-use Rattle.std.proofs.Math.Nat.{mul-le-mul_right}
 use Rattle.std.proofs.lemmas.List.{append-nil, length-map, length-take-le}
 use Rattle.std.proofs.lemmas.List.Elements.{All-append, All-from_recursion, All-map, All-replicate, All-weaker, recursion_from_All}
-use Rattle.std.proofs.lemmas.Option.{same_Some, slice_get_within}
-use Rattle.std.proofs.lemmas.Simd.{map-map}
 use Rattle.aig_base.specs.declared.logic.literal.Lit.{Lit}
 use Rattle.aig_base.specs.Clauses as clauses
 use Rattle.aig_base.specs.Clauses.{AreRelations, Satisfies, are_true, is_true_clause, variable_of}
 use Rattle.aig_base.specs.Formula.{clauses_in, IsSatisfiable}
 use Rattle.aig_circuit.specs.declared.edge.AigEdge.{AigEdge}
 use Rattle.aig_circuit.specs.declared.node.AigLatch.{AigLatch}
-use Rattle.aig_circuit.specs.Edge.{edge_to, inverse, lit_of}
-use Rattle.aig_circuit.specs.Circuit.{Circuit, IsCircuit, IsInRange, IsLatch, latch_leaves}
-use Rattle.aig_circuit.specs.Properties.{AllProperties}
-use Rattle.aig_circuit.specs.Tree.{edge_value}
+use Rattle.aig_circuit.proofs.Words.{edge_to, inverse, lit_of, Circuit, IsCircuit, IsInRange, IsLatch, latch_leaves, AllProperties, edge_value}
 use Rattle.aig_circuit.proofs.Listed.{AllProperties-weaker}
 use Rattle.aig_circuit.proofs.Lists.{AllZip-map}
 use Rattle.aig_circuit.proofs.Trees.{kind_at-within}
 use Rattle.aig_cnf.specs.Cnf.{FixesRoots, IsFixed, NodeValuesSatisfy, edge_in}
-use Rattle.aig_format.specs.File.{File, LatchLine}
-use Rattle.aig_format.specs.Fits.{Fits}
-use Rattle.aig_format.specs.Machine.{IsMachineRun, value_of_literal}
-use Rattle.aig_format.specs.Circuit.{circuit_of, edge_of, latch_of}
-use Rattle.aig_format.specs.Numbering.{node_of_variable}
-use Rattle.aig_format.specs.Variables.{IsKnown}
+use Rattle.aig_format.proofs.Words.{File, LatchLine, Fits, IsMachineRun, value_of_literal, circuit_of, edge_of, latch_of, node_of_variable, IsKnown}
 use Rattle.aig_format.proofs.Circuits.{IsCircuit-of_file, used_by_section}
 use Rattle.aig_format.proofs.Entries.{rec_append}
 use Rattle.aig_format.proofs.Numbers.{used_known}

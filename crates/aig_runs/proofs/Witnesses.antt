@@ -1,22 +1,13 @@
 -- A witness of a file's machine and one of its circuit are one.
-use Rattle.std.proofs.Common.{◌≡◌, ℕ, ◌≤◌, Bool, IsTrue, refl, sym, subst, ◌∙◌, arith}
-use Rattle.std.specs.List.{list_any}
-use Rattle.std.proofs.lemmas.List.Elements.{All-from_recursion, All-map, recursion_from_All}
+use Rattle.aig_base.proofs.Words.{◌≡◌, ℕ, ◌≤◌, Bool, IsTrue, refl, sym, subst, ◌∙◌, arith, list_any, All-from_recursion, All-map, recursion_from_All}
 use Rattle.aig_circuit.specs.declared.edge.AigEdge.{AigEdge}
 use Rattle.aig_circuit.specs.declared.node.AigNodeType.TheVariants.{Leaf}
-use Rattle.aig_circuit.specs.Circuit.{Circuit}
-use Rattle.aig_circuit.specs.Runs.{AgreeOnLeaves, IsRun}
-use Rattle.aig_circuit.specs.Tree.{edge_value, node_value}
-use Rattle.aig_circuit.specs.Properties.{AllProperties}
+use Rattle.aig_circuit.proofs.Words.{Circuit, AgreeOnLeaves, IsRun, edge_value, node_value, AllProperties}
 use Rattle.aig_circuit.proofs.Listed.{AllProperties-weaker}
 use Rattle.aig_circuit.proofs.Lists.{All-from_map, AllZip-map}
 use Rattle.aig_circuit.proofs.Trees.{kind_at-within, node_value-leaf}
-use Rattle.aig_format.specs.Circuit.{circuit_of, edge_of}
-use Rattle.aig_format.specs.File.{File}
-use Rattle.aig_format.specs.Fits.{Fits}
+use Rattle.aig_format.proofs.Words.{circuit_of, edge_of, File, Fits, value_of_literal, IsKnown}
 use Rattle.aig_format.specs.Machine as machine
-use Rattle.aig_format.specs.Machine.{value_of_literal}
-use Rattle.aig_format.specs.Variables.{IsKnown}
 use Rattle.aig_format.proofs.Circuits.{used_by_section}
 use Rattle.aig_format.proofs.Nodes.{length-nodes}
 use Rattle.aig_format.proofs.Numbers.{used_known, variable_of}

@@ -55,7 +55,8 @@ asking_clauses latchs constraints bads =
 -- bad edges of step k
 abbrev pub query_clauses : Circuit → ℕ → Circuit → List (List Lit)
 query_clauses c k unrolled =
-    asking_clauses c.latchs unrolled.properties.constraints (last_bads c k unrolled)
+    asking_clauses c.latchs unrolled.properties.constraints
+    (drop (k * length c.properties.bads) unrolled.properties.bads)
 
 -- the numbers of the latch's leaf and of its initial edge are below n
 abbrev pub IsThere : ℕ → AigLatch → Type 0

@@ -1,11 +1,7 @@
 -- How the line of an answer is read.
-use Rattle.std.proofs.Common.{◌≡◌, ◌≢◌, ℕ, ◌+◌, ◌≤◌, ◌<◌, Bool, true, false, cond, List, [], ◌∷◌, ◌++◌, length, length-append, take, Option, Some, None, Ok, Err, refl, sym, ap, subst, ◌∙◌, add-one, arith}
-use Rattle.std.specs.Prelude.{◌==◌, codes}
-use Rattle.std.specs.Str.{bytes_eq}
+use Rattle.aig_base.proofs.Words.{◌≡◌, ◌≢◌, ℕ, ◌+◌, ◌≤◌, ◌<◌, Bool, true, false, cond, List, [], ◌∷◌, ◌++◌, length, length-append, take, Option, Some, None, Ok, Err, refl, sym, ap, subst, ◌∙◌, add-one, arith, ◌==◌, codes, bytes_eq, length-set, take_all, same_text}
 use Rattle.std.proofs.Math.ListN.{set}
 use Rattle.std.proofs.Math.Seq.{take-suc-set}
-use Rattle.std.proofs.lemmas.List.{length-set, take_all}
-use Rattle.std.specs.Cmp.Lexicographic.{same_text}
 use Rattle.aig_lexer.specs.Takes.{Feed, Steps}
 use Rattle.aig_lexer.proofs.Feeds.{steps_byte}
 use Rattle.aig_solutions.specs.declared.error.SolutionError.{SolutionError}

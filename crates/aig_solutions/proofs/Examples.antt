@@ -1,13 +1,10 @@
 -- What values of a small query's clauses say, computed; and wrong witnesses, of which the
 -- definitions are false.
-use Rattle.std.proofs.Common.{◌≡◌, ℕ, zero, suc, ◌≤◌, true, false, None, Some, List, [], ◌∷◌, refl, arith}
-use Rattle.std.specs.Prelude.{slice_get}
+use Rattle.aig_base.proofs.Words.{◌≡◌, ℕ, zero, suc, ◌≤◌, true, false, None, Some, List, [], ◌∷◌, refl, arith, slice_get}
 use Rattle.aig_base.specs.declared.logic.three.Lbool.{Lbool}
 use Rattle.aig_base.specs.declared.logic.three.Lbool.TheVariants.{FALSE, TRUE, NONE}
 use Rattle.aig_circuit.specs.declared.node.AigNodeType.TheVariants.{False, Leaf}
-use Rattle.aig_circuit.specs.Circuit.{Circuit, only_false}
-use Rattle.aig_circuit.specs.Edge.{edge_to}
-use Rattle.aig_circuit.specs.Properties.{no_properties}
+use Rattle.aig_circuit.proofs.Words.{Circuit, only_false, edge_to, no_properties}
 use Rattle.aig_runs.specs.Queries.{last_bads}
 use Rattle.aig_witness.specs.Witness.{Witness}
 use Rattle.aig_witness.specs.Shown.{IsKnownWitness}

@@ -1,7 +1,6 @@
 -- Bytes that are known, and those that are left of them.
 use Rattle.std.proofs.Common.{◌≡◌, ℕ, List, [], ◌∷◌, ◌++◌, Option, Some, None, IfSome, refl, sym, subst, ◌∙◌}
-use Rattle.std.specs.Io.KnownBytes.{Consumes, IsAtEnd}
-use Rattle.std.proofs.lemmas.Option.{same_Some}
+use Rattle.aig_base.proofs.Words.{Consumes, IsAtEnd, same_Some}
 use Rattle.aig_lexer.specs.Takes.{Feed, Steps}
 use Rattle.aig_lexer.proofs.Feeds.{steps_byte, steps_end}
 use Rattle.aig_solutions.specs.Lines.{Leaves, Says}

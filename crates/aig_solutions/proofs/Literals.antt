@@ -1,5 +1,5 @@
 -- What the literals of a line of values say.
-use Rattle.std.proofs.Common.{◌≡◌, ℕ, Bool, true, false, cond, List, [], ◌∷◌, Option, Some, Result, Ok, Err, refl, sym, ap, ◌∙◌}
+use Rattle.aig_base.proofs.Words.{◌≡◌, ℕ, Bool, true, false, cond, List, [], ◌∷◌, Option, Some, Result, Ok, Err, refl, sym, ap, ◌∙◌}
 use Rattle.std.specs.Prelude.{◌==◌, ◌-◌, length, nat_le, slice_set}
 use Rattle.std.specs.Option.{option_map_or}
 use Rattle.aig_base.specs.declared.logic.three.Lbool.{Lbool}

@@ -1,6 +1,5 @@
 -- How the word of a literal is read.
-use Rattle.std.proofs.Common.{◌≡◌, ◌≢◌, ℕ, ◌≤◌, Bool, true, false, List, [], ◌∷◌, ◌++◌, Option, Some, None, Result, Ok, Err, refl, sym, ap, subst, ◌∙◌, arith}
-use Rattle.std.specs.Prelude.{is_some}
+use Rattle.aig_base.proofs.Words.{◌≡◌, ◌≢◌, ℕ, ◌≤◌, Bool, true, false, List, [], ◌∷◌, ◌++◌, Option, Some, None, Result, Ok, Err, refl, sym, ap, subst, ◌∙◌, arith, is_some}
 use Rattle.aig_lexer.specs.Takes.{Feed, Steps}
 use Rattle.aig_lexer.proofs.Feeds.{steps_byte}
 use Rattle.aig_solutions.specs.declared.error.SolutionError.{SolutionError}

@@ -1,6 +1,5 @@
 -- What texts of solvers say of four variables, by hand, and what refuses others.
-use Rattle.std.proofs.Common.{◌≡◌, List, [], ◌∷◌, Ok, Err, refl}
-use Rattle.std.specs.Prelude.{codes}
+use Rattle.aig_base.proofs.Words.{◌≡◌, List, [], ◌∷◌, Ok, Err, refl, codes}
 use Rattle.aig_base.specs.declared.logic.three.Lbool.{Lbool}
 use Rattle.aig_base.specs.declared.logic.three.Lbool.TheVariants.{FALSE, TRUE, NONE}
 use Rattle.aig_solutions.specs.declared.error.SolutionError.TheVariants as errors

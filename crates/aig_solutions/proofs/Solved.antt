@@ -1,8 +1,7 @@
 -- From what lines say to what is said of the source.
 use Rattle.std.proofs.Common.{◌≡◌, ℕ, false, List, [], Option, IfSome, Ok, Err, sym, ap, ◌∙◌}
 use Rattle.std.specs.Prelude.{replicate}
-use Rattle.std.specs.Io.KnownBytes.{prepend_known}
-use Rattle.std.proofs.KnownBytes.{prepend_known-nil}
+use Rattle.aig_base.proofs.Words.{prepend_known, prepend_known-nil}
 use Rattle.aig_base.specs.declared.logic.three.Lbool.{Lbool}
 use Rattle.aig_base.specs.declared.logic.three.Lbool.TheVariants.{NONE}
 use Rattle.aig_lexer.specs.Takes.{Feed}

@@ -1,7 +1,5 @@
 -- Lines and words of bytes, from the front.
-use Rattle.std.proofs.Common.{◌≡◌, ◌≢◌, ℕ, Bool, true, false, cond, List, [], ◌∷◌, ◌++◌, Option, Some, None, refl, sym, ap, subst, ◌∙◌, append_assoc, append-nil}
-use Rattle.std.proofs.lemmas.Bool.{ne_eqb}
-use Rattle.std.specs.Prelude.{◌==◌}
+use Rattle.aig_base.proofs.Words.{◌≡◌, ◌≢◌, ℕ, Bool, true, false, cond, List, [], ◌∷◌, ◌++◌, Option, Some, None, refl, sym, ap, subst, ◌∙◌, append_assoc, append-nil, ne_eqb, ◌==◌}
 use Rattle.aig_solutions.specs.declared.words.End.{End}
 use Rattle.aig_solutions.specs.declared.words.End.TheVariants.{Blank, Line, Stream}
 use Rattle.aig_solutions.specs.Lines.{GoesOnBy, IsLeft, end_of, lines_past}

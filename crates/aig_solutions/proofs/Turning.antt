@@ -1,24 +1,16 @@
 -- The turns of leaves among those that are no latch's.
-use Rattle.std.proofs.Common.{◌≡◌, ◌≢◌, ℕ, zero, suc, ◌+◌, ◌-◌, ◌*◌, ◌<◌, ◌≤◌, Bool, true, false, cond, not, eqb, ◌&&◌, ◌||◌, List, [], ◌∷◌, ◌++◌, length, length-append, map, get_or, take, refl, sym, ap, subst, ◌∙◌, arith, add-one}
-use Rattle.std.specs.Prelude.{◌==◌, All, Contains, count_by, filter, slice_index}
+use Rattle.aig_base.proofs.Words.{◌≡◌, ◌≢◌, ℕ, zero, suc, ◌+◌, ◌-◌, ◌*◌, ◌<◌, ◌≤◌, Bool, true, false, cond, not, eqb, ◌&&◌, ◌||◌, List, [], ◌∷◌, ◌++◌, length, length-append, map, get_or, take, refl, sym, ap, subst, ◌∙◌, arith, add-one, ◌==◌, All, Contains, count_by, filter, slice_index, list_any, and_from, eq-eqb, eqb-true, false_from_ne_true, false≢true, ne_eqb, list_any-append, All-contains, All-filter, All-get_or, Contains-get_or, filter_passes, slice_get-get_or}
 use borrow.Author.Count.{below_more}
-use Rattle.std.specs.List.{list_any}
 use Rattle.std.proofs.Math.ListN.{set}
-use Rattle.std.proofs.lemmas.Bool.{and_from, eq-eqb, eqb-true, false_from_ne_true, false≢true, ne_eqb}
 use Rattle.std.proofs.lemmas.Grind.{get_or-set_at}
 use Rattle.std.proofs.lemmas.List.{get_or-append-add, get_or_append_left, get_or-set_other, map-append, take_more}
-use Rattle.std.proofs.lemmas.List.Folds.{list_any-append}
-use Rattle.std.proofs.lemmas.List.Elements.{All-contains, All-filter, All-get_or, Contains-get_or, filter_passes}
 use Rattle.std.proofs.lemmas.List.Sums.{count_by_more_no, count_by_more_yes, length-filter}
-use Rattle.std.proofs.lemmas.Option.{slice_get-get_or}
 use Rattle.aig_circuit.specs.declared.node.AigLatch.{AigLatch}
 use Rattle.aig_circuit.specs.declared.node.AigNode.{AigNode}
-use Rattle.aig_circuit.specs.Circuit.{AreNodes, Circuit, IsLatch, IsLeaf, latch_leaves}
+use Rattle.aig_circuit.proofs.Words.{AreNodes, Circuit, IsLatch, IsLeaf, latch_leaves, is_leaf, is_in, position_of}
 use Rattle.aig_circuit.specs.declared.node.AigNodeType.TheVariants.{Leaf}
-use Rattle.aig_circuit.specs.Runs.{is_leaf}
 use Rattle.aig_circuit.proofs.Counting.{is_leaf-Leaf}
 use Rattle.aig_circuit.proofs.Trees.{kind_at-within}
-use Rattle.aig_circuit.specs.Renumber.{is_in, position_of}
 use Rattle.aig_renumber.proofs.Places.{Contains-map_back, position_of-within}
 use Rattle.aig_unroll.proofs.Others.{others-are}
 use Rattle.aig_unroll.specs.Places.{is_other_leaf, other_leaves, place_at}

@@ -1,15 +1,10 @@
 -- Nodes whose trees are equal are alike under their images, so the kept nodes merge the others.
-use Rattle.std.proofs.Common.{◌≡◌, ℕ, ◌<◌, Some, List, length, get_or, refl, sym, ap, subst, ◌∙◌, arith, inl, inr}
-use Rattle.std.proofs.lemmas.Bool.{false≢true}
+use Rattle.aig_base.proofs.Words.{◌≡◌, ℕ, ◌<◌, Some, List, length, get_or, refl, sym, ap, subst, ◌∙◌, arith, inl, inr, false≢true}
 use Rattle.aig_circuit.specs.declared.edge.AigEdge.{AigEdge}
 use Rattle.aig_circuit.specs.declared.node.AigNodeType.{AigNodeType}
 use Rattle.aig_circuit.specs.declared.node.AigNodeType.TheVariants.{False, Leaf, And}
 use Rattle.aig_circuit.specs.declared.node.AigNode.{AigNode}
-use Rattle.aig_circuit.specs.Edge.{edge_to}
-use Rattle.aig_circuit.specs.Node.{kind_at, and_of}
-use Rattle.aig_circuit.specs.Tree.{tree_of, tree_of_kind}
-use Rattle.aig_circuit.specs.Circuit.{AreNodes}
-use Rattle.aig_circuit.specs.Renumber.{renumbered_edge, renumbered_kind}
+use Rattle.aig_circuit.proofs.Words.{edge_to, kind_at, and_of, tree_of, tree_of_kind, AreNodes, renumbered_edge, renumbered_kind}
 use Rattle.aig_circuit.proofs.Building.{and_of-turned}
 use Rattle.aig_circuit.proofs.Trees.{kind_at-there, kind_at-within, tree_of-is}
 use Rattle.aig_renumber.proofs.NodesInOrder.{Merges}

@@ -1,18 +1,9 @@
 -- The representative of each node, the nodes that are kept, and their images.
-use Rattle.std.proofs.Common.{◌≡◌, ℕ, zero, suc, ◌<◌, Some, List, length, get_or, refl, sym, ap, subst, ◌∙◌, arith}
-use Rattle.std.specs.Prelude.{AllPairs, Contains, unwrap_or}
-use Rattle.std.proofs.lemmas.Bool.{eqb-true, eq-eqb, false≢true}
-use Rattle.std.proofs.lemmas.List.{get_or-map, length-map}
-use Rattle.std.proofs.lemmas.List.Elements.{Contains-get_or}
-use Rattle.std.proofs.lemmas.List.Kept.{AllPairs-filter}
-use Rattle.std.proofs.lemmas.Option.{slice_get-get_or}
+use Rattle.aig_base.proofs.Words.{◌≡◌, ℕ, zero, suc, ◌<◌, Some, List, length, get_or, refl, sym, ap, subst, ◌∙◌, arith, AllPairs, Contains, unwrap_or, eqb-true, eq-eqb, false≢true, get_or-map, length-map, Contains-get_or, AllPairs-filter, slice_get-get_or}
 use Rattle.aig_circuit.specs.declared.node.AigNodeType.{AigNodeType}
 use Rattle.aig_circuit.specs.declared.node.AigNodeType.TheVariants.{False, Leaf, And}
 use Rattle.aig_circuit.specs.declared.node.AigNode.{AigNode}
-use Rattle.aig_circuit.specs.Node.{kind_at}
-use Rattle.aig_circuit.specs.Tree.{Tree, LeafTree, tree_of}
-use Rattle.aig_circuit.specs.Circuit.{AreNodes, IsLeaf}
-use Rattle.aig_circuit.specs.Renumber.{position_of}
+use Rattle.aig_circuit.proofs.Words.{kind_at, Tree, LeafTree, tree_of, AreNodes, IsLeaf, position_of}
 use Rattle.aig_circuit.proofs.Trees.{kind_at-there, kind_at-within, tree_of-false, tree_of-leaf, tree_of-and}
 use Rattle.aig_renumber.proofs.Places.{filter-back, get_or-position_of, position_of-within, places-rise, rising-place}
 use Rattle.aig_strash.specs.Exchange.{HaveEqualTrees, IsRepresentative, equal_up_to_exchange, representative_of, image_of, is_representative, kept_nodes, node_numbers}

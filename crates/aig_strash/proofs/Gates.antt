@@ -1,17 +1,11 @@
 -- One more gate in the map: it is found by its operands' literals exactly where an earlier node has its tree.
 use Rattle.std.proofs.Common.{◌≡◌, ℕ, ◌+◌, ◌*◌, ◌<◌, ◌≤◌, Bool, true, false, Option, Some, None, IsSome, List, length, take, map, refl, sym, ap, subst, ◌∙◌, arith, inl, inr}
-use Rattle.std.specs.Prelude.{unwrap_or, slice_index}
-use Rattle.std.proofs.lemmas.Bool.{and_parts, and_from, cases_lt, eqb-true, eq-eqb, false≢true}
-use Rattle.std.proofs.lemmas.List.{get_or-map, get_or-take, length-map, length-take}
+use Rattle.aig_base.proofs.Words.{unwrap_or, slice_index, and_parts, and_from, cases_lt, eqb-true, eq-eqb, false≢true, get_or-map, get_or-take, length-map, length-take}
 use Rattle.aig_circuit.specs.declared.edge.AigEdge.{AigEdge}
 use Rattle.aig_circuit.specs.declared.node.AigNodeType.{AigNodeType}
 use Rattle.aig_circuit.specs.declared.node.AigNodeType.TheVariants.{False, Leaf, And}
 use Rattle.aig_circuit.specs.declared.node.AigNode.{AigNode}
-use Rattle.aig_circuit.specs.Edge.{edge_to}
-use Rattle.aig_circuit.specs.Node.{and_of, kind_at}
-use Rattle.aig_circuit.specs.Circuit.{AreNodes}
-use Rattle.aig_circuit.specs.Renumber.{renumbered_edge, renumbered_kind}
-use Rattle.aig_circuit.specs.Tree.{Tree, AndTree, tree_of}
+use Rattle.aig_circuit.proofs.Words.{edge_to, and_of, kind_at, AreNodes, renumbered_edge, renumbered_kind, Tree, AndTree, tree_of}
 use Rattle.aig_circuit.proofs.Trees.{kind_at-there, tree_of-false, tree_of-leaf, tree_of-and}
 use Rattle.aig_strash.specs.Exchange.{HaveEqualTrees, IsGate, representative_of, image_of, kept_before, node_numbers}
 use Rattle.aig_strash.specs.declared.numbers.Tables.{Tables}

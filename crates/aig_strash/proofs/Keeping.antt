@@ -1,12 +1,7 @@
 -- Representatives and their numbers, and what the strashed circuit has of the kept nodes.
-use Rattle.std.proofs.Common.{◌≡◌, ℕ, ◌<◌, Bool, true, false, cond, Some, None, List, length, get_or, refl, sym, ap, ◌∙◌, nat_cmp}
-use Rattle.std.specs.FinMap.{FinMap, contains_key, entries, get, get-entries, get-from_entries, get-retain_keys, retain_keys}
+use Rattle.aig_base.proofs.Words.{◌≡◌, ℕ, ◌<◌, Bool, true, false, cond, Some, None, List, length, get_or, refl, sym, ap, ◌∙◌, nat_cmp, FinMap, contains_key, entries, get, get-entries, get-from_entries, get-retain_keys, retain_keys, nat_cmp_total, exact_unsigned, false≢true}
 use Rattle.std.specs.Prelude.{IsTrue, is_some}
-use Rattle.std.proofs.lemmas.Cmp.{nat_cmp_total}
-use Rattle.std.proofs.lemmas.Map.Lookups.{exact_unsigned}
-use Rattle.std.proofs.lemmas.Bool.{false≢true}
-use Rattle.aig_circuit.specs.Circuit.{Circuit, IsCircuit}
-use Rattle.aig_circuit.specs.Renumber.{renumbered_kind}
+use Rattle.aig_circuit.proofs.Words.{Circuit, IsCircuit, renumbered_kind}
 use Rattle.aig_circuit.proofs.Trees.{kind_at-there}
 use Rattle.aig_renumber.proofs.Kept.{is_in-back, is_in-there}
 use Rattle.aig_renumber.proofs.Names.{find-number, names_in_circuit}

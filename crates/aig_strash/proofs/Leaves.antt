@@ -1,16 +1,9 @@
 -- A kept node has as many leaves before it as it had.
-use Rattle.std.proofs.Common.{◌≡◌, ℕ, zero, suc, ◌+◌, ◌<◌, Bool, true, false, cond, Option, Some, None, List, [], ◌∷◌, length, map, get_or, take, refl, sym, ap, ◌∙◌, arith, inl, inr}
-use Rattle.std.specs.Prelude.{All, filter, option_map}
-use Rattle.std.proofs.lemmas.Bool.{eq-eqb, false≢true}
-use Rattle.std.proofs.lemmas.List.Sums.{length-filter}
-use Rattle.std.proofs.lemmas.Option.{slice_get-get_or}
+use Rattle.aig_base.proofs.Words.{◌≡◌, ℕ, zero, suc, ◌+◌, ◌<◌, Bool, true, false, cond, Option, Some, None, List, [], ◌∷◌, length, map, get_or, take, refl, sym, ap, ◌∙◌, arith, inl, inr, All, filter, option_map, eq-eqb, false≢true, length-filter, slice_get-get_or}
 use Rattle.aig_circuit.specs.declared.node.AigNodeType.{AigNodeType}
 use Rattle.aig_circuit.specs.declared.node.AigNodeType.TheVariants.{False, Leaf, And}
 use Rattle.aig_circuit.specs.declared.node.AigNode.{AigNode}
-use Rattle.aig_circuit.specs.Node.{kind_at}
-use Rattle.aig_circuit.specs.Circuit.{AreNodes}
-use Rattle.aig_circuit.specs.Runs.{is_leaf}
-use Rattle.aig_circuit.specs.Renumber.{nodes_in_order, position_of, renumbered_edge, renumbered_kind}
+use Rattle.aig_circuit.proofs.Words.{kind_at, AreNodes, is_leaf, nodes_in_order, position_of, renumbered_edge, renumbered_kind}
 use Rattle.aig_circuit.proofs.Building.{and_of-cases}
 use Rattle.aig_strash.specs.Exchange.{representative_of, image_of, is_representative, kept_nodes, leaves_before, node_numbers}
 use Rattle.aig_strash.proofs.Firsts.{first-leaf, numbers-count, numbers-length}

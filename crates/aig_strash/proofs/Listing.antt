@@ -1,7 +1,5 @@
 -- Lists of numbers: those that count up by one, and filters.
-use Rattle.std.proofs.Common.{◌≡◌, ℕ, zero, suc, ◌+◌, ◌<◌, ◌≤◌, Bool, true, false, cond, eqb, Option, Some, List, [], ◌∷◌, length, get_or, take, refl, sym, ap, ◌∙◌, arith, add-one, inl, inr}
-use Rattle.std.specs.Prelude.{AllPairs, Contains, filter, find}
-use Rattle.std.proofs.lemmas.Bool.{cases_lt, eqb-true, false≢true}
+use Rattle.aig_base.proofs.Words.{◌≡◌, ℕ, zero, suc, ◌+◌, ◌<◌, ◌≤◌, Bool, true, false, cond, eqb, Option, Some, List, [], ◌∷◌, length, get_or, take, refl, sym, ap, ◌∙◌, arith, add-one, inl, inr, AllPairs, Contains, filter, find, cases_lt, eqb-true, false≢true}
 use Rattle.aig_circuit.specs.Renumber.{position_of}
 use Rattle.aig_renumber.proofs.Places.{rising-place}
 

@@ -1,13 +1,9 @@
 -- Trees of the strashed circuit are those of the old one, and no two of them are equal.
-use Rattle.std.proofs.Common.{◌≡◌, ℕ, ◌<◌, Some, List, length, get_or, refl, sym, ap, subst, ◌∙◌, inl, inr}
-use Rattle.std.proofs.lemmas.Bool.{eq-eqb}
+use Rattle.aig_base.proofs.Words.{◌≡◌, ℕ, ◌<◌, Some, List, length, get_or, refl, sym, ap, subst, ◌∙◌, inl, inr, eq-eqb}
 use Rattle.aig_circuit.specs.declared.node.AigNodeType.{AigNodeType}
 use Rattle.aig_circuit.specs.declared.node.AigNodeType.TheVariants.{False, Leaf, And}
 use Rattle.aig_circuit.specs.declared.node.AigNode.{AigNode}
-use Rattle.aig_circuit.specs.Node.{kind_at, IsOrdered}
-use Rattle.aig_circuit.specs.Tree.{Tree, tree_of}
-use Rattle.aig_circuit.specs.Circuit.{AreNodes, Circuit, IsCircuit, IsLeaf}
-use Rattle.aig_circuit.specs.Renumber.{nodes_in_order, renumbered_edge, renumbered_kind}
+use Rattle.aig_circuit.proofs.Words.{kind_at, IsOrdered, Tree, tree_of, AreNodes, Circuit, IsCircuit, IsLeaf, nodes_in_order, renumbered_edge, renumbered_kind}
 use Rattle.aig_circuit.proofs.Building.{and_of-cases}
 use Rattle.aig_circuit.proofs.Trees.{by_smaller, kind_at-there, kind_at-within, tree_of-false, tree_of-leaf, tree_of-and}
 use Rattle.aig_renumber.proofs.NodesInOrder.{IsLeaf-number, IsOrdered-made, kind_at-number, length-nodes_in_order}

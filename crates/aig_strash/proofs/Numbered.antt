@@ -1,17 +1,12 @@
 -- The next node's number: that of an earlier gate with its operands, or else the count of the kept nodes.
-use Rattle.std.proofs.Common.{◌≡◌, ◌≢◌, ℕ, zero, suc, ◌+◌, ◌<◌, ◌≤◌, Bool, true, false, cond, eqb, List, [], ◌∷◌, ◌++◌, length, get_or, take, map, refl, sym, ap, subst, ◌∙◌, arith, add-one, inl, inr, ◌⊎◌}
+use Rattle.aig_base.proofs.Words.{◌≡◌, ◌≢◌, ℕ, zero, suc, ◌+◌, ◌<◌, ◌≤◌, Bool, true, false, cond, eqb, List, [], ◌∷◌, ◌++◌, length, get_or, take, map, refl, sym, ap, subst, ◌∙◌, arith, add-one, inl, inr, ◌⊎◌, cases_lt, eqb-true, eq-eqb, false≢true, filter-append}
 use Rattle.std.specs.Prelude.{filter, not}
-use Rattle.std.proofs.lemmas.Bool.{cases_lt, eqb-true, eq-eqb, false≢true}
 use Rattle.std.proofs.lemmas.List.{append-nil, get_or-map, length-append, length-map, length-take, map-append, take_more}
-use Rattle.std.proofs.lemmas.List.Elements.{filter-append}
 use Rattle.std.proofs.lemmas.List.Filters.{length-filter_both}
 use Rattle.aig_circuit.specs.declared.edge.AigEdge.{AigEdge}
 use Rattle.aig_circuit.specs.declared.node.AigNodeType.TheVariants.{And}
 use Rattle.aig_circuit.specs.declared.node.AigNode.{AigNode}
-use Rattle.aig_circuit.specs.Node.{and_of}
-use Rattle.aig_circuit.specs.Circuit.{AreNodes}
-use Rattle.aig_circuit.specs.Renumber.{position_of, renumbered_edge, renumbered_kind}
-use Rattle.aig_circuit.specs.Tree.{AndTree, tree_of}
+use Rattle.aig_circuit.proofs.Words.{and_of, AreNodes, position_of, renumbered_edge, renumbered_kind, AndTree, tree_of}
 use Rattle.aig_circuit.proofs.Building.{and_of-cases}
 use Rattle.aig_circuit.proofs.Trees.{tree_of-and}
 use Rattle.aig_strash.specs.Exchange.{HaveEqualTrees, IsGate, representative_of, image_of, is_representative, kept_before, node_numbers}

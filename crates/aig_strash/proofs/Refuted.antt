@@ -1,14 +1,11 @@
 -- Wrong results of hashing small circuits, which the definition doesn't give.
-use Rattle.std.proofs.Common.{◌≡◌, ◌≢◌, ℕ, Bool, true, false, List, [], ◌∷◌, length, ap, arith}
-use Rattle.std.specs.FinMap.{empty}
+use Rattle.aig_base.proofs.Words.{◌≡◌, ◌≢◌, ℕ, Bool, true, false, List, [], ◌∷◌, length, ap, arith, empty}
 use Rattle.aig_circuit.specs.declared.edge.AigEdge.{AigEdge}
 use Rattle.aig_circuit.specs.declared.node.AigNodeType.{AigNodeType}
 use Rattle.aig_circuit.specs.declared.node.AigNodeType.TheVariants.{False, Leaf, And}
 use Rattle.aig_circuit.specs.declared.node.AigNode.{AigNode}
-use Rattle.aig_circuit.specs.Edge.{edge_to}
+use Rattle.aig_circuit.proofs.Words.{edge_to, Circuit, no_properties}
 use Rattle.aig_circuit.specs.Tree.{tree_of}
-use Rattle.aig_circuit.specs.Circuit.{Circuit}
-use Rattle.aig_circuit.specs.Properties.{no_properties}
 use Rattle.aig_strash.specs.Strash.{strashed}
 
 abbrev node : ℕ → AigNodeType → AigNode

@@ -1,15 +1,7 @@
 -- The strashed circuit is a circuit, and keeps the runs.
-use Rattle.std.proofs.Common.{◌≡◌, ◌≢◌, ℕ, ◌<◌, Bool, true, false, cond, None, length, map, get_or, sym, ap, subst, IsTrue}
-use Rattle.std.specs.Prelude.{Contains, is_some}
-use Rattle.std.specs.FinMap.{contains_key, get, get-retain_keys}
-use Rattle.std.proofs.lemmas.Bool.{false≢true}
-use Rattle.std.proofs.lemmas.List.Elements.{All-filter, All-weaker}
-use Rattle.std.proofs.lemmas.List.Kept.{AllPairs-filter}
-use Rattle.std.proofs.lemmas.Map.Lookups.{exact_unsigned}
+use Rattle.aig_base.proofs.Words.{◌≡◌, ◌≢◌, ℕ, ◌<◌, Bool, true, false, cond, None, length, map, get_or, sym, ap, subst, IsTrue, Contains, is_some, contains_key, get, get-retain_keys, false≢true, All-filter, All-weaker, AllPairs-filter, exact_unsigned}
 use Rattle.aig_circuit.specs.declared.node.AigNodeType.TheVariants.{Leaf}
-use Rattle.aig_circuit.specs.Circuit.{Circuit, IsCircuit, IsLeaf, latch_leaves}
-use Rattle.aig_circuit.specs.Renumber.{is_in, only_kept}
-use Rattle.aig_circuit.specs.Runs.{KeepsRuns}
+use Rattle.aig_circuit.proofs.Words.{Circuit, IsCircuit, IsLeaf, latch_leaves, is_in, only_kept, KeepsRuns}
 use Rattle.aig_circuit.proofs.Trees.{kind_at-within}
 use Rattle.aig_renumber.proofs.Circuits.{IsCircuit-renumbered, KeepsRuns-renumbered, SpeaksOf-nodes}
 use Rattle.aig_renumber.proofs.Kept.{is_in-there}

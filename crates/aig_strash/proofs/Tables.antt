@@ -1,10 +1,7 @@
 -- The numbers of all nodes and the kept nodes, as the renumbering takes them.
-use Rattle.std.proofs.Common.{◌≡◌, ℕ, ◌<◌, List, length, map, get_or, sym, ap, subst, ◌∙◌, arith}
-use Rattle.std.specs.Prelude.{All, slice_index}
-use Rattle.std.proofs.lemmas.List.{get_or-map, get_or_default, length-map}
-use Rattle.aig_circuit.specs.Circuit.{Circuit, IsCircuit}
+use Rattle.aig_base.proofs.Words.{◌≡◌, ℕ, ◌<◌, List, length, map, get_or, sym, ap, subst, ◌∙◌, arith, All, slice_index, get_or-map, get_or_default, length-map}
+use Rattle.aig_circuit.proofs.Words.{Circuit, IsCircuit, kept_circuit}
 use Rattle.aig_circuit.specs.declared.node.AigNodeType.TheVariants.{False}
-use Rattle.aig_circuit.specs.Renumber.{kept_circuit}
 use Rattle.aig_circuit.proofs.Trees.{kind_at-within}
 use Rattle.aig_renumber.proofs.Agreeing.{circuits-agree}
 use Rattle.aig_renumber.proofs.Circuits.{SpeaksOf-nodes}

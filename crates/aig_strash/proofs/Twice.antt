@@ -1,11 +1,8 @@
 -- A circuit in which no two trees are equal is its own strashing, so strashing twice is strashing once.
-use Rattle.std.proofs.Common.{◌≡◌, ℕ, ◌<◌, true, List, length, get_or, ap, ◌∙◌, arith}
-use Rattle.std.specs.Prelude.{filter}
-use Rattle.std.proofs.lemmas.Bool.{eq-eqb}
-use Rattle.aig_circuit.specs.Circuit.{AreNodes, Circuit, IsCircuit}
+use Rattle.aig_base.proofs.Words.{◌≡◌, ℕ, ◌<◌, true, List, length, get_or, ap, ◌∙◌, arith, filter, eq-eqb}
+use Rattle.aig_circuit.proofs.Words.{AreNodes, Circuit, IsCircuit, is_in, only_kept, position_of, renumbered_circuit}
 use Rattle.aig_circuit.specs.declared.node.AigNode.{AigNode}
 use Rattle.aig_circuit.specs.declared.node.AigNodeType.TheVariants.{Leaf}
-use Rattle.aig_circuit.specs.Renumber.{is_in, only_kept, position_of, renumbered_circuit}
 use Rattle.aig_circuit.proofs.Trees.{kind_at-within}
 use Rattle.aig_renumber.proofs.Kept.{is_in-there}
 use Rattle.aig_renumber.proofs.Places.{filter_all}

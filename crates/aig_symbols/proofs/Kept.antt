@@ -1,12 +1,11 @@
 -- A name that is kept is UTF-8.
-use Rattle.std.proofs.Common.{◌≡◌, ℕ, List, Result, Ok, Err, String, Vec, sym, ap, subst}
+use Rattle.aig_base.proofs.Words.{◌≡◌, ℕ, List, Result, Ok, Err, String, Vec, sym, ap, subst, false_from_ne_true, false≢true}
 use Rattle.std.specs.Prelude.{IfOk, IsOk, string_bytes}
 use Rattle.std.specs.String.{string_vec}
 use Rattle.std.specs.Result.{result_or}
 use Rattle.std.specs.declared.alloc.Global.{Global}
 use Rattle.std.specs.Str.{IsUtf8, is_utf8}
 use Rattle.std.proofs.lemmas.Str.{IsUtf8-string_bytes, IsUtf8-from_is_utf8, is_utf8-from_IsUtf8}
-use Rattle.std.proofs.lemmas.Bool.{false_from_ne_true, false≢true}
 use Rattle.aig_format.specs.Parse.{parse_if, parse_text}
 use Rattle.aig_lexer.specs.declared.error.LineError.{LineError}
 use Rattle.aig_lexer.specs.declared.error.LineError.TheVariants as line

@@ -1,21 +1,13 @@
 -- The names that are kept, and the places that are taken, name by name.
 use Rattle.std.proofs.Common.{◌≡◌, ◌≢◌, ℕ, ◌+◌, ◌<◌, ◌⊎◌, inl, inr, Bool, true, false, ◌&&◌, ◌||◌, cond, eqb, List, [], ◌∷◌, ◌++◌, length, get_or, AllPairs, Option, Some, None, nat_cmp, nat_eq, refl, sym, ap, subst, ◌∙◌, append-nil, arith}
-use Rattle.std.specs.Prelude.{is_some, option_map, filter_map, slice_index}
-use Rattle.std.specs.List.{AllByRecursion, cons_option}
+use Rattle.aig_base.proofs.Words.{is_some, option_map, filter_map, slice_index, AllByRecursion, cons_option, nat_cmp_total, eqb-true, ne_eqb, or_parts, nat_tests, filter_map-append, list_any-append}
 use Rattle.std.specs.declared.cmp.Ordering.{Ordering}
 use Rattle.std.specs.Ordering.{is_eq, ordering_then}
 use Rattle.std.specs.Cmp.{both_tied}
 use Rattle.std.specs.FinMap.{find, from_entries, from_entries_push, nat_cmp-IsAntisymmetric}
-use Rattle.std.proofs.lemmas.Cmp.{nat_cmp_total}
-use Rattle.std.proofs.lemmas.Bool.{eqb-true, ne_eqb, or_parts}
-use Rattle.std.proofs.lemmas.Bool.Decides.{nat_tests}
 use Rattle.std.proofs.lemmas.List.{length-append, get_or_append_left, get_or-append-add}
-use Rattle.std.proofs.lemmas.List.Elements.{filter_map-append}
-use Rattle.std.proofs.lemmas.List.Folds.{list_any-append}
 use Rattle.aig_base.proofs.Mapping.{same_test}
-use Rattle.aig_format.specs.File.{NameLine, HeaderNumbers}
-use Rattle.aig_format.specs.Fits.{same_place}
-use Rattle.aig_format.specs.Letters.{count_of, is_kept}
+use Rattle.aig_format.proofs.Words.{NameLine, HeaderNumbers, same_place, count_of, is_kept}
 use Rattle.aig_symbols.specs.Names.{kept_name, kept_names, node_at}
 use Rattle.aig_symbols.specs.NameSteps.{with_name}
 use Rattle.aig_symbols.proofs.NameLines.{name_line, is_taken}

@@ -1,14 +1,7 @@
 -- A name line in its parts: the place, then the name.
-use Rattle.std.proofs.Common.{◌≡◌, ℕ, Bool, true, false, not, ◌&&◌, ◌||◌, cond, ltb, List, [], ◌∷◌, Option, Some, None, refl, ap, ◌∙◌, arith}
-use Rattle.std.specs.Str.{is_utf8}
-use Rattle.std.specs.List.{list_any}
-use Rattle.std.proofs.lemmas.Bool.{le-ltb}
-use Rattle.aig_format.specs.File.{NameLine, HeaderNumbers}
-use Rattle.aig_format.specs.Fits.{same_place}
-use Rattle.aig_format.specs.Spells.{is_letter}
+use Rattle.aig_base.proofs.Words.{◌≡◌, ℕ, Bool, true, false, not, ◌&&◌, ◌||◌, cond, ltb, List, [], ◌∷◌, Option, Some, None, refl, ap, ◌∙◌, arith, is_utf8, list_any, le-ltb}
+use Rattle.aig_format.proofs.Words.{NameLine, HeaderNumbers, same_place, is_letter, count_of, is_kept, tests_name}
 use Rattle.aig_format.specs.Parse.{◌>>=◌, parse_ended, parse_if, parse_text, parse_name, name_from}
-use Rattle.aig_format.specs.Letters.{count_of, is_kept}
-use Rattle.aig_format.specs.ParseTested.{tests_name}
 use Rattle.aig_lexer.specs.Takes.{Feed, Takes, Misses}
 use Rattle.aig_lexer.proofs.Going.{GoesOn, goes_start, goes_same, goes_call, goes_wrong, goes_nowhere, goes_done}
 use Rattle.aig_lexer.proofs.Taking.{misses_first}

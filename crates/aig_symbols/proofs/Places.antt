@@ -1,11 +1,7 @@
 -- The place of a name, and what is known where it was read.
-use Rattle.std.proofs.Common.{◌≡◌, ℕ, ◌<◌, Bool, true, false, not, ◌&&◌, cond, eqb, ltb, List, [], ◌∷◌, Option, Some, None, Ok, refl, ap, subst, ◌∙◌}
-use Rattle.std.proofs.lemmas.Bool.{or_parts, ltb-true}
-use Rattle.std.proofs.lemmas.Option.{cond_some, same_Some}
+use Rattle.aig_base.proofs.Words.{◌≡◌, ℕ, ◌<◌, Bool, true, false, not, ◌&&◌, cond, eqb, ltb, List, [], ◌∷◌, Option, Some, None, Ok, refl, ap, subst, ◌∙◌, or_parts, ltb-true, cond_some, same_Some}
 use Rattle.aig_base.proofs.Mapping.{turned}
-use Rattle.aig_format.specs.File.{HeaderNumbers}
-use Rattle.aig_format.specs.Letters.{count_of}
-use Rattle.aig_format.specs.Spells.{is_letter}
+use Rattle.aig_format.proofs.Words.{HeaderNumbers, count_of, is_letter}
 use Rattle.aig_format.specs.Parse.{is_comment, is_digit, parse_ended, parse_if, parse_number}
 use Rattle.aig_format.proofs.NumberReaders.{bind_some}
 use Rattle.aig_lexer.specs.Takes.{Feed, Ends, Takes}

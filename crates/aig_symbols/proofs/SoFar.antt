@@ -1,11 +1,7 @@
 -- What is known of the names that were read.
 use Rattle.std.proofs.Common.{◌≡◌, ◌≢◌, ℕ, Bool, true, false, cond, List, [], ◌∷◌, ◌++◌, length, AllPairs, Option, Some, None, IfSome, nat_cmp, sym, ap, subst, ◌∙◌}
-use Rattle.std.specs.Prelude.{is_some}
-use Rattle.std.specs.List.{AllByRecursion}
-use Rattle.std.specs.FinMap.{FinMap}
-use Rattle.aig_format.specs.File.{NameLine, HeaderNumbers}
-use Rattle.aig_format.specs.Letters.{is_kept}
-use Rattle.aig_format.specs.Parse.{is_comment}
+use Rattle.aig_base.proofs.Words.{is_some, AllByRecursion, FinMap}
+use Rattle.aig_format.proofs.Words.{NameLine, HeaderNumbers, is_kept, is_comment}
 use Rattle.aig_lexer.specs.Takes.{Feed, Ends, Takes, Misses}
 use Rattle.aig_symbols.specs.Names.{tail_of, kept_names, node_at}
 use Rattle.aig_symbols.specs.NameSteps.{IsNoTail, parse_place, with_name}

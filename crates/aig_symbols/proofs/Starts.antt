@@ -1,9 +1,7 @@
 -- How what is left starts: as a comment, as the place of a name, or as neither.
 use Rattle.std.proofs.Common.{◌≡◌, ◌≢◌, ℕ, ◌<◌, ◌≤◌, Bool, true, false, ltb, List, [], ◌∷◌, ◌++◌, Option, Some, None, IfSome, refl}
-use Rattle.std.proofs.KnownBytes.{Consumes-whole}
-use Rattle.std.proofs.lemmas.Bool.{ne_eqb, lt-ltb, le-ltb}
-use Rattle.aig_format.specs.File.{HeaderNumbers}
-use Rattle.aig_format.specs.Letters.{count_of}
+use Rattle.aig_base.proofs.Words.{Consumes-whole, ne_eqb, lt-ltb, le-ltb}
+use Rattle.aig_format.proofs.Words.{HeaderNumbers, count_of}
 use Rattle.aig_format.specs.Parse.{is_comment, parse_ended, parse_if, parse_number}
 use Rattle.aig_lexer.specs.Takes.{Feed, Advances, Steps, Takes, Misses}
 use Rattle.aig_lexer.specs.Words.{parse_number_from}

@@ -1,9 +1,8 @@
 -- The names up to the end, one by one.
 use Rattle.std.proofs.Common.{◌≡◌, ℕ, zero, suc, ◌<◌, true, false, cond, List, [], ◌∷◌, ◌++◌, length, Option, Some, None, IfSome, refl, sym, ap, ◌∙◌, append_assoc, append-nil, arith}
-use Rattle.std.specs.Io.KnownBytes.{Consumes}
-use Rattle.std.proofs.lemmas.Option.{cond_some, IfSome_then}
+use Rattle.aig_base.proofs.Words.{Consumes, cond_some, IfSome_then}
 use Rattle.std.proofs.lemmas.List.{length-append}
-use Rattle.aig_format.specs.File.{NameLine, HeaderNumbers}
+use Rattle.aig_format.proofs.Words.{NameLine, HeaderNumbers}
 use Rattle.aig_format.specs.Parse.{◌>>=◌, is_comment, parse_name, parse_tail}
 use Rattle.aig_format.specs.ParseTested.{tests_name, parse_fitting_tail}
 use Rattle.aig_format.proofs.NumberReaders.{bind_some}

@@ -1,10 +1,5 @@
 -- A known value of three is the value on every filling.
-use Rattle.std.proofs.Common.{◌≡◌, ℕ, zero, suc, ◌+◌, ◌<◌, Bool, true, false, not, cond, ◌&&◌, Some, None, List, [], ◌∷◌, ◌++◌, length, map, get_or, refl, sym, ap, subst, ◌∙◌, arith}
-use Rattle.std.specs.Prelude.{All, slice_get, slice_index_or, ◌==◌}
-use Rattle.std.specs.List.{AllByRecursion, AllZip}
-use Rattle.std.proofs.lemmas.Bool.{eqb-true}
-use Rattle.std.proofs.lemmas.Option.{same_Some, slice_get-get_or}
-use Rattle.std.proofs.lemmas.List.Elements.{recursion_from_All}
+use Rattle.aig_base.proofs.Words.{◌≡◌, ℕ, zero, suc, ◌+◌, ◌<◌, Bool, true, false, not, cond, ◌&&◌, Some, None, List, [], ◌∷◌, ◌++◌, length, map, get_or, refl, sym, ap, subst, ◌∙◌, arith, All, slice_get, slice_index_or, ◌==◌, AllByRecursion, AllZip, eqb-true, same_Some, slice_get-get_or, recursion_from_All}
 use Rattle.aig_base.specs.declared.logic.three.Lbool.{Lbool}
 use Rattle.aig_base.specs.declared.logic.three.Lbool.TheVariants.{FALSE, TRUE, NONE}
 use Rattle.aig_base.specs.Three.{Agrees, lbool_and, lbool_not_if}
@@ -12,9 +7,8 @@ use Rattle.aig_circuit.specs.declared.edge.AigEdge.{AigEdge}
 use Rattle.aig_circuit.specs.declared.node.AigNode.{AigNode}
 use Rattle.aig_circuit.specs.declared.node.AigNodeType.TheVariants.{False}
 use Rattle.aig_circuit.specs.declared.node.AigLatch.{AigLatch}
-use Rattle.aig_circuit.specs.Edge.{inverted_if}
+use Rattle.aig_circuit.proofs.Words.{inverted_if, Circuit, IsCircuit, IsInRange, latch_leaves}
 use Rattle.aig_circuit.specs.Tree.{AndTree, FalseTree, LeafTree, Tree, edge_value, node_value, tree_of, value_of_tree}
-use Rattle.aig_circuit.specs.Circuit.{Circuit, IsCircuit, IsInRange, latch_leaves}
 use Rattle.aig_ternary.specs.Ternary.{IsFilling, KnownValuesHold, Simulation, given_values, next_state, three_edge_value, three_node_value, three_value_of_tree, three_values, value_for, values_in}
 
 -- ---- joining and inverting

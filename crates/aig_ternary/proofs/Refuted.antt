@@ -1,15 +1,12 @@
 -- Wrong values of a small circuit, which the definition doesn't give.
-use Rattle.std.proofs.Common.{◌≢◌, ℕ, true, false, [], ◌∷◌}
-use Rattle.std.specs.FinMap.{empty}
+use Rattle.aig_base.proofs.Words.{◌≢◌, ℕ, true, false, [], ◌∷◌, empty}
 use Rattle.aig_base.specs.declared.logic.three.Lbool.{Lbool}
 use Rattle.aig_base.specs.declared.logic.three.Lbool.TheVariants.{FALSE, TRUE, NONE}
 use Rattle.aig_circuit.specs.declared.node.AigNodeType.{AigNodeType}
 use Rattle.aig_circuit.specs.declared.node.AigNodeType.TheVariants.{False, Leaf, And}
 use Rattle.aig_circuit.specs.declared.node.AigNode.{AigNode}
-use Rattle.aig_circuit.specs.Edge.{edge_to}
+use Rattle.aig_circuit.proofs.Words.{edge_to, Circuit, no_properties}
 use Rattle.aig_circuit.specs.Tree.{tree_of}
-use Rattle.aig_circuit.specs.Circuit.{Circuit}
-use Rattle.aig_circuit.specs.Properties.{no_properties}
 use Rattle.aig_ternary.specs.Ternary.{simulation_of, three_node_value, three_values, values_in}
 
 abbrev node : ℕ → AigNodeType → AigNode

@@ -1,12 +1,8 @@
 -- What the parts of a step write is the step.
-use Rattle.std.proofs.Common.{◌≡◌, ◌≢◌, ℕ, zero, suc, ◌+◌, ◌<◌, ◌≤◌, Bool, true, false, cond, Some, List, [], ◌∷◌, ◌++◌, length, map, get_or, set, drop, replicate, refl, sym, ap, ap₂, subst, ◌∙◌, arith, add-one, get_or-set_other, get_or-set_same, below_more}
-use Rattle.std.specs.Prelude.{All, AllPairs, ◌==◌}
-use Rattle.std.proofs.Math.Path.{fun_ext}
+use Rattle.aig_base.proofs.Words.{◌≡◌, ◌≢◌, ℕ, zero, suc, ◌+◌, ◌<◌, ◌≤◌, Bool, true, false, cond, Some, List, [], ◌∷◌, ◌++◌, length, map, get_or, set, drop, replicate, refl, sym, ap, ap₂, subst, ◌∙◌, arith, add-one, get_or-set_other, get_or-set_same, below_more, All, AllPairs, ◌==◌, fun_ext, eqb-true, eqb-false, slice_get-get_or}
 use Rattle.std.proofs.Math.ListN.{length-set}
 use Rattle.std.proofs.Math.Seq.{append_snoc, drop-cons}
-use Rattle.std.proofs.lemmas.Bool.{eqb-true, eqb-false}
 use Rattle.std.proofs.lemmas.List.{append-nil, drop_all, ext_get_or, get_or-map, get_or_default, length-map, length-replicate}
-use Rattle.std.proofs.lemmas.Option.{slice_get-get_or}
 use Rattle.aig_base.specs.declared.logic.three.Lbool.{Lbool}
 use Rattle.aig_base.specs.declared.logic.three.Lbool.TheVariants.{FALSE, NONE}
 use Rattle.aig_base.specs.Three.{lbool_and, lbool_not_if}
@@ -14,8 +10,7 @@ use Rattle.aig_circuit.specs.declared.edge.AigEdge.{AigEdge}
 use Rattle.aig_circuit.specs.declared.node.AigLatch.{AigLatch}
 use Rattle.aig_circuit.specs.declared.node.AigNode.{AigNode}
 use Rattle.aig_circuit.specs.declared.node.AigNodeType.TheVariants.{False, Leaf, And}
-use Rattle.aig_circuit.specs.Circuit.{AreNodes, Circuit, IsCircuit, IsLatch, latch_leaves}
-use Rattle.aig_circuit.specs.Node.{IsOrdered, kind_at}
+use Rattle.aig_circuit.proofs.Words.{AreNodes, Circuit, IsCircuit, IsLatch, latch_leaves, IsOrdered, kind_at}
 use Rattle.aig_circuit.proofs.Circuits.{AreLeaves-of_circuit}
 use Rattle.aig_circuit.proofs.Trees.{kind_at-within, tree_of-and, tree_of-false, tree_of-leaf}
 use Rattle.aig_ternary.specs.Step.{simulation_at, value_by, with_given}

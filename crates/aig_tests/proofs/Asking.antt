@@ -1,12 +1,8 @@
 -- What the verdict on known bytes says of the file that they are.
 use Rattle.std.proofs.Common.{◌≡◌, ◌≢◌, ℕ, ◌≤◌, Bool, true, false, Option, Some, None, List, [], ◌++◌, length, append-nil, unwrap_or, refl, sym, ap, subst, ◌∙◌}
-use Rattle.std.specs.Prelude.{◌==◌, nat_lt, if◌then◌else◌, IfSome}
-use Rattle.std.proofs.lemmas.Bool.{eqb-false, eqb-true, ltb-false}
+use Rattle.aig_base.proofs.Words.{◌==◌, nat_lt, if◌then◌else◌, IfSome, eqb-false, eqb-true, ltb-false, Consumes, IsAtEnd}
 use Rattle.std.proofs.lemmas.List.{nil_from_length}
-use Rattle.std.specs.Io.KnownBytes.{Consumes, IsAtEnd}
-use Rattle.aig_format.specs.Circuit.{circuit_of}
-use Rattle.aig_format.specs.File.{File}
-use Rattle.aig_format.specs.Fits.{Accepts}
+use Rattle.aig_format.proofs.Words.{circuit_of, File, Accepts}
 use Rattle.aig_reader.specs.Verdicts.{Accepted, IsOfFile, IsSettled, IsVerdictOn, Judges, NoBads, TooLarge, Verdict}
 use Rattle.aig_reader.specs.Reading.{IsReadAs}
 use Rattle.aig_runs.specs.Safety.{IsSafeAt}

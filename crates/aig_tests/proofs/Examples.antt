@@ -1,6 +1,5 @@
 -- A caller's results: the literal of an edge has the edge's value, and a literal that is turned hasn't.
-use Rattle.std.proofs.Common.{◌≡◌, ℕ, Bool, true, false, refl}
-use Rattle.std.proofs.lemmas.Bool.{false≢true}
+use Rattle.aig_base.proofs.Words.{◌≡◌, ℕ, Bool, true, false, refl, false≢true}
 use Rattle.aig_base.specs.Clauses.{inverse_lit, literal_value}
 use Rattle.aig_circuit.specs.Edge.{edge_to, lit_of}
 use Rattle.aig_cnf.specs.Cnf.{edge_in}

@@ -1,11 +1,8 @@
 -- What the program's contract says of `text FILE`, where FILE's bytes are known.
-use Rattle.std.proofs.Common.{◌≡◌, ℕ, Bool, true, false, List, [], ◌∷◌, ◌++◌, Option, None, Some, Ok, Err, refl, sym, subst, ◌∙◌}
+use Rattle.aig_base.proofs.Words.{◌≡◌, ℕ, Bool, true, false, List, [], ◌∷◌, ◌++◌, Option, None, Some, Ok, Err, refl, sym, subst, ◌∙◌, Appends, Consumes, IsAtEnd}
 use Rattle.std.specs.Prelude.{IfOk, Result, codes}
-use Rattle.std.specs.Io.KnownBytes.{Appends, Consumes, IsAtEnd}
 use Rattle.std.proofs.lemmas.List.{append-nil}
-use Rattle.aig_format.specs.Circuit.{circuit_of, text_of}
-use Rattle.aig_format.specs.File.{File}
-use Rattle.aig_format.specs.Fits.{Accepts}
+use Rattle.aig_format.proofs.Words.{circuit_of, text_of, File, Accepts}
 use Rattle.aig_command_line.specs.declared.status.Ending.TheVariants.{Done}
 use Rattle.aig_command_line.specs.declared.files.OpenError.{OpenError}
 use Rattle.aig_command_line.specs.Ending.{ended}

@@ -1,15 +1,9 @@
 -- The leaves after the first so many nodes, and the leaves that are no latch's: none stands twice.
-use Rattle.std.proofs.Common.{◌≡◌, ◌≢◌, ℕ, ◌+◌, ◌-◌, ◌<◌, ◌≤◌, Bool, true, Some, List, ◌++◌, length, map, get_or, drop, refl, sym, ap, subst, ◌∙◌, arith}
-use Rattle.std.specs.Prelude.{All, AllPairs, Contains, filter, option_map}
-use Rattle.std.proofs.lemmas.Option.{same_Some, slice_get-get_or}
+use Rattle.aig_base.proofs.Words.{◌≡◌, ◌≢◌, ℕ, ◌+◌, ◌-◌, ◌<◌, ◌≤◌, Bool, true, Some, List, ◌++◌, length, map, get_or, drop, refl, sym, ap, subst, ◌∙◌, arith, All, AllPairs, Contains, filter, option_map, same_Some, slice_get-get_or, All-filter, All-map, Contains-get_or, filter-append, filter_passes, AllPairs-filter}
 use Rattle.std.proofs.lemmas.List.{drop-append-le, drop_at, get_or-drop, length-drop, map-append}
-use Rattle.std.proofs.lemmas.List.Elements.{All-filter, All-map, Contains-get_or, filter-append, filter_passes}
-use Rattle.std.proofs.lemmas.List.Kept.{AllPairs-filter}
 use Rattle.aig_circuit.specs.declared.node.AigNode.{AigNode}
 use Rattle.aig_circuit.specs.declared.node.AigNodeType.TheVariants.{False, Leaf}
-use Rattle.aig_circuit.specs.Build.{Grows}
-use Rattle.aig_circuit.specs.Circuit.{AreNodes, Circuit, IsLeaf}
-use Rattle.aig_circuit.specs.Runs.{is_leaf}
+use Rattle.aig_circuit.proofs.Words.{Grows, AreNodes, Circuit, IsLeaf, is_leaf}
 use Rattle.aig_circuit.proofs.Trees.{kind_at-within}
 use Rattle.aig_unroll.specs.Places.{is_other_leaf, leaves_after, other_leaves}
 use Rattle.aig_unroll.proofs.Lists.{AllPairs-drop, AllPairs-map}

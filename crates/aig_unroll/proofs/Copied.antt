@@ -1,22 +1,13 @@
 -- The images of nodes, one node after another.
-use Rattle.std.proofs.Common.{◌≡◌, ◌≢◌, ℕ, suc, ◌+◌, ◌<◌, ◌≤◌, Bool, true, false, not, cond, ◌&&◌, Some, List, [], ◌∷◌, ◌++◌, length, map, get_or, set, take, get_or-set_other, get_or-set_same, below_more, refl, sym, ap, subst, ◌∙◌, arith, inl, inr, length-append}
-use Rattle.std.specs.Prelude.{All, Contains, filter, option_map, ◌==◌}
-use Rattle.std.specs.List.{list_any}
+use Rattle.aig_base.proofs.Words.{◌≡◌, ◌≢◌, ℕ, suc, ◌+◌, ◌<◌, ◌≤◌, Bool, true, false, not, cond, ◌&&◌, Some, List, [], ◌∷◌, ◌++◌, length, map, get_or, set, take, get_or-set_other, get_or-set_same, below_more, refl, sym, ap, subst, ◌∙◌, arith, inl, inr, length-append, All, Contains, filter, option_map, ◌==◌, list_any, eq-eqb, eqb-true, true≢false, false_from_ne_true, same_Some, slice_get-get_or}
 use Rattle.std.proofs.Math.ListN.{length-set}
-use Rattle.std.proofs.lemmas.Bool.{eq-eqb, eqb-true, true≢false, false_from_ne_true}
-use Rattle.std.proofs.lemmas.Option.{same_Some, slice_get-get_or}
 use Rattle.std.proofs.lemmas.List.{append-nil, drop_all, drop_at, get_or-take, length-take, map-append}
 use Rattle.std.proofs.lemmas.List.Elements.{All-contains, All-filter, All-map, filter_more}
 use Rattle.aig_circuit.specs.declared.edge.AigEdge.{AigEdge}
 use Rattle.aig_circuit.specs.declared.node.AigNode.{AigNode}
 use Rattle.aig_circuit.specs.declared.node.AigNodeType.{AigNodeType}
 use Rattle.aig_circuit.specs.declared.node.AigNodeType.TheVariants.{False, Leaf, And}
-use Rattle.aig_circuit.specs.Edge.{edge_to, inverted_if}
-use Rattle.aig_circuit.specs.Node.{kind_at}
-use Rattle.aig_circuit.specs.Tree.{edge_value, node_value}
-use Rattle.aig_circuit.specs.Circuit.{AreNodes, Circuit, IsCircuit, IsInRange, IsLeaf, latch_leaves}
-use Rattle.aig_circuit.specs.Build.{AddsGates, FoldsOrAdds, Grows, with_node}
-use Rattle.aig_circuit.specs.Runs.{is_leaf}
+use Rattle.aig_circuit.proofs.Words.{edge_to, inverted_if, kind_at, edge_value, node_value, AreNodes, Circuit, IsCircuit, IsInRange, IsLeaf, latch_leaves, AddsGates, FoldsOrAdds, Grows, with_node, is_leaf}
 use Rattle.aig_circuit.proofs.Building.{Grows-itself, Grows-leaf, Grows-longer, Grows-then, edge_value-Grows}
 use Rattle.aig_circuit.proofs.Circuits.{latch_leaves-leaves}
 use Rattle.aig_circuit.proofs.Trees.{kind_at-read, kind_at-within, node_value-and, node_value-false, node_value-leaf}

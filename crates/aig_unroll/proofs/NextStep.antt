@@ -1,20 +1,11 @@
 -- The values of a step that was added after k steps: what is read off it, and runs that go on by it.
-use Rattle.std.proofs.Common.{◌≡◌, ℕ, zero, suc, ◌+◌, ◌*◌, ◌<◌, ◌≤◌, ◌⊎◌, Bool, true, false, cond, ltb, List, [], ◌∷◌, ◌++◌, length, get_or, refl, sym, ap, subst, ◌∙◌, arith, add-one, inl, inr}
-use Rattle.std.specs.Prelude.{All, Contains, ◌==◌}
-use Rattle.std.specs.List.{AllZip, list_any}
-use Rattle.std.proofs.lemmas.Bool.{cases_lt, le-ltb, lt-ltb, false_from_ne_true}
+use Rattle.aig_base.proofs.Words.{◌≡◌, ℕ, zero, suc, ◌+◌, ◌*◌, ◌<◌, ◌≤◌, ◌⊎◌, Bool, true, false, cond, ltb, List, [], ◌∷◌, ◌++◌, length, get_or, refl, sym, ap, subst, ◌∙◌, arith, add-one, inl, inr, All, Contains, ◌==◌, AllZip, list_any, cases_lt, le-ltb, lt-ltb, false_from_ne_true, get_or-append-add, get_or_append_left, get_or_default, length-map, All-contains, Contains-get_or}
 use Rattle.std.proofs.lemmas.Nat.{mul-add-lt}
-use Rattle.std.proofs.lemmas.List.{get_or-append-add, get_or_append_left, get_or_default, length-map}
-use Rattle.std.proofs.lemmas.List.Elements.{All-contains, Contains-get_or}
 use Rattle.aig_circuit.specs.declared.edge.AigEdge.{AigEdge}
 use Rattle.aig_circuit.specs.declared.node.AigLatch.{AigLatch}
-use Rattle.aig_circuit.specs.Edge.{edge_to}
-use Rattle.aig_circuit.specs.Tree.{edge_value}
-use Rattle.aig_circuit.specs.Circuit.{Circuit, IsCircuit, IsLeaf, latch_leaves}
-use Rattle.aig_circuit.specs.Runs.{IsRun, next_edges}
+use Rattle.aig_circuit.proofs.Words.{edge_to, edge_value, Circuit, IsCircuit, IsLeaf, latch_leaves, IsRun, next_edges, position_of}
 use Rattle.aig_renumber.proofs.Places.{position_of-get_or, position_of-within}
 use Rattle.aig_renumber.proofs.Kept.{is_in-back, is_in-there}
-use Rattle.aig_circuit.specs.Renumber.{position_of}
 use Rattle.aig_unroll.specs.Places.{Reads, leaves_after, other_leaves, place_at}
 use Rattle.aig_unroll.specs.Unroll.{ReadsNext, UnrollsOnce, UnrollsTo}
 use Rattle.aig_unroll.proofs.Added.{others-distinct}

@@ -1,14 +1,10 @@
 -- One step of a latch whose next edge is its inverse: no node is added, the next edge is the leaf itself, and the output is first the leaf
 -- and then its inverse.
-use Rattle.std.proofs.Common.{◌≡◌, ℕ, Bool, true, false, not, Some, List, [], ◌∷◌, refl, sym, ap, ◌∙◌, arith}
-use Rattle.std.specs.FinMap.{empty}
-use Rattle.std.proofs.lemmas.List.Elements.{All-cons, All-nil}
+use Rattle.aig_base.proofs.Words.{◌≡◌, ℕ, Bool, true, false, not, Some, List, [], ◌∷◌, refl, sym, ap, ◌∙◌, arith, empty, All-cons, All-nil}
 use Rattle.aig_circuit.specs.declared.edge.AigEdge.{AigEdge}
 use Rattle.aig_circuit.specs.declared.node.AigNode.{AigNode}
 use Rattle.aig_circuit.specs.declared.node.AigNodeType.TheVariants.{False, Leaf}
-use Rattle.aig_circuit.specs.Edge.{edge_to}
-use Rattle.aig_circuit.specs.Circuit.{AreNodes, Circuit, IsCircuit, IsInRange, IsLatch, IsLeaf, only_false}
-use Rattle.aig_circuit.specs.Properties.{no_properties}
+use Rattle.aig_circuit.proofs.Words.{edge_to, AreNodes, Circuit, IsCircuit, IsInRange, IsLatch, IsLeaf, only_false, no_properties}
 use Rattle.aig_circuit.specs.Tree.{edge_value, node_value, tree_of}
 use Rattle.aig_circuit.proofs.Building.{AreNodes-with_node, Grows-itself}
 use Rattle.aig_circuit.proofs.Circuits.{IsCircuit-only_false}

@@ -1,7 +1,5 @@
 -- Loops that push what is made of the elements of a list, one element more.
-use Rattle.std.proofs.Common.{Ok, Err, Result, ◌≡◌, ◌+◌, ◌-◌, ◌<◌, ◌≤◌, ℕ, List, [], ◌∷◌, ◌++◌, length, map, get_or, take, sym, ap, ◌∙◌, append_assoc, arith}
-use Rattle.std.specs.Prelude.{IfOk, OnErr}
-use Rattle.std.proofs.lemmas.List.{length-take, map-append, take-append-le, take_more}
+use Rattle.aig_base.proofs.Words.{Ok, Err, Result, ◌≡◌, ◌+◌, ◌-◌, ◌<◌, ◌≤◌, ℕ, List, [], ◌∷◌, ◌++◌, length, map, get_or, take, sym, ap, ◌∙◌, append_assoc, arith, IfOk, OnErr, length-take, map-append, take-append-le, take_more}
 
 -- what is made of one element more
 pub made_more : {X Y : Type 0} (f : X → Y) (xs : List X) (i : ℕ) (d : X) → i < length xs

@@ -1,8 +1,6 @@
 -- Wrong unrolled circuits, of which the definitions are false.
-use Rattle.std.proofs.Common.{◌≡◌, ◌≢◌, ℕ, Bool, true, false, not, Some, None, Err, List, [], ◌∷◌, length, refl, sym, ap, ◌∙◌, arith}
+use Rattle.aig_base.proofs.Words.{◌≡◌, ◌≢◌, ℕ, Bool, true, false, not, Some, None, Err, List, [], ◌∷◌, length, refl, sym, ap, ◌∙◌, arith, empty, false≢true}
 use Rattle.std.specs.Prelude.{◌==◌, ◌++◌, OnErr}
-use Rattle.std.specs.FinMap.{empty}
-use Rattle.std.proofs.lemmas.Bool.{false≢true}
 use Rattle.aig_base.specs.declared.memory.MemoryError.{MemoryError}
 use Rattle.aig_base.specs.declared.memory.MemoryError.TheVariants.{Memory}
 use Rattle.aig_circuit.specs.declared.edge.AigEdge.{AigEdge}
@@ -10,9 +8,7 @@ use Rattle.aig_circuit.specs.declared.node.AigNodeType.{AigNodeType}
 use Rattle.aig_circuit.specs.declared.node.AigNodeType.TheVariants.{False, Leaf, And}
 use Rattle.aig_circuit.specs.declared.node.AigNode.{AigNode}
 use Rattle.aig_circuit.specs.declared.node.AigLatch.{AigLatch}
-use Rattle.aig_circuit.specs.Edge.{edge_to}
-use Rattle.aig_circuit.specs.Circuit.{Circuit}
-use Rattle.aig_circuit.specs.Properties.{no_properties}
+use Rattle.aig_circuit.proofs.Words.{edge_to, Circuit, no_properties}
 use Rattle.aig_circuit.specs.Tree.{tree_of, node_value}
 use Rattle.aig_unroll.specs.Places.{unrolled_size}
 use Rattle.aig_unroll.specs.Unroll.{UnrollsOnce, UnrollsTo}

@@ -1,18 +1,12 @@
 -- A circuit with the images of all nodes of another and of the entries of its lists is that circuit with one step more.
-use Rattle.std.proofs.Common.{◌≡◌, ◌≢◌, ℕ, suc, ◌<◌, ◌≤◌, Bool, false, Option, List, [], ◌∷◌, ◌++◌, length, map, get_or, sym, ap, subst, ◌∙◌, arith, inl, inr}
+use Rattle.aig_base.proofs.Words.{◌≡◌, ◌≢◌, ℕ, suc, ◌<◌, ◌≤◌, Bool, false, Option, List, [], ◌∷◌, ◌++◌, length, map, get_or, sym, ap, subst, ◌∙◌, arith, inl, inr, contains_key, AllZip, All-append, All-contains, All-map, All-same, All-weaker, Contains-append_cases}
 use Rattle.std.specs.Prelude.{All, AllPairs, Contains, IfSome, IsTrue}
-use Rattle.std.specs.FinMap.{contains_key}
-use Rattle.std.specs.List.{AllZip}
 use Rattle.std.proofs.lemmas.List.{length-map, map-id}
-use Rattle.std.proofs.lemmas.List.Elements.{All-append, All-contains, All-map, All-same, All-weaker, Contains-append_cases}
 use Rattle.aig_circuit.specs.declared.edge.AigEdge.{AigEdge}
 use Rattle.aig_circuit.specs.declared.node.AigNodeType.TheVariants.{Leaf}
 use Rattle.aig_circuit.specs.declared.node.AigLatch.{AigLatch}
-use Rattle.aig_circuit.specs.Edge.{edge_to, inverted_if}
-use Rattle.aig_circuit.specs.Tree.{edge_value}
+use Rattle.aig_circuit.proofs.Words.{edge_to, inverted_if, edge_value, AllProperties, AreProperties, append_properties, map_properties, HaveSameValues, next_edges}
 use Rattle.aig_circuit.specs.Circuit.{BeginsWith, Circuit, IsCircuit, IsInRange, IsLatch, IsLeaf, latch_leaves}
-use Rattle.aig_circuit.specs.Properties.{AllProperties, AreProperties, append_properties, map_properties}
-use Rattle.aig_circuit.specs.Runs.{HaveSameValues, next_edges}
 use Rattle.aig_circuit.proofs.Building.{Grows-kept, Grows-longer, edge_value-Grows}
 use Rattle.aig_circuit.proofs.Circuits.{AllPairs-append, init_grown, latch_leaves-leaves}
 use Rattle.aig_circuit.proofs.Trees.{kind_at-within, node_value-leaf}

@@ -1,15 +1,10 @@
 -- The table of images before a step: at latches' leaves their next edges.
-use Rattle.std.proofs.Common.{◌≡◌, ◌≢◌, ◌⊎◌, ℕ, ◌+◌, ◌<◌, ◌≤◌, false, None, inl, inr, List, [], ◌∷◌, ◌++◌, length, map, get_or, set, take, get_or-set_other, get_or-set_same, sym, ap, subst, ◌∙◌, arith}
-use Rattle.std.specs.Prelude.{All, AllPairs, Contains}
+use Rattle.aig_base.proofs.Words.{◌≡◌, ◌≢◌, ◌⊎◌, ℕ, ◌+◌, ◌<◌, ◌≤◌, false, None, inl, inr, List, [], ◌∷◌, ◌++◌, length, map, get_or, set, take, get_or-set_other, get_or-set_same, sym, ap, subst, ◌∙◌, arith, All, AllPairs, Contains, cases_lt, Contains-get_or}
 use Rattle.std.proofs.Math.ListN.{length-set}
-use Rattle.std.proofs.lemmas.Bool.{cases_lt}
 use Rattle.std.proofs.lemmas.List.{get_or_default, get_or-map, length-map, map-append, map-set, same_lists, set-get_or, take_more, take_more_set}
-use Rattle.std.proofs.lemmas.List.Elements.{Contains-get_or}
 use Rattle.aig_circuit.specs.declared.edge.AigEdge.{AigEdge}
 use Rattle.aig_circuit.specs.declared.node.AigLatch.{AigLatch}
-use Rattle.aig_circuit.specs.Edge.{edge_to}
-use Rattle.aig_circuit.specs.Circuit.{Circuit, IsCircuit, latch_leaves}
-use Rattle.aig_circuit.specs.Runs.{next_edges}
+use Rattle.aig_circuit.proofs.Words.{edge_to, Circuit, IsCircuit, latch_leaves, next_edges}
 use Rattle.aig_circuit.proofs.Circuits.{leaf-read}
 use Rattle.aig_unroll.specs.Step.{HasLatchImages, MarksLatches, image_at, image_in}
 use Rattle.aig_unroll.specs.Unroll.{starts_of}

@@ -1,24 +1,12 @@
 -- A witness all of whose values are given shows a bad state only where its values are a known witness of the circuit.
-use Rattle.std.proofs.Common.{◌≡◌, ◌≢◌, ℕ, ◌-◌, ◌/◌, ◌<◌, ◌≤◌, Bool, true, false, cond, Option, [], length, get_or, Some, None, IsTrue, refl, sym, ap, subst, ◌∙◌, arith}
-use Rattle.std.specs.Prelude.{All, IfSome, nat_lt, unwrap_or, ◌==◌}
-use Rattle.std.proofs.lemmas.List.{get_or-map, length-map}
-use Rattle.std.proofs.lemmas.List.Elements.{All-from_recursion, All-map}
-use Rattle.std.proofs.lemmas.Option.{get_or_from_slice_get, slice_get-get_or, slice_get_within}
+use Rattle.aig_base.proofs.Words.{◌≡◌, ◌≢◌, ℕ, ◌-◌, ◌/◌, ◌<◌, ◌≤◌, Bool, true, false, cond, Option, [], length, get_or, Some, None, IsTrue, refl, sym, ap, subst, ◌∙◌, arith, All, IfSome, nat_lt, unwrap_or, ◌==◌, get_or-map, length-map, All-from_recursion, All-map, get_or_from_slice_get, slice_get-get_or, slice_get_within}
 use Rattle.aig_base.specs.declared.logic.three.Lbool.{Lbool}
 use Rattle.aig_base.specs.declared.logic.three.Lbool.TheVariants.{TRUE, NONE}
 use Rattle.aig_base.specs.Three.{Agrees}
 use Rattle.aig_circuit.specs.declared.edge.AigEdge.{AigEdge}
 use Rattle.aig_circuit.specs.declared.node.AigLatch.{AigLatch}
-use Rattle.aig_circuit.specs.Edge.{edge_to}
-use Rattle.aig_circuit.specs.Tree.{edge_value}
-use Rattle.aig_circuit.specs.Circuit.{Circuit, IsCircuit, IsInRange, latch_leaves}
-use Rattle.aig_circuit.specs.Runs.{IsInitial}
-use Rattle.aig_format.specs.File.{File, LatchLine}
-use Rattle.aig_format.specs.Fits.{Fits}
-use Rattle.aig_format.specs.Machine.{value_of_literal}
-use Rattle.aig_format.specs.Circuit.{circuit_of, edge_of, initial_of, latch_of}
-use Rattle.aig_format.specs.Numbering.{node_of_variable}
-use Rattle.aig_format.specs.Variables.{IsKnown}
+use Rattle.aig_circuit.proofs.Words.{edge_to, edge_value, Circuit, IsCircuit, IsInRange, latch_leaves, IsInitial}
+use Rattle.aig_format.proofs.Words.{File, LatchLine, Fits, value_of_literal, circuit_of, edge_of, initial_of, latch_of, node_of_variable, IsKnown}
 use Rattle.aig_format.proofs.Circuits.{IsCircuit-of_file, used_by_section}
 use Rattle.aig_format.proofs.Numbers.{used_known}
 use Rattle.aig_format_laws.specs.Nodes.{HasNodeValues}

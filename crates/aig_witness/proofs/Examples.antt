@@ -1,10 +1,8 @@
 -- Texts of small witnesses, and what is read from them and from others.
-use Rattle.std.proofs.Common.{◌≡◌, [], ◌∷◌, None, Some, refl, sym, subst}
-use Rattle.std.specs.Prelude.{codes}
+use Rattle.aig_base.proofs.Words.{◌≡◌, [], ◌∷◌, None, Some, refl, sym, subst, codes, same_Some}
 use Rattle.std.specs.Fmt.{digits}
 use Rattle.aig_base.specs.declared.logic.three.Lbool.TheVariants.{FALSE, TRUE, NONE}
 use Rattle.aig_format.specs.Parse.{parse_digits, parse_ended, parse_number}
-use Rattle.std.proofs.lemmas.Option.{same_Some}
 use Rattle.aig_witness.specs.declared.error.WitnessError.TheVariants as errors
 use Rattle.aig_witness.specs.Faults.{IsFault}
 use Rattle.aig_witness.specs.Reading.{parse_next, parse_property, parse_row_after, parse_steps_after}

@@ -1,10 +1,5 @@
 -- Where every value is given, every value of a simulation is known, and is that of the one run.
-use Rattle.std.proofs.Common.{◌≡◌, ◌≢◌, ℕ, zero, suc, ◌+◌, ◌<◌, Bool, true, false, ◌&&◌, Option, List, [], ◌∷◌, ◌++◌, length, map, get_or, take, Some, None, refl, sym, ap, ap₂, subst, ◌∙◌, arith}
-use Rattle.std.specs.Prelude.{All}
-use Rattle.std.specs.List.{AllByRecursion, AllZip}
-use Rattle.std.proofs.lemmas.List.{get_or-map}
-use Rattle.std.proofs.lemmas.List.Elements.{All-contains, All-from_recursion}
-use Rattle.std.proofs.lemmas.Option.{slice_get-get_or}
+use Rattle.aig_base.proofs.Words.{◌≡◌, ◌≢◌, ℕ, zero, suc, ◌+◌, ◌<◌, Bool, true, false, ◌&&◌, Option, List, [], ◌∷◌, ◌++◌, length, map, get_or, take, Some, None, refl, sym, ap, ap₂, subst, ◌∙◌, arith, All, AllByRecursion, AllZip, get_or-map, All-contains, All-from_recursion, slice_get-get_or}
 use Rattle.aig_base.specs.declared.logic.three.Lbool.{Lbool}
 use Rattle.aig_base.specs.declared.logic.three.Lbool.TheVariants.{FALSE, TRUE, NONE}
 use Rattle.aig_base.specs.Three.{Agrees, lbool_and, lbool_not_if}
@@ -13,10 +8,8 @@ use Rattle.aig_circuit.specs.declared.node.AigNode.{AigNode}
 use Rattle.aig_circuit.specs.declared.node.AigNodeType.{AigNodeType}
 use Rattle.aig_circuit.specs.declared.node.AigNodeType.TheVariants.{False, Leaf, And}
 use Rattle.aig_circuit.specs.declared.node.AigLatch.{AigLatch}
-use Rattle.aig_circuit.specs.Node.{IsOrdered, kind_at}
-use Rattle.aig_circuit.specs.Edge.{inverted_if}
+use Rattle.aig_circuit.proofs.Words.{IsOrdered, kind_at, inverted_if, Circuit, IsCircuit, IsClosed, IsInRange, IsLeaf, latch_leaves}
 use Rattle.aig_circuit.specs.Tree.{Tree, edge_value, node_value, tree_of, tree_of_kind, value_of_tree}
-use Rattle.aig_circuit.specs.Circuit.{Circuit, IsCircuit, IsClosed, IsInRange, IsLeaf, latch_leaves}
 use Rattle.aig_circuit.proofs.Circuits.{AreLeaves-of_circuit}
 use Rattle.aig_circuit.proofs.Trees.{by_smaller, tree_of-is}
 use Rattle.aig_circuit.proofs.Lists.{map-agrees}

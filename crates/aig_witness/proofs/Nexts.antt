@@ -1,7 +1,5 @@
 -- What reading the next witness tells of known bytes.
-use Rattle.std.proofs.Common.{◌≡◌, ℕ, Bool, false, List, [], Option, Some, None, subst}
-use Rattle.std.specs.Prelude.{IfSome}
-use Rattle.std.proofs.KnownBytes.{Consumes-whole, prepend_known-nil}
+use Rattle.aig_base.proofs.Words.{◌≡◌, ℕ, Bool, false, List, [], Option, Some, None, subst, IfSome, Consumes-whole, prepend_known-nil}
 use Rattle.aig.specs.Reading.{IsFileCircuit}
 use Rattle.aig_circuit.specs.Circuit.{Circuit}
 use Rattle.aig_format.specs.Fits.{Accepts}

@@ -1,10 +1,8 @@
 -- The text of a witness in pieces.
-use Rattle.std.proofs.Common.{◌≡◌, ℕ, List, [], ◌∷◌, ◌++◌, map, sym, ap, append_assoc}
+use Rattle.aig_base.proofs.Words.{◌≡◌, ℕ, List, [], ◌∷◌, ◌++◌, map, sym, ap, append_assoc, flat_map, flat_map-map}
 use Rattle.std.specs.Prelude.{codes, decimal, Vec}
-use Rattle.std.specs.List.{flat_map}
 use Rattle.std.specs.declared.alloc.Global.{Global}
 use Rattle.std.proofs.lemmas.List.Concat.{flat_map_single}
-use Rattle.std.proofs.lemmas.List.Folds.{flat_map-map}
 use Rattle.aig_base.specs.declared.logic.three.Lbool.{Lbool}
 use Rattle.aig_output.proofs.Writing.{then_texts}
 use Rattle.aig_witness.specs.Witness.{Witness, letter_of, row_text, rows_of, witness_text}

@@ -1,13 +1,10 @@
 -- Small witnesses on a small circuit, computed.
-use Rattle.std.proofs.Common.{◌≡◌, true, false, List, [], ◌∷◌, Some, refl}
-use Rattle.std.specs.FinMap.{empty}
+use Rattle.aig_base.proofs.Words.{◌≡◌, true, false, List, [], ◌∷◌, Some, refl, empty}
 use Rattle.aig_base.specs.declared.logic.three.Lbool.{Lbool}
 use Rattle.aig_base.specs.declared.logic.three.Lbool.TheVariants.{FALSE, TRUE, NONE}
-use Rattle.aig_circuit.specs.Properties.{no_properties}
+use Rattle.aig_circuit.proofs.Words.{no_properties, edge_to, Circuit}
 use Rattle.aig_circuit.specs.declared.node.AigNodeType.TheVariants.{False, Leaf}
-use Rattle.aig_circuit.specs.Edge.{edge_to}
 use Rattle.aig_circuit.specs.Tree.{tree_of}
-use Rattle.aig_circuit.specs.Circuit.{Circuit}
 use Rattle.aig_ternary.specs.Ternary.{three_node_value, value_in}
 use Rattle.aig_witness.specs.Witness.{Witness}
 use Rattle.aig_witness.specs.Shown.{named_bad, simulated}

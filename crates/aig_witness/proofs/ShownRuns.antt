@@ -1,25 +1,16 @@
 -- From known values to the runs of a file's machine.
 use Rattle.std.proofs.Common.{◌≡◌, ℕ, suc, ◌+◌, ◌-◌, ◌/◌, ◌<◌, ◌≤◌, Bool, true, false, List, [], ◌++◌, length, map, get_or, take, slice_get, Some, IsTrue, refl, sym, ap, subst, ◌∙◌, arith}
-use Rattle.std.specs.List.{AllByRecursion, AllZip}
+use Rattle.aig_base.proofs.Words.{AllByRecursion, AllZip, recursion_from_All, list_any_at, get_or_from_slice_get, slice_get-get_or, slice_get_within}
 use Rattle.std.proofs.lemmas.List.{get_or-map, length-append, length-map}
-use Rattle.std.proofs.lemmas.List.Elements.{recursion_from_All}
-use Rattle.std.proofs.lemmas.List.Folds.{list_any_at}
-use Rattle.std.proofs.lemmas.Option.{get_or_from_slice_get, slice_get-get_or, slice_get_within}
 use Rattle.aig_base.specs.declared.logic.three.Lbool.{Lbool}
 use Rattle.aig_base.specs.declared.logic.three.Lbool.TheVariants.{FALSE, TRUE, NONE}
 use Rattle.aig_base.specs.Three.{Agrees}
 use Rattle.aig_circuit.specs.declared.edge.AigEdge.{AigEdge}
 use Rattle.aig_circuit.specs.declared.node.AigLatch.{AigLatch}
-use Rattle.aig_circuit.specs.Edge.{edge_to}
-use Rattle.aig_circuit.specs.Circuit.{Circuit, IsCircuit, IsInRange, latch_leaves}
+use Rattle.aig_circuit.proofs.Words.{edge_to, Circuit, IsCircuit, IsInRange, latch_leaves}
 use Rattle.aig_circuit.proofs.Circuits.{AreLeaves-of_circuit}
-use Rattle.aig_format.specs.File.{File, LatchLine}
-use Rattle.aig_format.specs.Fits.{Fits}
+use Rattle.aig_format.proofs.Words.{File, LatchLine, Fits, value_of_literal, circuit_of, edge_of, latch_of, node_of_variable, IsKnown}
 use Rattle.aig_format.specs.Machine as machine
-use Rattle.aig_format.specs.Machine.{value_of_literal}
-use Rattle.aig_format.specs.Circuit.{circuit_of, edge_of, latch_of}
-use Rattle.aig_format.specs.Numbering.{node_of_variable}
-use Rattle.aig_format.specs.Variables.{IsKnown}
 use Rattle.aig_format.proofs.Circuits.{IsCircuit-of_file, used_by_section}
 use Rattle.aig_format.proofs.Numbers.{used_known, variable_at-number}
 use Rattle.aig_format_laws.specs.Nodes.{HasNodeValues}

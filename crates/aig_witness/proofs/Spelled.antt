@@ -1,15 +1,9 @@
 -- Witnesses are read from the front exactly.
-use Rattle.std.proofs.Common.{◌≡◌, ℕ, ◌^◌, ◌<◌, false, cond, eqb, List, [], ◌∷◌, ◌++◌, map, Some, None, refl, sym, ap, subst, ◌∙◌, append_assoc, append-nil, inl, inr, arith}
-use Rattle.std.specs.Prelude.{decimal}
-use Rattle.std.specs.List.{flat_map}
-use Rattle.std.proofs.lemmas.Bool.{eqb-true}
-use Rattle.std.proofs.lemmas.List.{map-append}
-use Rattle.std.proofs.lemmas.Option.{same_Some}
+use Rattle.aig_base.proofs.Words.{◌≡◌, ℕ, ◌^◌, ◌<◌, false, cond, eqb, List, [], ◌∷◌, ◌++◌, map, Some, None, refl, sym, ap, subst, ◌∙◌, append_assoc, append-nil, inl, inr, arith, decimal, flat_map, eqb-true, map-append, same_Some}
 use Rattle.aig_base.specs.declared.logic.three.Lbool.{Lbool}
 use Rattle.aig_base.specs.declared.logic.three.Lbool.TheVariants.{FALSE, TRUE, NONE}
-use Rattle.aig_format.specs.Text.{◌then◌, Each, Ended, IsDigit, Just}
+use Rattle.aig_format.proofs.Words.{◌then◌, Each, Ended, IsDigit, Just, ◌>>=◌, parse_both, parse_ended, parse_map, strip}
 use Rattle.aig_format.proofs.Entries.{chosen}
-use Rattle.aig_format.specs.Parse.{◌>>=◌, parse_both, parse_ended, parse_map, strip}
 use Rattle.aig_format.proofs.NumberReaders.{bind_some}
 use Rattle.aig_format.proofs.Joined.{Reads, Reads-both, Reads-ended, Reads-mapped}
 use Rattle.aig_format.proofs.Sections.{Reads-following}

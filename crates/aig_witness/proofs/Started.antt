@@ -1,16 +1,11 @@
 -- Constant starts that a state has.
-use Rattle.std.proofs.Common.{◌≡◌, ℕ, Bool, true, false, Some, None, Option, List, get_or, refl, sym, ap, subst, ◌∙◌}
-use Rattle.std.specs.Prelude.{IfSome}
-use Rattle.std.specs.List.{AllZip}
+use Rattle.aig_base.proofs.Words.{◌≡◌, ℕ, Bool, true, false, Some, None, Option, List, get_or, refl, sym, ap, subst, ◌∙◌, IfSome, AllZip}
 use Rattle.aig_base.specs.declared.logic.three.Lbool.{Lbool}
 use Rattle.aig_base.specs.declared.logic.three.Lbool.TheVariants.{NONE}
 use Rattle.aig_base.specs.Three.{Agrees}
 use Rattle.aig_circuit.specs.declared.edge.AigEdge.{AigEdge}
 use Rattle.aig_circuit.specs.declared.node.AigLatch.{AigLatch}
-use Rattle.aig_circuit.specs.Edge.{inverted_if}
-use Rattle.aig_circuit.specs.Tree.{edge_value, node_value}
-use Rattle.aig_circuit.specs.Circuit.{Circuit, IsCircuit, latch_leaves}
-use Rattle.aig_circuit.specs.Runs.{IsInitial}
+use Rattle.aig_circuit.proofs.Words.{inverted_if, edge_value, node_value, Circuit, IsCircuit, latch_leaves, IsInitial}
 use Rattle.aig_circuit.proofs.Trees.{node_value-false}
 use Rattle.aig_unroll.proofs.Lists.{zip_at}
 use Rattle.aig_witness.specs.Shown.{AreStarts, known_of}

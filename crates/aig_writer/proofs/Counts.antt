@@ -1,19 +1,13 @@
 -- The counts of a header.
-use Rattle.std.proofs.Common.{◌≡◌, ◌≢◌, ℕ, ◌-◌, ◌+◌, ◌<◌, ◌≤◌, List, [], ◌∷◌, ◌++◌, Bool, true, false, length, take, drop, get_or, refl, sym, ap, ◌∙◌, arith, cond}
+use Rattle.aig_base.proofs.Words.{◌≡◌, ◌≢◌, ℕ, ◌-◌, ◌+◌, ◌<◌, ◌≤◌, List, [], ◌∷◌, ◌++◌, Bool, true, false, length, take, drop, get_or, refl, sym, ap, ◌∙◌, arith, cond, cons_option, filter_map-append, take_more, ne_eqb}
 use Rattle.std.specs.Prelude.{if◌then◌else◌, filter_map, is_some, IsTrue, ◌↔◌, suc, Option, Some, None}
-use Rattle.std.specs.List.{cons_option}
 use Rattle.std.proofs.lemmas.List.{length-append}
-use Rattle.std.proofs.lemmas.List.Elements.{filter_map-append}
 use Rattle.aig_circuit.specs.declared.node.AigNode.{AigNode}
 use Rattle.aig_circuit.specs.declared.edge.AigEdge.{AigEdge}
 use Rattle.aig_circuit.specs.declared.node.AigNodeType.{AigNodeType}
 use Rattle.aig_circuit.specs.declared.node.AigNodeType.TheVariants.{False, Leaf, And}
 use Rattle.aig_circuit.specs.Node.{IsAnd}
-use Rattle.aig_format.specs.File.{GateLine, File, header_of}
-use Rattle.aig_format.specs.Spells.{magic, numbers_in}
-use Rattle.aig_format.specs.Circuit.{gate_line}
-use Rattle.std.proofs.lemmas.List.{take_more}
-use Rattle.std.proofs.lemmas.Bool.{ne_eqb}
+use Rattle.aig_format.proofs.Words.{GateLine, File, header_of, magic, numbers_in, gate_line}
 use Rattle.aig_format.specs.Written.{in_front, shortened, line_text, header_line_of}
 
 -- a 0 at the end is left out

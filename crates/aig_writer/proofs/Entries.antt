@@ -1,19 +1,13 @@
 -- The names of a map, and their lines.
-use Rattle.std.proofs.Common.{◌≡◌, ℕ, ◌+◌, ◌-◌, ◌<◌, ◌≤◌, length, take, drop, get_or, zero-add, sym, arith, Option, Some, None, List, [], ◌∷◌, ◌++◌, refl, ap, ◌∙◌, append_assoc}
-use Rattle.std.specs.Prelude.{option_map, option_to_list, decimal, slice_set}
-use Rattle.std.specs.List.{enumerate_from, flat_map}
+use Rattle.aig_base.proofs.Words.{◌≡◌, ℕ, ◌+◌, ◌-◌, ◌<◌, ◌≤◌, length, take, drop, get_or, zero-add, sym, arith, Option, Some, None, List, [], ◌∷◌, ◌++◌, refl, ap, ◌∙◌, append_assoc, option_map, option_to_list, decimal, slice_set, enumerate_from, flat_map, get, flat_map-append}
 use Rattle.std.proofs.lemmas.List.FromFn.{get_or-enumerate_from}
-use Rattle.std.specs.FinMap.{get}
-use Rattle.std.proofs.lemmas.List.Concat.{flat_map-append}
 use Rattle.std.proofs.lemmas.List.{drop-set, length-map, take-take}
 use Rattle.std.proofs.Math.Seq.{take-append-add}
 use Rattle.aig_circuit.proofs.Circuits.{leaf-read}
 use Rattle.aig_circuit.specs.declared.node.AigLatch.{AigLatch}
 use Rattle.aig_circuit.specs.Circuit.{Circuit, latch_leaves}
 use Rattle.aig_format.specs.declared.FileKind.TheVariants.{Text}
-use Rattle.aig_format.specs.File.{NameLine}
-use Rattle.aig_format.specs.Written.{name_text}
-use Rattle.aig_format.specs.Circuit.{file_of, name_lines}
+use Rattle.aig_format.proofs.Words.{NameLine, name_text, file_of, name_lines}
 use Rattle.aig_writer.specs.Parts.{text_of_name}
 
 -- ---- the lines of names

@@ -1,8 +1,7 @@
 -- Nodes and tables that have no place in a form, of which the definitions are false.
 use Rattle.std.specs.Prelude.{◌≡◌, false, [], ◌∷◌, refl}
 use Rattle.std.proofs.Common.{arith}
-use Rattle.aig_circuit.specs.Circuit.{Circuit}
-use Rattle.aig_circuit.specs.Edge.{edge_to}
+use Rattle.aig_circuit.proofs.Words.{Circuit, edge_to}
 use Rattle.aig_circuit.specs.declared.node.AigNodeType.TheVariants.{And}
 use Rattle.aig_format.specs.declared.FileKind.TheVariants.{Text}
 use Rattle.aig_writer.specs.Forms.{FitsForm}

@@ -1,25 +1,17 @@
 -- The sections of a file as a text for each entry of a list.
-use Rattle.std.proofs.Common.{◌≡◌, ℕ, List, [], ◌∷◌, ◌++◌, ◌*◌, length, map, refl, sym, ap, ◌∙◌, append-nil, Option, Some, None, true, false, cond, inl, inr, arith}
+use Rattle.aig_base.proofs.Words.{◌≡◌, ℕ, List, [], ◌∷◌, ◌++◌, ◌*◌, length, map, refl, sym, ap, ◌∙◌, append-nil, Option, Some, None, true, false, cond, inl, inr, arith, cons_option, flat_map, cases_lt, nat_tests, flat_map-map}
 use Rattle.std.specs.Prelude.{filter_map, max, min, nat_lt, option_to_list, Vec, vec_len}
-use Rattle.std.specs.List.{cons_option, flat_map}
 use Rattle.std.specs.declared.alloc.Global.{Global}
-use Rattle.std.proofs.lemmas.Bool.{cases_lt}
-use Rattle.std.proofs.lemmas.Bool.Decides.{nat_tests}
-use Rattle.std.proofs.lemmas.List.Folds.{flat_map-map}
 use Rattle.aig_circuit.specs.declared.edge.AigEdge.{AigEdge}
 use Rattle.aig_circuit.specs.declared.node.AigNode.{AigNode}
 use Rattle.aig_circuit.specs.declared.node.AigLatch.{AigLatch}
 use Rattle.aig_circuit.specs.declared.node.AigNodeType.{AigNodeType}
 use Rattle.aig_circuit.specs.declared.node.AigNodeType.TheVariants.{False, Leaf, And}
-use Rattle.aig_circuit.specs.Edge.{literal_of}
-use Rattle.aig_circuit.specs.Node.{and_of}
-use Rattle.aig_format.specs.File.{GateLine}
+use Rattle.aig_circuit.proofs.Words.{literal_of, and_of, renumbered_edge, renumbered_kind, renumbered_latch}
+use Rattle.aig_format.proofs.Words.{GateLine, line_text, lines_text, latch_text, gate_text, latch_line, gate_line}
 use Rattle.aig_format.specs.declared.FileKind.{FileKind}
-use Rattle.aig_format.specs.Written.{line_text, lines_text, latch_text, gate_text}
-use Rattle.aig_format.specs.Circuit.{latch_line, gate_line}
 use Rattle.aig_writer.specs.Parts.{edges_of_sets}
 use Rattle.aig_writer.specs.Numbering.{renumbered_node}
-use Rattle.aig_circuit.specs.Renumber.{renumbered_edge, renumbered_kind, renumbered_latch}
 
 abbrev pub input_line : ℕ → List ℕ
 input_line n = line_text (2 * n ∷ [])

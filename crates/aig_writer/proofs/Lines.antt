@@ -1,9 +1,7 @@
 -- A line of numbers, built from its last number on.
-use Rattle.std.proofs.Common.{◌≡◌, ℕ, ◌+◌, ◌-◌, ◌<◌, ◌≤◌, List, [], ◌∷◌, ◌++◌, length, take, drop, replicate, set, get_or, refl, sym, ap, ◌∙◌, append_assoc, length-append, arith}
-use Rattle.std.specs.Prelude.{decimal}
+use Rattle.aig_base.proofs.Words.{◌≡◌, ℕ, ◌+◌, ◌-◌, ◌<◌, ◌≤◌, List, [], ◌∷◌, ◌++◌, length, take, drop, replicate, set, get_or, refl, sym, ap, ◌∙◌, append_assoc, length-append, arith, decimal, take-append_seam}
 use Rattle.std.proofs.lemmas.Grind.{drop-set_at}
 use Rattle.std.proofs.lemmas.List.{drop_all, drop_more, get_or-replicate, get_or-take, length-drop, take-replicate, take-set-le, take-take}
-use Rattle.std.proofs.Math.Seq.{take-append_seam}
 use Rattle.aig_format.specs.Written.{line_text}
 
 -- what stands after a number of a line

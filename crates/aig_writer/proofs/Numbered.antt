@@ -1,31 +1,16 @@
 -- The file of a circuit whose nodes are written under other numbers.
-use Rattle.std.proofs.Common.{◌≡◌, ℕ, ◌+◌, ◌-◌, ◌*◌, ◌<◌, ◌≤◌, ◌^◌, suc, Bool, true, false, cond, Option, Some, None, List, [], ◌∷◌, ◌++◌, length, map, get_or, refl, sym, ap, ◌∙◌, arith, length-append}
-use Rattle.std.specs.Prelude.{All, nat_lt, option_map, filter_map, option_to_list}
-use Rattle.std.specs.FinMap.{get, entries, get-entries, get-from_entries}
-use Rattle.std.specs.List.{cons_option}
-use Rattle.std.proofs.lemmas.Bool.Decides.{nat_tests}
-use Rattle.std.proofs.lemmas.Cmp.{nat_cmp_total}
-use Rattle.std.proofs.lemmas.Option.{slice_get-get_or}
-use Rattle.std.proofs.lemmas.List.{get_or-append-add, length-map}
-use Rattle.std.proofs.lemmas.List.Elements.{All-map, All-weaker, filter_map-append}
+use Rattle.aig_base.proofs.Words.{◌≡◌, ℕ, ◌+◌, ◌-◌, ◌*◌, ◌<◌, ◌≤◌, ◌^◌, suc, Bool, true, false, cond, Option, Some, None, List, [], ◌∷◌, ◌++◌, length, map, get_or, refl, sym, ap, ◌∙◌, arith, length-append, All, nat_lt, option_map, filter_map, option_to_list, get, entries, get-entries, get-from_entries, cons_option, nat_tests, nat_cmp_total, slice_get-get_or, get_or-append-add, length-map, All-map, All-weaker, filter_map-append}
 use Rattle.aig_circuit.specs.declared.edge.AigEdge.{AigEdge}
 use Rattle.aig_circuit.specs.declared.node.AigNodeType.{AigNodeType}
 use Rattle.aig_circuit.specs.declared.node.AigNodeType.TheVariants.{False, Leaf, And}
 use Rattle.aig_circuit.specs.declared.node.AigNode.{AigNode}
 use Rattle.aig_circuit.specs.declared.node.AigLatch.{AigLatch}
-use Rattle.aig_circuit.specs.Edge.{edge_to, literal_of}
-use Rattle.aig_circuit.specs.Node.{kind_at, and_of}
-use Rattle.aig_circuit.specs.Circuit.{Circuit, IsCircuit, IsClosed, IsLeaf, IsLatch, latch_leaves}
-use Rattle.aig_circuit.specs.Properties.{map_properties}
-use Rattle.aig_circuit.specs.Reencode.{gate_number, new_number, order_of, reencoded}
-use Rattle.aig_circuit.specs.Renumber.{nodes_in_order, renumbered_circuit, renumbered_edge, renumbered_kind, renumbered_latch}
+use Rattle.aig_circuit.proofs.Words.{edge_to, literal_of, kind_at, and_of, Circuit, IsCircuit, IsClosed, IsLeaf, IsLatch, latch_leaves, map_properties, gate_number, new_number, order_of, reencoded, nodes_in_order, renumbered_circuit, renumbered_edge, renumbered_kind, renumbered_latch}
 use Rattle.aig_circuit.proofs.Listed.{AllProperties-always, AllProperties-weaker, map_properties-same}
 use Rattle.aig_circuit.proofs.Trees.{kind_at-within}
 use Rattle.aig_format.specs.declared.FileKind.{FileKind}
 use Rattle.aig_format.specs.declared.FileKind.TheVariants.{Binary}
-use Rattle.aig_format.specs.File.{GateLine, NameLine}
-use Rattle.aig_format.specs.Written.{header_line_of}
-use Rattle.aig_format.specs.Circuit.{file_of, gate_line, latch_line, name_lines}
+use Rattle.aig_format.proofs.Words.{GateLine, NameLine, header_line_of, file_of, gate_line, latch_line, name_lines}
 use Rattle.aig_renumber.proofs.Agreeing.{circuits-agree}
 use Rattle.aig_renumber.proofs.Circuits.{SpeaksOf-nodes, latch_leaves-map}
 use Rattle.aig_renumber.proofs.Names.{find-number, names_in_circuit}

@@ -1,19 +1,15 @@
 -- The literals of a circuit's nodes fit.
-use Rattle.std.proofs.Common.{inl, inr, ◌≡◌, ℕ, ◌^◌, ◌<◌, ◌≤◌, Option, Some, None, List, [], length, map, get_or, refl, sym, subst, ap, ◌∙◌, arith}
+use Rattle.aig_base.proofs.Words.{inl, inr, ◌≡◌, ℕ, ◌^◌, ◌<◌, ◌≤◌, Option, Some, None, List, [], length, map, get_or, refl, sym, subst, ap, ◌∙◌, arith, cases_lt, All-weaker, slice_get-get_or}
 use Rattle.std.specs.Prelude.{All, IfSome, Vec, option_map}
 use Rattle.std.specs.declared.alloc.Global.{Global}
-use Rattle.std.proofs.lemmas.Bool.{cases_lt}
 use Rattle.std.proofs.lemmas.List.{get_or_past, get_or-map, length-map}
-use Rattle.std.proofs.lemmas.List.Elements.{All-weaker}
-use Rattle.std.proofs.lemmas.Option.{slice_get-get_or}
 use Rattle.aig_circuit.specs.declared.edge.AigEdge.{AigEdge}
 use Rattle.aig_circuit.specs.declared.prop_list.PropList.{PropList}
 use Rattle.aig_circuit.specs.declared.prop_list.PropList.TheVariants.{Outputs, Bads, Constraints, Fairness}
 use Rattle.aig_circuit.specs.declared.node.AigNodeType.TheVariants.{Leaf}
 use Rattle.aig_circuit.specs.declared.node.AigNode.{AigNode}
 use Rattle.aig_circuit.specs.declared.node.AigLatch.{AigLatch}
-use Rattle.aig_circuit.specs.Circuit.{Circuit, IsCircuit, IsClosed, IsInRange}
-use Rattle.aig_circuit.specs.PropLists.{edges_of}
+use Rattle.aig_circuit.proofs.Words.{Circuit, IsCircuit, IsClosed, IsInRange, edges_of}
 use Rattle.aig_circuit.proofs.Trees.{kind_at-within}
 use Rattle.aig_format.specs.declared.FileKind.TheVariants.{Text, Binary}
 use Rattle.aig_writer.specs.Forms.{FitsForm}

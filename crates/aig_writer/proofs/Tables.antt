@@ -1,21 +1,15 @@
 -- A table of numbers, filled node by node in the new order.
-use Rattle.std.proofs.Common.{◌≡◌, ◌≢◌, ℕ, ◌+◌, ◌<◌, ◌≤◌, List, [], ◌∷◌, ◌++◌, length, take, drop, get_or, refl, replicate, zero, suc, sym, ap, ◌∙◌, arith, inl, inr, length-append, Bool, true, false, append_assoc, take-append-drop}
+use Rattle.aig_base.proofs.Words.{◌≡◌, ◌≢◌, ℕ, ◌+◌, ◌<◌, ◌≤◌, List, [], ◌∷◌, ◌++◌, length, take, drop, get_or, refl, replicate, zero, suc, sym, ap, ◌∙◌, arith, inl, inr, length-append, Bool, true, false, append_assoc, take-append-drop, cases_lt, false≢true, filter_map-append, get_or-append_seam, slice_get-get_or}
 use Rattle.std.specs.Prelude.{IsTrue, ◌↔◌, filter_map, slice_index, slice_set}
-use Rattle.std.proofs.lemmas.Bool.{cases_lt, false≢true}
 use Rattle.std.proofs.lemmas.Grind.{get_or_default_zero}
 use Rattle.std.proofs.lemmas.List.{get_or-append-add, get_or-set_other, get_or-set_same, length-set, take_all}
-use Rattle.std.proofs.lemmas.List.Elements.{filter_map-append}
 use Rattle.std.proofs.Math.ListN.{get_or-append}
-use Rattle.std.proofs.Math.Seq.{get_or-append_seam}
 use Rattle.aig_circuit.specs.declared.node.AigLatch.{AigLatch}
 use Rattle.aig_circuit.specs.declared.node.AigNode.{AigNode}
-use Rattle.aig_circuit.specs.Node.{IsAnd}
-use Rattle.aig_circuit.specs.Circuit.{Circuit, IsCircuit, IsClosed, latch_leaves}
-use Rattle.aig_circuit.specs.Reencode.{IsReencoded, gate_number, order_of}
+use Rattle.aig_circuit.proofs.Words.{IsAnd, Circuit, IsCircuit, IsClosed, latch_leaves, IsReencoded, gate_number, order_of}
 use Rattle.aig_circuit.proofs.Circuits.{leaf-read}
 use Rattle.aig_circuit.proofs.Trees.{kind_at-within}
 use Rattle.aig_circuit.specs.declared.node.AigNodeType.TheVariants.{Leaf}
-use Rattle.std.proofs.lemmas.Option.{slice_get-get_or}
 use Rattle.aig_renumber.proofs.Order.{Numbers-order, gates-turn_gate, gates-turn_other, length-order, order-distinct, order-there}
 use Rattle.aig_renumber.proofs.Placed.{number-placed}
 use Rattle.aig_renumber.proofs.Tables.{HasPlaces, table-number}

@@ -1,16 +1,11 @@
 -- The text of a form, section by section.
-use Rattle.std.proofs.Common.{◌≡◌, ℕ, List, [], ◌∷◌, ◌++◌, length, map, refl, sym, ap, ◌∙◌, append-nil, append_assoc}
-use Rattle.std.specs.List.{flat_map}
+use Rattle.aig_base.proofs.Words.{◌≡◌, ℕ, List, [], ◌∷◌, ◌++◌, length, map, refl, sym, ap, ◌∙◌, append-nil, append_assoc, flat_map}
 use Rattle.aig_circuit.specs.declared.prop_list.PropList.{PropList}
 use Rattle.aig_circuit.specs.declared.prop_list.PropList.TheVariants.{Outputs, Bads, Constraints, Fairness}
-use Rattle.aig_circuit.specs.Circuit.{Circuit, IsCircuit}
-use Rattle.aig_circuit.specs.Edge.{literal_of}
-use Rattle.aig_circuit.specs.PropLists.{edges_of}
-use Rattle.aig_circuit.specs.Renumber.{renumbered_edge}
+use Rattle.aig_circuit.proofs.Words.{Circuit, IsCircuit, literal_of, edges_of, renumbered_edge}
 use Rattle.aig_format.specs.declared.FileKind.{FileKind}
 use Rattle.aig_format.specs.declared.FileKind.TheVariants.{Text, Binary}
-use Rattle.aig_format.specs.File.{File}
-use Rattle.aig_format.specs.Circuit.{file_of}
+use Rattle.aig_format.proofs.Words.{File, file_of}
 use Rattle.aig_format.specs.Written.{gate_text, header_line_of, inputs_text, latch_text, lines_text, name_text, properties_text, file_text}
 use Rattle.aig_output.proofs.Writing.{then_texts}
 use Rattle.aig_writer.specs.Forms.{FitsForm, form_of}

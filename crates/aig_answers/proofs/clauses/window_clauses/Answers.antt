@@ -1,6 +1,4 @@
-use Rattle.std.proofs.Common.{◌≡◌, ◌+◌, ◌*◌, ◌<◌, ◌^◌, length, sym, ap, ◌∙◌, arith}
-use Rattle.std.proofs.Math.Nat.{add-mul}
-use Rattle.std.proofs.lemmas.List.Elements.{All-drop, All-same, All-take, All-weaker}
+use Rattle.aig_base.proofs.Words.{◌≡◌, ◌+◌, ◌*◌, ◌<◌, ◌^◌, length, sym, ap, ◌∙◌, arith, add-mul, All-drop, All-same, All-take, All-weaker}
 use Rattle.aig_circuit.specs.declared.edge.AigEdge.{AigEdge}
 use Rattle.aig_circuit.specs.Circuit.{IsInRange}
 use Rattle.aig_answers.proofs.clauses.window_clauses.Goals as goal

@@ -1,5 +1,4 @@
-use Rattle.std.proofs.Common.{◌≡◌, suc, ◌+◌, ◌*◌, ◌≤◌, ◌++◌, length, sym, ap, ◌∙◌, arith}
-use Rattle.std.proofs.Math.Nat.{add-mul, mul-le-mul_right}
+use Rattle.aig_base.proofs.Words.{◌≡◌, suc, ◌+◌, ◌*◌, ◌≤◌, ◌++◌, length, sym, ap, ◌∙◌, arith, add-mul, mul-le-mul_right}
 use Rattle.aig_runs.specs.WindowClauses.{apart_clauses, count_pairs, pairwise_clauses}
 use Rattle.aig_answers.proofs.Growing.{free, free_length, free_step, more_step}
 use Rattle.aig_answers.proofs.Pairs.{pairs_next, some_latches}

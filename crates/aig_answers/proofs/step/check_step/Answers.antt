@@ -1,5 +1,4 @@
-use Rattle.std.proofs.Common.{sym, subst}
-use Rattle.std.proofs.lemmas.Result.{IfOk-weaker, err_from_is_err_and}
+use Rattle.aig_base.proofs.Words.{sym, subst, IfOk-weaker, err_from_is_err_and}
 use Rattle.aig_reader.specs.Verdicts.{Judges}
 use Rattle.aig_answers.specs.Answers.{asked_verdict}
 use Rattle.aig_answers.proofs.Verdicts.{proof_of_step, proof_taken, query_not_taken, query_of_step}

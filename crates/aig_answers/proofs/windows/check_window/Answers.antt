@@ -1,5 +1,4 @@
-use Rattle.std.proofs.Common.{sym, subst}
-use Rattle.std.proofs.lemmas.Result.{IfOk-weaker, err_from_is_err_and}
+use Rattle.aig_base.proofs.Words.{sym, subst, IfOk-weaker, err_from_is_err_and}
 use Rattle.aig_reader.specs.Verdicts.{Judges}
 use Rattle.aig_answers.specs.Answers.{window_verdict}
 use Rattle.aig_answers.proofs.Verdicts.{proof_of_induction, proof_taken, window_not_taken, window_of_induction}

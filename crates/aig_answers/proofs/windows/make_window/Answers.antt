@@ -1,5 +1,4 @@
-use Rattle.std.proofs.Common.{◌∙◌, ap, arith}
-use Rattle.std.proofs.lemmas.Result.{IfOk-weaker}
+use Rattle.aig_base.proofs.Words.{◌∙◌, ap, arith, IfOk-weaker}
 use Rattle.aig_answers.specs.Answers.{window_size}
 use Rattle.aig_answers.proofs.Asking.{same_room}
 use Rattle.aig_answers.proofs.windows.make_window.Goals as goal

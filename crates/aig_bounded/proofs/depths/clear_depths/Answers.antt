@@ -1,5 +1,4 @@
-use Rattle.std.proofs.Common.{◌<◌, false, length, get_or, refl, subst, arith}
-use Rattle.std.proofs.lemmas.List.{take_all}
+use Rattle.aig_base.proofs.Words.{◌<◌, false, length, get_or, refl, subst, arith, take_all}
 use Rattle.aig_circuit.specs.Edge.{edge_to}
 use Rattle.aig_bounded.specs.Depths.{HaveNoDepth}
 use Rattle.aig_bounded.proofs.Lowered.{AreNoDeeper-same, AreNoDeeper-set, AreNoDeeper-then, HaveNoDepth-more}

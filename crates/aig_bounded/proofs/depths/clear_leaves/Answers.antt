@@ -1,5 +1,4 @@
-use Rattle.std.proofs.Common.{◌<◌, length, get_or, refl, subst, arith}
-use Rattle.std.proofs.lemmas.List.{take_all}
+use Rattle.aig_base.proofs.Words.{◌<◌, length, get_or, refl, subst, arith, take_all}
 use Rattle.aig_bounded.specs.Depths.{HaveNoLatchDepth}
 use Rattle.aig_bounded.proofs.Lowered.{AreNoDeeper-same, AreNoDeeper-set, AreNoDeeper-then, HaveNoLatchDepth-more}
 use Rattle.aig_bounded.proofs.Stepped.{no_latch}

@@ -1,5 +1,4 @@
-use Rattle.std.proofs.Common.{[]}
-use Rattle.std.proofs.lemmas.List.Elements.{All-cons, All-nil}
+use Rattle.aig_base.proofs.Words.{[], All-cons, All-nil}
 use Rattle.aig_circuit.specs.Circuit.{IsInRange}
 use Rattle.aig_bounded.proofs.Stepped.{if_ok}
 use Rattle.aig_bounded.proofs.question.kept_places.Goals as goal

@@ -1,6 +1,6 @@
 use Rattle.std.proofs.Common.{◌≡◌, ◌<◌, List, length, length-set, get_or, ap, subst, sym, ◌∙◌, arith}
 use Rattle.std.specs.Prelude.{replicate}
-use Rattle.std.proofs.lemmas.List.{length-replicate}
+use Rattle.aig_base.proofs.Words.{length-replicate}
 use Rattle.aig_circuit.specs.declared.node.AigNode.{AigNode}
 use Rattle.aig_bounded.specs.Asked.{first_state}
 use Rattle.aig_bounded.specs.Steps.{SetsStates}

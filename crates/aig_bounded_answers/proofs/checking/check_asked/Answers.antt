@@ -1,5 +1,4 @@
-use Rattle.std.proofs.Common.{Err, sym, subst}
-use Rattle.std.proofs.lemmas.Result.{IfOk-weaker, err_from_is_err_and}
+use Rattle.aig_base.proofs.Words.{Err, sym, subst, IfOk-weaker, err_from_is_err_and}
 use Rattle.aig_reader.specs.Verdicts.{Judges}
 use Rattle.aig_refutation.specs.declared.error.RefutationError.TheVariants as RefutationError
 use Rattle.aig_bounded_answers.specs.Asking.{bounded_verdict}

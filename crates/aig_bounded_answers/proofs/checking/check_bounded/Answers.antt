@@ -1,5 +1,4 @@
-use Rattle.std.proofs.Common.{inl, inr}
-use Rattle.std.proofs.lemmas.Result.{IfOk-weaker}
+use Rattle.aig_base.proofs.Words.{inl, inr, IfOk-weaker}
 use Rattle.aig_bounded_answers.proofs.checking.check_bounded.Goals as goal
 
 pub returns-clause-answer : goal.returns-clause-answer

@@ -1,9 +1,6 @@
-use Rattle.std.proofs.Common.{sym, subst}
-use Rattle.std.specs.Prelude.{All}
-use Rattle.std.specs.List.{AllZip}
+use Rattle.aig_base.proofs.Words.{sym, subst, All, AllZip}
 use Rattle.aig_bounded.specs.declared.place.Place.{Place}
-use Rattle.aig_circuit.specs.Circuit.{IsLeaf}
-use Rattle.aig_circuit.specs.View.{lists_circuit}
+use Rattle.aig_circuit.proofs.Words.{IsLeaf, lists_circuit}
 use Rattle.aig_bounded_answers.specs.Naming.{IsNamed}
 use Rattle.aig_bounded_answers.proofs.Asked.{encoded_question, plain_of}
 use Rattle.aig_bounded_answers.proofs.clauses.ask.Goals as goal

@@ -1,6 +1,4 @@
-use Rattle.std.proofs.Common.{length, sym, ap, subst, ◌++◌, arith}
-use Rattle.std.proofs.lemmas.List.{with_items_is}
-use Rattle.std.specs.Prelude.{All}
+use Rattle.aig_base.proofs.Words.{length, sym, ap, subst, ◌++◌, arith, with_items_is, All}
 use Rattle.aig_circuit.specs.Circuit.{latch_leaves}
 use Rattle.aig_bounded_answers.specs.Encoded.{HasName}
 use Rattle.aig_bounded_answers.proofs.naming.leaf_names.Goals as goal

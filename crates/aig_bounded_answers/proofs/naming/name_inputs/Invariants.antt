@@ -1,5 +1,4 @@
-use Rattle.std.proofs.Common.{◌≡◌, ℕ, ◌<◌, length}
-use Rattle.std.specs.Prelude.{slice_index}
+use Rattle.aig_base.proofs.Words.{◌≡◌, ℕ, ◌<◌, length, slice_index}
 use Rattle.aig_bounded_answers.specs.Encoded.{HasName}
 use Rattle.aig_bounded_answers.proofs.naming.name_inputs.Given as goal
 

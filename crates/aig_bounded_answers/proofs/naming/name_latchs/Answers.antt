@@ -1,6 +1,5 @@
-use Rattle.std.proofs.Common.{◌<◌, true, length, get_or, set, sym, ap, subst, ◌∙◌, arith}
+use Rattle.aig_base.proofs.Words.{◌<◌, true, length, get_or, set, sym, ap, subst, ◌∙◌, arith, length-map, length-set}
 use borrow.Author.Count.{below_more}
-use Rattle.std.proofs.lemmas.List.{length-map, length-set}
 use Rattle.aig_circuit.specs.declared.node.AigLatch.{AigLatch}
 use Rattle.aig_circuit.specs.Circuit.{latch_leaves}
 use Rattle.aig_bounded_answers.specs.declared.naming.Named.{Named}

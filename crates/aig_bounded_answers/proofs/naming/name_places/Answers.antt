@@ -1,6 +1,4 @@
-use Rattle.std.proofs.Common.{subst, arith}
-use Rattle.std.specs.List.{AllZip}
-use Rattle.std.proofs.lemmas.List.{take_all}
+use Rattle.aig_base.proofs.Words.{subst, arith, AllZip, take_all}
 use Rattle.aig_bounded_answers.specs.Naming.{IsNamed}
 use Rattle.aig_bounded_answers.proofs.Names.{named_more}
 use Rattle.aig_bounded_answers.proofs.naming.name_places.Goals as goal

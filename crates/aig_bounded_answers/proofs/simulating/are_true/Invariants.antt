@@ -1,5 +1,4 @@
-use Rattle.std.proofs.Common.{◌≡◌, ℕ, ◌<◌}
-use Rattle.std.specs.Prelude.{slice_index_or}
+use Rattle.aig_base.proofs.Words.{◌≡◌, ℕ, ◌<◌, slice_index_or}
 use Rattle.aig_base.specs.declared.logic.three.Lbool.TheVariants.{TRUE}
 use Rattle.aig_circuit.specs.declared.edge.AigEdge.{AigEdge}
 use Rattle.aig_ternary.specs.Ternary.{value_in}

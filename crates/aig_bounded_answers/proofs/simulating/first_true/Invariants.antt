@@ -1,5 +1,4 @@
-use Rattle.std.proofs.Common.{◌≢◌, ℕ, ◌<◌, false}
-use Rattle.std.specs.Prelude.{slice_index_or}
+use Rattle.aig_base.proofs.Words.{◌≢◌, ℕ, ◌<◌, false, slice_index_or}
 use Rattle.aig_base.specs.declared.logic.three.Lbool.TheVariants.{TRUE}
 use Rattle.aig_circuit.specs.Edge.{edge_to}
 use Rattle.aig_ternary.specs.Ternary.{value_in}

@@ -1,5 +1,4 @@
-use Rattle.std.proofs.Common.{Err, ap}
-use Rattle.std.proofs.lemmas.Result.{err_from_is_err_and}
+use Rattle.aig_base.proofs.Words.{Err, ap, err_from_is_err_and}
 use Rattle.aig_reader.specs.Verdicts.{Accepted}
 use Rattle.aig_bounded_answers.specs.declared.questions.Asked.TheVariants.{Reached}
 use Rattle.aig_bounded_answers.specs.Asking.{verdict_of}

@@ -4,8 +4,7 @@ use Rattle.std.specs.List.{take-map}
 use Rattle.std.specs.declared.alloc.Global.{Global}
 use Rattle.aig_base.specs.declared.logic.three.Lbool.{Lbool}
 use Rattle.aig_circuit.specs.declared.edge.AigEdge.{AigEdge}
-use Rattle.aig_circuit.specs.Properties.{Properties}
-use Rattle.aig_circuit.specs.View.{lists_circuit}
+use Rattle.aig_circuit.proofs.Words.{Properties, lists_circuit}
 use Rattle.aig_circuit.proofs.Lists.{All-from_map}
 use Rattle.aig_cnf.proofs.Forms.{literal_value-lit_of}
 use Rattle.aig_runs.specs.Queries.{unit_clauses}

@@ -1,4 +1,4 @@
-use Rattle.std.proofs.Common.{◌≡◌, length}
+use Rattle.aig_base.proofs.Words.{◌≡◌, length}
 use Rattle.std.specs.Prelude.{All, replicate}
 use Rattle.aig_base.specs.declared.logic.three.Lbool.TheVariants.{FALSE}
 use Rattle.aig_bounded_answers.proofs.values.false_inputs.Given as goal

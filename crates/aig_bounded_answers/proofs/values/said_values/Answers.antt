@@ -1,5 +1,4 @@
-use Rattle.std.proofs.Common.{◌+◌, ◌<◌, false, get_or, length, sym, ap, subst, ◌∙◌, arith}
-use Rattle.std.proofs.lemmas.List.{get_or_default}
+use Rattle.aig_base.proofs.Words.{◌+◌, ◌<◌, false, get_or, length, sym, ap, subst, ◌∙◌, arith, get_or_default}
 use Rattle.aig_witness.specs.Shown.{known_of}
 use Rattle.aig_witness.specs.Witness.{Witness, said_by}
 use Rattle.aig_bounded_answers.specs.declared.naming.Named.{Named}

@@ -1,5 +1,4 @@
-use Rattle.std.proofs.Common.{◌≡◌, ℕ, ◌<◌}
-use Rattle.std.specs.Prelude.{slice_index, slice_index_or}
+use Rattle.aig_base.proofs.Words.{◌≡◌, ℕ, ◌<◌, slice_index, slice_index_or}
 use Rattle.aig_witness.specs.Shown.{known_of}
 use Rattle.aig_witness.specs.Witness.{said_by}
 use Rattle.aig_bounded_answers.specs.declared.naming.Named.{Named}

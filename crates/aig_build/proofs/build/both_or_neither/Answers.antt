@@ -1,11 +1,7 @@
-use Rattle.std.proofs.Common.{◌≡◌, ℕ, Bool, ◌&&◌, sym, subst}
-use Rattle.std.proofs.lemmas.Result.{IfOk-from_err, IfOk-weaker}
-use Rattle.aig_circuit.specs.Edge.{inverse}
-use Rattle.aig_circuit.specs.Tree.{edge_value}
-use Rattle.aig_circuit.specs.Build.{FoldsOrAdds}
+use Rattle.aig_base.proofs.Words.{◌≡◌, ℕ, Bool, ◌&&◌, sym, subst, IfOk-from_err, IfOk-weaker}
+use Rattle.aig_circuit.proofs.Words.{inverse, edge_value, FoldsOrAdds, IsInRange}
 use Rattle.aig_circuit.proofs.Building.{AddsGates-then}
 use Rattle.aig_circuit.proofs.Joining.{value-both_or_neither}
-use Rattle.aig_circuit.specs.Circuit.{IsInRange}
 use Rattle.aig_build.proofs.Joined.{still_there}
 use Rattle.aig_build.proofs.build.both_or_neither.Goals as goal
 

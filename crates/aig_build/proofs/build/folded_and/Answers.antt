@@ -1,9 +1,7 @@
-use Rattle.std.proofs.Common.{◌≡◌, ◌≢◌, Bool, true, false, ◌&&◌, eqb, refl, sym, ap, ◌∙◌, arith}
-use Rattle.std.proofs.lemmas.Grind.{common_steps}
+use Rattle.aig_base.proofs.Words.{◌≡◌, ◌≢◌, Bool, true, false, ◌&&◌, eqb, refl, sym, ap, ◌∙◌, arith, common_steps}
 use Rattle.std.proofs.Math.Bool.{beq}
 use Rattle.aig_circuit.specs.declared.edge.AigEdge.{AigEdge}
-use Rattle.aig_circuit.specs.Edge.{edge_to, inverse}
-use Rattle.aig_circuit.specs.Build.{Folds}
+use Rattle.aig_circuit.proofs.Words.{edge_to, inverse, Folds}
 use Rattle.aig_circuit.specs.Build.Folds.{true_first, true_second, false_first, false_second, same, opposite}
 use Rattle.aig_build.proofs.build.folded_and.Goals.{then-eq-3-via-then-eq-3, then-eq-3-via-else-eq-3+then-eq-4}
 use Rattle.aig_build.proofs.build.folded_and.Goals as goal

@@ -1,10 +1,8 @@
-use Rattle.std.proofs.Common.{List, inl, inr, refl, subst, sym}
-use Rattle.std.proofs.lemmas.Result.{IfOk-weaker}
+use Rattle.aig_base.proofs.Words.{List, inl, inr, refl, subst, sym, IfOk-weaker}
 use Rattle.aig_circuit.specs.declared.edge.AigEdge.{AigEdge}
 use Rattle.aig_circuit.specs.declared.node.AigNode.{AigNode}
 use Rattle.aig_circuit.specs.declared.node.AigNodeType.TheVariants.{False}
-use Rattle.aig_circuit.specs.Circuit.{AreNodes, IsInRange}
-use Rattle.aig_circuit.specs.Build.{Folds}
+use Rattle.aig_circuit.proofs.Words.{AreNodes, IsInRange, Folds}
 use Rattle.aig_circuit.specs.Build.Folds.{true_first, true_second, false_first, false_second, same, opposite}
 use Rattle.aig_circuit.proofs.Building.{AddsGates-itself, value-Folds}
 use Rattle.aig_circuit.proofs.Trees.{kind_at-within}

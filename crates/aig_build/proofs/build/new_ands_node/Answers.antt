@@ -1,8 +1,6 @@
-use Rattle.std.proofs.Common.{false, true, length, take, get_or, refl, sym, ap, subst, ◌∙◌, arith, ◌≡◌}
-use Rattle.std.proofs.lemmas.List.{take_all, take_more}
+use Rattle.aig_base.proofs.Words.{false, true, length, take, get_or, refl, sym, ap, subst, ◌∙◌, arith, ◌≡◌, take_all, take_more}
 use Rattle.aig_circuit.specs.declared.edge.AigEdge.{AigEdge}
-use Rattle.aig_circuit.specs.Edge.{edge_to}
-use Rattle.aig_circuit.specs.Build.{AddsGates, FoldsOrAdds, FoldsOrAddsAll, JoinsByAnd}
+use Rattle.aig_circuit.proofs.Words.{edge_to, AddsGates, FoldsOrAdds, FoldsOrAddsAll, JoinsByAnd}
 use Rattle.aig_circuit.proofs.Building.{AddsGates-itself}
 use Rattle.aig_circuit.proofs.Joining.{AndSoFar-none, AndSoFar-push, joins_from_left_push, adds_none-true}
 use Rattle.aig_build.proofs.Joined.{cut_back, still_there}

@@ -1,10 +1,7 @@
-use Rattle.std.proofs.Common.{◌≡◌, sym, ap, subst, ◌∙◌}
-use Rattle.std.specs.Prelude.{IfOk}
+use Rattle.aig_base.proofs.Words.{◌≡◌, sym, ap, subst, ◌∙◌, IfOk}
 use Rattle.aig_circuit.specs.declared.edge.AigEdge.{AigEdge}
-use Rattle.aig_circuit.specs.Edge.{inverse}
-use Rattle.aig_circuit.specs.Build.{Folds, FoldsOrAdds}
+use Rattle.aig_circuit.proofs.Words.{inverse, Folds, FoldsOrAdds, IsInRange}
 use Rattle.aig_circuit.proofs.Joining.{inverse_twice}
-use Rattle.aig_circuit.specs.Circuit.{IsInRange}
 use Rattle.aig_build.proofs.build.new_imply_node.Goals as goal
 
 pub returns-clause-rule : goal.returns-clause-rule

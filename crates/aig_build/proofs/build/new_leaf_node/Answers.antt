@@ -1,5 +1,4 @@
-use Rattle.std.proofs.Common.{◌≡◌, subst, sym, arith}
-use Rattle.std.proofs.lemmas.Grind.{common_steps}
+use Rattle.aig_base.proofs.Words.{◌≡◌, subst, sym, arith, common_steps}
 use Rattle.aig_circuit.specs.declared.node.AigNodeType.TheVariants.{Leaf}
 use Rattle.aig_circuit.specs.Build.{with_node, Grows}
 use Rattle.aig_circuit.proofs.Building.{Grows-leaf}

@@ -1,8 +1,6 @@
-use Rattle.std.proofs.Common.{◌≡◌, refl, sym, ap, subst, ◌∙◌}
-use Rattle.std.proofs.lemmas.Bool.{false≢true}
-use Rattle.aig_circuit.specs.Edge.{inverse}
+use Rattle.aig_base.proofs.Words.{◌≡◌, refl, sym, ap, subst, ◌∙◌, false≢true}
+use Rattle.aig_circuit.proofs.Words.{inverse, IsInRange}
 use Rattle.aig_circuit.proofs.Joining.{inverse_twice}
-use Rattle.aig_circuit.specs.Circuit.{IsInRange}
 use Rattle.aig_build.proofs.Joined.{value-or}
 use Rattle.aig_build.proofs.build.new_or_node.Goals as goal
 

@@ -1,9 +1,7 @@
-use Rattle.std.proofs.Common.{◌≡◌, map, ◌∙◌}
-use Rattle.aig_circuit.specs.Edge.{inverse}
-use Rattle.aig_circuit.specs.Build.{JoinsByAnd}
+use Rattle.aig_base.proofs.Words.{◌≡◌, map, ◌∙◌, IfOk-from_err}
+use Rattle.aig_circuit.proofs.Words.{inverse, JoinsByAnd}
 use Rattle.aig_circuit.proofs.Joining.{All-inverse, JoinsByOr-inverse}
 use Rattle.aig_circuit.proofs.Building.{AddsGates-itself}
-use Rattle.std.proofs.lemmas.Result.{IfOk-from_err}
 use Rattle.aig_build.proofs.build.new_ors_node.Goals as goal
 
 pub new_ands_node-requires-clause-edges : goal.new_ands_node-requires-clause-edges

@@ -1,8 +1,6 @@
 use Rattle.std.proofs.Common.{◌≡◌, ◌++◌, [], ◌∷◌, false, length, subst, sym, ap, ◌∙◌, arith, length-append}
 use Rattle.aig_circuit.specs.declared.node.AigNode.{AigNode}
-use Rattle.aig_circuit.specs.Edge.{edge_to}
-use Rattle.aig_circuit.specs.Node.{and_of}
-use Rattle.aig_circuit.specs.Build.{AddsGate, AddsGates}
+use Rattle.aig_circuit.proofs.Words.{edge_to, and_of, AddsGate, AddsGates}
 use Rattle.aig_circuit.proofs.Building.{value-AddsGate, AddsGates-itself, AddsGates-with_node}
 use Rattle.aig_build.proofs.build.trivial_new_and_node.Goals as goal
 

@@ -1,10 +1,7 @@
-use Rattle.std.proofs.Common.{◌≡◌, ℕ, suc, ◌+◌, ◌-◌, ◌≤◌, [], ◌∷◌, false, length, take, get_or, refl, sym, ap, subst, ◌∙◌, arith, length-append}
+use Rattle.aig_base.proofs.Words.{◌≡◌, ℕ, suc, ◌+◌, ◌-◌, ◌≤◌, [], ◌∷◌, false, length, take, get_or, refl, sym, ap, subst, ◌∙◌, arith, length-append, All-head, All-tail, All-same}
 use Rattle.std.proofs.lemmas.List.{nil_from_length, take_all, take_more}
-use Rattle.std.proofs.lemmas.List.Elements.{All-head, All-tail, All-same}
 use Rattle.aig_circuit.specs.declared.node.AigNode.{AigNode}
-use Rattle.aig_circuit.specs.Edge.{edge_to}
-use Rattle.aig_circuit.specs.Circuit.{IsInRange}
-use Rattle.aig_circuit.specs.Build.{AddsGate, AddsGateForEach, AddsGates, JoinsByAnd, JoinsFromLeft}
+use Rattle.aig_circuit.proofs.Words.{edge_to, IsInRange, AddsGate, AddsGateForEach, AddsGates, JoinsByAnd, JoinsFromLeft}
 use Rattle.aig_circuit.proofs.Building.{AddsGates-itself, Grows-longer}
 use Rattle.aig_circuit.proofs.Joining.{AndSoFar-one, AndSoFar-push, JoinsByAnd-none, joins_from_left_push}
 use Rattle.aig_build.proofs.Joined.{cut_back}

@@ -1,6 +1,5 @@
 use Rattle.std.proofs.Common.{◌≡◌, sym, ap, subst, ◌∙◌}
-use Rattle.aig_circuit.specs.Edge.{inverse}
-use Rattle.aig_circuit.specs.Circuit.{IsInRange}
+use Rattle.aig_circuit.proofs.Words.{inverse, IsInRange}
 use Rattle.aig_circuit.proofs.Joining.{inverse_twice}
 use Rattle.aig_build.proofs.Joined.{value-or}
 use Rattle.aig_build.proofs.build.trivial_new_or_node.Goals as goal

@@ -1,10 +1,7 @@
-use Rattle.std.proofs.Common.{◌≡◌, map, length, ap, sym, subst, ◌∙◌, arith}
-use Rattle.std.proofs.lemmas.List.{length-map}
-use Rattle.aig_circuit.specs.Edge.{inverse}
-use Rattle.aig_circuit.specs.Build.{AddsGateForEach, JoinsByAnd}
+use Rattle.aig_base.proofs.Words.{◌≡◌, map, length, ap, sym, subst, ◌∙◌, arith, length-map, IfOk-from_err}
+use Rattle.aig_circuit.proofs.Words.{inverse, AddsGateForEach, JoinsByAnd}
 use Rattle.aig_circuit.proofs.Joining.{All-inverse, JoinsByOr-inverse, inverse_twice}
 use Rattle.aig_circuit.proofs.Building.{AddsGates-itself}
-use Rattle.std.proofs.lemmas.Result.{IfOk-from_err}
 use Rattle.aig_build.proofs.build.trivial_new_ors_node.Goals as goal
 
 pub trivial_new_ands_node-requires-clause-edges : goal.trivial_new_ands_node-requires-clause-edges

@@ -1,8 +1,6 @@
-use Rattle.std.proofs.Common.{ℕ, Some, List, rules}
-use Rattle.std.proofs.lemmas.Bool.{or_right}
+use Rattle.aig_base.proofs.Words.{ℕ, Some, List, rules, or_right}
 use Rattle.aig_commands.specs.declared.tool.TheConstants.{LIMIT}
-use Rattle.aig_format.specs.File.{File}
-use Rattle.aig_format.specs.Fits.{Accepts}
+use Rattle.aig_format.proofs.Words.{File, Accepts}
 use Rattle.aig_reader.specs.Verdicts.{Accepted}
 use Rattle.aig_witness.specs.Files.{ShowsNext, verdict_of}
 use Rattle.aig_calls.specs.Calls.{shown_at}

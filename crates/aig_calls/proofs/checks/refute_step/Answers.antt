@@ -1,5 +1,4 @@
-use Rattle.std.proofs.Common.{◌≡◌, Some, Ok, refl}
-use Rattle.std.proofs.lemmas.Bool.{or_right}
+use Rattle.aig_base.proofs.Words.{◌≡◌, Some, Ok, refl, or_right}
 use Rattle.aig_answers.specs.Answers.{IsAsked, TellsOfStep, asked_verdict, verdict_of}
 use Rattle.aig_answers.specs.declared.error.AnswerError.TheVariants as answers
 use Rattle.aig_commands.specs.declared.tool.TheConstants.{LIMIT}

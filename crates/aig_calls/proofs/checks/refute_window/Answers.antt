@@ -1,5 +1,4 @@
-use Rattle.std.proofs.Common.{◌≡◌, ℕ, ◌+◌, Some, Ok, refl, rules}
-use Rattle.std.proofs.lemmas.Bool.{or_right}
+use Rattle.aig_base.proofs.Words.{◌≡◌, ℕ, ◌+◌, Some, Ok, refl, rules, or_right}
 use Rattle.aig_answers.specs.Answers.{IsAsked, TellsOfWindow, verdict_of, window_verdict}
 use Rattle.aig_answers.specs.declared.error.AnswerError.TheVariants as answers
 use Rattle.aig_runs.specs.Induction.{IsKInductive}

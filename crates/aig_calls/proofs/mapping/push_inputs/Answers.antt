@@ -1,6 +1,4 @@
-use Rattle.std.proofs.Common.{◌≡◌, ℕ, true, [], ◌∷◌, ◌++◌, get_or, map, ap, ◌∙◌, arith, rules}
-use Rattle.std.proofs.lemmas.List.{take_all}
-use Rattle.std.proofs.lemmas.List.Elements.{Contains-get_or}
+use Rattle.aig_base.proofs.Words.{◌≡◌, ℕ, true, [], ◌∷◌, ◌++◌, get_or, map, ap, ◌∙◌, arith, rules, take_all, Contains-get_or}
 use Rattle.aig_base.specs.Clauses.{lit_to}
 use Rattle.aig_circuit.specs.Circuit.{Circuit}
 use Rattle.aig_unroll.specs.Places.{place_at}

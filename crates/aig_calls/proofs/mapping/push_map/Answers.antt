@@ -1,5 +1,4 @@
-use Rattle.std.proofs.Common.{◌<◌, ◌-◌, ◌^◌, arith}
-use Rattle.std.proofs.lemmas.List.Elements.{All-drop, All-same, All-take, All-weaker}
+use Rattle.aig_base.proofs.Words.{◌<◌, ◌-◌, ◌^◌, arith, All-drop, All-same, All-take, All-weaker}
 use Rattle.aig_circuit.specs.declared.edge.AigEdge.{AigEdge}
 use Rattle.aig_circuit.specs.declared.node.AigLatch.{AigLatch}
 use Rattle.aig_circuit.specs.Circuit.{IsInRange, IsLatch}

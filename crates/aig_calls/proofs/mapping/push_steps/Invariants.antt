@@ -1,5 +1,4 @@
-use Rattle.std.proofs.Common.{◌≡◌, ◌+◌, ◌++◌, take}
-use Rattle.std.specs.List.{flat_map, range_with_len}
+use Rattle.aig_base.proofs.Words.{◌≡◌, ◌+◌, ◌++◌, take, flat_map, range_with_len}
 use Rattle.aig_calls.specs.Numbers.{input_numbers}
 use Rattle.aig_calls.proofs.mapping.push_steps.Given as goal
 

@@ -1,7 +1,5 @@
-use Rattle.std.proofs.Common.{◌<◌, ◌-◌, ◌^◌, length, arith}
-use Rattle.std.specs.Prelude.{All}
+use Rattle.aig_base.proofs.Words.{◌<◌, ◌-◌, ◌^◌, length, arith, All, get_or_from_slice_get}
 use Rattle.aig_base.specs.Clauses.{variable_of}
-use Rattle.std.proofs.lemmas.Option.{get_or_from_slice_get}
 use Rattle.aig_calls.specs.Numbers.{clause_numbers}
 use Rattle.aig_calls.proofs.Listing.{at_place, turn}
 use Rattle.aig_calls.proofs.numbers.push_list.Goals as goal

@@ -1,5 +1,4 @@
-use Rattle.std.proofs.Common.{◌≡◌, ◌++◌, take}
-use Rattle.std.specs.List.{flat_map}
+use Rattle.aig_base.proofs.Words.{◌≡◌, ◌++◌, take, flat_map}
 use Rattle.aig_calls.specs.Numbers.{clause_numbers}
 use Rattle.aig_calls.proofs.numbers.push_list.Given as goal
 

@@ -1,6 +1,4 @@
-use Rattle.std.proofs.Common.{◌<◌, ◌-◌, ◌^◌, length, arith}
-use Rattle.std.specs.List.{flat_map}
-use Rattle.std.proofs.lemmas.Option.{get_or_from_slice_get}
+use Rattle.aig_base.proofs.Words.{◌<◌, ◌-◌, ◌^◌, length, arith, flat_map, get_or_from_slice_get}
 use Rattle.aig_base.specs.Clauses.{AreBelow}
 use Rattle.aig_calls.specs.Numbers.{clause_numbers}
 use Rattle.aig_calls.proofs.Listing.{at_place, below_more, turn}

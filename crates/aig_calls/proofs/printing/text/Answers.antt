@@ -1,5 +1,4 @@
-use Rattle.std.proofs.Common.{ℕ, Some, List, Vec, Global, ap, sym, ◌∙◌, rules}
-use Rattle.std.proofs.lemmas.Bool.{or_right}
+use Rattle.aig_base.proofs.Words.{ℕ, Some, List, Vec, Global, ap, sym, ◌∙◌, rules, or_right}
 use Rattle.aig_commands.specs.Running.{Answers, TakesFile, file_verdict, steps_of, verdict_of}
 use Rattle.aig_commands.specs.declared.tool.TheConstants.{LIMIT}
 use Rattle.aig_calls.specs.Statuses.{IsOfText}

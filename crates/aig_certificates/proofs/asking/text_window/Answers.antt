@@ -2,8 +2,7 @@ use Rattle.aig_answers.specs.Answers.{IsAsked, window_verdict}
 use Rattle.aig_answers.specs.declared.windows.WindowClauses.{WindowClauses}
 use Rattle.aig_runs.specs.WindowClauses.{AsksWindow}
 use Rattle.aig_runs.specs.declared.window.Window.TheVariants.{Plain}
-use Rattle.aig_format.specs.Circuit.{circuit_of}
-use Rattle.aig_format.specs.File.{File}
+use Rattle.aig_format.proofs.Words.{circuit_of, File}
 use Rattle.aig_certificates.proofs.TextFiles.{told_of_text}
 use Rattle.aig_certificates.proofs.asking.text_window.Goals as goal
 

@@ -1,5 +1,4 @@
-use Rattle.std.proofs.Common.{Err, refl}
-use Rattle.std.proofs.lemmas.Result.{err_from_is_err_and}
+use Rattle.aig_base.proofs.Words.{Err, refl, err_from_is_err_and}
 use Rattle.aig_edits.proofs.Reading.{reads_on}
 use Rattle.aig_certificates.specs.declared.error.CertificateError.TheVariants as errors
 use Rattle.aig_certificates.specs.Certificates.{Certifies, IsOwn, first_verdict, second_verdict}

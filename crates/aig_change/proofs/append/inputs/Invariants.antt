@@ -1,4 +1,4 @@
-use Rattle.std.proofs.Common.{◌≡◌, ◌+◌, ◌≤◌, ◌++◌, map, take}
+use Rattle.aig_base.proofs.Words.{◌≡◌, ◌+◌, ◌≤◌, ◌++◌, map, take}
 use Rattle.std.specs.Prelude.{vec_capacity, vec_len}
 use Rattle.aig_change.specs.Merge.{shifted}
 use Rattle.aig_change.proofs.append.inputs.Given as goal

@@ -1,4 +1,4 @@
-use Rattle.std.proofs.Common.{◌≡◌, ◌+◌, ◌≤◌, ◌++◌, take, ◌-◌, length}
+use Rattle.aig_base.proofs.Words.{◌≡◌, ◌+◌, ◌≤◌, ◌++◌, take, ◌-◌, length}
 use Rattle.std.specs.Prelude.{vec_capacity, vec_len}
 use Rattle.aig_circuit.specs.Renumber.{nodes_in_order}
 use Rattle.aig_change.specs.Merge.{numbers_but_0, shifted}

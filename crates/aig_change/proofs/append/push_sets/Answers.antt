@@ -1,6 +1,4 @@
-use Rattle.std.proofs.Common.{Vec, Global, List, ◌<◌, ◌++◌, ◌∙◌, ap, append-nil, map, sym}
-use Rattle.std.specs.Prelude.{All}
-use Rattle.std.proofs.lemmas.List.{take_all}
+use Rattle.aig_base.proofs.Words.{Vec, Global, List, ◌<◌, ◌++◌, ◌∙◌, ap, append-nil, map, sym, All, take_all}
 use Rattle.aig_circuit.specs.declared.edge.AigEdge.{AigEdge}
 use Rattle.aig_circuit.specs.Renumber.{renumbered_edge}
 use Rattle.aig_renumber.specs.Numbers.{IsEdgeIn}

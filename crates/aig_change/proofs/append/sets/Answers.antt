@@ -1,5 +1,4 @@
-use Rattle.std.proofs.Common.{Vec, Global, List, ◌++◌, ◌∙◌, ap, map}
-use Rattle.std.proofs.lemmas.List.{map-append}
+use Rattle.aig_base.proofs.Words.{Vec, Global, List, ◌++◌, ◌∙◌, ap, map, map-append}
 use Rattle.aig_circuit.specs.declared.edge.AigEdge.{AigEdge}
 use Rattle.aig_circuit.specs.Renumber.{renumbered_edge}
 use Rattle.aig_change.specs.Merge.{shifted}

@@ -1,9 +1,6 @@
-use Rattle.std.proofs.Common.{Vec, Global, sym, subst, ap, ◌∙◌, map, set}
-use Rattle.std.specs.Prelude.{All}
+use Rattle.aig_base.proofs.Words.{Vec, Global, sym, subst, ap, ◌∙◌, map, set, All}
 use Rattle.aig_circuit.specs.declared.edge.AigEdge.{AigEdge}
-use Rattle.aig_circuit.specs.Edge.{inverse}
-use Rattle.aig_circuit.specs.Circuit.{Circuit, IsCircuit, IsInRange}
-use Rattle.aig_circuit.specs.View.{lists_circuit}
+use Rattle.aig_circuit.proofs.Words.{inverse, Circuit, IsCircuit, IsInRange, lists_circuit}
 use Rattle.aig_circuit.proofs.Joining.{All-inverse}
 use Rattle.aig_change.specs.Changes.{CompressesBads}
 use Rattle.aig_change.proofs.Compressing.{compressed}

@@ -1,9 +1,6 @@
-use Rattle.std.proofs.Common.{◌≡◌, List, Some, sym, ap, subst, ◌∙◌, arith}
-use Rattle.std.specs.Prelude.{All}
+use Rattle.aig_base.proofs.Words.{◌≡◌, List, Some, sym, ap, subst, ◌∙◌, arith, All}
 use Rattle.aig_circuit.specs.declared.edge.AigEdge.{AigEdge}
-use Rattle.aig_circuit.specs.Build.{FoldsOrAddsAll, JoinsByAnd}
-use Rattle.aig_circuit.specs.Circuit.{IsInRange}
-use Rattle.aig_circuit.specs.View.{lists_circuit}
+use Rattle.aig_circuit.proofs.Words.{FoldsOrAddsAll, JoinsByAnd, IsInRange, lists_circuit}
 use Rattle.aig_circuit.proofs.Building.{Grows-longer, Grows-then}
 use Rattle.aig_change.specs.Changes.{constraints_held_latch}
 use Rattle.aig_change.proofs.Moving.{All-grown, moved_lists}

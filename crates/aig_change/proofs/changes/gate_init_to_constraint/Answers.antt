@@ -1,14 +1,7 @@
-use Rattle.std.proofs.Common.{◌≡◌, false, Some, [], ◌∷◌, ◌++◌, length, map, sym, ap, subst, ◌∙◌}
-use Rattle.std.specs.Prelude.{All}
-use Rattle.std.proofs.lemmas.Bool.{false≢true}
-use Rattle.std.proofs.lemmas.List.{length-map, take_at}
+use Rattle.aig_base.proofs.Words.{◌≡◌, false, Some, [], ◌∷◌, ◌++◌, length, map, sym, ap, subst, ◌∙◌, All, false≢true, length-map, take_at}
 use Rattle.aig_circuit.specs.declared.edge.AigEdge.{AigEdge}
 use Rattle.aig_circuit.specs.declared.node.AigNodeType.TheVariants.{Leaf}
-use Rattle.aig_circuit.specs.Build.{with_node}
-use Rattle.aig_circuit.specs.Circuit.{Circuit, IsCircuit}
-use Rattle.aig_circuit.specs.Edge.{edge_to}
-use Rattle.aig_circuit.specs.Edges.{HasConstantInit}
-use Rattle.aig_circuit.specs.View.{lists_circuit}
+use Rattle.aig_circuit.proofs.Words.{with_node, Circuit, IsCircuit, edge_to, HasConstantInit, lists_circuit}
 use Rattle.aig_change.specs.Changes.{ConstrainsInits, first_step_latch, with_constant_start}
 use Rattle.aig_change.specs.Inits.{Constrains}
 use Rattle.aig_change.proofs.Constraining.{ConstrainsInits-plain, gated_starts}

@@ -1,10 +1,7 @@
-use Rattle.std.proofs.Common.{◌≡◌, ◌<◌, Vec, Global, List, ◌++◌, ◌∙◌, ap, length, map, subst, sym}
-use Rattle.std.specs.Prelude.{All}
+use Rattle.aig_base.proofs.Words.{◌≡◌, ◌<◌, Vec, Global, List, ◌++◌, ◌∙◌, ap, length, map, subst, sym, All}
 use Rattle.aig_circuit.specs.declared.edge.AigEdge.{AigEdge}
 use Rattle.aig_circuit.specs.declared.node.AigNode.{AigNode}
-use Rattle.aig_circuit.specs.Properties.{append_properties, map_properties}
-use Rattle.aig_circuit.specs.Renumber.{renumbered_edge}
-use Rattle.aig_circuit.specs.View.{lists_circuit, properties_of}
+use Rattle.aig_circuit.proofs.Words.{append_properties, map_properties, renumbered_edge, lists_circuit, properties_of}
 use Rattle.aig_renumber.specs.Numbers.{IsLatchIn}
 use Rattle.aig_renumber.proofs.Circuits.{SpeaksOf-nodes}
 use Rattle.aig_change.specs.Merge.{shifted}

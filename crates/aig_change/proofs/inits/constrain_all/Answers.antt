@@ -1,6 +1,4 @@
-use Rattle.std.proofs.Common.{◌∙◌, ap, arith, length, subst, take}
-use Rattle.std.proofs.lemmas.List.{take_all}
-use Rattle.std.proofs.lemmas.Result.{IfOk-from_err}
+use Rattle.aig_base.proofs.Words.{◌∙◌, ap, arith, length, subst, take, take_all, IfOk-from_err}
 use Rattle.aig_circuit.proofs.Building.{AddsGates-itself, AddsGates-then, Grows-longer}
 use Rattle.aig_change.specs.Inits.{Constrains}
 use Rattle.aig_change.proofs.Constraining.{Constrains-none, Constrains-turn, first_kept}

@@ -1,7 +1,6 @@
 use Rattle.std.proofs.Common.{List, ap, false, subst, take, ◌∙◌}
 use Rattle.aig_circuit.specs.declared.node.AigNode.{AigNode}
-use Rattle.aig_circuit.specs.Edge.{edge_to}
-use Rattle.aig_circuit.specs.Build.{AddsGates}
+use Rattle.aig_circuit.proofs.Words.{edge_to, AddsGates}
 use Rattle.aig_circuit.proofs.Building.{Grows-then, take-Grows}
 use Rattle.aig_change.specs.Inits.{Constrains}
 use Rattle.aig_change.proofs.Grown.{IsLatch-grown}

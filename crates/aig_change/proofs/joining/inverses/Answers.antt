@@ -1,5 +1,4 @@
-use Rattle.std.proofs.Common.{◌++◌, ◌∷◌, [], ◌∙◌, ap, map}
-use Rattle.std.proofs.lemmas.List.{take_all}
+use Rattle.aig_base.proofs.Words.{◌++◌, ◌∷◌, [], ◌∙◌, ap, map, take_all}
 use Rattle.aig_circuit.specs.Edge.{inverse}
 use Rattle.aig_circuit.proofs.Lists.{mapped_more}
 use Rattle.aig_change.proofs.joining.inverses.Goals as goal

@@ -1,5 +1,4 @@
-use Rattle.std.proofs.Common.{◌<◌, length, arith}
-use Rattle.std.proofs.lemmas.Bool.Decides.{nat_tests}
+use Rattle.aig_base.proofs.Words.{◌<◌, length, arith, nat_tests}
 use Rattle.aig_change.proofs.First.{JoinsFirst-set}
 use Rattle.aig_change.proofs.Moving.{All-grown}
 use Rattle.aig_change.proofs.joining.join_first.Goals as goal

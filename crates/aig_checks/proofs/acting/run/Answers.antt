@@ -1,5 +1,4 @@
-use Rattle.std.proofs.Common.{ap, sym, ◌∙◌}
-use Rattle.std.specs.Prelude.{string_bytes}
+use Rattle.aig_base.proofs.Words.{ap, sym, ◌∙◌, string_bytes}
 use Rattle.aig_checks.proofs.Calling.{one_name, two_names}
 use Rattle.aig_checks.proofs.acting.run.Goals as goal
 

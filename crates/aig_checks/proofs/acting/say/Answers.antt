@@ -1,5 +1,4 @@
-use Rattle.std.proofs.Common.{[], ◌∷◌, ◌++◌}
-use Rattle.std.proofs.lemmas.Result.{err_from_is_err_and}
+use Rattle.aig_base.proofs.Words.{[], ◌∷◌, ◌++◌, err_from_is_err_and}
 use Rattle.aig_command_line.proofs.Kept.{said_unflushed}
 use Rattle.aig_checks.specs.declared.tool.CheckError.TheVariants as errors
 use Rattle.aig_checks.proofs.acting.say.Goals as goal

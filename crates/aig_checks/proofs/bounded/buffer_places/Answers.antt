@@ -1,5 +1,4 @@
-use Rattle.std.proofs.Common.{◌≡◌, ◌+◌, ◌<◌, ◌++◌, ◌∷◌, [], ap, length, length-append, arith, rules}
-use Rattle.std.specs.List.{zip}
+use Rattle.aig_base.proofs.Words.{◌≡◌, ◌+◌, ◌<◌, ◌++◌, ◌∷◌, [], ap, length, length-append, arith, rules, zip}
 use Rattle.std.proofs.lemmas.Slice.Zip.{length-zip, zip_end, zip_turn}
 use Rattle.aig_output.proofs.Putting.{Buffers-turn, all_done, failed_turn}
 use Rattle.aig_checks.specs.Bounded.{place_line}

@@ -1,5 +1,4 @@
-use Rattle.std.proofs.Common.{length, take}
-use Rattle.std.specs.List.{flat_map, zip}
+use Rattle.aig_base.proofs.Words.{length, take, flat_map, zip}
 use Rattle.aig_output.specs.Sinks.{Buffers}
 use Rattle.aig_checks.specs.Bounded.{place_line}
 use Rattle.aig_checks.proofs.bounded.buffer_places.Given as goal

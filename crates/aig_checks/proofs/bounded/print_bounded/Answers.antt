@@ -1,5 +1,4 @@
-use Rattle.std.proofs.Common.{◌++◌, length, refl}
-use Rattle.std.proofs.lemmas.Result.{err_from_is_err_and}
+use Rattle.aig_base.proofs.Words.{◌++◌, length, refl, err_from_is_err_and}
 use Rattle.aig_base.specs.Formula.{clauses_in}
 use Rattle.aig_dimacs.specs.Text.{dimacs_of}
 use Rattle.aig_checks.specs.declared.tool.TheConstants.{LIMIT}

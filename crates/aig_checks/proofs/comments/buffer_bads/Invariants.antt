@@ -1,5 +1,4 @@
-use Rattle.std.proofs.Common.{take}
-use Rattle.std.specs.List.{enumerate_from, flat_map}
+use Rattle.aig_base.proofs.Words.{take, enumerate_from, flat_map}
 use Rattle.aig_output.specs.Sinks.{Buffers}
 use Rattle.aig_checks.specs.Comments.{bad_line}
 use Rattle.aig_checks.proofs.comments.buffer_bads.Given as goal

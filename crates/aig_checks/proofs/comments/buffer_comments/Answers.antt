@@ -1,6 +1,4 @@
-use Rattle.std.proofs.Common.{◌≡◌, ◌+◌, ◌*◌, ◌<◌, ◌^◌, [], ◌∷◌, length, ap, sym, ◌∙◌, arith, rules}
-use Rattle.std.specs.List.{enumerate_from, flat_map}
-use Rattle.std.proofs.lemmas.List.Elements.{All-drop, All-same, All-take, All-weaker}
+use Rattle.aig_base.proofs.Words.{◌≡◌, ◌+◌, ◌*◌, ◌<◌, ◌^◌, [], ◌∷◌, length, ap, sym, ◌∙◌, arith, rules, enumerate_from, flat_map, All-drop, All-same, All-take, All-weaker}
 use Rattle.aig_circuit.specs.declared.edge.AigEdge.{AigEdge}
 use Rattle.aig_circuit.specs.declared.node.AigLatch.{AigLatch}
 use Rattle.aig_circuit.specs.Circuit.{IsInRange, IsLatch, latch_leaves}

@@ -1,11 +1,8 @@
-use Rattle.std.proofs.Common.{ℕ, List, Ok, subst, arith, rules}
-use Rattle.std.specs.List.{enumerate_from, flat_map}
-use Rattle.std.proofs.lemmas.List.FromFn.{length-enumerate_from}
+use Rattle.aig_base.proofs.Words.{ℕ, List, Ok, subst, arith, rules, enumerate_from, flat_map, length-enumerate_from, Contains-get_or}
 use Rattle.aig_base.specs.declared.stream.StreamFault.{StreamFault}
 use Rattle.aig_output.specs.Sinks.{BuffersOrStops}
 use Rattle.aig_output.proofs.Putting.{Buffers-turn, all_done, failed_turn}
 use Rattle.aig_checks.proofs.Commenting.{line_at}
-use Rattle.std.proofs.lemmas.List.Elements.{Contains-get_or}
 use Rattle.aig_unroll.proofs.Others.{inputs_are_others}
 use Rattle.aig_checks.specs.Comments.{input_line, input_lines}
 use Rattle.aig_checks.proofs.comments.buffer_inputs.Goals as goal

@@ -1,6 +1,4 @@
-use Rattle.std.proofs.Common.{arith, rules}
-use Rattle.std.specs.List.{enumerate_from}
-use Rattle.std.proofs.lemmas.List.FromFn.{length-enumerate_from}
+use Rattle.aig_base.proofs.Words.{arith, rules, enumerate_from, length-enumerate_from}
 use Rattle.aig_output.proofs.Putting.{Buffers-turn, all_done, failed_turn}
 use Rattle.aig_checks.proofs.Commenting.{line_at}
 use Rattle.aig_circuit.specs.Circuit.{latch_leaves}

@@ -1,5 +1,4 @@
-use Rattle.std.proofs.Common.{◌≡◌, ◌+◌, ◌<◌, ℕ, get_or, arith, rules, zero-add, ◌∙◌}
-use Rattle.std.specs.List.{range_with_len}
+use Rattle.aig_base.proofs.Words.{◌≡◌, ◌+◌, ◌<◌, ℕ, get_or, arith, rules, zero-add, ◌∙◌, range_with_len}
 use Rattle.std.proofs.lemmas.List.FromFn.{get_or-range_with_len, length-range_with_len}
 use Rattle.aig_output.proofs.Putting.{Buffers-turn, all_done, failed_turn}
 use Rattle.aig_checks.specs.Comments.{input_lines}

@@ -1,5 +1,4 @@
-use Rattle.std.proofs.Common.{◌+◌, take}
-use Rattle.std.specs.List.{flat_map, range_with_len}
+use Rattle.aig_base.proofs.Words.{◌+◌, take, flat_map, range_with_len}
 use Rattle.aig_output.specs.Sinks.{Buffers}
 use Rattle.aig_checks.specs.Comments.{input_lines}
 use Rattle.aig_checks.proofs.comments.buffer_steps.Given as goal

@@ -1,5 +1,4 @@
-use Rattle.std.proofs.Common.{map, refl}
-use Rattle.std.specs.Prelude.{string_bytes}
+use Rattle.aig_base.proofs.Words.{map, refl, string_bytes}
 use Rattle.aig_checks.proofs.Calling.{one_call}
 use Rattle.aig_checks.proofs.explaining.fault_by.Goals as goal
 

@@ -1,5 +1,5 @@
 use Rattle.std.specs.Prelude.{Option, Some, None, IfSome}
-use Rattle.std.proofs.lemmas.List.Elements.{Contains-append_right}
+use Rattle.aig_base.proofs.Words.{Contains-append_right}
 use Rattle.aig_checks.proofs.explaining.unopened.Goals as goal
 
 -- what holds of a value, with a weaker fact

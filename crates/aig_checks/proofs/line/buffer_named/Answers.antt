@@ -1,5 +1,5 @@
 use Rattle.std.proofs.Common.{[], ◌∷◌, ◌++◌, decimal, rules}
-use Rattle.std.specs.Prelude.{codes}
+use Rattle.aig_base.proofs.Words.{codes}
 use Rattle.aig_output.proofs.Putting.{Buffers-trans, failed_among, failed_first, then_call}
 use Rattle.aig_checks.proofs.line.buffer_named.Goals as goal
 

@@ -1,6 +1,4 @@
-use Rattle.std.proofs.Common.{◌++◌, refl}
-use Rattle.std.specs.Prelude.{codes}
-use Rattle.std.proofs.lemmas.Result.{err_from_is_err_and}
+use Rattle.aig_base.proofs.Words.{◌++◌, refl, codes, err_from_is_err_and}
 use Rattle.aig_certificates.specs.Certificates.{Obliges}
 use Rattle.aig_refutation.specs.declared.error.RefutationError.TheVariants as refutation
 use Rattle.aig_checks.specs.declared.tool.TheConstants.{LIMIT}

@@ -1,5 +1,4 @@
-use Rattle.std.proofs.Common.{rules}
-use Rattle.std.specs.Prelude.{codes}
+use Rattle.aig_base.proofs.Words.{rules, codes}
 use Rattle.aig_output.proofs.Putting.{Stops-before, failed_put}
 use Rattle.aig_checks.specs.Pairs.{part_text}
 use Rattle.aig_checks.proofs.Pairing.{then_written}

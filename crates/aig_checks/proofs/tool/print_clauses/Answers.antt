@@ -1,5 +1,4 @@
-use Rattle.std.proofs.Common.{◌≤◌, refl, subst, sym, arith}
-use Rattle.std.proofs.lemmas.Result.{err_from_is_err_and}
+use Rattle.aig_base.proofs.Words.{◌≤◌, refl, subst, sym, arith, err_from_is_err_and}
 use Rattle.aig_circuit.specs.Circuit.{Circuit}
 use Rattle.aig_unroll.specs.Places.{unrolled_size}
 use Rattle.aig_checks.specs.declared.tool.TheConstants.{LIMIT}

@@ -1,6 +1,4 @@
-use Rattle.std.proofs.Common.{◌++◌, length, refl}
-use Rattle.std.proofs.lemmas.Result.{err_from_is_err_and}
-use Rattle.std.proofs.KnownBytes.{Appends-trans}
+use Rattle.aig_base.proofs.Words.{◌++◌, length, refl, err_from_is_err_and, Appends-trans}
 use Rattle.aig_base.specs.Formula.{clauses_in}
 use Rattle.aig_dimacs.specs.Text.{dimacs_of}
 use Rattle.aig_output.proofs.Putting.{Stops-before, Stops-put}

@@ -1,5 +1,4 @@
-use Rattle.std.proofs.Common.{refl}
-use Rattle.std.proofs.lemmas.Result.{err_from_is_err_and}
+use Rattle.aig_base.proofs.Words.{refl, err_from_is_err_and}
 use Rattle.aig_witness.specs.Witness.{said_by, witness_text}
 use Rattle.aig_checks.specs.declared.tool.CheckError.TheVariants as errors
 use Rattle.aig_checks.proofs.Outcomes.{nothing_printed, some_printed, text_printed}

@@ -1,5 +1,4 @@
-use Rattle.std.proofs.Common.{refl, subst}
-use Rattle.std.proofs.lemmas.Result.{err_from_is_err_and}
+use Rattle.aig_base.proofs.Words.{refl, subst, err_from_is_err_and}
 use Rattle.aig_circuit.specs.Circuit.{Circuit}
 use Rattle.aig_witness.specs.Shown.{IsKnownWitness}
 use Rattle.aig_checks.specs.declared.tool.TheConstants.{LIMIT}

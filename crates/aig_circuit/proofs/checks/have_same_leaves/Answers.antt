@@ -1,6 +1,5 @@
 use Rattle.std.proofs.Common.{◌≡◌, Bool, eqb, ◌&&◌, List, [], ◌∷◌, length, nat_eq, refl, ap, ◌∙◌, arith, rules, tests}
-use Rattle.std.specs.List.{list_all, zip}
-use Rattle.std.proofs.lemmas.Bool.Decides.{Decides-eqb}
+use Rattle.aig_base.proofs.Words.{list_all, zip, Decides-eqb}
 use Rattle.std.proofs.lemmas.Iterator.{YieldsList-from_slice, YieldsList-from_zip}
 use Rattle.std.proofs.lemmas.Iterator.Search.{all_from_yields_List}
 use Rattle.std.specs.Cmp.Lexicographic.{pointwise}

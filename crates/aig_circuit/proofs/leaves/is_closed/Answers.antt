@@ -1,6 +1,4 @@
-use Rattle.std.proofs.Common.{◌≡◌, ℕ, ◌+◌, ◌++◌, List, length, length-append, sym, ◌∙◌, arith}
-use Rattle.std.proofs.lemmas.Bool.{eqb-true, eqb-false, eq-eqb}
-use Rattle.std.proofs.lemmas.List.{length-map}
+use Rattle.aig_base.proofs.Words.{◌≡◌, ℕ, ◌+◌, ◌++◌, List, length, length-append, sym, ◌∙◌, arith, eqb-true, eqb-false, eq-eqb, length-map}
 use Rattle.aig_circuit.specs.declared.node.AigLatch.{AigLatch}
 use Rattle.aig_circuit.specs.Circuit.{latch_leaves}
 use Rattle.aig_circuit.proofs.Counting.{closed-count, count-closed, count-open}

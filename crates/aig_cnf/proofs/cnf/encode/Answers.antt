@@ -1,10 +1,8 @@
-use Rattle.std.proofs.Common.{◌≡◌, ◌+◌, ◌-◌, ◌<◌, Bool, false, List, ◌++◌, drop, get_or, length, take, refl, sym, subst, ap, ◌∙◌, arith}
-use Rattle.std.proofs.Math.Seq.{take-append_seam}
+use Rattle.aig_base.proofs.Words.{◌≡◌, ◌+◌, ◌-◌, ◌<◌, Bool, false, List, ◌++◌, drop, get_or, length, take, refl, sym, subst, ap, ◌∙◌, arith, take-append_seam}
 use Rattle.aig_circuit.proofs.Trees.{kind_at-within}
 use Rattle.aig_circuit.specs.declared.node.AigNode.{AigNode}
 use Rattle.aig_circuit.specs.declared.node.AigNodeType.TheVariants.{False}
-use Rattle.aig_circuit.specs.Circuit.{AreNodes}
-use Rattle.aig_circuit.specs.Edges.{roots_of}
+use Rattle.aig_circuit.proofs.Words.{AreNodes, roots_of}
 use Rattle.aig_cnf.specs.Marks.{AddsNeededMarks, AreClausesOf}
 use Rattle.aig_cnf.proofs.Adding.{AddedDownTo, AddedDownTo-start, AddedDownTo-step, AddedDownTo-all}
 use Rattle.aig_cnf.proofs.Marking.{MarkedDownTo, MarkedDownTo-start, MarkedDownTo-step, MarkedDownTo-all, needed_is_marked}

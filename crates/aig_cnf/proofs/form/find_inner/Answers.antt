@@ -1,6 +1,4 @@
-use Rattle.std.proofs.Common.{◌≡◌, ℕ, Some, sym, subst, ◌∙◌, arith}
-use Rattle.std.proofs.lemmas.Bool.{false≢true}
-use Rattle.std.proofs.lemmas.Option.{same_Some}
+use Rattle.aig_base.proofs.Words.{◌≡◌, ℕ, Some, sym, subst, ◌∙◌, arith, false≢true, same_Some}
 use Rattle.aig_circuit.specs.declared.node.AigNodeType.TheVariants.{And}
 use Rattle.aig_circuit.specs.Node.{kind_at}
 use Rattle.aig_circuit.proofs.Trees.{kind_at-read}

@@ -1,5 +1,4 @@
-use Rattle.std.proofs.Common.{sym, ◌∙◌}
-use Rattle.std.proofs.lemmas.Bool.{false≢true}
+use Rattle.aig_base.proofs.Words.{sym, ◌∙◌, false≢true}
 use Rattle.aig_cnf.specs.Patterns.{is_xor, is_ite}
 use Rattle.aig_cnf.proofs.Matching.{AreOpposite-from, IsXor-from, IsIte-from, no_first, no_pattern, no_second, not_apart}
 use Rattle.aig_cnf.proofs.form.find_pattern.Goals as goal

@@ -1,5 +1,4 @@
-use Rattle.std.proofs.Common.{length, ap, arith}
-use Rattle.std.proofs.lemmas.List.{with_items_is}
+use Rattle.aig_base.proofs.Words.{length, ap, arith, with_items_is}
 use Rattle.aig_cnf.proofs.marks.find_roots.Goals as goal
 
 pub mark_roots-requires : goal.mark_roots-requires

@@ -1,7 +1,5 @@
-use Rattle.std.proofs.Common.{take}
-use Rattle.std.specs.List.{flat_map}
-use Rattle.aig_circuit.specs.Edges.{latch_edges}
-use Rattle.aig_circuit.specs.Marks.{AddsEdgeMarks}
+use Rattle.aig_base.proofs.Words.{take, flat_map}
+use Rattle.aig_circuit.proofs.Words.{latch_edges, AddsEdgeMarks}
 use Rattle.aig_cnf.proofs.marks.mark_latches.Given as goal
 
 abbrev pub invariant-loop-latch : goal.invariant-loop-latch

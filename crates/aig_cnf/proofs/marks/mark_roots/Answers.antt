@@ -1,12 +1,7 @@
-use Rattle.std.proofs.Common.{List, Vec, Global, ◌++◌, subst, sym, ap, ◌∙◌, arith}
-use Rattle.std.specs.Prelude.{All}
-use Rattle.std.specs.List.{flat_map}
-use Rattle.std.proofs.lemmas.List.Folds.{flat_map-map}
+use Rattle.aig_base.proofs.Words.{List, Vec, Global, ◌++◌, subst, sym, ap, ◌∙◌, arith, All, flat_map, flat_map-map}
 use Rattle.aig_circuit.specs.declared.edge.AigEdge.{AigEdge}
 use Rattle.aig_circuit.specs.declared.node.AigLatch.{AigLatch}
-use Rattle.aig_circuit.specs.Circuit.{IsInRange}
-use Rattle.aig_circuit.specs.Edges.{latch_edges}
-use Rattle.aig_circuit.specs.Marks.{AddsEdgeMarks}
+use Rattle.aig_circuit.proofs.Words.{IsInRange, latch_edges, AddsEdgeMarks}
 use Rattle.aig_circuit.proofs.Marking.{AddsEdgeMarks-then}
 use Rattle.aig_cnf.proofs.Needing.{sets_in_range}
 use Rattle.aig_cnf.proofs.marks.mark_roots.Goals as goal

@@ -1,5 +1,4 @@
-use Rattle.std.proofs.Common.{take}
-use Rattle.std.specs.List.{flat_map}
+use Rattle.aig_base.proofs.Words.{take, flat_map}
 use Rattle.aig_circuit.specs.Marks.{AddsEdgeMarks}
 use Rattle.aig_cnf.proofs.marks.mark_sets.Given as goal
 

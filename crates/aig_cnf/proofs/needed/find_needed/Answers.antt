@@ -1,9 +1,5 @@
-use Rattle.std.proofs.Common.{◌≡◌, ℕ, ◌+◌, ◌-◌, ◌*◌, ◌<◌, Bool, false, List, [], ◌∷◌, ◌++◌, drop, get_or, length, replicate, set, take, refl, sym, subst, ap, ◌∙◌, arith}
-use Rattle.std.specs.Prelude.{All}
-use Rattle.std.specs.List.{sum_by}
+use Rattle.aig_base.proofs.Words.{◌≡◌, ℕ, ◌+◌, ◌-◌, ◌*◌, ◌<◌, Bool, false, List, [], ◌∷◌, ◌++◌, drop, get_or, length, replicate, set, take, refl, sym, subst, ap, ◌∙◌, arith, All, sum_by, take-append_seam, length-flat_map}
 use Rattle.std.proofs.lemmas.List.Elements.{All-cons, All-nil, All-replicate, All-set}
-use Rattle.std.proofs.Math.Seq.{take-append_seam}
-use Rattle.std.proofs.lemmas.List.Concat.{length-flat_map}
 use Rattle.std.proofs.lemmas.List.Folds.{sum_by-replicate}
 use Rattle.std.proofs.lemmas.List.Sums.{sum_by-cons, sum_by-set}
 use Rattle.aig_base.specs.declared.logic.literal.Lit.{Lit}
@@ -11,8 +7,7 @@ use Rattle.aig_base.specs.Clauses.{AreBelow, lit_to, variable_of}
 use Rattle.aig_circuit.proofs.Trees.{kind_at-within}
 use Rattle.aig_circuit.specs.declared.node.AigNode.{AigNode}
 use Rattle.aig_circuit.specs.declared.node.AigNodeType.TheVariants.{False}
-use Rattle.aig_circuit.specs.Circuit.{AreNodes}
-use Rattle.aig_circuit.specs.Edges.{roots_of}
+use Rattle.aig_circuit.proofs.Words.{AreNodes, roots_of}
 use Rattle.aig_cnf.specs.Marks.{AddsNeededMarks, AreClausesOf}
 use Rattle.aig_cnf.proofs.Adding.{AddedDownTo, AddedDownTo-start, AddedDownTo-step, AddedDownTo-all}
 use Rattle.aig_cnf.proofs.Marking.{MarkedDownTo, MarkedDownTo-start, MarkedDownTo-step, MarkedDownTo-all, needed_is_marked}

@@ -1,5 +1,4 @@
-use Rattle.std.proofs.Common.{sym, ◌∙◌}
-use Rattle.std.specs.Cmp.Lexicographic.{same_text}
+use Rattle.aig_base.proofs.Words.{sym, ◌∙◌, same_text}
 use Rattle.aig_command_line.proofs.Giving.{all_given, no_further, no_other, no_settings, no_step}
 use Rattle.aig_command_line.proofs.arguments.arguments_of.Goals as goal
 

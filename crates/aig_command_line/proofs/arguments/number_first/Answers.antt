@@ -1,5 +1,4 @@
-use Rattle.std.proofs.Common.{ap, map}
-use Rattle.std.specs.Prelude.{string_bytes}
+use Rattle.aig_base.proofs.Words.{ap, map, string_bytes}
 use Rattle.aig_command_line.proofs.Giving.{no_number}
 use Rattle.aig_command_line.proofs.arguments.number_first.Goals as goal
 

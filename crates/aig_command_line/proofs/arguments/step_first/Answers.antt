@@ -1,6 +1,4 @@
-use Rattle.std.proofs.Common.{map}
-use Rattle.std.specs.Prelude.{string_bytes}
-use Rattle.std.proofs.lemmas.Option.{IfSome_then}
+use Rattle.aig_base.proofs.Words.{map, string_bytes, IfSome_then}
 use Rattle.aig_command_line.proofs.Giving.{number_at, number_up_to}
 use Rattle.aig_command_line.proofs.arguments.step_first.Goals as goal
 

@@ -1,5 +1,4 @@
-use Rattle.std.proofs.Common.{arith, map}
-use Rattle.std.specs.Prelude.{string_bytes}
+use Rattle.aig_base.proofs.Words.{arith, map, string_bytes}
 use Rattle.aig_command_line.specs.Arguments.{Arguments, Gives}
 use Rattle.aig_command_line.proofs.Apart.{holds_more}
 use Rattle.aig_command_line.proofs.command.find.Goals as goal

@@ -1,5 +1,4 @@
-use Rattle.std.proofs.Common.{◌≡◌, inr}
-use Rattle.std.specs.Io.KnownBytes.{prepend_known}
+use Rattle.aig_base.proofs.Words.{◌≡◌, inr, prepend_known}
 use Rattle.aig_command_line.proofs.reading.place_by_bytes.Goals as goal
 
 pub returns-in-Err : goal.returns-in-Err

@@ -1,5 +1,4 @@
-use Rattle.std.proofs.Common.{map, ◌∙◌, refl, sym}
-use Rattle.std.specs.Prelude.{string_bytes}
+use Rattle.aig_base.proofs.Words.{map, ◌∙◌, refl, sym, string_bytes}
 use Rattle.aig_commands.proofs.Calling.{never_none, one_call}
 use Rattle.aig_commands.proofs.acting.obey.Goals as goal
 

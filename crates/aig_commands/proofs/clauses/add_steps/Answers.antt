@@ -1,6 +1,5 @@
 use Rattle.std.proofs.Common.{length, ap, subst, arith}
-use Rattle.aig_circuit.specs.Circuit.{Circuit}
-use Rattle.aig_circuit.specs.View.{lists_circuit}
+use Rattle.aig_circuit.proofs.Words.{Circuit, lists_circuit}
 use Rattle.aig_unroll.specs.Unroll.{UnrollsTo}
 use Rattle.aig_commands.proofs.Unrolling.{unrolled_by_none, unrolled_by_some}
 use Rattle.aig_commands.proofs.clauses.add_steps.Goals as goal

@@ -1,5 +1,4 @@
-use Rattle.std.proofs.Common.{inl, inr, refl, subst}
-use Rattle.std.proofs.lemmas.Result.{err_from_is_err_and}
+use Rattle.aig_base.proofs.Words.{inl, inr, refl, subst, err_from_is_err_and}
 use Rattle.aig_circuit.specs.Circuit.{Circuit}
 use Rattle.aig_cnf.specs.Cnf.{HasClauses}
 use Rattle.aig_commands.proofs.clauses.print_clauses.Goals as goal

@@ -1,5 +1,4 @@
-use Rattle.std.proofs.Common.{sym, subst}
-use Rattle.std.proofs.lemmas.Result.{err_from_is_err_and}
+use Rattle.aig_base.proofs.Words.{sym, subst, err_from_is_err_and}
 use Rattle.aig_circuit.specs.Circuit.{IsCircuit}
 use Rattle.aig_format.proofs.Circuits.{IsCircuit-of_file}
 use Rattle.aig_reader.specs.Verdicts as reading

@@ -1,5 +1,4 @@
-use Rattle.std.proofs.Common.{map}
-use Rattle.std.specs.Prelude.{string_bytes}
+use Rattle.aig_base.proofs.Words.{map, string_bytes}
 use Rattle.aig_commands.proofs.Calling.{gives_exactly}
 use Rattle.aig_commands.proofs.command.parse.Goals as goal
 

@@ -1,5 +1,4 @@
-use Rattle.std.proofs.Common.{◌≡◌, ap, inl, inr, refl, subst, sym}
-use Rattle.std.proofs.lemmas.Result.{err_from_is_err_and}
+use Rattle.aig_base.proofs.Words.{◌≡◌, ap, inl, inr, refl, subst, sym, err_from_is_err_and}
 use Rattle.aig.specs.declared.aiger.WriteError.TheVariants as write
 use Rattle.aig_commands.specs.declared.tool.ToolError.TheVariants as errors
 use Rattle.aig_commands.proofs.Running.{err_of, only_interrupted, only_stopped, plain_bytes}

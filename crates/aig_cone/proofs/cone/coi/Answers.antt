@@ -1,5 +1,4 @@
-use Rattle.std.proofs.Common.{ℕ}
-use Rattle.std.proofs.lemmas.Result.{IfOk-weaker}
+use Rattle.aig_base.proofs.Words.{ℕ, IfOk-weaker}
 use Rattle.aig_cone.proofs.cone.coi.Goals as goal
 
 pub returns : goal.returns

@@ -1,7 +1,6 @@
-use Rattle.std.proofs.Common.{◌≡◌, Bool, List, length, map, subst, sym, ◌∙◌}
-use Rattle.std.proofs.lemmas.List.{take_at}
+use Rattle.aig_base.proofs.Words.{◌≡◌, Bool, List, length, map, subst, sym, ◌∙◌, take_at}
 use Rattle.aig_circuit.specs.declared.edge.AigEdge.{AigEdge}
-use Rattle.aig_circuit.specs.Marks.{IsMarked}
+use Rattle.aig_circuit.proofs.Words.{IsMarked}
 use Rattle.aig_circuit.specs.Reach.{IsFanin, IsReached, MarksExactly}
 use Rattle.aig_cone.proofs.Marking.{none_marked}
 use Rattle.aig_cone.proofs.cone.fanin_logic_cone.Goals as goal

@@ -1,10 +1,7 @@
-use Rattle.std.proofs.Common.{◌↔◌, subst, arith, IsTrue}
-use Rattle.std.specs.Prelude.{nat_eq}
+use Rattle.aig_base.proofs.Words.{◌↔◌, subst, arith, IsTrue, nat_eq, nat_eq_equiv, take_all}
 use Rattle.std.specs.HashSet as bag
-use Rattle.std.proofs.lemmas.Cmp.{nat_eq_equiv}
 use Rattle.std.proofs.lemmas.Map.Views.{exact_unsigned_eq, hash_set_contains_iff}
 use Rattle.aig_circuit.specs.Marks.{IsMarked}
-use Rattle.std.proofs.lemmas.List.{take_all}
 use Rattle.aig_cone.proofs.Numbers.{marked-passed, marked-put}
 use Rattle.aig_cone.proofs.cone.marked_set.Goals as goal
 use Rattle.aig_cone.proofs.cone.marked_set.Goals.{then-marked+in_ok-insert, else-marked}

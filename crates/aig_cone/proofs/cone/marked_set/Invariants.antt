@@ -1,5 +1,4 @@
-use Rattle.std.proofs.Common.{ℕ, ◌↔◌, take, IsTrue}
-use Rattle.std.specs.Prelude.{nat_eq}
+use Rattle.aig_base.proofs.Words.{ℕ, ◌↔◌, take, IsTrue, nat_eq}
 use Rattle.std.specs.HashSet as bag
 use Rattle.aig_circuit.specs.Marks.{IsMarked}
 use Rattle.aig_cone.proofs.cone.marked_set.Given as goal

@@ -1,8 +1,5 @@
-use Rattle.std.proofs.Common.{◌≡◌, length, ◌∙◌}
-use Rattle.std.specs.Prelude.{slice_index}
-use Rattle.std.proofs.lemmas.Result.{IfOk-weaker}
-use Rattle.aig_circuit.specs.Renumber.{kept_circuit}
-use Rattle.aig_circuit.specs.View.{lists_circuit}
+use Rattle.aig_base.proofs.Words.{◌≡◌, length, ◌∙◌, slice_index, IfOk-weaker}
+use Rattle.aig_circuit.proofs.Words.{kept_circuit, lists_circuit}
 use Rattle.aig_cone.specs.Refine.{ArePlaces}
 use Rattle.aig_cone.proofs.Agreeing.{refined-by_table}
 use Rattle.aig_cone.proofs.Keeping.{kept-first, kept-there}

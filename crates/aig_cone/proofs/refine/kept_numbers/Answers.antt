@@ -1,8 +1,5 @@
-use Rattle.std.proofs.Common.{ℕ, ◌<◌, ◌↔◌, List, length, subst, sym, ◌∙◌}
-use Rattle.std.specs.Prelude.{All}
-use Rattle.std.proofs.lemmas.Result.{IfOk-weaker}
-use Rattle.aig_circuit.specs.Reach.{IsInCone}
-use Rattle.aig_circuit.specs.Marks.{IsMarked}
+use Rattle.aig_base.proofs.Words.{ℕ, ◌<◌, ◌↔◌, List, length, subst, sym, ◌∙◌, All, IfOk-weaker}
+use Rattle.aig_circuit.proofs.Words.{IsInCone, IsMarked}
 use Rattle.aig_cone.proofs.Keeping.{AreKept-marked, refining_roots_within}
 use Rattle.aig_cone.proofs.refine.kept_numbers.Goals as goal
 

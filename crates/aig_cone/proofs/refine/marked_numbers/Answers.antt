@@ -1,5 +1,4 @@
-use Rattle.std.proofs.Common.{ℕ, Vec, Global, ap, subst, ◌∙◌}
-use Rattle.std.proofs.lemmas.List.{take_all}
+use Rattle.aig_base.proofs.Words.{ℕ, Vec, Global, ap, subst, ◌∙◌, take_all}
 use Rattle.aig_cone.specs.Marks.{AreMarked}
 use Rattle.aig_cone.proofs.Numbers.{AreMarked-none, AreMarked-push, AreMarked-skip}
 use Rattle.aig_cone.proofs.refine.marked_numbers.Goals as goal

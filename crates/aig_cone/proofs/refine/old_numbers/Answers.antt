@@ -1,5 +1,4 @@
-use Rattle.std.proofs.Common.{nat_cmp}
-use Rattle.std.specs.FinMap.{get-empty}
+use Rattle.aig_base.proofs.Words.{nat_cmp, get-empty}
 use Rattle.aig_cone.proofs.Numbers.{get-more}
 use Rattle.aig_cone.proofs.refine.old_numbers.Goals as goal
 

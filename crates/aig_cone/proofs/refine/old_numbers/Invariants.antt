@@ -1,6 +1,4 @@
-use Rattle.std.proofs.Common.{◌≡◌, ℕ, take}
-use Rattle.std.specs.Prelude.{slice_get}
-use Rattle.std.specs.FinMap.{get}
+use Rattle.aig_base.proofs.Words.{◌≡◌, ℕ, take, slice_get, get}
 use Rattle.aig_cone.proofs.refine.old_numbers.Given as goal
 
 abbrev pub invariant-loop-i : goal.invariant-loop-i

@@ -1,5 +1,5 @@
 use Rattle.std.proofs.Common.{◌<◌, arith, get_or, length, length-set, subst, sym, ◌∙◌}
-use Rattle.std.specs.Prelude.{All}
+use Rattle.aig_base.proofs.Words.{All}
 use Rattle.aig_cone.proofs.Numbers.{places-put, within-none, within-put}
 use Rattle.aig_cone.proofs.refine.places.Goals as goal
 

@@ -1,5 +1,5 @@
 use Rattle.std.proofs.Common.{◌≡◌, ℕ, ◌<◌, length, slice_index}
-use Rattle.std.specs.Prelude.{All}
+use Rattle.aig_base.proofs.Words.{All}
 use Rattle.aig_cone.proofs.refine.places.Given as goal
 
 abbrev pub invariant-loop-i : goal.invariant-loop-i

@@ -1,5 +1,4 @@
-use Rattle.std.proofs.Common.{◌++◌, ◌∙◌, ap, ◌∷◌, [], append-nil, sym}
-use Rattle.std.proofs.lemmas.List.{take_all}
+use Rattle.aig_base.proofs.Words.{◌++◌, ◌∙◌, ap, ◌∷◌, [], append-nil, sym, take_all}
 use Rattle.aig_circuit.specs.declared.node.AigLatch.{AigLatch}
 use Rattle.aig_circuit.specs.Circuit.{latch_leaves}
 use Rattle.aig_circuit.proofs.Lists.{mapped_more}

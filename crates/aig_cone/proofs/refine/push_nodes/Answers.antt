@@ -1,5 +1,4 @@
-use Rattle.std.proofs.Common.{◌++◌, ◌∙◌, ap, ◌∷◌, [], append-nil, map, sym}
-use Rattle.std.proofs.lemmas.List.{take_all}
+use Rattle.aig_base.proofs.Words.{◌++◌, ◌∙◌, ap, ◌∷◌, [], append-nil, map, sym, take_all}
 use Rattle.aig_circuit.specs.declared.edge.AigEdge.{AigEdge}
 use Rattle.aig_circuit.proofs.Lists.{mapped_more}
 use Rattle.aig_cone.proofs.refine.push_nodes.Goals as goal

@@ -1,7 +1,4 @@
-use Rattle.std.proofs.Common.{List, Vec, Global, ◌∙◌, ap, sym}
-use Rattle.std.specs.List.{flat_map}
-use Rattle.std.proofs.lemmas.List.Folds.{flat_map-map}
-use Rattle.std.proofs.lemmas.Result.{on_ok_weaker}
+use Rattle.aig_base.proofs.Words.{List, Vec, Global, ◌∙◌, ap, sym, flat_map, flat_map-map, on_ok_weaker}
 use Rattle.aig_circuit.specs.declared.edge.AigEdge.{AigEdge}
 use Rattle.aig_cone.proofs.Keeping.{refining_roots-pushed}
 use Rattle.aig_cone.proofs.refine.push_roots.Goals as goal

@@ -1,6 +1,4 @@
-use Rattle.std.proofs.Common.{ℕ, Vec, Global, ◌++◌, ◌∙◌, List, ap, append-nil, map, sym}
-use Rattle.std.specs.List.{flat_map}
-use Rattle.std.proofs.lemmas.List.{take_all}
+use Rattle.aig_base.proofs.Words.{ℕ, Vec, Global, ◌++◌, ◌∙◌, List, ap, append-nil, map, sym, flat_map, take_all}
 use Rattle.aig_circuit.specs.declared.edge.AigEdge.{AigEdge}
 use Rattle.aig_cone.proofs.Keeping.{appended_more, set_nodes-push}
 use Rattle.aig_cone.proofs.refine.push_sets.Goals as goal

@@ -1,6 +1,4 @@
-use Rattle.std.proofs.Common.{Option, ◌++◌, ◌∙◌, ap, append-nil, sym}
-use Rattle.std.specs.Prelude.{option_to_list}
-use Rattle.std.proofs.lemmas.List.{take_all}
+use Rattle.aig_base.proofs.Words.{Option, ◌++◌, ◌∙◌, ap, append-nil, sym, option_to_list, take_all}
 use Rattle.aig_circuit.specs.declared.edge.AigEdge.{AigEdge}
 use Rattle.aig_circuit.specs.declared.node.AigLatch.{AigLatch}
 use Rattle.aig_circuit.specs.Edges.{initial_edges}

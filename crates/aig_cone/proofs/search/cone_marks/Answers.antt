@@ -1,8 +1,6 @@
-use Rattle.std.proofs.Common.{◌≡◌, ◌↔◌, ℕ, Bool, List, length, subst, sym, ap, ◌∙◌}
-use Rattle.std.proofs.lemmas.List.{take_at}
+use Rattle.aig_base.proofs.Words.{◌≡◌, ◌↔◌, ℕ, Bool, List, length, subst, sym, ap, ◌∙◌, take_at}
 use Rattle.aig_circuit.specs.declared.node.AigNode.{AigNode}
-use Rattle.aig_circuit.specs.Marks.{IsMarked}
-use Rattle.aig_circuit.specs.Reach.{IsInCone}
+use Rattle.aig_circuit.proofs.Words.{IsMarked, IsInCone}
 use Rattle.aig_cone.proofs.Marking.{none_marked}
 use Rattle.aig_cone.proofs.search.cone_marks.Goals as goal
 

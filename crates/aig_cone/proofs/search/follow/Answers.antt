@@ -1,6 +1,4 @@
-use Rattle.std.proofs.Common.{rules, arith, subst, sym}
-use Rattle.std.specs.Prelude.{Contains}
-use Rattle.std.proofs.lemmas.List.Elements.{Contains-push}
+use Rattle.aig_base.proofs.Words.{rules, arith, subst, sym, Contains, Contains-push}
 use Rattle.aig_cone.proofs.Numbers.{marked_within}
 use Rattle.aig_cone.proofs.Searching.{Following-start, Following-step, Following-end, nothing_on}
 use Rattle.aig_cone.proofs.search.follow.Goals as goal

@@ -1,7 +1,6 @@
-use Rattle.std.proofs.Common.{◌≡◌, List, ℕ, subst, ◌∙◌}
+use Rattle.aig_base.proofs.Words.{◌≡◌, List, ℕ, subst, ◌∙◌, on_ok_weaker}
 use Rattle.aig_circuit.specs.declared.node.AigNodeType.TheVariants.{False}
 use Rattle.aig_circuit.proofs.Trees.{kind_at-within}
-use Rattle.std.proofs.lemmas.Result.{on_ok_weaker}
 use Rattle.aig_cone.specs.Marks.{Visits}
 use Rattle.aig_cone.proofs.Searching.{IsInCone-reached, stacked-start}
 use Rattle.aig_cone.proofs.search.mark_cone.Goals as goal

@@ -1,6 +1,5 @@
-use Rattle.std.proofs.Common.{◌≡◌, ◌∙◌, ap, subst, take, length, replicate, None, List}
+use Rattle.aig_base.proofs.Words.{◌≡◌, ◌∙◌, ap, subst, take, length, replicate, None, List, take_all}
 use Rattle.aig_circuit.specs.declared.node.AigNode.{AigNode}
-use Rattle.std.proofs.lemmas.List.{take_all}
 use Rattle.aig_cone.proofs.Searching.{HoldNext, HoldNext-start, HoldNext-step, leaf_within, none_alone}
 use Rattle.aig_cone.proofs.search.next_states.Goals as goal
 

@@ -1,6 +1,4 @@
-use Rattle.std.proofs.Common.{◌≡◌, ◌⊎◌, [], get_or, refl, subst, take, ◌+◌}
-use Rattle.std.proofs.lemmas.List.{take_all}
-use Rattle.std.specs.Prelude.{Contains}
+use Rattle.aig_base.proofs.Words.{◌≡◌, ◌⊎◌, [], get_or, refl, subst, take, ◌+◌, take_all, Contains}
 use Rattle.aig_cone.specs.Marks.{Visits}
 use Rattle.aig_cone.proofs.Marking.{Contains-more, Contains-nothing}
 use Rattle.aig_cone.proofs.Searching.{Visits-none, Visits-same, Visits-then}

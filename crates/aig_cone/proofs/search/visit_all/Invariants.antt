@@ -1,5 +1,4 @@
-use Rattle.std.proofs.Common.{take}
-use Rattle.std.specs.Prelude.{Contains}
+use Rattle.aig_base.proofs.Words.{take, Contains}
 use Rattle.aig_cone.specs.Marks.{Visits}
 use Rattle.aig_cone.proofs.search.visit_all.Given as goal
 

@@ -1,5 +1,4 @@
-use Rattle.std.proofs.Common.{List, subst, arith}
-use Rattle.std.proofs.lemmas.Result.{on_ok_weaker}
+use Rattle.aig_base.proofs.Words.{List, subst, arith, on_ok_weaker}
 use Rattle.aig_circuit.specs.declared.node.AigNode.{AigNode}
 use Rattle.aig_circuit.specs.Reach.{IsFanin}
 use Rattle.aig_cone.specs.Marks.{Visits}

@@ -1,5 +1,4 @@
-use Rattle.std.proofs.Common.{ℕ, ◌≡◌, sym, subst, ◌∙◌, arith}
-use Rattle.std.proofs.lemmas.Option.{same_Some}
+use Rattle.aig_base.proofs.Words.{ℕ, ◌≡◌, sym, subst, ◌∙◌, arith, same_Some}
 use Rattle.aig_circuit.specs.declared.node.AigNodeType.TheVariants.{And}
 use Rattle.aig_cone.specs.Marks.{Visits}
 use Rattle.aig_cone.proofs.Searching.{Visits-no_operands, Visits-operands, kind-of}

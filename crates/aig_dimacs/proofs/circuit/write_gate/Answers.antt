@@ -1,6 +1,4 @@
-use Rattle.std.proofs.Common.{◌≡◌, ◌++◌, drop, ap, ◌∙◌, append-nil, arith}
-use Rattle.std.proofs.lemmas.List.{drop_all, take_rest}
-use Rattle.std.specs.List.{flat_map}
+use Rattle.aig_base.proofs.Words.{◌≡◌, ◌++◌, drop, ap, ◌∙◌, append-nil, arith, drop_all, take_rest, flat_map}
 use Rattle.aig_cnf.proofs.Needing.{edges_below}
 use Rattle.aig_cnf.specs.Cnf.{clauses_of}
 use Rattle.aig_dimacs.specs.Text.{clause_line}

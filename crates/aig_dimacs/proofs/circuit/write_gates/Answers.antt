@@ -1,6 +1,4 @@
-use Rattle.std.proofs.Common.{◌≡◌, ◌<◌, List, [], ◌∷◌, false, get_or, length, ap, ◌∙◌, append-nil, arith, rules}
-use Rattle.std.specs.List.{flat_map}
-use Rattle.std.proofs.lemmas.Option.{get_or_from_slice_get, slice_get_within}
+use Rattle.aig_base.proofs.Words.{◌≡◌, ◌<◌, List, [], ◌∷◌, false, get_or, length, ap, ◌∙◌, append-nil, arith, rules, flat_map, get_or_from_slice_get, slice_get_within}
 use Rattle.aig_base.specs.declared.logic.literal.Lit.{Lit}
 use Rattle.aig_base.specs.Clauses.{lit_to}
 use Rattle.aig_output.proofs.Putting.{Buffers-nil, Buffers-turn, all_done, failed_turn}

@@ -1,5 +1,4 @@
-use Rattle.std.proofs.Common.{◌≤◌, List, take}
-use Rattle.std.specs.List.{flat_map}
+use Rattle.aig_base.proofs.Words.{◌≤◌, List, take, flat_map}
 use Rattle.aig_base.specs.declared.logic.literal.Lit.{Lit}
 use Rattle.aig_output.specs.Sinks.{Buffers}
 use Rattle.aig_dimacs.specs.Circuit.{AreByMarks}

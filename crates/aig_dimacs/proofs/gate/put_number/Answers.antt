@@ -1,6 +1,5 @@
 use Rattle.std.proofs.Common.{◌≤◌, ◌-◌, decimal, length, arith}
-use Rattle.std.proofs.lemmas.Fmt.{length-decimal-le}
-use Rattle.std.proofs.lemmas.List.{length-set}
+use Rattle.aig_base.proofs.Words.{length-decimal-le, length-set}
 use Rattle.aig_dimacs.proofs.gate.put_number.Goals as goal
 
 pub write_digits-requires : goal.write_digits-requires

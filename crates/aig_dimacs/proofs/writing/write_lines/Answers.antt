@@ -1,5 +1,4 @@
-use Rattle.std.proofs.Common.{[], ◌∷◌, rules}
-use Rattle.std.specs.List.{flat_map}
+use Rattle.aig_base.proofs.Words.{[], ◌∷◌, rules, flat_map}
 use Rattle.aig_output.proofs.Putting.{Buffers-trans, failed_among, failed_first, then_call}
 use Rattle.aig_dimacs.specs.Text.{clause_line, header_line}
 use Rattle.aig_dimacs.proofs.Pieces.{text_pieces}

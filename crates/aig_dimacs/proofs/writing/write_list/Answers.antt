@@ -1,5 +1,4 @@
-use Rattle.std.proofs.Common.{rules, arith, ◌<◌, ◌≤◌, length}
-use Rattle.std.proofs.lemmas.Option.{get_or_from_slice_get}
+use Rattle.aig_base.proofs.Words.{rules, arith, ◌<◌, ◌≤◌, length, get_or_from_slice_get}
 use Rattle.aig_output.proofs.Putting.{Buffers-turn, all_done, failed_turn}
 use Rattle.aig_dimacs.specs.Text.{clause_line}
 use Rattle.aig_dimacs.proofs.writing.write_list.Goals as goal

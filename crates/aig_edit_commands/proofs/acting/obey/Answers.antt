@@ -1,6 +1,5 @@
-use Rattle.std.proofs.Common.{◌≡◌, [], ◌∷◌, ◌++◌, map, ◌∙◌, refl, subst, sym}
+use Rattle.aig_base.proofs.Words.{◌≡◌, [], ◌∷◌, ◌++◌, map, ◌∙◌, refl, subst, sym, same_Some}
 use Rattle.std.specs.Prelude.{Result, string_bytes}
-use Rattle.std.proofs.lemmas.Option.{same_Some}
 use Rattle.aig_command_line.specs.Ending.{Says, ended}
 use Rattle.aig_edit_commands.specs.declared.acting.CommandError.{CommandError}
 use Rattle.aig_edit_commands.specs.Asked.{answer_of}

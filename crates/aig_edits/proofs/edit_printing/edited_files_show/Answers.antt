@@ -1,5 +1,4 @@
-use Rattle.std.proofs.Common.{◌↔◌, ℕ, arith, subst, sym}
-use Rattle.std.proofs.lemmas.List.{length-map}
+use Rattle.aig_base.proofs.Words.{◌↔◌, ℕ, arith, subst, sym, length-map}
 use Rattle.aig_circuit.specs.Reencode.{new_number, reencoded}
 use Rattle.aig_cone.specs.Refine.{refined}
 use Rattle.aig_edit_laws.specs.Shown.{HasCircuitOutput}

@@ -1,7 +1,6 @@
 use Rattle.std.proofs.Common.{◌≡◌, [], ◌∷◌, ◌++◌, ap, subst, sym, ◌∙◌}
 use Rattle.aig_circuit.specs.declared.prop_list.PropList.TheVariants.{Bads, Fairness, Outputs}
-use Rattle.aig_circuit.specs.Circuit.{Circuit, IsInRange}
-use Rattle.aig_circuit.specs.PropLists.{edges_of, with_edges}
+use Rattle.aig_circuit.proofs.Words.{Circuit, IsInRange, edges_of, with_edges}
 use Rattle.aig_cone.specs.Refine.{AreKept, refined}
 use Rattle.aig_edit_laws.specs.Shown.{IsConeOf, output_alone}
 use Rattle.aig_edits.proofs.Edited.{in_range_at, plain_of}

@@ -1,9 +1,7 @@
-use Rattle.std.proofs.Common.{◌≡◌, ◌≤◌, List, [], length, sym, ap, subst, ◌∙◌, arith}
-use Rattle.std.proofs.lemmas.List.{take_all}
+use Rattle.aig_base.proofs.Words.{◌≡◌, ◌≤◌, List, [], length, sym, ap, subst, ◌∙◌, arith, take_all}
 use Rattle.aig_circuit.specs.declared.edge.AigEdge.{AigEdge}
 use Rattle.aig_circuit.specs.declared.prop_list.PropList.TheVariants.{Outputs}
-use Rattle.aig_circuit.specs.Circuit.{Circuit}
-use Rattle.aig_circuit.specs.PropLists.{with_edges}
+use Rattle.aig_circuit.proofs.Words.{Circuit, with_edges}
 use Rattle.aig_edit_laws.specs.Plain.{IsPlain}
 use Rattle.aig_edit_laws.specs.Shown.{outputs_as_bads}
 use Rattle.aig_edits.proofs.Edited.{plain_of}

@@ -1,5 +1,4 @@
-use Rattle.std.proofs.Common.{ℕ, ◌<◌, ◌≤◌}
-use Rattle.std.specs.Prelude.{slice_index}
+use Rattle.aig_base.proofs.Words.{ℕ, ◌<◌, ◌≤◌, slice_index}
 use Rattle.aig_edits.specs.Info.{HasPath}
 use Rattle.aig_edits.specs.Levels.{AreLevels}
 use Rattle.aig_edits.proofs.info.depth.Given as goal

@@ -1,5 +1,4 @@
-use Rattle.std.proofs.Common.{◌≡◌, ◌≤◌, ◌∙◌, Some, refl, sym, inl, inr, arith}
-use Rattle.std.specs.Prelude.{slice_index}
+use Rattle.aig_base.proofs.Words.{◌≡◌, ◌≤◌, ◌∙◌, Some, refl, sym, inl, inr, arith, slice_index}
 use Rattle.aig_circuit.specs.declared.node.AigNodeType.TheVariants.{And, False, Leaf}
 use Rattle.aig_circuit.specs.Node.{kind_at}
 use Rattle.aig_circuit.proofs.Trees.{kind_at-read}

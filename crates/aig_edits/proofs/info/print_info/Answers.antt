@@ -1,5 +1,4 @@
-use Rattle.std.proofs.Common.{Err, Ok, refl, sym, subst, ◌∙◌}
-use Rattle.std.proofs.lemmas.Result.{err_from_is_err_and}
+use Rattle.aig_base.proofs.Words.{Err, Ok, refl, sym, subst, ◌∙◌, err_from_is_err_and}
 use Rattle.aig_circuit.specs.Circuit.{IsCircuit}
 use Rattle.aig_format.proofs.Circuits.{IsCircuit-of_file}
 use Rattle.aig_edits.specs.declared.edit_error.EditError.TheVariants as errors

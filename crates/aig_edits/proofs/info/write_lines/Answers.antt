@@ -1,5 +1,4 @@
-use Rattle.std.proofs.Common.{[], ◌∷◌, rules}
-use Rattle.std.specs.Prelude.{codes}
+use Rattle.aig_base.proofs.Words.{[], ◌∷◌, rules, codes}
 use Rattle.aig_output.proofs.Putting.{Buffers-trans, failed_among, failed_first, then_call}
 use Rattle.aig_edits.specs.Info.{count_line}
 use Rattle.aig_edits.proofs.info.write_lines.Goals as goal

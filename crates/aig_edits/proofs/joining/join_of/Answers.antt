@@ -1,5 +1,4 @@
-use Rattle.std.proofs.Common.{sym, subst, ◌∙◌}
-use Rattle.std.proofs.lemmas.Bool.{false≢true}
+use Rattle.aig_base.proofs.Words.{sym, subst, ◌∙◌, false≢true}
 use Rattle.aig_circuit.specs.View.{lists_circuit}
 use Rattle.aig_format.specs.Writable.{FitsFormat}
 use Rattle.aig_edits.proofs.joining.join_of.Goals as goal

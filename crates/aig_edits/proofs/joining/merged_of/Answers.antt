@@ -1,7 +1,6 @@
 use Rattle.std.proofs.Common.{◌≡◌, length, subst, sym, ap, ◌∙◌}
 use Rattle.aig_change.specs.Merge.{PairsRuns, merged, shifted}
-use Rattle.aig_circuit.specs.Circuit.{Circuit, IsCircuit}
-use Rattle.aig_circuit.specs.View.{lists_circuit}
+use Rattle.aig_circuit.proofs.Words.{Circuit, IsCircuit, lists_circuit}
 use Rattle.aig_edits.proofs.joining.merged_of.Goals as goal
 
 pub merge-requires : goal.merge-requires

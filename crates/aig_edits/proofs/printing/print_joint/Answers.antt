@@ -1,5 +1,4 @@
-use Rattle.std.proofs.Common.{Err, Ok, refl}
-use Rattle.std.proofs.lemmas.Result.{err_from_is_err_and}
+use Rattle.aig_base.proofs.Words.{Err, Ok, refl, err_from_is_err_and}
 use Rattle.aig_circuit.specs.View.{lists_circuit}
 use Rattle.aig_edits.specs.declared.error.PairError.TheVariants as errors
 use Rattle.aig_edits.specs.Joints.{IsOwn, PrintsJoint, first_verdict, second_verdict}

@@ -1,9 +1,5 @@
-use Rattle.std.proofs.Common.{Err, Ok, refl, subst, sym, ◌∙◌}
-use Rattle.std.specs.Prelude.{All}
-use Rattle.std.proofs.lemmas.Result.{err_from_is_err_and}
-use Rattle.aig_circuit.specs.Circuit.{Circuit, IsCircuit}
-use Rattle.aig_circuit.specs.Edges.{HasConstantInit}
-use Rattle.aig_circuit.specs.View.{lists_circuit}
+use Rattle.aig_base.proofs.Words.{Err, Ok, refl, subst, sym, ◌∙◌, All, err_from_is_err_and}
+use Rattle.aig_circuit.proofs.Words.{Circuit, IsCircuit, HasConstantInit, lists_circuit}
 use Rattle.aig_format.proofs.Circuits.{IsCircuit-of_file}
 use Rattle.aig_format_laws.proofs.Writable.{plain_starts}
 use Rattle.aig_edits.specs.declared.edit_error.EditError.TheVariants as errors

@@ -1,6 +1,5 @@
-use Rattle.aig_format.specs.Circuit.{circuit_of}
+use Rattle.aig_format.proofs.Words.{circuit_of, file_of}
 use Rattle.aig_format.specs.declared.FileKind.TheVariants.{Text}
-use Rattle.aig_format.specs.Circuit.{file_of}
 use Rattle.aig_edits.proofs.Asking.{question_shows}
 use Rattle.aig_edits.proofs.question.questions_show.Goals as goal
 

@@ -1,6 +1,4 @@
-use Rattle.std.proofs.Common.{ℕ, ◌<◌, ◌↔◌, List, length, subst, sym, ◌∙◌}
-use Rattle.std.specs.Prelude.{All, Contains}
-use Rattle.std.proofs.lemmas.Result.{IfOk-weaker}
+use Rattle.aig_base.proofs.Words.{ℕ, ◌<◌, ◌↔◌, List, length, subst, sym, ◌∙◌, All, Contains, IfOk-weaker}
 use Rattle.aig_circuit.specs.Reach.{IsInCone}
 use Rattle.aig_edit_laws.proofs.Asked.{asked_nodes_within}
 use Rattle.aig_edits.proofs.reducing.asked_cone.Goals as goal

@@ -1,14 +1,11 @@
-use Rattle.std.proofs.Common.{◌≡◌, rules, List, [], Vec, Global, ◌∙◌, ap, map}
-use Rattle.std.specs.Prelude.{filter, nat_eq}
+use Rattle.aig_base.proofs.Words.{◌≡◌, rules, List, [], Vec, Global, ◌∙◌, ap, map, filter, nat_eq}
 use Rattle.std.specs.HashSet.{contains}
 use Rattle.std.proofs.lemmas.Fn.{filter_same}
 use Rattle.std.proofs.lemmas.List.Elements.{filter_agree}
 use Rattle.aig_edits.proofs.Sets.{contains-is_in}
 use Rattle.aig_circuit.specs.declared.edge.AigEdge.{AigEdge}
 use Rattle.aig_circuit.specs.declared.node.AigLatch.{AigLatch}
-use Rattle.aig_circuit.specs.Circuit.{Circuit}
-use Rattle.aig_circuit.specs.Renumber.{is_in}
-use Rattle.aig_circuit.specs.View.{lists_circuit}
+use Rattle.aig_circuit.proofs.Words.{Circuit, is_in, lists_circuit}
 use Rattle.aig_edits.proofs.reducing.asked_part.Goals as goal
 
 -- a circuit with these latches, outputs, justice and fairness

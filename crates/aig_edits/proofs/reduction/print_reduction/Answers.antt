@@ -1,13 +1,8 @@
-use Rattle.std.proofs.Common.{◌≡◌, ℕ, ◌≤◌, ◌^◌, List, Option, Err, Ok, length, refl, subst, sym, ◌∙◌, arith}
-use Rattle.std.proofs.lemmas.Result.{err_from_is_err_and}
+use Rattle.aig_base.proofs.Words.{◌≡◌, ℕ, ◌≤◌, ◌^◌, List, Option, Err, Ok, length, refl, subst, sym, ◌∙◌, arith, err_from_is_err_and}
 use Rattle.aig.proofs.Texts.{AreTexts-names}
-use Rattle.aig_circuit.specs.Circuit.{Circuit, IsCircuit}
-use Rattle.aig_circuit.specs.View.{lists_circuit}
+use Rattle.aig_circuit.proofs.Words.{Circuit, IsCircuit, lists_circuit}
 use Rattle.aig_circuit.specs.declared.view.CircuitLists.{CircuitLists}
-use Rattle.aig_format.specs.Circuit.{circuit_of}
-use Rattle.aig_format.specs.File.{File}
-use Rattle.aig_format.specs.Fits.{Accepts}
-use Rattle.aig_format.specs.Writable.{IsWritable}
+use Rattle.aig_format.proofs.Words.{circuit_of, File, Accepts, IsWritable}
 use Rattle.aig_reader.specs.Reading.{AreListsOf, IsReadAs}
 use Rattle.aig_edit_laws.specs.Reduction.{IsReduced}
 use Rattle.aig_edits.specs.declared.edit_error.EditError.TheVariants as errors

@@ -1,9 +1,6 @@
-use Rattle.std.proofs.Common.{◌≡◌, ◌≤◌, ℕ, Bool, List, sym, subst}
-use Rattle.std.proofs.lemmas.Result.{err_from_is_err_and}
+use Rattle.aig_base.proofs.Words.{◌≡◌, ◌≤◌, ℕ, Bool, List, sym, subst, err_from_is_err_and}
 use Rattle.aig_base.specs.Clauses.{AreBelow}
-use Rattle.aig_format.specs.Circuit.{circuit_of}
-use Rattle.aig_format.specs.File.{File}
-use Rattle.aig_format.specs.Fits.{Accepts}
+use Rattle.aig_format.proofs.Words.{circuit_of, File, Accepts}
 use Rattle.aig_runs.specs.Encodes.{Encodes}
 use Rattle.aig_runs.specs.Queries.{IsQueryOf, query_clauses}
 use Rattle.aig_runs.proofs.Queries.{queries_ask}

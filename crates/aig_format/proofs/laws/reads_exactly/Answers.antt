@@ -1,5 +1,4 @@
-use Rattle.std.proofs.Common.{sym, ◌∙◌}
-use Rattle.std.proofs.lemmas.Option.{same_Some}
+use Rattle.aig_base.proofs.Words.{sym, ◌∙◌, same_Some}
 use Rattle.aig_format.specs.Parse.{no_tests}
 use Rattle.aig_format.proofs.Files.{file_sound}
 use Rattle.aig_format.proofs.AnyFile.{any_complete}

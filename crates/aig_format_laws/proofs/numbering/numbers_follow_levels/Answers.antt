@@ -1,10 +1,5 @@
-use Rattle.std.proofs.Common.{◌≡◌, ℕ, ◌<◌, true, false, Some, sym, ap, ◌∙◌, arith, inl, inr}
-use Rattle.std.specs.Prelude.{◌==◌}
-use Rattle.std.proofs.lemmas.Bool.{or_right}
-use Rattle.aig_format.specs.File.{File}
-use Rattle.aig_format.specs.Variables.{is_defined}
-use Rattle.aig_format.specs.Numbering.{is_compact, node_of_variable}
-use Rattle.aig_format.specs.Fits.{Fits}
+use Rattle.aig_base.proofs.Words.{◌≡◌, ℕ, ◌<◌, true, false, Some, sym, ap, ◌∙◌, arith, inl, inr, ◌==◌, or_right}
+use Rattle.aig_format.proofs.Words.{File, is_defined, is_compact, node_of_variable, Fits}
 use Rattle.aig_format.proofs.Numbers.{defined_within, node_of_variable-by_level, node_of_variable-in_level, node_of_variable-compact, node_of_variable-one, node_of_variable-within, node_of_variable-zero, variable_of}
 use Rattle.aig_format.proofs.Nodes.{length-nodes}
 use Rattle.aig_format_laws.specs.Numbers.{ComesFirst}

@@ -1,9 +1,8 @@
 use Rattle.std.proofs.Common.{◌≡◌, ◌≤◌, true, length, arith, leb-true}
-use Rattle.std.proofs.lemmas.Bool.{eqb-true}
+use Rattle.aig_base.proofs.Words.{eqb-true}
 use Rattle.aig_format.specs.declared.FileKind.{FileKind}
 use Rattle.aig_format.specs.declared.FileKind.TheVariants.{Text, Binary}
-use Rattle.aig_format.specs.File.{File, defined, header_of}
-use Rattle.aig_format.specs.Fits.{count_defined, has_enough}
+use Rattle.aig_format.proofs.Words.{File, defined, header_of, count_defined, has_enough}
 use Rattle.aig_format.proofs.Entries.{length-defined}
 use Rattle.aig_format.proofs.Numbers.{compact_in_binary, well_founded_also}
 use Rattle.aig_format_laws.proofs.numbering.text_files_are_well_founded.Goals as goal

@@ -1,8 +1,6 @@
-use Rattle.std.proofs.Common.{◌≡◌, List, [], Vec, Global, ◌∙◌, ap, length, map, subst, sym}
-use Rattle.std.specs.Prelude.{All}
+use Rattle.aig_base.proofs.Words.{◌≡◌, List, [], Vec, Global, ◌∙◌, ap, length, map, subst, sym, All}
 use Rattle.aig_circuit.specs.declared.edge.AigEdge.{AigEdge}
-use Rattle.aig_circuit.specs.Circuit.{Circuit, IsCircuit, IsInRange}
-use Rattle.aig_circuit.specs.View.{lists_circuit}
+use Rattle.aig_circuit.proofs.Words.{Circuit, IsCircuit, IsInRange, lists_circuit}
 use Rattle.aig_join.specs.Miter.{IsMiter, compared, moved_compared}
 use Rattle.aig_join.proofs.Made.{IsCircuit-mitered, IsMiter-made, back-is, compared-there, count-is, front-is, others-compared-there}
 use Rattle.aig_join.proofs.comparing.miter.Goals as goal

@@ -1,12 +1,9 @@
 use Rattle.std.proofs.Common.{◌≡◌, ℕ, List, ◌++◌, ◌∙◌, ap, subst, sym, length, drop, map, slice_index}
-use Rattle.std.proofs.lemmas.List.{take_rest}
+use Rattle.aig_base.proofs.Words.{take_rest}
 use Rattle.aig_circuit.specs.declared.edge.AigEdge.{AigEdge}
 use Rattle.aig_circuit.specs.declared.node.AigLatch.{AigLatch}
 use Rattle.aig_circuit.specs.declared.node.AigNode.{AigNode}
-use Rattle.aig_circuit.specs.Circuit.{AreNodes, IsCircuit}
-use Rattle.aig_circuit.specs.Properties.{Properties, append_properties, map_properties}
-use Rattle.aig_circuit.specs.Renumber.{nodes_in_order, renumbered_edge, renumbered_latch}
-use Rattle.aig_circuit.specs.View.{lists_circuit, names_of, properties_of}
+use Rattle.aig_circuit.proofs.Words.{AreNodes, IsCircuit, Properties, append_properties, map_properties, nodes_in_order, renumbered_edge, renumbered_latch, lists_circuit, names_of, properties_of}
 use Rattle.aig_join.specs.Joined.{added_numbers, first_leaves, other_numbers, shared_of_first, shared_of_second}
 use Rattle.aig_join.specs.Numbers.{AreJointNumbers}
 use Rattle.aig_join.proofs.Joined.{IsCircuit-joined}

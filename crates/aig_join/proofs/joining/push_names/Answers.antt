@@ -1,9 +1,5 @@
-use Rattle.std.proofs.Common.{◌≡◌, ◌<◌, ◌++◌, ℕ, List, length, drop, subst, sym, ap, ◌∙◌}
-use Rattle.std.specs.Prelude.{All, OnOk, slice_index}
-use Rattle.std.specs.HashSet.{contains_text}
-use Rattle.std.proofs.lemmas.List.{take_rest}
-use Rattle.aig_circuit.specs.Circuit.{latch_leaves}
-use Rattle.aig_circuit.specs.View.{names_of}
+use Rattle.aig_base.proofs.Words.{◌≡◌, ◌<◌, ◌++◌, ℕ, List, length, drop, subst, sym, ap, ◌∙◌, All, OnOk, slice_index, contains_text, take_rest}
+use Rattle.aig_circuit.proofs.Words.{latch_leaves, names_of}
 use Rattle.aig_join.specs.Joined.{further_leaves}
 use Rattle.aig_join.specs.Names.{is_name_of, is_taken, with_names}
 use Rattle.aig_join.proofs.Made.{further-there}

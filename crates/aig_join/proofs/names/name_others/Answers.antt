@@ -1,6 +1,5 @@
 use Rattle.std.proofs.Common.{ap, slice_index, string_bytes, sym, ◌∙◌}
-use Rattle.std.specs.Prelude.{option_map}
-use Rattle.std.specs.HashSet.{contains_text}
+use Rattle.aig_base.proofs.Words.{option_map, contains_text}
 use Rattle.aig_circuit.specs.View.{names_of}
 use Rattle.aig_join.specs.Names.{with_name}
 use Rattle.aig_join.proofs.Naming.{names-more, with_name-put}

@@ -1,5 +1,5 @@
 use Rattle.std.proofs.Common.{◌≡◌, slice_index, take}
-use Rattle.std.specs.HashSet.{contains_text}
+use Rattle.aig_base.proofs.Words.{contains_text}
 use Rattle.aig_circuit.specs.View.{names_of}
 use Rattle.aig_join.specs.Names.{with_names}
 use Rattle.aig_join.proofs.names.name_others.Given as goal

@@ -1,7 +1,5 @@
 use Rattle.std.proofs.Common.{ℕ, List, None, Some, String, Global, ap, sym, string_bytes, ◌∙◌, ◌||◌}
-use Rattle.std.specs.HashSet.{contains_text}
-use Rattle.std.specs.Str.{bytes_eq}
-use Rattle.std.proofs.Math.Bool.{or-false}
+use Rattle.aig_base.proofs.Words.{contains_text, bytes_eq, or-false}
 use Rattle.std.proofs.lemmas.Map.Text.{hash_set_updates_text}
 use Rattle.aig_join.proofs.Naming.{called-more, cond-or}
 use Rattle.aig_join.proofs.names.node_names.Goals as goal

@@ -1,5 +1,4 @@
-use Rattle.std.proofs.Common.{◌≡◌, List, take, ℕ}
-use Rattle.std.specs.HashSet.{contains_text}
+use Rattle.aig_base.proofs.Words.{◌≡◌, List, take, ℕ, contains_text}
 use Rattle.aig_circuit.specs.View.{names_of}
 use Rattle.aig_join.specs.Names.{is_name_of}
 use Rattle.aig_join.proofs.names.node_names.Given as goal

@@ -1,5 +1,4 @@
-use Rattle.std.proofs.Common.{◌∙◌, ◌+◌, ◌-◌, ◌∷◌, ◌++◌, [], ◌≤◌, ℕ, None, length, refl, ap, subst, arith}
-use Rattle.std.proofs.lemmas.Result.{err_from_is_err_and}
+use Rattle.aig_base.proofs.Words.{◌∙◌, ◌+◌, ◌-◌, ◌∷◌, ◌++◌, [], ◌≤◌, ℕ, None, length, refl, ap, subst, arith, err_from_is_err_and}
 use Rattle.std.proofs.lemmas.List.{length-append}
 use Rattle.aig_format.specs.Parse.{header_from, parse_header_numbers, parse_number}
 use Rattle.aig_lexer.specs.Takes.{feed, Takes, Misses}

@@ -1,6 +1,5 @@
 use Rattle.std.proofs.Common.{◌<◌, ◌∷◌, [], length, take, ap, sym, subst, ◌∙◌, length-take, arith}
-use Rattle.std.proofs.lemmas.List.{take_all, take_more_set}
-use Rattle.std.proofs.lemmas.Result.{err_from_is_err_and}
+use Rattle.aig_base.proofs.Words.{take_all, take_more_set, err_from_is_err_and}
 use Rattle.std.specs.Cmp.Lexicographic.{same_text, other_text}
 use Rattle.aig_format.specs.declared.FileKind.TheVariants.{Text, Binary}
 use Rattle.aig_lexer.specs.Takes.{Advances}

@@ -1,6 +1,4 @@
-use Rattle.std.proofs.Common.{◌∙◌, ◌∷◌, [], ◌+◌, ◌-◌, ◌*◌, ◌%◌, ℕ, None, sym, ap, arith}
-use Rattle.std.proofs.lemmas.Grind.{pow_more}
-use Rattle.std.proofs.lemmas.Result.{err_from_is_err_and}
+use Rattle.aig_base.proofs.Words.{◌∙◌, ◌∷◌, [], ◌+◌, ◌-◌, ◌*◌, ◌%◌, ℕ, None, sym, ap, arith, pow_more, err_from_is_err_and}
 use Rattle.aig_format.specs.Parse.{parse_delta}
 use Rattle.aig_lexer.specs.Takes.{feed}
 use Rattle.aig_lexer.proofs.Deltas.{groups_following, delta_starts, delta_ends, delta_gives, delta_overflows, delta_goes, delta_too_long, group_fits, place_fits}

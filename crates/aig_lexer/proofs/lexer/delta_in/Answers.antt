@@ -1,5 +1,5 @@
 use Rattle.std.proofs.Common.{◌∙◌, ◌+◌, ◌-◌, ◌*◌, ◌%◌, ℕ, List, Some, slice_index_or, sym, ap, arith, rules}
-use Rattle.std.proofs.lemmas.Grind.{pow_more}
+use Rattle.aig_base.proofs.Words.{pow_more}
 use Rattle.aig_format.specs.Parse.{parse_delta}
 use Rattle.aig_lexer.proofs.Deltas.{groups_following, delta_starts, delta_gives, delta_goes, group_fits, near_fits}
 use Rattle.aig_lexer.proofs.Front.{reads_more}

@@ -1,5 +1,5 @@
 use Rattle.std.proofs.Common.{◌+◌, ◌-◌, ◌*◌, ◌^◌, ◌≤◌, ℕ, List, Some, slice_index_or, arith}
-use Rattle.std.proofs.lemmas.Grind.{pow_more}
+use Rattle.aig_base.proofs.Words.{pow_more}
 use Rattle.std.proofs.Math.Nat.{pow-le-pow_right}
 use Rattle.aig_format.specs.Parse.{parse_digits}
 use Rattle.aig_format.proofs.NumberReaders.{digits_go, digits_stop}

@@ -1,5 +1,4 @@
-use Rattle.std.proofs.Common.{◌≢◌, arith}
-use Rattle.std.proofs.lemmas.Result.{err_from_is_err_and}
+use Rattle.aig_base.proofs.Words.{◌≢◌, arith, err_from_is_err_and}
 use Rattle.aig_lexer.specs.Takes.{feed}
 use Rattle.aig_lexer.proofs.NextLine.{takes_alone, takes_reset, misses_literal, misses_reset, misses_other}
 use Rattle.aig_lexer.specs.Faults.{word_cause}

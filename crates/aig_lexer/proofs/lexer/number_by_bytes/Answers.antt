@@ -1,5 +1,4 @@
-use Rattle.std.proofs.Common.{◌+◌, ◌*◌, ◌-◌, ◌∷◌, [], None, refl, arith}
-use Rattle.std.proofs.lemmas.Result.{err_from_is_err_and}
+use Rattle.aig_base.proofs.Words.{◌+◌, ◌*◌, ◌-◌, ◌∷◌, [], None, refl, arith, err_from_is_err_and}
 use Rattle.aig_format.specs.Parse.{parse_byte, parse_digits}
 use Rattle.aig_format.proofs.NumberReaders.{digits_go, digits_overflow, digits_stop, digits_end}
 use Rattle.aig_lexer.proofs.Front.{is_other_than_digit}

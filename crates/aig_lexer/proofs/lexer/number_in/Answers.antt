@@ -1,6 +1,4 @@
-use Rattle.std.proofs.Common.{◌≡◌, suc, ◌+◌, ◌-◌, ◌≤◌, [], ◌∷◌, ◌++◌, ◌∙◌, ℕ, List, Option, length, take, drop, get_or, arith}
-use Rattle.std.proofs.lemmas.List.{take_all}
-use Rattle.std.proofs.lemmas.Option.{IfSome_then}
+use Rattle.aig_base.proofs.Words.{◌≡◌, suc, ◌+◌, ◌-◌, ◌≤◌, [], ◌∷◌, ◌++◌, ◌∙◌, ℕ, List, Option, length, take, drop, get_or, arith, take_all, IfSome_then}
 use Rattle.aig_format.specs.Parse.{parse_digits, parse_number}
 use Rattle.aig_format.proofs.NumberReaders.{number_goes}
 use Rattle.aig_lexer.proofs.lexer.number_in.Goals as goal

@@ -1,7 +1,6 @@
-use Rattle.std.proofs.Common.{◌≡◌, ◌<◌, ◌+◌, ◌∙◌, ◌++◌, ◌∷◌, ◌&&◌, [], Bool, List, None, ap, sym, get_or, length, map, take, arith}
+use Rattle.aig_base.proofs.Words.{◌≡◌, ◌<◌, ◌+◌, ◌∙◌, ◌++◌, ◌∷◌, ◌&&◌, [], Bool, List, None, ap, sym, get_or, length, map, take, arith, list_all}
 use Rattle.std.proofs.lemmas.List.{length_push, map_more, take_all}
 use Rattle.std.proofs.lemmas.List.Folds.{list_all_at, list_all_more}
-use Rattle.std.specs.List.{list_all}
 use Rattle.aig_circuit.specs.declared.node.AigNode.{AigNode}
 use Rattle.aig_ordering.specs.Gates.{node_in, nodes_in}
 use Rattle.aig_ordering.specs.Numbers.{has_operands, with_numbers}

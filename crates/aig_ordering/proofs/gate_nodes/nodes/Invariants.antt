@@ -1,6 +1,4 @@
-use Rattle.std.proofs.Common.{◌≡◌, ◌≤◌, length, true, map, take}
-use Rattle.std.specs.List.{list_all}
-use Rattle.std.specs.Prelude.{vec_capacity}
+use Rattle.aig_base.proofs.Words.{◌≡◌, ◌≤◌, length, true, map, take, list_all, vec_capacity}
 use Rattle.aig_ordering.specs.Gates.{nodes_in}
 use Rattle.aig_ordering.specs.Numbers.{has_operands, with_numbers}
 use Rattle.aig_ordering.proofs.gate_nodes.nodes.Given as goal

@@ -1,4 +1,4 @@
-use Rattle.std.proofs.Common.{◌+◌, ◌<◌, arith, rules}
+use Rattle.aig_base.proofs.Words.{◌+◌, ◌<◌, arith, rules}
 use Rattle.std.proofs.KnownBytes.{Appends-nil}
 use Rattle.std.proofs.lemmas.List.{length-drop, take_all, take_rest}
 use Rattle.aig_output.proofs.Putting.{Appends-more, Stops-kept, failed_put, some_taken}

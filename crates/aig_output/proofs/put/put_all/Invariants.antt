@@ -1,5 +1,4 @@
-use Rattle.std.proofs.Common.{length, ◌-◌, ◌≤◌, take}
-use Rattle.std.specs.Io.KnownBytes.{Appends}
+use Rattle.aig_base.proofs.Words.{length, ◌-◌, ◌≤◌, take, Appends}
 use Rattle.aig_output.proofs.put.put_all.Given as goal
 
 abbrev pub invariant-loop-at : goal.invariant-loop-at

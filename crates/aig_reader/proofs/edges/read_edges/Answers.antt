@@ -1,13 +1,11 @@
-use Rattle.std.proofs.Common.{◌≡◌, ◌∷◌, ◌++◌, [], sym, append-nil, arith}
-use Rattle.std.proofs.lemmas.Result.{err_from_is_err_and}
-use Rattle.aig_format.specs.Parse.{parse_ended, parse_if}
+use Rattle.aig_base.proofs.Words.{◌≡◌, ◌∷◌, ◌++◌, [], sym, append-nil, arith, err_from_is_err_and}
+use Rattle.aig_format.proofs.Words.{parse_ended, parse_if, is_literal}
 use Rattle.aig_ordering.specs.Lists.{edge_from}
 use Rattle.aig_lexer.proofs.Taking.{takes_nothing}
 use Rattle.aig_lexer.specs.Faults.{line_cause}
 use Rattle.aig_lexer.proofs.Faults.{tells-weaker}
 use Rattle.aig_reader.proofs.Entries.{takes_every, takes_more, misses_more, made_push}
 use Rattle.aig_reader.proofs.edges.read_edges.Goals as goal
-use Rattle.aig_format.specs.Fits.{is_literal}
 
 pub loop-init : goal.loop-init
 loop-init g c = ([], sym (append-nil c.args.edges.now.items), takes_nothing _ [])

@@ -1,9 +1,8 @@
 use Rattle.std.proofs.Common.{◌≡◌, ℕ, List, [], ◌++◌, map}
-use Rattle.aig_format.specs.Parse.{parse_ended, parse_if, parse_entries}
+use Rattle.aig_format.proofs.Words.{parse_ended, parse_if, parse_entries, is_literal}
 use Rattle.aig_ordering.specs.Lists.{edge_from}
 use Rattle.aig_lexer.specs.Takes.{Takes, feed}
 use Rattle.aig_reader.proofs.edges.read_edges.Given as goal
-use Rattle.aig_format.specs.Fits.{is_literal}
 
 abbrev pub invariant-loop : goal.invariant-loop
 invariant-loop g l =

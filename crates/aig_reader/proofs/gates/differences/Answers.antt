@@ -1,5 +1,4 @@
-use Rattle.std.proofs.Common.{◌≡◌, ◌-◌, ◌&&◌, ℕ, true, leb, arith}
-use Rattle.std.proofs.lemmas.Bool.Decides.{nat_tests}
+use Rattle.aig_base.proofs.Words.{◌≡◌, ◌-◌, ◌&&◌, ℕ, true, leb, arith, nat_tests}
 use Rattle.aig_format.specs.Parse.{parse_both, parse_delta, parse_if}
 use Rattle.aig_lexer.proofs.Taking.{takes_both, takes_mapped, takes_tested}
 use Rattle.aig_reader.proofs.gates.differences.Goals as goal

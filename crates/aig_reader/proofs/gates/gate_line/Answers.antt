@@ -1,8 +1,6 @@
-use Rattle.std.proofs.Common.{◌∙◌, ◌++◌, ◌≡◌, ◌&&◌, ℕ, Bool, false, List, refl, sym}
-use Rattle.std.proofs.lemmas.Bool.{and_right}
-use Rattle.std.proofs.lemmas.Result.{err_from_is_err_and}
+use Rattle.aig_base.proofs.Words.{◌∙◌, ◌++◌, ◌≡◌, ◌&&◌, ℕ, Bool, false, List, refl, sym, and_right, err_from_is_err_and}
 use Rattle.aig_format.specs.declared.FileKind.{FileKind}
-use Rattle.aig_format.specs.File.{GateLine}
+use Rattle.aig_format.proofs.Words.{GateLine}
 use Rattle.aig_format.specs.ParseTested.{may_define, may_use}
 use Rattle.aig_lexer.specs.Takes.{feed}
 use Rattle.aig_reader.specs.Gates.{literals_of}

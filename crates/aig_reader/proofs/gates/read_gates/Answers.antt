@@ -1,12 +1,10 @@
-use Rattle.std.proofs.Common.{◌≡◌, ◌∙◌, ◌∷◌, ◌++◌, ◌+◌, ◌<◌, ◌≤◌, [], ℕ, List, length, ap, subst, sym, length-append, arith}
-use Rattle.std.proofs.lemmas.Result.{err_from_is_err_and}
+use Rattle.aig_base.proofs.Words.{◌≡◌, ◌∙◌, ◌∷◌, ◌++◌, ◌+◌, ◌<◌, ◌≤◌, [], ℕ, List, length, ap, subst, sym, length-append, arith, err_from_is_err_and}
 use Rattle.std.proofs.lemmas.List.{append-nil, length-map}
 use Rattle.aig_format.specs.ParseTested.{parse_gate_entry}
 use Rattle.aig_format.specs.declared.FileKind.{FileKind}
-use Rattle.aig_format.specs.File.{GateLine}
+use Rattle.aig_format.proofs.Words.{GateLine, parse_entries}
 use Rattle.aig_lexer.specs.Takes.{Feed, Takes}
 use Rattle.aig_lexer.proofs.Taking.{takes_nothing}
-use Rattle.aig_format.specs.Parse.{parse_entries}
 use Rattle.aig_reader.specs.Gates.{literals_of}
 use Rattle.aig_reader.specs.Variables.{AreDefined}
 use Rattle.aig_lexer.specs.Faults.{line_cause}

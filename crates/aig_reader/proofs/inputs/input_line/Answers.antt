@@ -1,10 +1,8 @@
-use Rattle.std.proofs.Common.{◌≡◌, ◌++◌, ◌∷◌, [], ℕ}
-use Rattle.std.proofs.lemmas.Result.{err_from_is_err_and}
+use Rattle.aig_base.proofs.Words.{◌≡◌, ◌++◌, ◌∷◌, [], ℕ, err_from_is_err_and}
 use Rattle.aig_lexer.specs.Takes.{feed}
 use Rattle.aig_lexer.proofs.Taking.{misses_tested}
 use Rattle.aig_ordering.specs.Lists.{variable_of_literal}
-use Rattle.aig_format.specs.Parse.{parse_own}
-use Rattle.aig_format.specs.ParseTested.{may_define}
+use Rattle.aig_format.proofs.Words.{parse_own, may_define}
 use Rattle.aig_reader.specs.Variables.{AreDefined}
 use Rattle.aig_reader.proofs.TestedLines.{makes_tested, line-from_word}
 use Rattle.aig_reader.proofs.inputs.input_line.Goals as goal

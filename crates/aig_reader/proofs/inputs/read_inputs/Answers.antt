@@ -1,5 +1,4 @@
-use Rattle.std.proofs.Common.{◌≡◌, ◌∙◌, ◌∷◌, ◌++◌, [], sym, append-nil, arith}
-use Rattle.std.proofs.lemmas.Result.{err_from_is_err_and}
+use Rattle.aig_base.proofs.Words.{◌≡◌, ◌∙◌, ◌∷◌, ◌++◌, [], sym, append-nil, arith, err_from_is_err_and}
 use Rattle.aig_format.specs.ParseTested.{parse_input_entry}
 use Rattle.aig_lexer.proofs.Taking.{takes_nothing}
 use Rattle.aig_ordering.specs.Lists.{variable_of_literal}

@@ -4,8 +4,7 @@ use Rattle.aig_ordering.specs.Lists.{variable_of_literal}
 use Rattle.aig_reader.specs.Variables.{AreDefined}
 use Rattle.aig_lexer.specs.Takes.{Takes, feed}
 use Rattle.aig_reader.proofs.inputs.read_inputs.Given as goal
-use Rattle.aig_format.specs.ParseTested.{parse_input_entry}
-use Rattle.aig_format.specs.Parse.{parse_entries}
+use Rattle.aig_format.proofs.Words.{parse_input_entry, parse_entries}
 
 abbrev pub invariant-loop : goal.invariant-loop
 invariant-loop g l =

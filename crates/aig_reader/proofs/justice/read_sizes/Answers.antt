@@ -1,5 +1,4 @@
-use Rattle.std.proofs.Common.{◌≡◌, ◌∷◌, ◌++◌, [], sym, append-nil, append_assoc, arith}
-use Rattle.std.proofs.lemmas.Result.{err_from_is_err_and}
+use Rattle.aig_base.proofs.Words.{◌≡◌, ◌∷◌, ◌++◌, [], sym, append-nil, append_assoc, arith, err_from_is_err_and}
 use Rattle.aig_format.specs.Parse.{parse_ended}
 use Rattle.aig_lexer.proofs.Taking.{takes_nothing}
 use Rattle.aig_reader.proofs.Entries.{takes_every, takes_more, misses_more}

@@ -1,7 +1,6 @@
-use Rattle.std.proofs.Common.{◌≡◌, ◌&&◌, ◌++◌, ℕ, Bool, false, List, Option, map, refl}
-use Rattle.std.proofs.lemmas.Result.{err_from_is_err_and}
+use Rattle.aig_base.proofs.Words.{◌≡◌, ◌&&◌, ◌++◌, ℕ, Bool, false, List, Option, map, refl, err_from_is_err_and}
 use Rattle.aig_format.specs.declared.FileKind.{FileKind}
-use Rattle.aig_format.specs.File.{LatchLine}
+use Rattle.aig_format.proofs.Words.{LatchLine}
 use Rattle.aig_format.specs.Fits.{is_literal, is_reset}
 use Rattle.aig_format.specs.Parse.{latch_line_from, parse_next_and_reset}
 use Rattle.aig_format.specs.ParseTested.{has_next, may_define}

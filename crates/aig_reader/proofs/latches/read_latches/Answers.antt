@@ -1,9 +1,6 @@
-use Rattle.std.proofs.Common.{◌≡◌, ◌∙◌, ◌∷◌, ◌++◌, ◌+◌, [], ℕ, List, length, map, ap, sym, subst, append_assoc, append-nil, length-append, arith}
-use Rattle.std.proofs.lemmas.Result.{err_from_is_err_and}
-use Rattle.std.proofs.lemmas.List.{length-map, map_push}
-use Rattle.aig_format.specs.ParseTested.{parse_latch_entry}
+use Rattle.aig_base.proofs.Words.{◌≡◌, ◌∙◌, ◌∷◌, ◌++◌, ◌+◌, [], ℕ, List, length, map, ap, sym, subst, append_assoc, append-nil, length-append, arith, err_from_is_err_and, length-map, map_push}
+use Rattle.aig_format.proofs.Words.{parse_latch_entry, LatchLine}
 use Rattle.aig_format.specs.declared.FileKind.{FileKind}
-use Rattle.aig_format.specs.File.{LatchLine}
 use Rattle.aig_lexer.proofs.Taking.{takes_nothing}
 use Rattle.aig_reader.specs.declared.variables.DefinedVariables.{DefinedVariables}
 use Rattle.aig_ordering.specs.Lists.{latch_of_line}

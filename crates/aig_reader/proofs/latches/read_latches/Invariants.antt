@@ -1,12 +1,10 @@
 use Rattle.std.proofs.Common.{◌≡◌, ℕ, List, [], ◌++◌, map}
 use Rattle.aig_format.specs.declared.FileKind.{FileKind}
-use Rattle.aig_format.specs.File.{LatchLine}
+use Rattle.aig_format.proofs.Words.{LatchLine, parse_latch_entry, parse_entries}
 use Rattle.aig_ordering.specs.Lists.{latch_of_line}
 use Rattle.aig_reader.specs.Variables.{AreDefined}
 use Rattle.aig_lexer.specs.Takes.{Takes, feed}
 use Rattle.aig_reader.proofs.latches.read_latches.Given as goal
-use Rattle.aig_format.specs.ParseTested.{parse_latch_entry}
-use Rattle.aig_format.specs.Parse.{parse_entries}
 
 abbrev pub invariant-loop : goal.invariant-loop
 invariant-loop g l =

@@ -1,14 +1,10 @@
-use Rattle.std.proofs.Common.{◌++◌, ◌+◌, [], ℕ, ap, refl, sym, arith}
-use Rattle.std.specs.Prelude.{◌==◌}
-use Rattle.std.proofs.lemmas.Result.{err_from_is_err_and}
-use Rattle.aig_format.specs.Parse.{Parts}
+use Rattle.aig_base.proofs.Words.{◌++◌, ◌+◌, [], ℕ, ap, refl, sym, arith, ◌==◌, err_from_is_err_and}
+use Rattle.aig_format.proofs.Words.{Parts, parse_fitting_sections, parse_section_lines, is_accepted_order}
 use Rattle.aig_format.proofs.SectionFacts.{lines_tell}
 use Rattle.aig_lexer.specs.Header.{numbers_of}
-use Rattle.aig_format.specs.ParseTested.{parse_fitting_sections, parse_section_lines}
 use Rattle.aig_lexer.specs.Takes.{Feed, Makes, Misses, feed}
 use Rattle.aig_lexer.specs.declared.header.Header.{Header}
 use Rattle.aig_lexer.proofs.Taking.{misses_tested}
-use Rattle.aig_format.specs.Fits.{is_accepted_order}
 use Rattle.aig_reader.specs.declared.error.Section.TheVariants.{Inputs, Latches}
 use Rattle.aig_reader.specs.Faults.{error_in, gate_error_in, section_cause}
 use Rattle.aig_reader.specs.Sections.{AreLinesOf, file_by}

@@ -1,5 +1,4 @@
-use Rattle.std.proofs.Common.{◌≡◌, ◌≤◌, List, max, vec_len}
-use Rattle.std.specs.Prelude.{vec_capacity}
+use Rattle.aig_base.proofs.Words.{◌≡◌, ◌≤◌, List, max, vec_len, vec_capacity}
 use Rattle.aig_format.specs.File.{GateLine}
 use Rattle.aig_reader.specs.Gates.{AreFirstNodes}
 use Rattle.aig_reader.proofs.nodes.add_leaves.Given as goal

@@ -1,12 +1,7 @@
-use Rattle.std.proofs.Common.{◌≡◌, ◌∙◌, ◌&&◌, Bool, true, false, Vec, map, ap, sym, subst, arith}
-use Rattle.std.proofs.lemmas.Result.{err_from_is_err_and}
+use Rattle.aig_base.proofs.Words.{◌≡◌, ◌∙◌, ◌&&◌, Bool, true, false, Vec, map, ap, sym, subst, arith, err_from_is_err_and, list_all}
 use Rattle.std.specs.declared.alloc.Global.{Global}
-use Rattle.std.specs.List.{list_all}
 use Rattle.aig_circuit.specs.declared.node.AigNode.{AigNode}
-use Rattle.aig_format.specs.Circuit.{circuit_of}
-use Rattle.aig_format.specs.File.{File}
-use Rattle.aig_format.specs.Levels.{has_level}
-use Rattle.aig_format.specs.Numbering.{is_compact}
+use Rattle.aig_format.proofs.Words.{circuit_of, File, has_level, is_compact}
 use Rattle.aig_lexer.specs.Faults.{Tells, Tested}
 use Rattle.aig_ordering.specs.Gates.{nodes_in}
 use Rattle.aig_ordering.specs.Numbers.{has_operands, with_numbers}

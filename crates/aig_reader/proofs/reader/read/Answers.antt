@@ -1,6 +1,4 @@
-use Rattle.std.proofs.Common.{◌≡◌}
-use Rattle.std.specs.Io.KnownBytes.{prepend_known}
-use Rattle.std.proofs.KnownBytes.{prepend_known-nil}
+use Rattle.aig_base.proofs.Words.{◌≡◌, prepend_known, prepend_known-nil}
 use Rattle.aig_reader.specs.Reading.{AreListsOf}
 use Rattle.aig_reader.proofs.Verdicts.{judged_at_end, read_at_end}
 use Rattle.aig_reader.proofs.reader.read.Goals as goal

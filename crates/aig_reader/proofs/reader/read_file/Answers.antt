@@ -1,11 +1,7 @@
-use Rattle.std.proofs.Common.{◌≡◌, ◌∙◌, ◌++◌, [], ℕ, List, ap, arith}
-use Rattle.std.proofs.KnownBytes.{Consumes-trans}
-use Rattle.std.proofs.lemmas.Result.{err_from_is_err_and}
-use Rattle.aig_circuit.specs.Circuit.{latch_leaves}
-use Rattle.aig_circuit.specs.View.{names_of}
+use Rattle.aig_base.proofs.Words.{◌≡◌, ◌∙◌, ◌++◌, [], ℕ, List, ap, arith, Consumes-trans, err_from_is_err_and}
+use Rattle.aig_circuit.proofs.Words.{latch_leaves, names_of}
 use Rattle.aig_circuit.specs.declared.node.AigLatch.{AigLatch}
-use Rattle.aig_format.specs.Parse.{file_from}
-use Rattle.aig_format.specs.ParseTested.{parse_fitting_header}
+use Rattle.aig_format.proofs.Words.{file_from, parse_fitting_header}
 use Rattle.aig_lexer.specs.Header.{numbers_of}
 use Rattle.aig_lexer.specs.Takes.{feed}
 use Rattle.aig_lexer.proofs.Taking.{takes_both}

@@ -1,5 +1,4 @@
-use Rattle.std.proofs.Common.{◌-◌, vec_len, arith}
-use Rattle.std.proofs.lemmas.List.{take_all}
+use Rattle.aig_base.proofs.Words.{◌-◌, vec_len, arith, take_all}
 use Rattle.aig_reader.proofs.TableEntries.{more_entries}
 use Rattle.aig_reader.proofs.table.add_entries.Goals as goal
 

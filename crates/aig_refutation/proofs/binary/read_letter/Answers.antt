@@ -1,5 +1,4 @@
-use Rattle.std.proofs.Common.{ℕ, true, List, [], Some, Ok, sym, ap, subst, ◌∙◌}
-use Rattle.std.proofs.lemmas.Bool.{ne_eqb}
+use Rattle.aig_base.proofs.Words.{ℕ, true, List, [], Some, Ok, sym, ap, subst, ◌∙◌, ne_eqb}
 use Rattle.aig_base.specs.declared.logic.literal.Lit.{Lit}
 use Rattle.aig_lexer.specs.Takes.{feed}
 use Rattle.aig_refutation.proofs.BinarySteps.{adds_begun, deletes_begun, letter_came, letter_refused, letter_missing}

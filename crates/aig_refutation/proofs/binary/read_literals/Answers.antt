@@ -1,5 +1,4 @@
-use Rattle.std.proofs.Common.{◌≡◌, [], ◌∷◌, ◌++◌, cond, arith}
-use Rattle.std.proofs.lemmas.Result.{err_from_is_err_and}
+use Rattle.aig_base.proofs.Words.{◌≡◌, [], ◌∷◌, ◌++◌, cond, arith, err_from_is_err_and}
 use Rattle.aig_lexer.specs.Takes.{feed}
 use Rattle.aig_refutation.specs.Reading.{plain_by}
 use Rattle.aig_refutation.specs.Steps.{Drops, Learns}

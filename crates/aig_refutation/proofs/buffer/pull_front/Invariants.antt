@@ -1,5 +1,4 @@
-use Rattle.std.proofs.Common.{◌≤◌, ◌-◌, length, take}
-use Rattle.std.specs.Io.KnownBytes.{Consumes}
+use Rattle.aig_base.proofs.Words.{◌≤◌, ◌-◌, length, take, Consumes}
 use Rattle.aig_refutation.proofs.buffer.pull_front.Given as goal
 
 abbrev pub invariant-loop-end : goal.invariant-loop-end

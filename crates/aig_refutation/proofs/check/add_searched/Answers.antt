@@ -1,6 +1,4 @@
-use Rattle.std.proofs.Common.{◌∷◌, ℕ, List, Option, Ok, length, refl, ap, sym, subst, ◌∙◌}
-use Rattle.std.specs.Prelude.{◌==◌}
-use Rattle.std.proofs.lemmas.Result.{err_from_is_err_and}
+use Rattle.aig_base.proofs.Words.{◌∷◌, ℕ, List, Option, Ok, length, refl, ap, sym, subst, ◌∙◌, ◌==◌, err_from_is_err_and}
 use Rattle.aig_base.specs.declared.logic.literal.Lit.{Lit}
 use Rattle.aig_refutation.specs.Ahead.{AddsAhead, IsAhead}
 use Rattle.aig_refutation.proofs.Keeping.{learns_err, learns_from}

@@ -1,5 +1,4 @@
-use Rattle.std.proofs.Common.{[], ◌∷◌, ◌∙◌}
-use Rattle.std.proofs.lemmas.Result.{err_from_is_err_and}
+use Rattle.aig_base.proofs.Words.{[], ◌∷◌, ◌∙◌, err_from_is_err_and}
 use Rattle.aig_refutation.proofs.Following.{implied_on}
 use Rattle.aig_refutation.proofs.Keeping.{adds_stays}
 use Rattle.aig_refutation.proofs.check.add_units.Goals as goal

@@ -1,5 +1,4 @@
-use Rattle.std.proofs.Common.{◌≡◌, false, sym, ap, ◌∙◌, arith}
-use Rattle.std.proofs.lemmas.Result.{err_from_is_err_and}
+use Rattle.aig_base.proofs.Words.{◌≡◌, false, sym, ap, ◌∙◌, arith, err_from_is_err_and}
 use Rattle.aig_refutation.specs.Checking.{are_all_in}
 use Rattle.aig_refutation.specs.declared.error.RefutationError.TheVariants as errors
 use Rattle.aig_refutation.proofs.Following.{put_more}

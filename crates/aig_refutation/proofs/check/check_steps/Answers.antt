@@ -1,6 +1,4 @@
-use Rattle.std.proofs.Common.{◌≡◌, Bool, true, false, None, Ok, Err, refl, sym, ap, subst, ◌∙◌}
-use Rattle.std.proofs.lemmas.Result.{err_from_is_err_and}
-use Rattle.std.proofs.lemmas.Bool.{false≢true}
+use Rattle.aig_base.proofs.Words.{◌≡◌, Bool, true, false, None, Ok, Err, refl, sym, ap, subst, ◌∙◌, err_from_is_err_and, false≢true}
 use Rattle.aig_refutation.specs.declared.error.RefutationError.TheVariants as errors
 use Rattle.aig_refutation.specs.Checking.{are_in}
 use Rattle.aig_refutation.specs.Concluding.{Concludes, ConcludesPlain, ShowsPlain, ShowsText, left_outcome, plain_left, text_outcome}

@@ -1,7 +1,4 @@
-use Rattle.std.proofs.Common.{◌≡◌, ℕ, false, Vec, Global, [], length, vec_len, ap, ◌∙◌}
-use Rattle.std.specs.Prelude.{◌==◌}
-use Rattle.std.proofs.lemmas.Bool.{eq-eqb, false≢true}
-use Rattle.std.proofs.lemmas.Result.{err_from_is_err_and}
+use Rattle.aig_base.proofs.Words.{◌≡◌, ℕ, false, Vec, Global, [], length, vec_len, ap, ◌∙◌, ◌==◌, eq-eqb, false≢true, err_from_is_err_and}
 use Rattle.aig_refutation.specs.Checking.{all_live}
 use Rattle.aig_refutation.proofs.Conflicts.{empty_taken, formula_finds, found_conflict}
 use Rattle.aig_refutation.proofs.check.refutes_at_once.Goals as goal

@@ -1,6 +1,4 @@
-use Rattle.std.proofs.Common.{◌≡◌, ℕ, Err, length, sym, ap, ◌∙◌}
-use Rattle.std.proofs.lemmas.Result.{err_from_is_err_and}
-use Rattle.std.specs.Prelude.{◌==◌}
+use Rattle.aig_base.proofs.Words.{◌≡◌, ℕ, Err, length, sym, ap, ◌∙◌, err_from_is_err_and, ◌==◌}
 use Rattle.aig_refutation.specs.Checking.{added, deleted, taken}
 use Rattle.aig_refutation.proofs.Known.{tells_on}
 use Rattle.aig_refutation.proofs.Outcomes.{adds_last, adds_taken, deletes_more, deletes_taken, empty_length}

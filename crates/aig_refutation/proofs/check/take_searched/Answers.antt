@@ -1,5 +1,4 @@
-use Rattle.std.proofs.Common.{false, Err, Ok}
-use Rattle.std.proofs.lemmas.Result.{err_from_is_err_and}
+use Rattle.aig_base.proofs.Words.{false, Err, Ok, err_from_is_err_and}
 use Rattle.aig_refutation.proofs.Keeping.{drop_ahead, takes_dropped, takes_learned}
 use Rattle.aig_refutation.proofs.check.take_searched.Goals as goal
 

@@ -1,5 +1,4 @@
-use Rattle.std.proofs.Common.{Bool, true, false, Ok, Err, ℕ, subst, ◌∙◌}
-use Rattle.std.proofs.lemmas.Result.{err_from_is_err_and}
+use Rattle.aig_base.proofs.Words.{Bool, true, false, Ok, Err, ℕ, subst, ◌∙◌, err_from_is_err_and}
 use Rattle.aig_refutation.specs.Concluding.{TakesLine, TakesStep}
 use Rattle.aig_refutation.specs.Reading.{GivesStep, said_by}
 use Rattle.aig_refutation.specs.Words.{place}

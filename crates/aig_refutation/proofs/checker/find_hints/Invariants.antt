@@ -1,6 +1,4 @@
-use Rattle.std.proofs.Common.{◌≡◌, ◌-◌, true, map, take}
-use Rattle.std.specs.Prelude.{is_some}
-use Rattle.std.specs.List.{list_all}
+use Rattle.aig_base.proofs.Words.{◌≡◌, ◌-◌, true, map, take, is_some, list_all}
 use Rattle.aig_refutation.specs.Tables.{entry_at, place_in}
 use Rattle.aig_refutation.proofs.checker.find_hints.Given as goal
 

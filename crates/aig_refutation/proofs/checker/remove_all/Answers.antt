@@ -1,6 +1,5 @@
-use Rattle.std.proofs.Common.{◌≡◌, ℕ, zero, suc, ◌+◌, ◌≤◌, List, [], ◌∷◌, length, drop, get_or, Err, refl, ap, ◌∙◌, arith}
+use Rattle.aig_base.proofs.Words.{◌≡◌, ℕ, zero, suc, ◌+◌, ◌≤◌, List, [], ◌∷◌, length, drop, get_or, Err, refl, ap, ◌∙◌, arith, err_from_is_err_and}
 use Rattle.std.proofs.lemmas.List.{at_drop_more}
-use Rattle.std.proofs.lemmas.Result.{err_from_is_err_and}
 use Rattle.aig_refutation.specs.Checking.{deleted}
 use Rattle.aig_refutation.proofs.Adding.{deleted_first, deleted_none, deleted_wrong}
 use Rattle.aig_refutation.proofs.Known.{tells_on}

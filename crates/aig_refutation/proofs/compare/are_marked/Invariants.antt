@@ -1,5 +1,4 @@
-use Rattle.std.proofs.Common.{◌≡◌, true, take}
-use Rattle.std.specs.List.{list_all}
+use Rattle.aig_base.proofs.Words.{◌≡◌, true, take, list_all}
 use Rattle.aig_refutation.specs.Propagation.{marked}
 use Rattle.aig_refutation.proofs.compare.are_marked.Given as goal
 

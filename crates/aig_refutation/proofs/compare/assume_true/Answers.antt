@@ -1,6 +1,4 @@
-use Rattle.std.proofs.Common.{◌<◌, length, get_or, take, true, sym, ap, ◌∙◌, arith}
-use Rattle.std.proofs.Math.Path.{fun_ext}
-use Rattle.std.proofs.lemmas.List.{length-set, take_more}
+use Rattle.aig_base.proofs.Words.{◌<◌, length, get_or, take, true, sym, ap, ◌∙◌, arith, fun_ext, length-set, take_more}
 use Rattle.aig_base.specs.declared.logic.literal.Lit.{Lit}
 use Rattle.aig_base.specs.Clauses.{number_of_lit}
 use Rattle.aig_refutation.specs.Propagation.{also, has, marked}

@@ -1,6 +1,4 @@
-use Rattle.std.proofs.Common.{rules, ◌≡◌, ◌++◌, ◌∷◌, [], ◌+◌, ◌-◌, ◌<◌, ◌^◌, ℕ, List, cond, length, length-append, sym, ap, ◌∙◌, arith}
-use Rattle.std.specs.Prelude.{◌==◌, min, slice_index_or}
-use Rattle.std.proofs.lemmas.Grind.{common_steps}
+use Rattle.aig_base.proofs.Words.{rules, ◌≡◌, ◌++◌, ◌∷◌, [], ◌+◌, ◌-◌, ◌<◌, ◌^◌, ℕ, List, cond, length, length-append, sym, ap, ◌∙◌, arith, ◌==◌, min, slice_index_or, common_steps}
 use Rattle.aig_refutation.specs.Tables.{entry_at}
 use Rattle.aig_refutation.proofs.Following.{kept_more}
 use Rattle.aig_refutation.proofs.Numbering.{moved_more, moved_past, moved_start}

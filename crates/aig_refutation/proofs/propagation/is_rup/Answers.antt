@@ -1,6 +1,5 @@
 use Rattle.std.proofs.Common.{◌+◌, ◌*◌, ◌<◌, true, length, drop, get_or, slice_get, sym, ap, ◌∙◌, arith}
-use Rattle.std.proofs.lemmas.List.{length-set}
-use Rattle.std.proofs.lemmas.Option.{slice_get_past}
+use Rattle.aig_base.proofs.Words.{length-set, slice_get_past}
 use Rattle.aig_base.specs.Clauses.{number_of_lit, variable_of}
 use Rattle.aig_refutation.specs.declared.propagation.Reading.TheVariants.{Implied, Open}
 use Rattle.aig_refutation.specs.Propagation.{FitsMarks, marked, propagates, reading_if}

@@ -1,5 +1,4 @@
-use Rattle.std.proofs.Common.{◌≡◌, Bool, true, false, ◌||◌, get_or, sym, ap, ◌∙◌}
-use Rattle.std.proofs.lemmas.List.Folds.{list_any_at, list_any_more}
+use Rattle.aig_base.proofs.Words.{◌≡◌, Bool, true, false, ◌||◌, get_or, sym, ap, ◌∙◌, list_any_at, list_any_more}
 use Rattle.aig_base.specs.declared.logic.literal.Lit.{Lit}
 use Rattle.aig_refutation.specs.Propagation.{when_false}
 use Rattle.aig_refutation.proofs.propagation.is_tautology.Goals as goal

@@ -1,5 +1,4 @@
-use Rattle.std.proofs.Common.{◌≡◌, false, take}
-use Rattle.std.specs.List.{list_any}
+use Rattle.aig_base.proofs.Words.{◌≡◌, false, take, list_any}
 use Rattle.aig_refutation.specs.Propagation.{when_false}
 use Rattle.aig_refutation.proofs.propagation.is_tautology.Given as goal
 

@@ -1,5 +1,4 @@
-use Rattle.std.proofs.Common.{◌≡◌, false, get_or, refl, sym, ap, ◌∙◌}
-use Rattle.std.proofs.lemmas.Bool.{not-true, cond-false}
+use Rattle.aig_base.proofs.Words.{◌≡◌, false, get_or, refl, sym, ap, ◌∙◌, not-true, cond-false}
 use Rattle.aig_base.specs.declared.logic.literal.Lit.{Lit}
 use Rattle.aig_base.specs.Clauses.{inverse_lit}
 use Rattle.aig_refutation.specs.declared.propagation.Reading.TheVariants.{Open}

@@ -1,6 +1,4 @@
-use Rattle.std.proofs.Common.{◌≡◌, List, Err, true, false, sym, ap, ◌∙◌, arith}
-use Rattle.std.proofs.lemmas.Bool.{ne_eqb}
-use Rattle.std.proofs.lemmas.Result.{err_from_is_err_and}
+use Rattle.aig_base.proofs.Words.{◌≡◌, List, Err, true, false, sym, ap, ◌∙◌, arith, ne_eqb, err_from_is_err_and}
 use Rattle.aig_base.specs.declared.logic.literal.Lit.{Lit}
 use Rattle.aig_refutation.specs.Proofs.{is_zero}
 use Rattle.aig_refutation.specs.Reading.{reads_clause}

@@ -1,6 +1,4 @@
-use Rattle.std.proofs.Common.{◌≡◌, ℕ, Bool, List, Err, true, false, not, refl, sym, ap, ◌∙◌, arith}
-use Rattle.std.proofs.lemmas.Bool.{ne_eqb, not-true}
-use Rattle.std.proofs.lemmas.Result.{err_from_is_err_and}
+use Rattle.aig_base.proofs.Words.{◌≡◌, ℕ, Bool, List, Err, true, false, not, refl, sym, ap, ◌∙◌, arith, ne_eqb, not-true, err_from_is_err_and}
 use Rattle.aig_refutation.specs.Proofs.{is_zero}
 use Rattle.aig_refutation.specs.Reading.{reads_numbers}
 use Rattle.aig_refutation.specs.Skipping.{end_line}

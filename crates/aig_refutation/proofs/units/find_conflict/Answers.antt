@@ -1,6 +1,4 @@
-use Rattle.std.proofs.Common.{◌≡◌, ◌<◌, ◌+◌, ℕ, List, Vec, Global, Some, length, get_or, sym, ap, subst, ◌∙◌, arith, rules}
-use Rattle.std.proofs.lemmas.List.{length-set, with_items_is}
-use Rattle.std.specs.Prelude.{slice_set}
+use Rattle.aig_base.proofs.Words.{◌≡◌, ◌<◌, ◌+◌, ℕ, List, Vec, Global, Some, length, get_or, sym, ap, subst, ◌∙◌, arith, rules, length-set, with_items_is, slice_set}
 use Rattle.aig_base.specs.declared.logic.literal.Lit.{Lit}
 use Rattle.aig_base.specs.Clauses.{inverse_lit, number_of_lit}
 use Rattle.aig_refutation.specs.Concluding.{FindsConflict}

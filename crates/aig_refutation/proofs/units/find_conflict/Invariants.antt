@@ -1,5 +1,4 @@
-use Rattle.std.proofs.Common.{◌≡◌, ◌*◌, ◌-◌, ◌<◌, ◌^◌, true, length}
-use Rattle.std.specs.Prelude.{min}
+use Rattle.aig_base.proofs.Words.{◌≡◌, ◌*◌, ◌-◌, ◌<◌, ◌^◌, true, length, min}
 use Rattle.aig_refutation.specs.Checking.{are_all_in}
 use Rattle.aig_refutation.proofs.Conflicts.{IsSearched}
 use Rattle.aig_refutation.proofs.units.find_conflict.Given as goal

@@ -1,5 +1,4 @@
-use Rattle.std.proofs.Common.{◌≡◌, ◌∷◌, [], ap, ◌∙◌, ℕ, arith}
-use Rattle.std.proofs.lemmas.Bool.{ne_eqb}
+use Rattle.aig_base.proofs.Words.{◌≡◌, ◌∷◌, [], ap, ◌∙◌, ℕ, arith, ne_eqb}
 use Rattle.aig_lexer.specs.Takes.{feed}
 use Rattle.aig_refutation.specs.Text.{lines_after, lines_of}
 use Rattle.aig_refutation.proofs.ReadWords.{leaves_byte, leaves_none, steps_fewer}

@@ -1,14 +1,11 @@
 use Rattle.std.proofs.Common.{◌≡◌, ℕ, ◌<◌, List, length, map, slice_index, subst, sym, ap, ◌∙◌, arith}
 use Rattle.std.specs.Ordering.{nat_cmp}
-use Rattle.std.specs.FinMap.{FinMap, contains_key, retain_keys}
+use Rattle.aig_base.proofs.Words.{FinMap, contains_key, retain_keys, with_items_is}
 use Rattle.std.specs.Prelude.{All, IsTrue, filter}
-use Rattle.std.proofs.lemmas.List.{with_items_is}
 use Rattle.aig_circuit.specs.declared.edge.AigEdge.{AigEdge}
 use Rattle.aig_circuit.specs.declared.node.AigLatch.{AigLatch}
 use Rattle.aig_circuit.specs.declared.node.AigNode.{AigNode}
-use Rattle.aig_circuit.specs.Circuit.{AreNodes, Circuit, IsCircuit}
-use Rattle.aig_circuit.specs.Properties.{AllProperties, Properties, map_properties}
-use Rattle.aig_circuit.specs.Renumber.{is_in, nodes_in_order, renumbered_edge, renumbered_latch, renumbered_names}
+use Rattle.aig_circuit.proofs.Words.{AreNodes, Circuit, IsCircuit, AllProperties, Properties, map_properties, is_in, nodes_in_order, renumbered_edge, renumbered_latch, renumbered_names}
 use Rattle.aig_renumber.specs.Numbers.{IsEdgeIn, IsIndex, IsLatchIn, SpeaksOf}
 use Rattle.aig_renumber.proofs.Circuits.{SpeaksOf-nodes}
 use Rattle.aig_renumber.proofs.Names.{entries_there}

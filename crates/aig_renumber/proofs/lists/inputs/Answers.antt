@@ -1,6 +1,5 @@
 use Rattle.std.proofs.Common.{ℕ, List, map, slice_index, ap, ◌∙◌}
-use Rattle.std.specs.Prelude.{filter}
-use Rattle.std.proofs.lemmas.List.{take_all}
+use Rattle.aig_base.proofs.Words.{filter, take_all}
 use Rattle.aig_circuit.specs.Renumber.{is_in}
 use Rattle.aig_renumber.proofs.lists.inputs.Goals as goal
 

@@ -1,5 +1,5 @@
 use Rattle.std.proofs.Common.{◌≡◌, map, slice_index, take}
-use Rattle.std.specs.Prelude.{filter}
+use Rattle.aig_base.proofs.Words.{filter}
 use Rattle.aig_circuit.specs.Renumber.{is_in}
 use Rattle.aig_renumber.proofs.lists.inputs.Given as goal
 

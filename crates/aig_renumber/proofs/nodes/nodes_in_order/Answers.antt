@@ -1,5 +1,5 @@
 use Rattle.std.proofs.Common.{ℕ, List, length, refl, slice_index, take, sym, ap, ◌∙◌, arith}
-use Rattle.std.proofs.lemmas.List.{length-take, take_all}
+use Rattle.aig_base.proofs.Words.{length-take, take_all}
 use Rattle.aig_circuit.specs.declared.node.AigNodeType.TheVariants.{False}
 use Rattle.aig_circuit.specs.Renumber.{nodes_in_order}
 use Rattle.aig_circuit.proofs.Trees.{kind_at-read}

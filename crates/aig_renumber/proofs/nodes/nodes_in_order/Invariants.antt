@@ -1,5 +1,5 @@
 use Rattle.std.proofs.Common.{◌≡◌, ◌≤◌, length, slice_index, take}
-use Rattle.std.specs.Prelude.{vec_capacity}
+use Rattle.aig_base.proofs.Words.{vec_capacity}
 use Rattle.aig_circuit.specs.Renumber.{nodes_in_order}
 use Rattle.aig_renumber.proofs.nodes.nodes_in_order.Given as goal
 

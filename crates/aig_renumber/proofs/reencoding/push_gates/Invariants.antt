@@ -1,5 +1,4 @@
-use Rattle.std.proofs.Common.{◌≡◌, ◌++◌, take}
-use Rattle.std.specs.Prelude.{filter_map}
+use Rattle.aig_base.proofs.Words.{◌≡◌, ◌++◌, take, filter_map}
 use Rattle.aig_circuit.specs.Reencode.{gate_number}
 use Rattle.aig_renumber.proofs.reencoding.push_gates.Given as goal
 

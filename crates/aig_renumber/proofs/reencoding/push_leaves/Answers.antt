@@ -1,8 +1,6 @@
-use Rattle.std.proofs.Common.{ℕ, List, [], ◌∷◌, ◌++◌, append_assoc, sym, ap, ap₂, ◌∙◌}
-use Rattle.std.proofs.lemmas.List.{map_more, take_all}
+use Rattle.aig_base.proofs.Words.{ℕ, List, [], ◌∷◌, ◌++◌, append_assoc, sym, ap, ap₂, ◌∙◌, map_more, take_all, take}
 use Rattle.aig_circuit.specs.declared.node.AigLatch.{AigLatch}
 use Rattle.aig_circuit.specs.Circuit.{latch_leaves}
-use Rattle.std.proofs.Common.{take}
 use Rattle.aig_renumber.proofs.reencoding.push_leaves.Goals as goal
 
 pub loop-latch-preserved : goal.loop-latch-preserved

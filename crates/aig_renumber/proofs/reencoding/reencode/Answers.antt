@@ -1,6 +1,4 @@
-use Rattle.std.proofs.Common.{ℕ, ◌≢◌, ◌<◌, List, length, sym, subst, ◌∙◌}
-use Rattle.std.specs.Prelude.{All, AllPairs}
-use Rattle.std.proofs.lemmas.Result.{MatchResult-weaker}
+use Rattle.aig_base.proofs.Words.{ℕ, ◌≢◌, ◌<◌, List, length, sym, subst, ◌∙◌, All, AllPairs, MatchResult-weaker}
 use Rattle.aig_circuit.specs.Reencode.{order_of}
 use Rattle.aig_renumber.proofs.Order.{order-distinct, order-there, order-within}
 use Rattle.aig_renumber.proofs.Tables.{HasPlaces-same, table-count, table-reencodes, table-within}

@@ -1,6 +1,4 @@
-use Rattle.std.proofs.Common.{arith}
-use Rattle.std.proofs.lemmas.Grind.{common_steps}
-use Rattle.std.proofs.lemmas.List.Edits.{map_over_more}
+use Rattle.aig_base.proofs.Words.{arith, common_steps, map_over_more}
 use Rattle.aig_circuit.specs.Renumber.{renumbered_latch}
 use Rattle.aig_renumber.proofs.renumbered.renumber_latches.Goals as goal
 

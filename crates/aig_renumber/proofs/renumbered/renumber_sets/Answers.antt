@@ -1,7 +1,5 @@
-use Rattle.std.proofs.Common.{map, get_or, length, subst, sym, ap, arith, ◌∙◌, ◌≡◌}
-use Rattle.std.specs.Prelude.{All}
+use Rattle.aig_base.proofs.Words.{map, get_or, length, subst, sym, ap, arith, ◌∙◌, ◌≡◌, All, with_items_is}
 use Rattle.std.specs.Vec.{with_items}
-use Rattle.std.proofs.lemmas.List.{with_items_is}
 use Rattle.aig_circuit.specs.Renumber.{renumbered_edge}
 use Rattle.aig_renumber.specs.Numbers.{IsEdgeIn}
 use Rattle.aig_renumber.proofs.Sets.{edges_of, set_read, sets-more}

@@ -1,8 +1,5 @@
-use Rattle.std.proofs.Common.{◌≡◌, ◌++◌, ◌∷◌, [], map, sym, ap, ap₂, subst, ◌∙◌, arith}
-use Rattle.std.proofs.lemmas.List.{map_more, take_all}
-use Rattle.std.specs.Prelude.{OnOk}
+use Rattle.aig_base.proofs.Words.{◌≡◌, ◌++◌, ◌∷◌, [], map, sym, ap, ap₂, subst, ◌∙◌, arith, map_more, take_all, OnOk, List}
 use Rattle.aig_base.specs.declared.logic.literal.Lit.{Lit}
-use Rattle.std.proofs.Common.{List}
 use Rattle.aig_circuit.specs.Edge.{lit_of}
 use Rattle.aig_runs.proofs.clauses.push_any.Goals as goal
 

@@ -1,5 +1,4 @@
-use Rattle.std.proofs.Common.{◌≡◌, ◌++◌, take}
-use Rattle.std.specs.List.{flat_map}
+use Rattle.aig_base.proofs.Words.{◌≡◌, ◌++◌, take, flat_map}
 use Rattle.aig_runs.specs.Queries.{start_clauses}
 use Rattle.aig_runs.proofs.clauses.push_starts.Given as goal
 

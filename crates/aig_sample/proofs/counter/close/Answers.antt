@@ -1,5 +1,4 @@
-use Rattle.std.proofs.Common.{ap, None}
-use Rattle.std.proofs.lemmas.Option.{slice_get-get_or}
+use Rattle.aig_base.proofs.Words.{ap, None, slice_get-get_or}
 use Rattle.aig_circuit.specs.declared.node.AigLatch.{AigLatch}
 use Rattle.aig_circuit.specs.Circuit.{Circuit}
 use Rattle.aig_sample.proofs.counter.close.Goals as goal

@@ -1,5 +1,4 @@
-use Rattle.std.proofs.Common.{arith}
-use Rattle.std.proofs.lemmas.Result.{err_from_is_err_and}
+use Rattle.aig_base.proofs.Words.{arith, err_from_is_err_and}
 use Rattle.aig_lexer.specs.Takes.{feed}
 use Rattle.aig_solutions.proofs.AnswerLines.{name_wrong, rest_wrong}
 use Rattle.aig_solutions.proofs.answer.read_answer.Goals as goal

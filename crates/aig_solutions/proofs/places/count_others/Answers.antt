@@ -1,8 +1,4 @@
-use Rattle.std.proofs.Common.{◌≡◌, ◌<◌, ◌+◌, false, length, take, arith, sym, ap, ◌∙◌}
-use Rattle.std.proofs.lemmas.Bool.{false≢true}
-use Rattle.std.specs.Prelude.{count_by}
-use Rattle.std.proofs.lemmas.List.{length-take-le, take_all}
-use Rattle.std.proofs.lemmas.List.Sums.{count_by-le-length}
+use Rattle.aig_base.proofs.Words.{◌≡◌, ◌<◌, ◌+◌, false, length, take, arith, sym, ap, ◌∙◌, false≢true, count_by, length-take-le, take_all, count_by-le-length}
 use Rattle.aig_circuit.specs.declared.node.AigNode.{AigNode}
 use Rattle.aig_circuit.specs.declared.node.AigNodeType.TheVariants.{False}
 use Rattle.aig_unroll.specs.Places.{is_other_leaf}

@@ -1,5 +1,4 @@
-use Rattle.std.proofs.Common.{◌≡◌, ◌<◌, ℕ, length, take}
-use Rattle.std.specs.Prelude.{count_by, slice_index}
+use Rattle.aig_base.proofs.Words.{◌≡◌, ◌<◌, ℕ, length, take, count_by, slice_index}
 use Rattle.aig_unroll.specs.Places.{is_other_leaf}
 use Rattle.aig_solutions.proofs.places.count_others.Given as goal
 

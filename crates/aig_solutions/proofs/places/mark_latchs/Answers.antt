@@ -1,6 +1,5 @@
-use Rattle.std.proofs.Common.{ℕ, ◌<◌, List, length, sym, subst, ◌∙◌, arith}
+use Rattle.aig_base.proofs.Words.{ℕ, ◌<◌, List, length, sym, subst, ◌∙◌, arith, All}
 use Rattle.std.proofs.Math.ListN.{length-set}
-use Rattle.std.specs.Prelude.{All}
 use Rattle.aig_circuit.specs.declared.node.AigLatch.{AigLatch}
 use Rattle.aig_circuit.specs.Circuit.{IsLatch}
 use Rattle.aig_solutions.proofs.Turning.{latch_within, mark_more}

@@ -1,7 +1,5 @@
-use Rattle.std.proofs.Common.{◌≡◌, ◌<◌, ℕ, Bool, length, take}
-use Rattle.std.specs.Prelude.{slice_index_or}
-use Rattle.aig_circuit.specs.Circuit.{latch_leaves}
-use Rattle.aig_circuit.specs.Renumber.{is_in}
+use Rattle.aig_base.proofs.Words.{◌≡◌, ◌<◌, ℕ, Bool, length, take, slice_index_or}
+use Rattle.aig_circuit.proofs.Words.{latch_leaves, is_in}
 use Rattle.aig_solutions.proofs.places.mark_latchs.Given as goal
 
 abbrev pub invariant-loop-latch : goal.invariant-loop-latch

@@ -1,5 +1,4 @@
-use Rattle.std.proofs.Common.{◌∙◌}
-use Rattle.std.proofs.lemmas.Result.{err_from_is_err_and}
+use Rattle.aig_base.proofs.Words.{◌∙◌, err_from_is_err_and}
 use Rattle.aig_lexer.specs.Takes.{feed}
 use Rattle.aig_solutions.proofs.Solved.{none_held, said_error}
 use Rattle.aig_solutions.proofs.reading.read_solution.Goals as goal

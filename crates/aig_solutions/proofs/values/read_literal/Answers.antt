@@ -1,5 +1,4 @@
-use Rattle.std.proofs.Common.{sym, ◌∙◌}
-use Rattle.std.proofs.lemmas.Result.{err_from_is_err_and}
+use Rattle.aig_base.proofs.Words.{sym, ◌∙◌, err_from_is_err_and}
 use Rattle.aig_lexer.specs.Takes.{feed}
 use Rattle.aig_solutions.proofs.Literals.{literal_error, literal_given, literal_refused, literal_zero}
 use Rattle.aig_solutions.proofs.values.read_literal.Goals as goal

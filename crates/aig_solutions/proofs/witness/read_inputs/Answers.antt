@@ -1,5 +1,4 @@
-use Rattle.std.proofs.Common.{ap, get_or, ◌∙◌, arith}
-use Rattle.std.proofs.lemmas.List.Elements.{Contains-get_or}
+use Rattle.aig_base.proofs.Words.{ap, get_or, ◌∙◌, arith, Contains-get_or}
 use Rattle.aig_circuit.specs.Circuit.{Circuit}
 use Rattle.aig_unroll.specs.Places.{place_at}
 use Rattle.aig_unroll.proofs.Others.{inputs_are_others}

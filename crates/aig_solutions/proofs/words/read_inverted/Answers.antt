@@ -1,5 +1,4 @@
-use Rattle.std.proofs.Common.{sym, ◌∙◌}
-use Rattle.std.proofs.lemmas.Result.{err_from_is_err_and}
+use Rattle.aig_base.proofs.Words.{sym, ◌∙◌, err_from_is_err_and}
 use Rattle.aig_lexer.specs.Takes.{feed}
 use Rattle.aig_solutions.proofs.SignedWords.{is_ended, is_no_end, minus_alone, minus_end, minus_none, word_minus}
 use Rattle.aig_solutions.proofs.words.read_inverted.Goals as goal

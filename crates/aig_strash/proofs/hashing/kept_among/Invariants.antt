@@ -1,5 +1,4 @@
-use Rattle.std.proofs.Common.{◌≡◌, List, map, take}
-use Rattle.std.specs.Prelude.{filter}
+use Rattle.aig_base.proofs.Words.{◌≡◌, List, map, take, filter}
 use Rattle.aig_circuit.specs.declared.node.AigNode.{AigNode}
 use Rattle.aig_circuit.specs.Circuit.{AreNodes}
 use Rattle.aig_strash.specs.Exchange.{image_of, is_representative, node_numbers}

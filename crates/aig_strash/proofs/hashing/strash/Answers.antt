@@ -1,5 +1,4 @@
-use Rattle.std.proofs.Common.{◌≡◌, ℕ, List, map, ap, ◌∙◌}
-use Rattle.std.proofs.lemmas.Result.{MatchResult-weaker}
+use Rattle.aig_base.proofs.Words.{◌≡◌, ℕ, List, map, ap, ◌∙◌, MatchResult-weaker}
 use Rattle.aig_circuit.specs.declared.node.AigNode.{AigNode}
 use Rattle.aig_circuit.specs.Circuit.{Circuit, IsCircuit}
 use Rattle.aig_strash.specs.Exchange.{image_of, kept_nodes, node_numbers}

@@ -1,5 +1,4 @@
-use Rattle.std.proofs.Common.{◌≡◌, ℕ, ◌+◌, ◌<◌, ◌∙◌, List, ◌++◌, ◌∷◌, [], length, take, ap, sym, get_or, arith}
-use Rattle.std.proofs.lemmas.List.{length-take, take_more}
+use Rattle.aig_base.proofs.Words.{◌≡◌, ℕ, ◌+◌, ◌<◌, ◌∙◌, List, ◌++◌, ◌∷◌, [], length, take, ap, sym, get_or, arith, length-take, take_more}
 use Rattle.aig_strash.proofs.numbers.widened.Goals as goal
 
 -- one entry more

@@ -1,5 +1,4 @@
-use Rattle.std.proofs.Common.{◌≡◌, ◌≤◌, length, take}
-use Rattle.std.specs.Prelude.{vec_capacity}
+use Rattle.aig_base.proofs.Words.{◌≡◌, ◌≤◌, length, take, vec_capacity}
 use Rattle.aig_strash.proofs.numbers.widened.Given as goal
 
 abbrev pub invariant-loop-number : goal.invariant-loop-number

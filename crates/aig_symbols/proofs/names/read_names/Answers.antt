@@ -1,13 +1,9 @@
-use Rattle.std.proofs.Common.{◌<◌, true, cond, refl, ap, sym, subst, ◌∙◌, arith}
-use Rattle.std.specs.List.{list_any}
+use Rattle.aig_base.proofs.Words.{◌<◌, true, cond, refl, ap, sym, subst, ◌∙◌, arith, list_any, is_some, length-map}
 use Rattle.std.specs.Ordering.{is_eq}
-use Rattle.std.specs.Prelude.{is_some}
 use Rattle.std.specs.BTreeSet.{contains}
 use Rattle.std.proofs.lemmas.Bool.{not-false, not-true}
-use Rattle.std.proofs.lemmas.List.{length-map}
 use Rattle.aig_circuit.specs.declared.node.AigLatch.{AigLatch}
-use Rattle.aig_circuit.specs.Circuit.{latch_leaves}
-use Rattle.aig_circuit.specs.View.{names_of}
+use Rattle.aig_circuit.proofs.Words.{latch_leaves, names_of}
 use Rattle.aig_format.specs.Letters.{count_of}
 use Rattle.aig_lexer.specs.Header.{numbers_of}
 use Rattle.aig_lexer.specs.Takes.{feed, Misses}

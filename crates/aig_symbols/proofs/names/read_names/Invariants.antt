@@ -1,7 +1,6 @@
 use Rattle.std.specs.BTreeSet.{contains}
 use Rattle.aig_lexer.specs.Takes.{feed}
-use Rattle.aig_circuit.specs.Circuit.{latch_leaves}
-use Rattle.aig_circuit.specs.View.{names_of}
+use Rattle.aig_circuit.proofs.Words.{latch_leaves, names_of}
 use Rattle.aig_lexer.specs.Header.{numbers_of}
 use Rattle.aig_symbols.proofs.KeptNames.{spot_cmp}
 use Rattle.aig_symbols.proofs.SoFar.{SoFar}

@@ -1,5 +1,4 @@
-use Rattle.std.proofs.Common.{length, ap, ◌∙◌, arith}
-use Rattle.std.proofs.lemmas.List.{with_items_is}
+use Rattle.aig_base.proofs.Words.{length, ap, ◌∙◌, arith, with_items_is}
 use Rattle.aig_ternary.proofs.simulate.ternary_simulate.Goals as goal
 
 pub value_circuit-requires-clause-inputs : goal.value_circuit-requires-clause-inputs

@@ -1,5 +1,4 @@
-use Rattle.std.proofs.Common.{◌≡◌, ℕ, length, get_or, replicate, ap, arith}
-use Rattle.std.proofs.lemmas.List.{length-replicate}
+use Rattle.aig_base.proofs.Words.{◌≡◌, ℕ, length, get_or, replicate, ap, arith, length-replicate}
 use Rattle.aig_base.specs.declared.logic.three.Lbool.{Lbool}
 use Rattle.aig_base.specs.declared.logic.three.Lbool.TheVariants.{NONE}
 use Rattle.aig_circuit.specs.declared.node.AigNodeType.TheVariants.{Leaf}

@@ -1,5 +1,4 @@
-use Rattle.std.proofs.Common.{[], ◌∷◌, Some, ap, refl, sym, ◌∙◌}
-use Rattle.std.specs.Prelude.{codes}
+use Rattle.aig_base.proofs.Words.{[], ◌∷◌, Some, ap, refl, sym, ◌∙◌, codes}
 use Rattle.aig_commands.specs.declared.command.Command.TheVariants as commands
 use Rattle.aig_tests.proofs.Text.{call, text_printed}
 use Rattle.aig_tests.proofs.printing.printed.Goals as goal

@@ -1,6 +1,6 @@
 use Rattle.std.proofs.Common.{◌≡◌, ◌+◌, ◌-◌, ◌<◌, ◌++◌, [], ◌∷◌, true, false, cond, vec_len, vec_capacity, length, map, append-nil, sym, ap, ◌∙◌, arith}
 use Rattle.std.specs.Prelude.{is_ok}
-use Rattle.std.proofs.lemmas.List.{take_all}
+use Rattle.aig_base.proofs.Words.{take_all}
 use Rattle.aig_circuit.specs.Edge.{edge_to}
 use Rattle.aig_unroll.specs.Step.{image_in}
 use Rattle.aig_unroll.proofs.Pushed.{made_pushed, count_down, room_less, room_after}

@@ -1,5 +1,4 @@
-use Rattle.std.proofs.Common.{length, drop, vec_len, sym, subst, ◌∙◌, refl}
-use Rattle.std.proofs.lemmas.List.{take_at}
+use Rattle.aig_base.proofs.Words.{length, drop, vec_len, sym, subst, ◌∙◌, refl, take_at}
 use Rattle.aig_circuit.specs.View.{properties_of}
 use Rattle.aig_unroll.specs.Step.{AppendsButJustice, HaveNextImages}
 use Rattle.aig_unroll.proofs.entries.append_step.Goals as goal

@@ -1,8 +1,6 @@
-use Rattle.std.specs.Prelude.{All}
+use Rattle.aig_base.proofs.Words.{All, map-append, take_all, map-map}
 use Rattle.std.proofs.Common.{◌≡◌, ◌+◌, ◌<◌, ◌≤◌, ℕ, List, [], ◌∷◌, ◌++◌, Vec, Global, vec_len, vec_capacity, append-nil, length, map, take, get_or, sym, ap, ◌∙◌, arith}
 use Rattle.std.proofs.Math.Seq.{take-length}
-use Rattle.std.proofs.lemmas.List.{map-append, take_all}
-use Rattle.std.proofs.lemmas.Simd.{map-map}
 use Rattle.aig_circuit.specs.declared.edge.AigEdge.{AigEdge}
 use Rattle.aig_unroll.specs.Step.{entries_of, image_in}
 use Rattle.aig_renumber.proofs.Sets.{set_among}

@@ -1,6 +1,5 @@
 use Rattle.std.proofs.Common.{◌≡◌, map, take}
-use Rattle.aig_circuit.specs.Circuit.{latch_leaves}
-use Rattle.aig_circuit.specs.Runs.{next_edges}
+use Rattle.aig_circuit.proofs.Words.{latch_leaves, next_edges}
 use Rattle.aig_unroll.specs.Step.{image_in}
 use Rattle.aig_unroll.specs.Unroll.{starts_of}
 use Rattle.aig_unroll.proofs.entries.set_next_images.Given as goal

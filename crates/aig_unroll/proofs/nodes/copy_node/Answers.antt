@@ -1,5 +1,4 @@
-use Rattle.std.proofs.Common.{Ok, Err, Result, ◌≡◌, ◌&&◌, ◌<◌, ◌≤◌, ℕ, false, List, [], ◌++◌, length, append-nil, refl, sym, ap, ◌∙◌, arith}
-use Rattle.std.specs.Prelude.{IfOk}
+use Rattle.aig_base.proofs.Words.{Ok, Err, Result, ◌≡◌, ◌&&◌, ◌<◌, ◌≤◌, ℕ, false, List, [], ◌++◌, length, append-nil, refl, sym, ap, ◌∙◌, arith, IfOk}
 use Rattle.aig_circuit.specs.declared.node.AigNodeType.TheVariants.{And, False, Leaf}
 use Rattle.aig_circuit.specs.Tree.{edge_value}
 use Rattle.aig_circuit.proofs.Trees.{kind_at-within}

@@ -1,5 +1,4 @@
-use Rattle.std.proofs.Common.{◌≡◌, ◌<◌, ◌≤◌, ◌++◌, ℕ, List, append_assoc, append-nil, length, refl, take, subst, sym, ap, ◌∙◌, arith}
-use Rattle.std.proofs.lemmas.List.{take_at}
+use Rattle.aig_base.proofs.Words.{◌≡◌, ◌<◌, ◌≤◌, ◌++◌, ℕ, List, append_assoc, append-nil, length, refl, take, subst, sym, ap, ◌∙◌, arith, take_at}
 use Rattle.aig_circuit.proofs.Building.{Grows-longer, Grows-then}
 use Rattle.aig_unroll.specs.Places.{leaves_after}
 use Rattle.aig_unroll.specs.Step.{Copies}

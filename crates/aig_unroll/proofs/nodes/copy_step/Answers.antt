@@ -1,7 +1,5 @@
-use Rattle.std.proofs.Common.{◌≡◌, length, map, get_or, subst, sym, ap, ◌∙◌, arith}
-use Rattle.std.proofs.lemmas.Result.{on_ok_weaker}
-use Rattle.aig_circuit.specs.Circuit.{latch_leaves}
-use Rattle.aig_circuit.specs.Runs.{next_edges}
+use Rattle.aig_base.proofs.Words.{◌≡◌, length, map, get_or, subst, sym, ap, ◌∙◌, arith, on_ok_weaker}
+use Rattle.aig_circuit.proofs.Words.{latch_leaves, next_edges}
 use Rattle.aig_circuit.specs.declared.node.AigNodeType.TheVariants.{Leaf}
 use Rattle.aig_circuit.proofs.Trees.{kind_at-within}
 use Rattle.aig_unroll.specs.Step.{HasLatchImages, CopiesAll, CopiesBelow, image_at}

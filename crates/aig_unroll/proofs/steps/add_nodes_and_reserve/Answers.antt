@@ -1,8 +1,6 @@
-use Rattle.std.proofs.Common.{◌++◌, map, ap, subst, ◌∙◌}
-use Rattle.std.proofs.lemmas.Result.{on_err_weaker, on_ok_weaker}
+use Rattle.aig_base.proofs.Words.{◌++◌, map, ap, subst, ◌∙◌, on_err_weaker, on_ok_weaker}
 use Rattle.aig_circuit.specs.declared.edge.AigEdge.{AigEdge}
-use Rattle.aig_circuit.specs.Circuit.{latch_leaves}
-use Rattle.aig_circuit.specs.Properties.{Properties}
+use Rattle.aig_circuit.proofs.Words.{latch_leaves, Properties}
 use Rattle.aig_circuit.specs.View.{HasRoomFor, lists_circuit, properties_of}
 use Rattle.aig_unroll.specs.Step.{CopiesAll, entries_of, image_in}
 use Rattle.aig_unroll.proofs.Pushed.{on_err}

@@ -1,6 +1,5 @@
 use Rattle.std.proofs.Common.{◌≡◌, add-one, sym, subst, arith}
-use Rattle.aig_circuit.specs.Circuit.{IsCircuit}
-use Rattle.aig_circuit.specs.View.{lists_circuit}
+use Rattle.aig_circuit.proofs.Words.{IsCircuit, lists_circuit}
 use Rattle.aig_unroll.specs.Unroll.{UnrollsBySteps, UnrollsTo}
 use Rattle.aig_unroll.specs.Step.{IsUnrolled}
 use Rattle.aig_unroll.proofs.MoreSteps.{unrolls_more}

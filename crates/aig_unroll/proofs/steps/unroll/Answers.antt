@@ -1,6 +1,5 @@
 use Rattle.std.proofs.Common.{length, ap, ◌∙◌}
-use Rattle.aig_circuit.specs.Circuit.{Circuit}
-use Rattle.aig_circuit.specs.View.{lists_circuit, names_of}
+use Rattle.aig_circuit.proofs.Words.{Circuit, lists_circuit, names_of}
 use Rattle.aig_unroll.specs.Step.{AppendsImages, CopiesAll, IsPrepared}
 use Rattle.aig_unroll.proofs.Table.{as_many_latchs}
 use Rattle.aig_unroll.proofs.Stepped.{stepped_in_parts, stepped_is_circuit, stepped_unrolls}

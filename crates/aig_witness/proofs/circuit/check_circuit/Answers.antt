@@ -1,6 +1,4 @@
-use Rattle.std.proofs.Common.{◌≡◌, ◌<◌, ℕ, List, get_or, length, sym, ap, subst, ◌∙◌, arith}
-use Rattle.std.proofs.lemmas.Bool.{eqb-false}
-use Rattle.std.proofs.lemmas.List.{length-map}
+use Rattle.aig_base.proofs.Words.{◌≡◌, ◌<◌, ℕ, List, get_or, length, sym, ap, subst, ◌∙◌, arith, eqb-false, length-map}
 use Rattle.std.specs.Prelude.{All, Vec}
 use Rattle.std.specs.declared.alloc.Global.{Global}
 use Rattle.aig_base.specs.declared.logic.three.Lbool.{Lbool}

@@ -1,5 +1,4 @@
-use Rattle.std.proofs.Common.{◌≡◌, [], length, take, sym, ap, ◌∙◌, arith}
-use Rattle.std.specs.Prelude.{slice_index_or}
+use Rattle.aig_base.proofs.Words.{◌≡◌, [], length, take, sym, ap, ◌∙◌, arith, slice_index_or}
 use borrow.Author.Count.{below_more}
 use Rattle.aig_circuit.specs.Circuit.{Circuit}
 use Rattle.aig_ternary.specs.Ternary.{Simulation, simulation_of}

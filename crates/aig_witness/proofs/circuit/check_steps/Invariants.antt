@@ -1,5 +1,4 @@
-use Rattle.std.proofs.Common.{◌≡◌, ℕ, ◌<◌, [], length, take}
-use Rattle.std.specs.Prelude.{slice_index_or}
+use Rattle.aig_base.proofs.Words.{◌≡◌, ℕ, ◌<◌, [], length, take, slice_index_or}
 use Rattle.aig_ternary.specs.Ternary.{simulation_of, stepped_all}
 use Rattle.aig_witness.specs.Witness.{rows_of, said_by}
 use Rattle.aig_witness.specs.Shown.{AreTrueIn, simulated}

@@ -1,5 +1,4 @@
-use Rattle.std.proofs.Common.{ℕ, ◌<◌}
-use Rattle.std.specs.Prelude.{slice_index_or}
+use Rattle.aig_base.proofs.Words.{ℕ, ◌<◌, slice_index_or}
 use Rattle.aig_base.specs.declared.logic.three.Lbool.TheVariants.{NONE}
 use Rattle.aig_circuit.specs.declared.node.AigLatch.{AigLatch}
 use Rattle.aig_witness.specs.Shown.{HasStart}

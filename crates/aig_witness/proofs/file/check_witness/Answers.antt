@@ -1,8 +1,6 @@
-use Rattle.std.proofs.Common.{◌≡◌, length, refl, subst, arith}
+use Rattle.aig_base.proofs.Words.{◌≡◌, length, refl, subst, arith, length-map, err_from_is_err_and}
 use Rattle.std.specs.Prelude.{Vec}
 use Rattle.std.specs.declared.alloc.Global.{Global}
-use Rattle.std.proofs.lemmas.List.{length-map}
-use Rattle.std.proofs.lemmas.Result.{err_from_is_err_and}
 use Rattle.aig_base.specs.declared.logic.three.Lbool.{Lbool}
 use Rattle.aig_circuit.specs.Circuit.{Circuit}
 use Rattle.aig_reader.specs.declared.error.ReadError.TheVariants as read

@@ -1,5 +1,4 @@
-use Rattle.std.proofs.Common.{[], ◌∷◌, ◌++◌, ℕ, List, Option, Some, refl}
-use Rattle.std.proofs.lemmas.Result.{err_from_is_err_and}
+use Rattle.aig_base.proofs.Words.{[], ◌∷◌, ◌++◌, ℕ, List, Option, Some, refl, err_from_is_err_and}
 use Rattle.aig_base.specs.declared.logic.three.Lbool.{Lbool}
 use Rattle.aig_lexer.specs.Takes.{feed, Misses}
 use Rattle.aig_lexer.specs.Words.{parse_expected}

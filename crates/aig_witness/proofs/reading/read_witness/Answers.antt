@@ -1,5 +1,5 @@
 use Rattle.std.proofs.Common.{◌∷◌, not, nat_eq, true, false, Some, refl, subst}
-use Rattle.std.proofs.lemmas.Result.{err_from_is_err_and}
+use Rattle.aig_base.proofs.Words.{err_from_is_err_and}
 use Rattle.aig_lexer.specs.Takes.{feed}
 use Rattle.aig_lexer.proofs.Faults.{tells-weaker}
 use Rattle.aig_lexer.proofs.Going.{GoesOn, goes_byte, goes_call, goes_done, goes_start}

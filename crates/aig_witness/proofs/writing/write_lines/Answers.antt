@@ -1,6 +1,4 @@
-use Rattle.std.proofs.Common.{[], ◌∷◌, rules}
-use Rattle.std.specs.List.{flat_map}
-use Rattle.std.specs.Prelude.{codes}
+use Rattle.aig_base.proofs.Words.{[], ◌∷◌, rules, flat_map, codes}
 use Rattle.aig_output.proofs.Putting.{Buffers-trans, failed_among, failed_first, then_call}
 use Rattle.aig_witness.specs.Witness.{row_text, said_by}
 use Rattle.aig_witness.proofs.Pieces.{text_pieces, witness_pieces}

@@ -1,5 +1,4 @@
-use Rattle.std.proofs.Common.{take}
-use Rattle.std.specs.List.{flat_map}
+use Rattle.aig_base.proofs.Words.{take, flat_map}
 use Rattle.aig_output.specs.Sinks.{Buffers}
 use Rattle.aig_witness.proofs.Pieces.{value_text}
 use Rattle.aig_witness.proofs.writing.write_row.Given as goal

@@ -1,6 +1,5 @@
 use Rattle.std.proofs.Common.{drop, rules}
-use Rattle.aig_format.specs.Circuit.{file_of}
-use Rattle.aig_format.specs.Written.{header_line_of}
+use Rattle.aig_format.proofs.Words.{file_of, header_line_of}
 use Rattle.aig_output.proofs.Writing.{calls_laws, failed_among, failed_first, then_call, then_text}
 use Rattle.aig_writer.specs.Numbering.{written_number, numbered_file}
 use Rattle.aig_writer.proofs.Texts.{form-sections, gates_part, inputs_part, latches_part, properties_part, section_texts}

@@ -1,5 +1,4 @@
-use Rattle.std.proofs.Common.{◌≡◌, ◌≤◌, length, take}
-use Rattle.std.specs.Prelude.{filter_map}
+use Rattle.aig_base.proofs.Words.{◌≡◌, ◌≤◌, length, take, filter_map}
 use Rattle.aig_format.specs.Circuit.{gate_line}
 use Rattle.aig_writer.proofs.header.gate_count.Given as goal
 

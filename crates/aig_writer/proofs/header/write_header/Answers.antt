@@ -1,5 +1,4 @@
-use Rattle.aig_format.specs.Circuit.{file_of}
-use Rattle.aig_format.specs.Written.{line_text}
+use Rattle.aig_format.proofs.Words.{file_of, line_text}
 use Rattle.std.proofs.Common.{◌+◌, take, ◌∷◌, [], rules}
 use Rattle.aig_output.proofs.Writing.{calls_laws, failed_first, then_call}
 use Rattle.aig_writer.proofs.Counts.{header_text}

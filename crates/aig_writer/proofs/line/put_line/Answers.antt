@@ -1,6 +1,5 @@
 use Rattle.std.proofs.Common.{◌≡◌, ◌+◌, ◌-◌, ◌<◌, ◌≤◌, decimal, length, drop, get_or, rules, arith}
-use Rattle.std.proofs.lemmas.Fmt.{length-decimal-le}
-use Rattle.std.proofs.lemmas.List.{drop_more}
+use Rattle.aig_base.proofs.Words.{length-decimal-le, drop_more}
 use Rattle.aig_writer.proofs.Lines.{Built-start, Built-turn, Built-line, feed_after, feed_before}
 use Rattle.aig_writer.proofs.line.put_line.Goals as goal
 

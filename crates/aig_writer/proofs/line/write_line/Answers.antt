@@ -1,5 +1,4 @@
-use Rattle.std.proofs.Common.{◌-◌, drop, arith, ◌∙◌}
-use Rattle.std.proofs.lemmas.List.{take-take}
+use Rattle.aig_base.proofs.Words.{◌-◌, drop, arith, ◌∙◌, take-take}
 use Rattle.aig_writer.proofs.line.write_line.Goals as goal
 
 pub returns : goal.returns

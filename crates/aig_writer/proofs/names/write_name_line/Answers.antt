@@ -1,5 +1,5 @@
 use Rattle.std.proofs.Common.{◌≡◌, ◌∷◌, [], ◌≤◌, decimal, length, replicate, rules, arith}
-use Rattle.std.proofs.lemmas.Fmt.{length-decimal-le}
+use Rattle.aig_base.proofs.Words.{length-decimal-le}
 use Rattle.aig_output.proofs.Writing.{calls_laws, failed_among, failed_first, then_call, then_text}
 use Rattle.aig_writer.proofs.Entries.{name_head, name_pieces}
 use Rattle.aig_writer.proofs.names.write_name_line.Goals as goal

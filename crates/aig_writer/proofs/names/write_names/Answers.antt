@@ -1,8 +1,4 @@
-use Rattle.std.proofs.Common.{◌∷◌, [], ap, arith, length, rules}
-use Rattle.std.specs.List.{enumerate_from}
-use Rattle.std.specs.FinMap.{get}
-use Rattle.std.proofs.lemmas.List.{take_all}
-use Rattle.std.proofs.lemmas.List.FromFn.{length-enumerate_from}
+use Rattle.aig_base.proofs.Words.{◌∷◌, [], ap, arith, length, rules, enumerate_from, get, take_all, length-enumerate_from}
 use Rattle.aig_circuit.specs.Circuit.{latch_leaves}
 use Rattle.aig_output.proofs.Writing.{all_done, calls_laws, failed_turn, failed_within, then_call, then_turn}
 use Rattle.aig_writer.proofs.Entries.{input_entry-at, latch_entries, latch_entry-at, length-leaves, name_entry, name_lines-both}

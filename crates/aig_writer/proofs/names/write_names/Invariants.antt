@@ -1,7 +1,4 @@
-use Rattle.std.proofs.Common.{take}
-use Rattle.std.specs.Fmt.{WritesInCalls}
-use Rattle.std.specs.List.{enumerate_from, flat_map}
-use Rattle.std.specs.FinMap.{get}
+use Rattle.aig_base.proofs.Words.{take, WritesInCalls, enumerate_from, flat_map, get}
 use Rattle.aig_circuit.specs.Circuit.{latch_leaves}
 use Rattle.aig_writer.proofs.Entries.{name_entry}
 use Rattle.aig_writer.proofs.names.write_names.Given as goal

@@ -1,6 +1,5 @@
 use Rattle.std.proofs.Common.{◌≡◌, ◌++◌, [], length, take, drop, refl, sym, ap, slice_index, rules, arith, ◌∙◌}
-use Rattle.std.proofs.lemmas.Bool.{false≢true}
-use Rattle.std.proofs.lemmas.List.{length-replicate, take-append-le, take_all}
+use Rattle.aig_base.proofs.Words.{false≢true, length-replicate, take-append-le, take_all}
 use Rattle.aig_writer.proofs.Tables.{first_of_zeros, own_numbers}
 use Rattle.aig_writer.proofs.numbering.binary_numbers.Goals as goal
 

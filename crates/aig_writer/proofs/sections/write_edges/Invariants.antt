@@ -1,6 +1,4 @@
-use Rattle.std.proofs.Common.{take}
-use Rattle.std.specs.Fmt.{WritesInCalls}
-use Rattle.std.specs.List.{flat_map}
+use Rattle.aig_base.proofs.Words.{take, WritesInCalls, flat_map}
 use Rattle.aig_writer.specs.Numbering.{written_number}
 use Rattle.aig_circuit.specs.Renumber.{renumbered_edge}
 use Rattle.aig_writer.proofs.Items.{edge_line}

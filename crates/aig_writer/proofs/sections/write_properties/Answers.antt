@@ -1,5 +1,4 @@
-use Rattle.std.proofs.Common.{◌∷◌, [], rules}
-use Rattle.std.proofs.lemmas.List.{take_all}
+use Rattle.aig_base.proofs.Words.{◌∷◌, [], rules, take_all}
 use Rattle.aig_circuit.specs.declared.prop_list.PropList.TheVariants.{Fairness}
 use Rattle.aig_output.proofs.Writing.{calls_laws, failed_among, failed_within, then_call, then_text, then_turn}
 use Rattle.aig_writer.specs.Numbering.{written_number}

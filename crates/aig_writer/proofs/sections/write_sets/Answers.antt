@@ -1,6 +1,4 @@
-use Rattle.std.proofs.Common.{◌∷◌, [], rules}
-use Rattle.std.proofs.lemmas.List.{take_all}
-use Rattle.std.specs.List.{flat_map}
+use Rattle.aig_base.proofs.Words.{◌∷◌, [], rules, take_all, flat_map}
 use Rattle.aig_output.proofs.Writing.{all_done, calls_laws, failed_turn, failed_within, then_call, then_turn}
 use Rattle.aig_writer.specs.Numbering.{written_number}
 use Rattle.aig_writer.proofs.Items.{len_is, numbered_set, numbered_sets, set_sizes, size_line}

@@ -1,8 +1,7 @@
 use Rattle.std.proofs.Common.{All, arith, subst}
-use Rattle.std.proofs.lemmas.List.Sums.{length-filter, count_by-le-length}
+use Rattle.aig_base.proofs.Words.{length-filter, count_by-le-length}
 use Rattle.aig_circuit.specs.declared.node.AigNode.{AigNode}
-use Rattle.aig_circuit.specs.Node.{gates_of, is_gate}
-use Rattle.aig_circuit.specs.Circuit.{Circuit}
+use Rattle.aig_circuit.proofs.Words.{gates_of, is_gate, Circuit}
 use Rattle.aig.specs.Gates.{IsGateOf}
 use Rattle.aig.proofs.Gates.{All-gates_of}
 use Rattle.aig.proofs.graph.Aig.ands_iter.Goals as goal

@@ -1,6 +1,4 @@
-use Rattle.std.proofs.Common.{sym, subst, ◌∙◌}
-use Rattle.std.specs.Prelude.{All}
-use Rattle.std.proofs.lemmas.Bool.{false≢true}
+use Rattle.aig_base.proofs.Words.{sym, subst, ◌∙◌, All, false≢true}
 use Rattle.aig_circuit.specs.Edges.{HasConstantInit}
 use Rattle.aig_format.specs.Writable.{HasLineFeed, named_nodes}
 use Rattle.aig.proofs.Refusing.{none_where_false}

@@ -1,8 +1,6 @@
 -- The cone of the borrowed circuit is the circuit's.
-use Rattle.std.proofs.Common.{ℕ, ◌↔◌, subst}
-use Rattle.std.specs.Prelude.{Contains, IfOk}
-use Rattle.aig_circuit.specs.Circuit.{Circuit}
-use Rattle.aig_circuit.specs.Reach.{IsInCone}
+use Rattle.aig_base.proofs.Words.{ℕ, ◌↔◌, subst, Contains, IfOk}
+use Rattle.aig_circuit.proofs.Words.{Circuit, IsInCone}
 use Rattle.aig.proofs.graph.Aig.coi.Goals as goal
 
 pub returns : goal.returns

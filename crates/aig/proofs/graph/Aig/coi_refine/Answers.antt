@@ -1,7 +1,6 @@
 -- The refined circuit is the definition's, to which the laws of refining apply.
 use Rattle.std.proofs.Common.{sym, subst}
-use Rattle.aig_circuit.specs.Circuit.{Circuit, IsCircuit}
-use Rattle.aig_circuit.specs.View.{lists_circuit}
+use Rattle.aig_circuit.proofs.Words.{Circuit, IsCircuit, lists_circuit}
 use Rattle.aig_cone.specs.Refine.{CutsRuns}
 use Rattle.aig_cone.proofs.Refining.{CutsRuns-refined, IsCircuit-refined}
 use Rattle.aig.specs.Others.{IsRefined}

@@ -1,6 +1,4 @@
-use Rattle.std.proofs.Common.{Some, sym, ap, ◌∙◌}
-use Rattle.std.specs.Prelude.{option_map, string_bytes}
-use Rattle.std.specs.FinMap.{get}
+use Rattle.aig_base.proofs.Words.{Some, sym, ap, ◌∙◌, option_map, string_bytes, get}
 use Rattle.aig_circuit.specs.Circuit.{Circuit}
 use Rattle.aig_circuit.proofs.Names.{get_names}
 use Rattle.aig.proofs.graph.Aig.get_symbol.Goals as goal

@@ -1,7 +1,4 @@
-use Rattle.std.proofs.Common.{◌<◌, ◌^◌, List, length, sym, ap, ◌∙◌, subst, arith}
-use Rattle.std.proofs.lemmas.Bool.{false≢true}
-use Rattle.std.proofs.lemmas.List.{length-map}
-use Rattle.std.specs.Prelude.{All}
+use Rattle.aig_base.proofs.Words.{◌<◌, ◌^◌, List, length, sym, ap, ◌∙◌, subst, arith, false≢true, length-map, All}
 use Rattle.aig_circuit.specs.declared.edge.AigEdge.{AigEdge}
 use Rattle.aig.proofs.Refusing.{lists-numbers, sets-items}
 use Rattle.aig.proofs.graph.Aig.is_small.Goals as goal

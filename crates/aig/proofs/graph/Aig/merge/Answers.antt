@@ -1,8 +1,6 @@
 -- The circuits merged are the definition's, to which the laws of merging apply.
-use Rattle.std.proofs.Common.{length, sym, subst}
-use Rattle.std.proofs.lemmas.Result.{IfOk-weaker, on_err_weaker}
-use Rattle.aig_circuit.specs.Circuit.{Circuit, IsCircuit}
-use Rattle.aig_circuit.specs.View.{lists_circuit}
+use Rattle.aig_base.proofs.Words.{length, sym, subst, IfOk-weaker, on_err_weaker}
+use Rattle.aig_circuit.proofs.Words.{Circuit, IsCircuit, lists_circuit}
 use Rattle.aig_change.specs.Merge.{PairsRuns, shifted}
 use Rattle.aig_change.proofs.Merged.{IsCircuit-merged, PairsRuns-merged}
 use Rattle.aig.proofs.Results.{after_either}

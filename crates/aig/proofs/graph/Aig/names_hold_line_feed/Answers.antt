@@ -1,6 +1,4 @@
-use Rattle.std.proofs.Common.{◌≡◌, ◌↔◌, ◌++◌, ℕ, List, IsTrue, false, Bool, sym, ◌∙◌, inl, inr}
-use Rattle.std.specs.Prelude.{Any}
-use Rattle.std.proofs.lemmas.Bool.{false≢true}
+use Rattle.aig_base.proofs.Words.{◌≡◌, ◌↔◌, ◌++◌, ℕ, List, IsTrue, false, Bool, sym, ◌∙◌, inl, inr, Any, false≢true}
 use Rattle.aig_circuit.specs.declared.node.AigLatch.{AigLatch}
 use Rattle.aig_circuit.specs.Circuit.{latch_leaves}
 use Rattle.aig.proofs.Refusing.{Any-append, Any-latch_leaves}

@@ -1,10 +1,7 @@
-use Rattle.std.proofs.Common.{◌≡◌, ◌++◌, ◌∷◌, [], length, sym, subst, arith}
-use Rattle.std.specs.Prelude.{IfSome}
-use Rattle.std.proofs.lemmas.Grind.{common_steps}
+use Rattle.aig_base.proofs.Words.{◌≡◌, ◌++◌, ◌∷◌, [], length, sym, subst, arith, IfSome, common_steps}
 use Rattle.aig_circuit.specs.declared.node.AigNodeType.TheVariants.{Leaf}
 use Rattle.aig_circuit.specs.declared.node.AigLatch.{AigLatch}
-use Rattle.aig_circuit.specs.Build.{with_node}
-use Rattle.aig_circuit.specs.Circuit.{Circuit, IsInRange}
+use Rattle.aig_circuit.proofs.Words.{with_node, Circuit, IsInRange}
 use Rattle.aig_circuit.proofs.Writing.{IsCircuit-new_latch}
 use Rattle.aig.proofs.graph.Aig.new_latch.Goals as goal
 

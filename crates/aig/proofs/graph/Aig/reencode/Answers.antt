@@ -1,7 +1,5 @@
 use Rattle.std.proofs.Common.{◌≡◌, sym, ap, subst, ◌∙◌}
-use Rattle.aig_circuit.specs.Circuit.{Circuit, IsCircuit, IsClosed}
-use Rattle.aig_circuit.specs.Runs.{AreAsLong, KeepsRuns}
-use Rattle.aig_circuit.specs.Reencode.{IsReencoded, new_number, reencoded}
+use Rattle.aig_circuit.proofs.Words.{Circuit, IsCircuit, IsClosed, AreAsLong, KeepsRuns, IsReencoded, new_number, reencoded}
 use Rattle.aig_renumber.proofs.Placed.{AreAsLong-reencoded, IsCircuit-reencoded, IsClosed-reencoded, IsReencoded-reencoded, KeepsRuns-reencoded, reencoded-twice}
 use Rattle.aig.proofs.graph.Aig.reencode.Goals as goal
 

@@ -1,6 +1,4 @@
-use Rattle.std.proofs.Common.{◌≡◌, ◌<◌, Some, length, set, sym, ap, subst, ◌∙◌}
-use Rattle.std.specs.Prelude.{slice_get}
-use Rattle.std.proofs.lemmas.Option.{get_or_from_slice_get}
+use Rattle.aig_base.proofs.Words.{◌≡◌, ◌<◌, Some, length, set, sym, ap, subst, ◌∙◌, slice_get, get_or_from_slice_get}
 use Rattle.aig_circuit.specs.declared.node.AigLatch.{AigLatch}
 use Rattle.aig_circuit.specs.Circuit.{Circuit, IsInRange}
 use Rattle.aig_circuit.proofs.Writing.{IsCircuit-set_next}

@@ -1,5 +1,4 @@
-use Rattle.std.proofs.Common.{ℕ, ◌<◌, List, length, nat_cmp, ap, sym, subst, ◌∙◌}
-use Rattle.std.specs.FinMap.{FinMap, insert}
+use Rattle.aig_base.proofs.Words.{ℕ, ◌<◌, List, length, nat_cmp, ap, sym, subst, ◌∙◌, FinMap, insert}
 use Rattle.aig_circuit.specs.Circuit.{Circuit, IsCircuit}
 use Rattle.aig_circuit.proofs.Circuits.{IsCircuit-named}
 use Rattle.aig.specs.View.{circuit_of_lists}

@@ -1,7 +1,6 @@
 -- The strashed circuit is the definition's, to which the laws of strashing apply.
 use Rattle.std.proofs.Common.{◌≡◌, sym, ap, subst, ◌∙◌}
-use Rattle.aig_circuit.specs.Circuit.{Circuit, IsCircuit}
-use Rattle.aig_circuit.specs.Runs.{KeepsRuns}
+use Rattle.aig_circuit.proofs.Words.{Circuit, IsCircuit, KeepsRuns}
 use Rattle.aig_strash.specs.Exchange.{image_of}
 use Rattle.aig_strash.specs.Strash.{KeepsRepresentatives, MergesTrees, strashed}
 use Rattle.aig_strash.proofs.Keeping.{KeepsRepresentatives-strashed, NumbersRepresentatives-images}

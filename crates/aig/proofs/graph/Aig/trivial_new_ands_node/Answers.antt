@@ -1,9 +1,8 @@
 -- The items that the iterator gave are joined, and the circuit stays one.
-use Rattle.std.proofs.Common.{List, subst, ◌∙◌}
-use Rattle.std.proofs.lemmas.Result.{IfOk-weaker}
+use Rattle.aig_base.proofs.Words.{List, subst, ◌∙◌, IfOk-weaker}
 use Rattle.aig_circuit.specs.declared.edge.AigEdge.{AigEdge}
 use Rattle.aig_circuit.specs.Build.{AddsGateForEach, AddsOneEach, JoinsByAnd}
-use Rattle.aig_circuit.specs.Circuit.{Circuit}
+use Rattle.aig_circuit.proofs.Words.{Circuit}
 use Rattle.aig_circuit.proofs.Circuits.{IsCircuit-grown}
 use Rattle.aig.proofs.Results.{IfOk_both}
 use Rattle.aig.proofs.graph.Aig.trivial_new_ands_node.Goals as goal

@@ -1,10 +1,8 @@
 -- The items that the iterator gave are joined, and the circuit stays one.
-use Rattle.std.proofs.Common.{List, map, subst, ◌∙◌}
-use Rattle.std.proofs.lemmas.Result.{IfOk-weaker}
+use Rattle.aig_base.proofs.Words.{List, map, subst, ◌∙◌, IfOk-weaker}
 use Rattle.aig_circuit.specs.declared.edge.AigEdge.{AigEdge}
-use Rattle.aig_circuit.specs.Edge.{inverse}
+use Rattle.aig_circuit.proofs.Words.{inverse, Circuit}
 use Rattle.aig_circuit.specs.Build.{AddsGateForEach, AddsOneEach, JoinsByOr}
-use Rattle.aig_circuit.specs.Circuit.{Circuit}
 use Rattle.aig_circuit.proofs.Circuits.{IsCircuit-grown}
 use Rattle.aig.proofs.Results.{IfOk_both}
 use Rattle.aig.proofs.graph.Aig.trivial_new_ors_node.Goals as goal

@@ -1,8 +1,6 @@
 -- A step that unrolls adds inputs and gates alone.
-use Rattle.std.proofs.Common.{subst}
-use Rattle.std.proofs.lemmas.Result.{on_ok_weaker}
-use Rattle.aig_circuit.specs.Circuit.{Circuit}
-use Rattle.aig_circuit.specs.View.{lists_circuit}
+use Rattle.aig_base.proofs.Words.{subst, on_ok_weaker}
+use Rattle.aig_circuit.proofs.Words.{Circuit, lists_circuit}
 use Rattle.aig_unroll.specs.Unroll.{AddsExactly}
 use Rattle.aig_unroll.proofs.Exactly.{counted}
 use Rattle.aig.proofs.graph.Aig.unroll.Goals as goal

@@ -1,7 +1,6 @@
 -- What was written is the binary form of a circuit that has a written form, which is read again.
 use Rattle.std.proofs.Common.{subst}
-use Rattle.aig_circuit.specs.Circuit.{Circuit}
-use Rattle.aig_circuit.specs.Reencode.{new_number}
+use Rattle.aig_circuit.proofs.Words.{Circuit, new_number}
 use Rattle.aig_format.specs.Circuit.{binary_of}
 use Rattle.aig_output.specs.Sinks.{AppendsBeginning}
 use Rattle.aig_format_laws.proofs.Reencoded.{binary_is_read_again}

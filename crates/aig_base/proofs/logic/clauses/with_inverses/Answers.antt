@@ -1,5 +1,4 @@
-use Rattle.std.proofs.Common.{◌++◌, ◌∷◌, [], map, take, sym, ap, ◌∙◌, arith}
-use Rattle.std.proofs.lemmas.List.{map_more, take_all}
+use Rattle.aig_base.proofs.Words.{◌++◌, ◌∷◌, [], map, take, sym, ap, ◌∙◌, arith, map_more, take_all}
 use Rattle.aig_base.specs.Clauses.{inverse_lit}
 use Rattle.aig_base.proofs.logic.clauses.with_inverses.Goals as goal
 

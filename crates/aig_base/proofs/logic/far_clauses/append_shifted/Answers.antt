@@ -1,5 +1,4 @@
-use Rattle.std.proofs.Common.{◌+◌, ◌++◌, ◌∷◌, [], ℕ, get_or, map, take, sym, ap, ◌∙◌, append_assoc, arith}
-use Rattle.std.proofs.lemmas.List.{map_more, take_all}
+use Rattle.aig_base.proofs.Words.{◌+◌, ◌++◌, ◌∷◌, [], ℕ, get_or, map, take, sym, ap, ◌∙◌, append_assoc, arith, map_more, take_all}
 use Rattle.aig_base.proofs.logic.far_clauses.append_shifted.Goals as goal
 
 pub loop-end-preserved : goal.loop-end-preserved

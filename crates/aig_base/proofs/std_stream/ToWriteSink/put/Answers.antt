@@ -1,5 +1,5 @@
 use Rattle.std.proofs.Common.{◌≡◌, ℕ, Bool, true, nat_eq, arith}
-use Rattle.std.proofs.lemmas.Bool.Decides.{nat_tests}
+use Rattle.aig_base.proofs.Words.{nat_tests}
 use Rattle.aig_base.proofs.std_stream.ToWriteSink.put.Goals as goal
 use Rattle.aig_base.proofs.std_stream.ToWriteSink.put.Goals.{then-n-gt0, else-n-gt0}
 

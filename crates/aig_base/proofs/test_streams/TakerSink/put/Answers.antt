@@ -1,5 +1,5 @@
 use Rattle.std.proofs.Common.{◌≡◌, ℕ, Bool, false, not, nat_eq, arith}
-use Rattle.std.proofs.lemmas.Bool.Decides.{nat_tests}
+use Rattle.aig_base.proofs.Words.{nat_tests}
 use Rattle.aig_base.proofs.test_streams.TakerSink.put.Goals as goal
 use Rattle.aig_base.proofs.test_streams.TakerSink.put.Goals.{then-self-eq0, else-self-eq0}
 

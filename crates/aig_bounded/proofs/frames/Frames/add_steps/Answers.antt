@@ -1,5 +1,4 @@
-use Rattle.std.proofs.Common.{◌≡◌, ◌+◌, ◌-◌, ◌*◌, length, refl, ap, subst, ◌∙◌, arith}
-use Rattle.std.proofs.lemmas.Result.{err_from_is_err_and}
+use Rattle.aig_base.proofs.Words.{◌≡◌, ◌+◌, ◌-◌, ◌*◌, length, refl, ap, subst, ◌∙◌, arith, err_from_is_err_and}
 use Rattle.aig_bounded.specs.Question.{step_size}
 use Rattle.aig_bounded.specs.Steps.{HasStates}
 use Rattle.aig_bounded.proofs.Counted.{AddsUpTo-after, AddsUpTo-stops, some_node, steps_more, steps_within}

@@ -1,5 +1,4 @@
-use Rattle.std.proofs.Common.{◌+◌, ◌*◌, arith}
-use Rattle.std.proofs.lemmas.Result.{err_from_is_err_and}
+use Rattle.aig_base.proofs.Words.{◌+◌, ◌*◌, arith, err_from_is_err_and}
 use Rattle.aig_runs.specs.WindowClauses.{count_pairs}
 use Rattle.aig_bounded.proofs.Counted.{AddsUpTo-stops}
 use Rattle.aig_bounded.proofs.Differing.{all_more, pairs_more, pairs_within}

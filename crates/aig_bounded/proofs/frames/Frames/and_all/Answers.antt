@@ -1,6 +1,4 @@
-use Rattle.std.proofs.Common.{false, ap, length, subst, arith}
-use Rattle.std.proofs.lemmas.List.{take_all}
-use Rattle.std.proofs.lemmas.Result.{err_from_is_err_and}
+use Rattle.aig_base.proofs.Words.{false, ap, length, subst, arith, take_all, err_from_is_err_and}
 use Rattle.aig_circuit.specs.declared.edge.AigEdge.{AigEdge}
 use Rattle.aig_circuit.specs.Edge.{edge_to}
 use Rattle.aig_bounded.proofs.Counted.{AddsUpTo-done, AddsUpTo-stops}

@@ -1,8 +1,7 @@
 use Rattle.std.proofs.Common.{◌&&◌, ℕ, Bool, ◌≡◌, subst, sym}
 use Rattle.aig_circuit.specs.declared.node.AigNodeType.TheVariants.{And, False, Leaf}
 use Rattle.aig_circuit.specs.declared.edge.AigEdge.{AigEdge}
-use Rattle.aig_circuit.specs.Circuit.{IsInRange}
-use Rattle.aig_circuit.specs.Tree.{edge_value}
+use Rattle.aig_circuit.proofs.Words.{IsInRange, edge_value}
 use Rattle.aig_bounded.specs.Frames.{AddsAnds, AddsUpTo, Shows}
 use Rattle.aig_bounded.specs.Steps.{MakesImage}
 use Rattle.aig_bounded.proofs.Counted.{one_more}

@@ -1,7 +1,6 @@
 use Rattle.std.proofs.Common.{◌≡◌, ◌||◌, ℕ, Bool}
 use Rattle.aig_circuit.specs.declared.edge.AigEdge.{AigEdge}
-use Rattle.aig_circuit.specs.Circuit.{IsInRange}
-use Rattle.aig_circuit.specs.Tree.{edge_value}
+use Rattle.aig_circuit.proofs.Words.{IsInRange, edge_value}
 use Rattle.aig_bounded.specs.Apart.{differ}
 use Rattle.aig_bounded.specs.Frames.{AddsAnds, Gives}
 use Rattle.aig_bounded.proofs.Differing.{Gives-xor}

@@ -1,5 +1,4 @@
-use Rattle.std.proofs.Common.{◌≡◌, ℕ, ◌+◌, ◌-◌, ◌≤◌, length, take, drop, sym, ap, ◌∙◌, arith}
-use Rattle.std.proofs.lemmas.List.{drop-drop, drop-take, length-take}
+use Rattle.aig_base.proofs.Words.{◌≡◌, ℕ, ◌+◌, ◌-◌, ◌≤◌, length, take, drop, sym, ap, ◌∙◌, arith, drop-drop, drop-take, length-take}
 use Rattle.aig_lexer.proofs.buffer.InputBuffer.consume.Goals as goal
 
 pub returns : goal.returns

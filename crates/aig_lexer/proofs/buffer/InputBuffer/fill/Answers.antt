@@ -1,5 +1,4 @@
-use Rattle.std.proofs.Common.{◌≡◌, ◌-◌, ◌∙◌, length, take, sym, arith}
-use Rattle.std.proofs.lemmas.List.{length-take-le}
+use Rattle.aig_base.proofs.Words.{◌≡◌, ◌-◌, ◌∙◌, length, take, sym, arith, length-take-le}
 use Rattle.aig_lexer.specs.declared.buffer.TheConstants.{SIZE}
 use Rattle.aig_lexer.proofs.Feeds.{filled}
 use Rattle.aig_lexer.proofs.buffer.InputBuffer.fill.Goals as goal

@@ -1,5 +1,4 @@
-use Rattle.std.proofs.Common.{◌≡◌, ℕ, suc, ◌+◌, ◌-◌, ◌<◌, ◌≤◌, List, ◌∷◌, length, take, drop, get_or, refl, sym, ◌∙◌, arith}
-use Rattle.std.proofs.lemmas.List.{drop_more}
+use Rattle.aig_base.proofs.Words.{◌≡◌, ℕ, suc, ◌+◌, ◌-◌, ◌<◌, ◌≤◌, List, ◌∷◌, length, take, drop, get_or, refl, sym, ◌∙◌, arith, drop_more}
 use Rattle.aig_lexer.proofs.buffer.InputBuffer.pop.Goals as goal
 
 -- the part of a list from `at` up to `end` begins with the element at `at`

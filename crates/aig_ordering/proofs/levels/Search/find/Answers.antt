@@ -1,5 +1,4 @@
-use Rattle.std.proofs.Common.{true, false, sym, refl, get_or-set_same, ◌∙◌, arith}
-use Rattle.std.proofs.lemmas.List.{get_or_read}
+use Rattle.aig_base.proofs.Words.{true, false, sym, refl, get_or-set_same, ◌∙◌, arith, get_or_read}
 use Rattle.aig_ordering.proofs.NodesIn.{count-gates}
 use Rattle.aig_ordering.proofs.Searching.{at_start, at_within, less_left, marks_stay}
 use Rattle.aig_ordering.proofs.levels.Search.find.Goals as goal

@@ -1,5 +1,5 @@
 use Rattle.std.proofs.Common.{◌≡◌, ◌+◌, true, false, length, slice_index_or}
-use Rattle.std.specs.Prelude.{option_to_list}
+use Rattle.aig_base.proofs.Words.{option_to_list}
 use Rattle.aig_format.specs.File.{File}
 use Rattle.aig_ordering.specs.Gates.{nodes_in}
 use Rattle.aig_ordering.specs.Search.{IsAtSome, StaysOpen, work_of}

@@ -1,5 +1,4 @@
-use Rattle.std.proofs.Common.{rules}
-use Rattle.std.proofs.lemmas.Result.{on_ok_weaker, on_err_weaker}
+use Rattle.aig_base.proofs.Words.{rules, on_ok_weaker, on_err_weaker}
 use Rattle.aig_output.proofs.Putting.{Buffers-through, Stops-before, Stops-put, failed_now}
 use Rattle.aig_output.proofs.buffer.OutputBuffer.flush_and_push.Goals as goal
 

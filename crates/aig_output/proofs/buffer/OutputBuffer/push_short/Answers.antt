@@ -1,5 +1,4 @@
-use Rattle.std.proofs.Common.{◌≡◌, ◌+◌, ◌≤◌, ◌++◌, length, take, ap, ◌∙◌, rules, arith}
-use Rattle.std.proofs.lemmas.List.{length-take-le, take-take}
+use Rattle.aig_base.proofs.Words.{◌≡◌, ◌+◌, ◌≤◌, ◌++◌, length, take, ap, ◌∙◌, rules, arith, length-take-le, take-take}
 use Rattle.aig_output.proofs.Fronts.{take-put_front}
 use borrow.Rule.Slice.PartMut.{mid_len}
 use Rattle.aig_output.proofs.buffer.OutputBuffer.push_short.Goals as goal

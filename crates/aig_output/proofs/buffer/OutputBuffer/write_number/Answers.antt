@@ -1,6 +1,5 @@
 use Rattle.std.proofs.Common.{◌-◌, decimal, drop, refl, ◌∙◌, rules, arith}
-use Rattle.std.proofs.lemmas.Fmt.{length-decimal-le}
-use Rattle.std.proofs.lemmas.List.{take-take}
+use Rattle.aig_base.proofs.Words.{length-decimal-le, take-take}
 use Rattle.aig_output.proofs.Fronts.{take-number}
 use Rattle.aig_output.proofs.buffer.OutputBuffer.write_number.Goals as goal
 

@@ -1,5 +1,4 @@
-use Rattle.std.proofs.Common.{ℕ, length, ap, sym, subst, arith}
-use Rattle.std.specs.Prelude.{All}
+use Rattle.aig_base.proofs.Words.{ℕ, length, ap, sym, subst, arith, All}
 use Rattle.aig_reader.specs.Gates.{AreFirstNodes, HoldsPending}
 use Rattle.aig_reader.proofs.TableEntries.{HasSmall, small_nodes}
 use Rattle.aig_reader.proofs.gate_store.GateStore.into_table.Goals as goal

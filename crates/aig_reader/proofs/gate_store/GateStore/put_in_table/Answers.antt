@@ -1,5 +1,4 @@
-use Rattle.std.proofs.Common.{◌+◌, length, ap, sym, subst, arith}
-use Rattle.std.specs.Prelude.{All}
+use Rattle.aig_base.proofs.Words.{◌+◌, length, ap, sym, subst, arith, All}
 use Rattle.aig_reader.specs.Gates.{AreFirstNodes}
 use Rattle.aig_reader.proofs.TableEntries.{HasSmall, small_nodes}
 use Rattle.aig_reader.proofs.gate_store.GateStore.put_in_table.Goals as goal

@@ -1,13 +1,7 @@
-use Rattle.std.proofs.Common.{◌≡◌, ◌∙◌, ◌&&◌, ℕ, Bool, true, false, Option, Vec, refl, sym, subst}
-use Rattle.std.specs.Prelude.{MatchOption}
+use Rattle.aig_base.proofs.Words.{◌≡◌, ◌∙◌, ◌&&◌, ℕ, Bool, true, false, Option, Vec, refl, sym, subst, MatchOption, list_all, and_parts, err_from_is_err_and}
 use Rattle.std.specs.declared.alloc.Global.{Global}
-use Rattle.std.specs.List.{list_all}
-use Rattle.std.proofs.lemmas.Bool.{and_parts}
-use Rattle.std.proofs.lemmas.Result.{err_from_is_err_and}
 use Rattle.aig_circuit.specs.declared.node.AigNode.{AigNode}
-use Rattle.aig_format.specs.Circuit.{circuit_of}
-use Rattle.aig_format.specs.File.{File}
-use Rattle.aig_format.specs.Levels.{has_level}
+use Rattle.aig_format.proofs.Words.{circuit_of, File, has_level}
 use Rattle.aig_lexer.specs.Faults.{Tested}
 use Rattle.aig_lexer.proofs.Faults.{tells-weaker}
 use Rattle.aig_ordering.specs.Numbers.{has_number}

@@ -1,6 +1,5 @@
 use Rattle.std.proofs.Common.{◌≡◌, ℕ, ◌+◌, ◌∙◌, true, false, length, refl, sym, ap, arith}
-use Rattle.aig_format.specs.File.{File}
-use Rattle.aig_format.specs.Numbering.{is_compact}
+use Rattle.aig_format.proofs.Words.{File, is_compact}
 use Rattle.aig_ordering.specs.Gates.{nodes_in}
 use Rattle.aig_ordering.specs.Tables.{AreMarksOf, AreNodesOf}
 use Rattle.aig_ordering.proofs.NodesIn.{length-nodes_in}

@@ -1,5 +1,4 @@
-use Rattle.std.proofs.Common.{◌∙◌, map, ap, arith}
-use Rattle.std.proofs.lemmas.List.{with_items_is}
+use Rattle.aig_base.proofs.Words.{◌∙◌, map, ap, arith, with_items_is}
 use Rattle.aig_circuit.specs.Renumber.{renumbered_latch}
 use Rattle.aig_ordering.specs.Numbers.{number_in}
 use Rattle.aig_reader.proofs.sections.Lists.renumber.Goals as goal

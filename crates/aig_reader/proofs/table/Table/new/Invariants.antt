@@ -1,5 +1,4 @@
-use Rattle.std.proofs.Common.{◌≡◌, ◌≤◌, map, take, length, vec_len}
-use Rattle.std.specs.Prelude.{vec_capacity}
+use Rattle.aig_base.proofs.Words.{◌≡◌, ◌≤◌, map, take, length, vec_len, vec_capacity}
 use Rattle.aig_reader.specs.Gates.{gate_in}
 use Rattle.aig_reader.proofs.table.Table.new.Given as goal
 

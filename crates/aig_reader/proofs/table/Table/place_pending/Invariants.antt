@@ -1,5 +1,4 @@
-use Rattle.std.proofs.Common.{ℕ, ◌<◌, ◌≤◌, ◌/◌, List, vec_len}
-use Rattle.std.specs.Prelude.{All}
+use Rattle.aig_base.proofs.Words.{ℕ, ◌<◌, ◌≤◌, ◌/◌, List, vec_len, All}
 use Rattle.aig_format.specs.File.{GateLine}
 use Rattle.aig_ordering.specs.Gates.{nodes_in}
 use Rattle.aig_reader.specs.Gates.{AreFirstNodes, AreNew, lines_of}

@@ -1,7 +1,4 @@
-use Rattle.std.proofs.Common.{◌+◌, ◌/◌, ◌∙◌, ◌||◌, ℕ, Bool, List, refl, sym, ap, arith}
-use Rattle.std.specs.Prelude.{◌==◌}
-use Rattle.std.proofs.lemmas.List.{with_items_is}
-use Rattle.std.proofs.lemmas.Result.{err_from_is_err_and}
+use Rattle.aig_base.proofs.Words.{◌+◌, ◌/◌, ◌∙◌, ◌||◌, ℕ, Bool, List, refl, sym, ap, arith, ◌==◌, with_items_is, err_from_is_err_and}
 use Rattle.aig_ordering.specs.Bits.{bit_is_set}
 use Rattle.aig_reader.proofs.Defined.{marked_again, marked_more}
 use Rattle.aig_reader.proofs.variables.Marks.mark.Goals as goal

@@ -1,5 +1,5 @@
 use Rattle.std.proofs.Common.{◌≡◌, Bool, true, false, List, ℕ, ◌||◌, Ok, slice_get, sym, ap, subst, ◌∙◌}
-use Rattle.std.specs.List.{list_all}
+use Rattle.aig_base.proofs.Words.{list_all}
 use Rattle.aig_base.specs.declared.MemoryError.{MemoryError}
 use Rattle.aig_base.specs.declared.logic.literal.Lit.{Lit}
 use Rattle.aig_refutation.specs.Checking.{are_in, follows, is_named}

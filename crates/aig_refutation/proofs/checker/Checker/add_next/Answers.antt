@@ -1,5 +1,4 @@
-use Rattle.std.proofs.Common.{ap, sym, subst}
-use Rattle.std.proofs.lemmas.Result.{err_from_is_err_and}
+use Rattle.aig_base.proofs.Words.{ap, sym, subst, err_from_is_err_and}
 use Rattle.aig_refutation.specs.Ahead.{IsAhead}
 use Rattle.aig_refutation.specs.Tables.{Table}
 use Rattle.aig_refutation.proofs.checker.Checker.add_next.Goals as goal

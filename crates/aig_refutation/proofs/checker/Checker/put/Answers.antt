@@ -1,5 +1,4 @@
-use Rattle.std.proofs.Common.{◌≡◌, ◌<◌, ℕ, sym, ap, subst, ◌∙◌}
-use Rattle.std.specs.Prelude.{All}
+use Rattle.aig_base.proofs.Words.{◌≡◌, ◌<◌, ℕ, sym, ap, subst, ◌∙◌, All}
 use Rattle.std.specs.List.{Contains}
 use Rattle.aig_base.specs.Clauses.{variable_of}
 use Rattle.aig_refutation.proofs.Following.{added_implied, below_either, kept_follows, kept_literals}

@@ -1,5 +1,4 @@
-use Rattle.std.proofs.Common.{arith}
-use Rattle.std.proofs.lemmas.Grind.{common_steps}
+use Rattle.aig_base.proofs.Words.{arith, common_steps}
 use Rattle.aig_refutation.proofs.Stamps.{map-replicate}
 use Rattle.aig_refutation.proofs.marks.Marks.new.Goals as goal
 

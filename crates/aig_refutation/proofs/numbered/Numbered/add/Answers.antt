@@ -1,4 +1,4 @@
-use Rattle.std.proofs.Common.{◌≡◌, ◌+◌, ◌-◌, ◌<◌, ◌^◌, ℕ, List, false, cond, length, sym, ap, subst, ◌∙◌, arith}
+use Rattle.aig_base.proofs.Words.{◌≡◌, ◌+◌, ◌-◌, ◌<◌, ◌^◌, ℕ, List, false, cond, length, sym, ap, subst, ◌∙◌, arith}
 use Rattle.std.specs.Prelude.{◌==◌, ◌/◌, min, nat_lt}
 use Rattle.aig_refutation.specs.Checking.{with_clause}
 use Rattle.aig_refutation.specs.Tables.{Holds, Table, entry_at}

@@ -1,5 +1,4 @@
-use Rattle.std.proofs.Common.{◌≡◌, Some, length, refl, sym, ap, subst, ◌∙◌}
-use Rattle.std.specs.Prelude.{is_some}
+use Rattle.aig_base.proofs.Words.{◌≡◌, Some, length, refl, sym, ap, subst, ◌∙◌, is_some}
 use Rattle.aig_refutation.specs.Checking.{without_clause}
 use Rattle.aig_refutation.specs.Tables.{Holds, Table, entry_at, place_in}
 use Rattle.aig_refutation.proofs.Adding.{deleted_one, deleted_unnamed}

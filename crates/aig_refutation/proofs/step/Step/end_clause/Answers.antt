@@ -1,5 +1,4 @@
-use Rattle.std.proofs.Common.{◌≡◌, [], Some, Err, sym, ap, ◌∙◌}
-use Rattle.std.proofs.lemmas.Result.{err_from_is_err_and}
+use Rattle.aig_base.proofs.Words.{◌≡◌, [], Some, Err, sym, ap, ◌∙◌, err_from_is_err_and}
 use Rattle.aig_refutation.specs.Proofs.{after_clause}
 use Rattle.aig_refutation.specs.Words.{is_last, said_number}
 use Rattle.aig_refutation.proofs.Known.{tells}

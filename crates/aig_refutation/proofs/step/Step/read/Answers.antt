@@ -1,5 +1,4 @@
-use Rattle.std.proofs.Common.{[], Some, ap, ◌∙◌}
-use Rattle.std.proofs.lemmas.Result.{err_from_is_err_and}
+use Rattle.aig_base.proofs.Words.{[], Some, ap, ◌∙◌, err_from_is_err_and}
 use Rattle.aig_refutation.specs.declared.words.Word.TheVariants as words
 use Rattle.aig_refutation.specs.Proofs.{Line, Plain}
 use Rattle.aig_refutation.specs.Reading.{reads_after, reads_dropped, said_by}

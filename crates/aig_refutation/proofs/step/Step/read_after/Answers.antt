@@ -1,6 +1,4 @@
-use Rattle.std.proofs.Common.{[], true, Ok, Err, refl, ap}
-use Rattle.std.proofs.lemmas.Result.{err_from_is_err_and}
-use Rattle.std.proofs.lemmas.Bool.{ne_eqb}
+use Rattle.aig_base.proofs.Words.{[], true, Ok, Err, refl, ap, err_from_is_err_and, ne_eqb}
 use Rattle.aig_refutation.specs.declared.words.Word.TheVariants as words
 use Rattle.aig_refutation.specs.Proofs.{Line, Plain, is_zero}
 use Rattle.aig_refutation.specs.Reading.{reads_added, reads_after, reads_deleted, said_by}

@@ -1,5 +1,4 @@
-use Rattle.std.proofs.Common.{[]}
-use Rattle.std.proofs.lemmas.Result.{err_from_is_err_and}
+use Rattle.aig_base.proofs.Words.{[], err_from_is_err_and}
 use Rattle.aig_refutation.specs.declared.error.RefutationError.TheVariants as errors
 use Rattle.aig_refutation.specs.Proofs.{Line, Plain, Numbered}
 use Rattle.aig_refutation.specs.Reading.{reads_deleted, reads_numbers}

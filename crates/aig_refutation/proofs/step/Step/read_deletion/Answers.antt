@@ -1,5 +1,4 @@
-use Rattle.std.proofs.Common.{[], Err}
-use Rattle.std.proofs.lemmas.Result.{err_from_is_err_and}
+use Rattle.aig_base.proofs.Words.{[], Err, err_from_is_err_and}
 use Rattle.aig_refutation.specs.Proofs.{Line, Plain}
 use Rattle.aig_refutation.specs.Reading.{reads_clause, reads_dropped}
 use Rattle.aig_refutation.specs.Skipping.{end_line}

@@ -1,5 +1,4 @@
-use Rattle.std.proofs.Common.{Ok, Err, refl}
-use Rattle.std.proofs.lemmas.Result.{err_from_is_err_and}
+use Rattle.aig_base.proofs.Words.{Ok, Err, refl, err_from_is_err_and}
 use Rattle.aig_refutation.specs.declared.error.RefutationError.TheVariants as errors
 use Rattle.aig_refutation.specs.declared.words.Word.TheVariants as words
 use Rattle.aig_refutation.specs.Skipping.{end_line}

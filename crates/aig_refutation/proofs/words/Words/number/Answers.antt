@@ -1,5 +1,4 @@
-use Rattle.std.proofs.Common.{ℕ, Bool, Ok, Err, refl}
-use Rattle.std.proofs.lemmas.Result.{err_from_is_err_and}
+use Rattle.aig_base.proofs.Words.{ℕ, Bool, Ok, Err, refl, err_from_is_err_and}
 use Rattle.aig_refutation.specs.declared.error.RefutationError.TheVariants as errors
 use Rattle.aig_refutation.specs.declared.words.Word.TheVariants as words
 use Rattle.aig_refutation.specs.Words.{fault_of, next_in, next_number, place, said_number}

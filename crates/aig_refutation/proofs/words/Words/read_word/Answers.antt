@@ -1,5 +1,4 @@
-use Rattle.std.proofs.Common.{ap, ◌∙◌}
-use Rattle.std.proofs.lemmas.Result.{err_from_is_err_and}
+use Rattle.aig_base.proofs.Words.{ap, ◌∙◌, err_from_is_err_and}
 use Rattle.aig_lexer.specs.Takes.{feed}
 use Rattle.aig_refutation.proofs.ReadWords.{letter_ends, letter_stops, minus_end, minus_word, plain_word}
 use Rattle.aig_refutation.proofs.words.Words.read_word.Goals as goal

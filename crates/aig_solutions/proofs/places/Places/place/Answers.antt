@@ -1,5 +1,4 @@
-use Rattle.std.proofs.Common.{◌≡◌, ◌+◌, ◌-◌, ◌*◌, get_or, length, ap, subst, ◌∙◌, arith}
-use Rattle.std.proofs.lemmas.List.{get_or_default}
+use Rattle.aig_base.proofs.Words.{◌≡◌, ◌+◌, ◌-◌, ◌*◌, get_or, length, ap, subst, ◌∙◌, arith, get_or_default}
 use Rattle.aig_circuit.specs.Circuit.{IsCircuit}
 use Rattle.aig_solutions.proofs.Turning.{leaf_there, place_is, place_within}
 use Rattle.aig_solutions.proofs.places.Places.place.Goals as goal

@@ -1,5 +1,4 @@
-use Rattle.std.proofs.Common.{◌≡◌, ◌+◌, Some, arith, refl, sym, ◌∙◌, inl, inr}
-use Rattle.std.proofs.lemmas.Result.{MatchResult-weaker}
+use Rattle.aig_base.proofs.Words.{◌≡◌, ◌+◌, Some, arith, refl, sym, ◌∙◌, inl, inr, MatchResult-weaker}
 use Rattle.aig_circuit.specs.declared.node.AigNodeType.{AigNodeType}
 use Rattle.aig_circuit.specs.declared.node.AigNodeType.TheVariants.{False, Leaf, And}
 use Rattle.aig_circuit.specs.Node.{kind_at}

@@ -1,5 +1,4 @@
-use Rattle.std.proofs.Common.{ap, subst, sym}
-use Rattle.std.specs.Prelude.{IfOk}
+use Rattle.aig_base.proofs.Words.{ap, subst, sym, IfOk}
 use Rattle.aig_strash.specs.Tables.{Gates, PutsIfAbsent, are_same, gate_table}
 use Rattle.aig_strash.proofs.numbers.Tables.number_at.Goals as goal
 

@@ -1,5 +1,4 @@
-use Rattle.std.proofs.Common.{◌++◌, ◌∷◌, []}
-use Rattle.std.specs.Str.{is_utf8}
+use Rattle.aig_base.proofs.Words.{◌++◌, ◌∷◌, [], is_utf8}
 use Rattle.aig_format.specs.Parse.{parse_text}
 use Rattle.aig_lexer.specs.Takes.{feed}
 use Rattle.aig_lexer.proofs.Feeds.{steps_fewer}

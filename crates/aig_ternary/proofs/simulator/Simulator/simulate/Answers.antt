@@ -1,6 +1,5 @@
-use Rattle.std.proofs.Common.{◌≡◌, List, [], length, refl, sym, ap, ap₂, subst, ◌∙◌, arith}
+use Rattle.aig_base.proofs.Words.{◌≡◌, List, [], length, refl, sym, ap, ap₂, subst, ◌∙◌, arith, with_items_is}
 use Rattle.std.specs.Prelude.{◌⊎◌}
-use Rattle.std.proofs.lemmas.List.{with_items_is}
 use Rattle.aig_base.specs.declared.logic.three.Lbool.{Lbool}
 use Rattle.aig_ternary.specs.Step.{simulation_at}
 use Rattle.aig_ternary.specs.Ternary.{Simulation, stepped}

@@ -1,5 +1,4 @@
-use Rattle.std.proofs.Common.{◌≡◌, arith}
-use Rattle.std.proofs.lemmas.Grind.{common_steps}
+use Rattle.aig_base.proofs.Words.{◌≡◌, arith, common_steps}
 use Rattle.aig_base.specs.Clauses.{ite_clauses}
 use Rattle.aig_base.proofs.Literals.{are_true-ite_clauses}
 use Rattle.aig_base.proofs.logic.clauses.LitVvec.cnf_ite.Goals as goal

@@ -1,5 +1,4 @@
-use Rattle.std.proofs.Common.{◌≡◌, ◌++◌, ◌∷◌, [], List, get_or, map, take, sym, ap, ◌∙◌, append_assoc}
-use Rattle.std.proofs.lemmas.List.{map_more, take_all}
+use Rattle.aig_base.proofs.Words.{◌≡◌, ◌++◌, ◌∷◌, [], List, get_or, map, take, sym, ap, ◌∙◌, append_assoc, map_more, take_all}
 use Rattle.aig_base.specs.declared.logic.literal.Lit.{Lit}
 use Rattle.aig_base.specs.Clauses.{inverse_lit}
 use Rattle.aig_base.proofs.logic.clauses.LitVvec.push_and.Goals as goal

@@ -1,5 +1,5 @@
 use Rattle.std.proofs.Common.{◌≡◌, ◌<◌, ◌≤◌, ℕ, length, List, get_or, slice_get, rules, sym, ap, ◌∙◌, arith}
-use Rattle.std.proofs.lemmas.List.{get_or_read}
+use Rattle.aig_base.proofs.Words.{get_or_read}
 use Rattle.aig_base.specs.Cut.{cut_at, start_of, AreEnds}
 use Rattle.aig_base.proofs.Cutting.{length-cut_at, end_within, start_before, get-cut_at}
 use Rattle.aig_base.specs.declared.logic.literal.Lit.{Lit}

@@ -1,6 +1,5 @@
 use Rattle.std.proofs.Common.{nat_eq, sym, ap, ◌∙◌}
-use Rattle.std.specs.FinMap.{get, insert}
-use Rattle.std.specs.Map.{lookup}
+use Rattle.aig_base.proofs.Words.{get, insert, lookup}
 use Rattle.aig_base.proofs.Mapping.{get_lookup, entries_insert}
 use Rattle.aig_base.proofs.logic.map.VarVMap.insert.Goals as goal
 
