@@ -21,7 +21,7 @@ from outs import chain
 CLAUSES_OF_AND = b"p cnf 4 4\n-1 0\n-4 2 0\n-4 3 0\n4 -2 -3 0\n"
 DEEP = 1_000_000
 # As much stack as docs/COMMANDS.md says is enough for aigtool, and for aigcheck, whose commands hold several readers at once.
-STACK, CHECK_STACK = 128 << 10, 160 << 10
+STACK, CHECK_STACK = 128 << 10, 176 << 10
 
 
 class Room:
