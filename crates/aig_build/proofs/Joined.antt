@@ -2,9 +2,9 @@
 use Rattle.std.proofs.Common.{◌≡◌, ℕ, Bool, true, false, not, ◌&&◌, ◌||◌, List, length, take, refl, ap, ◌∙◌, arith}
 use Rattle.aig_circuit.specs.declared.edge.AigEdge.{AigEdge}
 use Rattle.aig_circuit.specs.declared.node.AigNode.{AigNode}
-use Rattle.aig_circuit.proofs.Words.{inverse, edge_value, Grows, IsInRange}
+use Rattle.aig_circuit.proofs.Words.{inverse, edge_value, GivesEdge, Grows, IsInRange}
 use Rattle.aig_circuit.proofs.Building.{take-Grows}
-use Rattle.aig_circuit.proofs.Joining.{edge_value-inverse}
+use Rattle.aig_circuit.proofs.Joining.{GivesEdge-inverse, GivesEdge-same, edge_value-inverse}
 
 -- nodes that have grown, and are cut back to so many as there were, are the old ones
 pub cut_back : (old mid new : List AigNode) (count : ℕ) → Grows old mid → count ≡ length old
@@ -22,13 +22,13 @@ either true b = refl
 either false true = refl
 either false false = refl
 
--- the value of the inverse of the and of inverses
-pub value-or : (old new : List AigNode) (a b first second e f : AigEdge) → first ≡ inverse a → second ≡ inverse b → f ≡ inverse e
-    → ((x : ℕ → Bool) → edge_value new x e ≡ (edge_value old x first && edge_value old x second))
-    → (x : ℕ → Bool) → edge_value new x f ≡ (edge_value old x a || edge_value old x b)
-value-or old new a b first second e f p q r value x =
-    ap (edge_value new x) r ∙ edge_value-inverse new x e
-    ∙ ap not (value x ∙ ap (λ (u : AigEdge). edge_value old x u && edge_value old x second) p ∙ ap (λ (u : AigEdge). edge_value old x (inverse a) && edge_value old x u) q)
+-- the inverse of the and of inverses is the or
+pub GivesEdge-or : (old new : List AigNode) (a b first second e f : AigEdge) → first ≡ inverse a → second ≡ inverse b → f ≡ inverse e
+    → GivesEdge new (λ x. edge_value old x first && edge_value old x second) e
+    → GivesEdge new (λ x. edge_value old x a || edge_value old x b) f
+GivesEdge-or old new a b first second e f p q r gives =
+    rw r (GivesEdge-same new (inverse e) (λ x.
+    ap not (ap (λ (u : AigEdge). edge_value old x u && edge_value old x second) p ∙ ap (λ (u : AigEdge). edge_value old x (inverse a) && edge_value old x u) q)
     ∙ ap (λ v. not (v && edge_value old x (inverse b))) (edge_value-inverse old x a)
     ∙ ap (λ v. not (not (edge_value old x a) && v)) (edge_value-inverse old x b)
-    ∙ either (edge_value old x a) (edge_value old x b)
+    ∙ either (edge_value old x a) (edge_value old x b)) (GivesEdge-inverse new e gives))

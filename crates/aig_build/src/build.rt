@@ -4,10 +4,11 @@
 //! their gate. Each edge that is given has its node in the list. The one error is refused memory, and after it the list
 //! is as it was.
 
-ghost use Rattle.std.specs.Prelude.{◌≡◌, ◌≢◌, ◌↔◌, ◌<◌, ◌&&◌, ◌||◌, ℕ, Bool, IsTrue, IfOk, IsOk, MatchOption, OnErr, All, length, map, not};
+ghost use Rattle.std.specs.Bool.{beq};
+ghost use Rattle.std.specs.Prelude.{◌≡◌, ◌≢◌, ◌↔◌, ◌<◌, ◌&&◌, ◌||◌, IsTrue, IfOk, IsOk, MatchOption, OnErr, All, length, map, not};
 ghost use Rattle.aig_circuit.specs.declared.node.AigNodeType.TheVariants.{Leaf};
 ghost use Rattle.aig_circuit.specs.Edge.{inverse};
-ghost use Rattle.aig_circuit.specs.Build.{with_node, AddsGate, AddsGates, AddsGateForEach, AddsOneEach, Folds, FoldsOrAdds, FoldsOrAddsAll, FoldsOrAddsEq, Grows, JoinsByAnd, JoinsByOr};
+ghost use Rattle.aig_circuit.specs.Build.{with_node, AddsGate, AddsGates, AddsGateForEach, AddsOneEach, Folds, FoldsOrAdds, FoldsOrAddsAll, FoldsOrAddsEq, GivesEdge, Grows, JoinsByAnd, JoinsByOr};
 ghost use Rattle.aig_circuit.specs.Circuit.{AreNodes, IsInRange};
 ghost use Rattle.aig_circuit.specs.Tree.{edge_value};
 
@@ -39,10 +40,8 @@ pub fn trivial_new_and_node(
     requires first { IsInRange nodes.old.items fanin0 }
     requires second { IsInRange nodes.old.items fanin1 }
     ensures ok { IfOk result (λ e. AddsGate nodes.old.items nodes.new.items fanin0 fanin1 e) }
-    ensures edge { IfOk result (λ e. IsInRange nodes.new.items e) }
-    ensures value { IfOk result (λ e. (x : ℕ → Bool) →
-        edge_value nodes.new.items x e
-        ≡ (edge_value nodes.old.items x fanin0 && edge_value nodes.old.items x fanin1)) }
+    ensures gives { IfOk result (GivesEdge nodes.new.items (λ x.
+        edge_value nodes.old.items x fanin0 && edge_value nodes.old.items x fanin1)) }
     ensures gates { AddsGates nodes.old.items nodes.new.items }
     ensures err { OnErr result (nodes.new.items ≡ nodes.old.items) }
 {
@@ -65,10 +64,8 @@ pub fn new_and_node(
     ensures rule { IfOk result (λ e. FoldsOrAdds nodes.old.items nodes.new.items fanin0 fanin1 e) }
     // Folding takes no memory.
     ensures folds { (f : AigEdge) → Folds fanin0 fanin1 f → IsOk result }
-    ensures edge { IfOk result (λ e. IsInRange nodes.new.items e) }
-    ensures value { IfOk result (λ e. (x : ℕ → Bool) →
-        edge_value nodes.new.items x e
-        ≡ (edge_value nodes.old.items x fanin0 && edge_value nodes.old.items x fanin1)) }
+    ensures gives { IfOk result (GivesEdge nodes.new.items (λ x.
+        edge_value nodes.old.items x fanin0 && edge_value nodes.old.items x fanin1)) }
     ensures gates { AddsGates nodes.old.items nodes.new.items }
     ensures err { OnErr result (nodes.new.items ≡ nodes.old.items) }
 {
@@ -125,10 +122,8 @@ pub fn trivial_new_or_node(
     requires second { IsInRange nodes.old.items fanin1 }
     ensures ok { IfOk result (λ e.
         AddsGate nodes.old.items nodes.new.items (inverse fanin0) (inverse fanin1) (inverse e)) }
-    ensures edge { IfOk result (λ e. IsInRange nodes.new.items e) }
-    ensures value { IfOk result (λ e. (x : ℕ → Bool) →
-        edge_value nodes.new.items x e
-        ≡ (edge_value nodes.old.items x fanin0 || edge_value nodes.old.items x fanin1)) }
+    ensures gives { IfOk result (GivesEdge nodes.new.items (λ x.
+        edge_value nodes.old.items x fanin0 || edge_value nodes.old.items x fanin1)) }
     ensures gates { AddsGates nodes.old.items nodes.new.items }
     ensures err { OnErr result (nodes.new.items ≡ nodes.old.items) }
 {
@@ -148,10 +143,8 @@ pub fn new_or_node(
         FoldsOrAdds nodes.old.items nodes.new.items (inverse fanin0) (inverse fanin1) (inverse e)) }
     // Folding takes no memory.
     ensures folds { (f : AigEdge) → Folds (inverse fanin0) (inverse fanin1) f → IsOk result }
-    ensures edge { IfOk result (λ e. IsInRange nodes.new.items e) }
-    ensures value { IfOk result (λ e. (x : ℕ → Bool) →
-        edge_value nodes.new.items x e
-        ≡ (edge_value nodes.old.items x fanin0 || edge_value nodes.old.items x fanin1)) }
+    ensures gives { IfOk result (GivesEdge nodes.new.items (λ x.
+        edge_value nodes.old.items x fanin0 || edge_value nodes.old.items x fanin1)) }
     ensures gates { AddsGates nodes.old.items nodes.new.items }
     ensures err { OnErr result (nodes.new.items ≡ nodes.old.items) }
 {
@@ -172,10 +165,8 @@ pub fn new_imply_node(
         FoldsOrAdds nodes.old.items nodes.new.items fanin0 (inverse fanin1) (inverse e)) }
     // Folding takes no memory.
     ensures folds { (f : AigEdge) → Folds fanin0 (inverse fanin1) f → IsOk result }
-    ensures edge { IfOk result (λ e. IsInRange nodes.new.items e) }
-    ensures value { IfOk result (λ e. (x : ℕ → Bool) →
-        edge_value nodes.new.items x e
-        ≡ (not (edge_value nodes.old.items x fanin0) || edge_value nodes.old.items x fanin1)) }
+    ensures gives { IfOk result (GivesEdge nodes.new.items (λ x.
+        not (edge_value nodes.old.items x fanin0) || edge_value nodes.old.items x fanin1)) }
     ensures gates { AddsGates nodes.old.items nodes.new.items }
     ensures err { OnErr result (nodes.new.items ≡ nodes.old.items) }
 {
@@ -194,10 +185,8 @@ pub fn new_eq_node(
     requires second { IsInRange nodes.old.items fanin1 }
     ensures rule { IfOk result (λ e.
         FoldsOrAddsEq nodes.old.items nodes.new.items fanin0 fanin1 e) }
-    ensures edge { IfOk result (λ e. IsInRange nodes.new.items e) }
-    ensures value { IfOk result (λ e. (x : ℕ → Bool) →
-        IsTrue (edge_value nodes.new.items x e) ↔ (edge_value nodes.old.items x fanin0
-        ≡ edge_value nodes.old.items x fanin1)) }
+    ensures gives { IfOk result (GivesEdge nodes.new.items (λ x.
+        beq (edge_value nodes.old.items x fanin0) (edge_value nodes.old.items x fanin1))) }
     ensures gates { AddsGates nodes.old.items nodes.new.items }
     ensures err { OnErr result (nodes.new.items ≡ nodes.old.items) }
 {
@@ -222,10 +211,8 @@ fn both_or_neither(
     requires second { IsInRange nodes.old.items fanin1 }
     ensures rule { IfOk result (λ e.
         FoldsOrAddsEq nodes.old.items nodes.new.items fanin0 fanin1 e) }
-    ensures edge { IfOk result (λ e. IsInRange nodes.new.items e) }
-    ensures value { IfOk result (λ e. (x : ℕ → Bool) →
-        IsTrue (edge_value nodes.new.items x e) ↔ (edge_value nodes.old.items x fanin0
-        ≡ edge_value nodes.old.items x fanin1)) }
+    ensures gives { IfOk result (GivesEdge nodes.new.items (λ x.
+        beq (edge_value nodes.old.items x fanin0) (edge_value nodes.old.items x fanin1))) }
     ensures gates { AddsGates nodes.old.items nodes.new.items }
 {
     let both = new_and_node(nodes, fanin0, fanin1)?;

@@ -4,8 +4,8 @@ use Rattle.aig_circuit.specs.declared.edge.AigEdge.{AigEdge}
 use Rattle.aig_circuit.specs.declared.node.AigNodeType.{AigNodeType}
 use Rattle.aig_circuit.specs.declared.node.AigNodeType.TheVariants.{False, Leaf, And}
 use Rattle.aig_circuit.specs.declared.node.AigNode.{AigNode}
-use Rattle.aig_circuit.proofs.Words.{inverted_if, literal_of, kind_at, FitsBelow, IsOrdered, and_of, node_value, edge_value, AreNodes}
-use Rattle.aig_circuit.specs.Build.{with_node, Folds, true_first, true_second, false_first, false_second, same, opposite, AddsGate, AddsGates, Grows, KeepsTrees, KeepsValues}
+use Rattle.aig_circuit.proofs.Words.{edge_to, inverted_if, literal_of, kind_at, FitsBelow, IsOrdered, and_of, node_value, edge_value, AreNodes, IsInRange}
+use Rattle.aig_circuit.specs.Build.{with_node, Folds, true_first, true_second, false_first, false_second, same, opposite, AddsGate, AddsGates, GivesEdge, Grows}
 use Rattle.aig_circuit.proofs.Edges.{literals-same}
 use Rattle.aig_circuit.proofs.Trees.{kind_at-append, kind_at-last, kind_at-within, tree_of-agrees, node_value-agrees, node_value-and, node_value-false}
 
@@ -88,12 +88,6 @@ Grows-longer xs ys g = g.longer
 pub Grows-kept : (xs ys : List AigNode) → Grows xs ys → (n : ℕ) → n < length xs → kind_at ys n ≡ kind_at xs n
 Grows-kept xs ys g n h = rw g.appended (kind_at-append xs g.added n h)
 
-tree_of-append : (xs ys : List AigNode) → IsOrdered (xs ++ ys) → KeepsTrees xs (xs ++ ys)
-tree_of-append xs ys o n h = tree_of-agrees (xs ++ ys) xs o n (λ m k. kind_at-append xs ys m (omega arith))
-
-edge_value-append : (xs ys : List AigNode) → IsOrdered (xs ++ ys) → KeepsValues xs (xs ++ ys)
-edge_value-append xs ys o x e h = ap (inverted_if e.compl) (node_value-agrees (xs ++ ys) xs o x e.node_id (λ m k. kind_at-append xs ys m (omega arith)))
-
 -- sound nodes that begin with others grow from these
 pub grows_by_appending : (xs ys : List AigNode) → AreNodes (xs ++ ys) → Grows xs (xs ++ ys)
 grows_by_appending xs ys s = record {
@@ -101,8 +95,8 @@ grows_by_appending xs ys s = record {
   added = ys;
   appended = refl;
   longer = omega (arith, length-append xs ys);
-  trees = tree_of-append xs ys s.ordered;
-  values = edge_value-append xs ys s.ordered;
+  trees = λ n h. tree_of-agrees (xs ++ ys) xs s.ordered n (λ m k. kind_at-append xs ys m (omega arith));
+  values = λ x e h. ap (inverted_if e.compl) (node_value-agrees (xs ++ ys) xs s.ordered x e.node_id (λ m k. kind_at-append xs ys m (omega arith)));
 }
 
 pub Grows-itself : (nodes : List AigNode) → AreNodes nodes → Grows nodes nodes
@@ -188,20 +182,42 @@ node_value-and_of nodes o x n a b is = elim (and_of-cases a b) [
 ]
 
 -- the new gate has the value of the and
-pub value-AddsGate : (old new : List AigNode) (a b e : AigEdge) → AreNodes old → a.node_id < length old → b.node_id < length old → AddsGate old new a b e → (x : ℕ → Bool) → edge_value new x e ≡ (edge_value old x a && edge_value old x b)
-value-AddsGate old new a b e s i j adds x =
-    let grown = AddsGates-with_node old a b s i j in
-    let last = kind_at-last old (record { node_id = length old; typ = and_of a b }) in
-    let at : (f : AigEdge) → f.node_id < length old → edge_value (with_node old (and_of a b)) x f ≡ edge_value old x f = edge_value-Grows old _ s grown.grows x in
-    rw (adds.gate, adds.edge) (
-    node_value-and_of _ grown.grows.sound.ordered x (length old) a b last
-    ∙ ap (λ v. v && edge_value (with_node old (and_of a b)) x b) (at a i) ∙ ap (λ v. edge_value old x a && v) (at b j))
+pub GivesEdge-AddsGate : (old new : List AigNode) (a b e : AigEdge) → AreNodes old → IsInRange old a
+    → IsInRange old b → AddsGate old new a b e
+    → GivesEdge new (λ x. edge_value old x a && edge_value old x b) e
+GivesEdge-AddsGate old new a b e s i j adds = record {
+  there = rw (adds.edge, adds.gate) (omega (arith, length-append {A = AigNode}));
+  value = λ x.
+      let grown = AddsGates-with_node old a b s i j in
+      let last = kind_at-last old (record { node_id = length old; typ = and_of a b }) in
+      let at : (f : AigEdge) → IsInRange old f → edge_value (with_node old (and_of a b)) x f ≡ edge_value old x f = edge_value-Grows old _ s grown.grows x in
+      rw (adds.gate, adds.edge) (
+      node_value-and_of _ grown.grows.sound.ordered x (length old) a b last
+      ∙ ap (λ v. v && edge_value (with_node old (and_of a b)) x b) (at a i) ∙ ap (λ v. edge_value old x a && v) (at b j));
+}
 
 -- what two edges fold to has the value of their and
-pub value-Folds : (nodes : List AigNode) (a b e : AigEdge) → AreNodes nodes → Folds a b e → (x : ℕ → Bool) → edge_value nodes x e ≡ (edge_value nodes x a && edge_value nodes x b)
-value-Folds nodes a b e s (true_first p q) x = let zero_false = node_value-false nodes x 0 s.false_first in rw (p, q, zero_false)
-value-Folds nodes a b e s (true_second p q) x = let zero_false = node_value-false nodes x 0 s.false_first in rw (p, q, zero_false) (sym (and-true _))
-value-Folds nodes a b e s (false_first p q) x = let zero_false = node_value-false nodes x 0 s.false_first in rw (p, q, zero_false)
-value-Folds nodes a b e s (false_second p q) x = let zero_false = node_value-false nodes x 0 s.false_first in rw (p, q, zero_false) (sym (and-false _))
-value-Folds nodes a b e s (same p q) x = rw (q, p) (sym (and_self _))
-value-Folds nodes a b e s (opposite p q) x = let zero_false = node_value-false nodes x 0 s.false_first in rw (p, q, zero_false) (sym (and_inverse b.compl _))
+pub GivesEdge-Folds : (nodes : List AigNode) (a b e : AigEdge) → AreNodes nodes → IsInRange nodes a
+    → IsInRange nodes b → Folds a b e
+    → GivesEdge nodes (λ x. edge_value nodes x a && edge_value nodes x b) e
+GivesEdge-Folds nodes a b e s i j folds = record { there = there folds; value = λ x. value folds x }
+  where
+    zero_there : IsInRange nodes (edge_to 0 false)
+    zero_there = kind_at-within nodes 0 False s.false_first
+
+    there : Folds a b e → IsInRange nodes e
+    there (true_first p q) = subst (IsInRange nodes) (sym q) j
+    there (true_second p q) = subst (IsInRange nodes) (sym q) i
+    there (false_first p q) = subst (IsInRange nodes) (sym q) zero_there
+    there (false_second p q) = subst (IsInRange nodes) (sym q) zero_there
+    there (same p q) = subst (IsInRange nodes) (sym q) i
+    there (opposite p q) = subst (IsInRange nodes) (sym q) zero_there
+
+    value : Folds a b e → (x : ℕ → Bool)
+        → edge_value nodes x e ≡ (edge_value nodes x a && edge_value nodes x b)
+    value (true_first p q) x = let zero_false = node_value-false nodes x 0 s.false_first in rw (p, q, zero_false)
+    value (true_second p q) x = let zero_false = node_value-false nodes x 0 s.false_first in rw (p, q, zero_false) (sym (and-true _))
+    value (false_first p q) x = let zero_false = node_value-false nodes x 0 s.false_first in rw (p, q, zero_false)
+    value (false_second p q) x = let zero_false = node_value-false nodes x 0 s.false_first in rw (p, q, zero_false) (sym (and-false _))
+    value (same p q) x = rw (q, p) (sym (and_self _))
+    value (opposite p q) x = let zero_false = node_value-false nodes x 0 s.false_first in rw (p, q, zero_false) (sym (and_inverse b.compl _))

@@ -1,10 +1,12 @@
 use Rattle.aig_base.proofs.Words.{◌≡◌, ℕ, Bool, true, false, not, ◌&&◌, ◌||◌, ◌↔◌, IsTrue, List, [], ◌∷◌, ◌++◌, map, refl, sym, ap, subst, ◌∙◌, inl, inr, All, list_all, list_any, All-map, false≢true}
+use Rattle.std.specs.Bool.{beq}
+use Rattle.std.specs.Cmp.{booleans_Decides}
 use Rattle.std.proofs.Math.Bool.{and_assoc, and-true, not-not}
 use Rattle.aig_circuit.specs.declared.edge.AigEdge.{AigEdge}
 use Rattle.aig_circuit.specs.declared.node.AigNodeType.TheVariants.{False}
 use Rattle.aig_circuit.specs.declared.node.AigNode.{AigNode}
 use Rattle.aig_circuit.proofs.Words.{edge_to, inverse, inverted_if, node_value, edge_value, Circuit, AreNodes, IsInRange}
-use Rattle.aig_circuit.specs.Build.{Folds, true_first, true_second, false_first, false_second, same, opposite, FoldsOrAdds, AddsGates, AddsOnlyGates, Grows, JoiningStep, JoinsByAnd, JoinsByOr, JoinsFromLeft}
+use Rattle.aig_circuit.specs.Build.{Folds, true_first, true_second, false_first, false_second, same, opposite, FoldsOrAdds, AddsGates, AddsOnlyGates, GivesEdge, Grows, JoiningStep, JoinsByAnd, JoinsByOr, JoinsFromLeft}
 use Rattle.aig_circuit.proofs.Trees.{kind_at-within, node_value-false}
 use Rattle.aig_circuit.proofs.Building.{AddsGates-itself, AddsGates-then, edge_value-Grows}
 
@@ -20,6 +22,21 @@ inverted_if-not false b = refl
 
 pub edge_value-inverse : (nodes : List AigNode) (x : ℕ → Bool) (e : AigEdge) → edge_value nodes x (inverse e) ≡ not (edge_value nodes x e)
 edge_value-inverse nodes x e = inverted_if-not e.compl (node_value nodes x e.node_id)
+
+-- the same value in other words
+pub GivesEdge-same : (nodes : List AigNode) (e : AigEdge) {v w : (ℕ → Bool) → Bool}
+    → ((x : ℕ → Bool) → v x ≡ w x) → GivesEdge nodes v e → GivesEdge nodes w e
+GivesEdge-same nodes e agree gives = record {
+  there = gives.there;
+  value = λ x. gives.value x ∙ agree x;
+}
+
+pub GivesEdge-inverse : (nodes : List AigNode) (e : AigEdge) {v : (ℕ → Bool) → Bool}
+    → GivesEdge nodes v e → GivesEdge nodes (λ x. not (v x)) (inverse e)
+GivesEdge-inverse nodes e gives = record {
+  there = gives.there;
+  value = λ x. edge_value-inverse nodes x e ∙ ap not (gives.value x);
+}
 
 -- true folds with every edge, to that edge
 folds_true : (f e : AigEdge) → Folds (edge_to 0 true) f e → e ≡ f
@@ -44,8 +61,10 @@ true_there nodes s = kind_at-within nodes 0 False s.false_first
 
 pub JoinsByAnd-none : (nodes : List AigNode) → AreNodes nodes → JoinsByAnd nodes nodes [] (edge_to 0 true)
 JoinsByAnd-none nodes s = record {
-  there = true_there nodes s;
-  value = λ x. let zero_false = node_value-false nodes x 0 s.false_first in rw zero_false;
+  gives = record {
+    there = true_there nodes s;
+    value = λ x. let zero_false = node_value-false nodes x 0 s.false_first in rw zero_false;
+  };
   none = λ h. (refl, refl);
   one = λ f h. cc;
 }
@@ -57,8 +76,7 @@ pub AndSoFar-one : (nodes : List AigNode) → AreNodes nodes → (f : AigEdge) �
 AndSoFar-one nodes s f there = record {
   gates = AddsGates-itself nodes s;
   joins = record {
-    there = there;
-    value = λ x. sym (and-true _);
+    gives = record { there = there; value = λ x. sym (and-true _) };
     none = λ h. cc;
     one = λ g h. (cc, refl);
   };
@@ -77,15 +95,14 @@ only_one [] e f h = (refl, cc)
 only_one (g ∷ es) e f h = absurd (not_empty es e cc)
 
 -- one edge more
-pub AndSoFar-push : (old mid new : List AigNode) (fanins : List AigEdge) (all f e : AigEdge) → AreNodes old → AndSoFar old mid fanins all → IsInRange old f → AddsGates mid new → IsInRange new e → ((x : ℕ → Bool) → edge_value new x e ≡ (edge_value mid x all && edge_value mid x f)) → (fanins ≡ [] → (e ≡ f) × (new ≡ mid)) → AndSoFar old new (fanins ++ f ∷ []) e
-AndSoFar-push old mid new fanins all f e s so_far in_old adds there value first = record {
+pub AndSoFar-push : (old mid new : List AigNode) (fanins : List AigEdge) (all f e : AigEdge) → AreNodes old → AndSoFar old mid fanins all → IsInRange old f → AddsGates mid new → GivesEdge new (λ x. edge_value mid x all && edge_value mid x f) e → (fanins ≡ [] → (e ≡ f) × (new ≡ mid)) → AndSoFar old new (fanins ++ f ∷ []) e
+AndSoFar-push old mid new fanins all f e s so_far in_old adds more first = record {
   gates = AddsGates-then old mid new so_far.gates adds;
   joins = record {
-    there = there;
-    value = λ x.
-        value x ∙ ap (λ v. v && edge_value mid x f) (so_far.joins.value x)
+    gives = GivesEdge-same new e (λ x.
+        ap (λ v. v && edge_value mid x f) (so_far.joins.gives.value x)
         ∙ ap (λ v. list_all (edge_value old x) fanins && v) (edge_value-Grows old mid s so_far.gates.grows x f in_old)
-        ∙ sym (list_all-push (edge_value old x) fanins f);
+        ∙ sym (list_all-push (edge_value old x) fanins f)) more;
     none = λ h. absurd (not_empty fanins f h);
     one = λ g h. let only = only_one fanins f g h in ((first only.0).0 ∙ only.1, (first only.0).1 ∙ (so_far.joins.none only.0).1);
   };
@@ -105,29 +122,32 @@ All-inverse nodes es h = All-map (IsInRange nodes) inverse es h
 -- the or of edges is the inverse of the and of their inverses
 pub JoinsByOr-inverse : (old new : List AigNode) (es : List AigEdge) (e : AigEdge) → JoinsByAnd old new (map inverse es) e → JoinsByOr old new es (inverse e)
 JoinsByOr-inverse old new es e j = record {
-  there = j.there;
-  value = λ x. edge_value-inverse new x e ∙ ap not (j.value x) ∙ not_all (edge_value old x) (edge_value old x) (edge_value-inverse old x) es;
+  gives = GivesEdge-same new (inverse e) (λ x. not_all (edge_value old x) (edge_value old x) (edge_value-inverse old x) es) (GivesEdge-inverse new e j.gives);
   none = λ h. let at = j.none (ap (map inverse) h) in (ap inverse at.0, at.1);
   one = λ f h. let at = j.one (inverse f) (ap (map inverse) h) in (ap inverse at.0 ∙ inverse_twice f, at.1);
 }
 
 -- two values are equal exactly where both hold or neither does
-equal_says : (a b : Bool) → IsTrue ((a && b) || (not a && not b)) ↔ (a ≡ b)
-equal_says true true = (λ h. refl, λ h. refl)
-equal_says true false = (λ h. cc, λ h. cc)
-equal_says false true = (λ h. cc, λ h. cc)
-equal_says false false = (λ h. refl, λ h. refl)
+equal_is : (a b : Bool) → ((a && b) || (not a && not b)) ≡ beq a b
+equal_is true true = refl
+equal_is true false = refl
+equal_is false true = refl
+equal_is false false = refl
 
 -- the or of the and of two edges and of the and of their inverses, where each of the three may have added nodes
-pub value-both_or_neither : (old one two three : List AigNode) (a b both neither e : AigEdge) → AreNodes old → Grows old one → Grows one two → IsInRange old a → IsInRange old b → IsInRange one both → ((x : ℕ → Bool) → edge_value one x both ≡ (edge_value old x a && edge_value old x b)) → ((x : ℕ → Bool) → edge_value two x neither ≡ (edge_value one x (inverse a) && edge_value one x (inverse b))) → ((x : ℕ → Bool) → edge_value three x e ≡ (edge_value two x both || edge_value two x neither)) → (x : ℕ → Bool) → IsTrue (edge_value three x e) ↔ (edge_value old x a ≡ edge_value old x b)
-value-both_or_neither old one two three a b both neither e s p q i j k is_both is_neither is_or x =
+pub GivesEdge-both_or_neither : (old one two three : List AigNode) (a b both neither e : AigEdge) → AreNodes old → Grows old one → Grows one two → IsInRange old a → IsInRange old b → GivesEdge one (λ x. edge_value old x a && edge_value old x b) both → GivesEdge two (λ x. edge_value one x (inverse a) && edge_value one x (inverse b)) neither → GivesEdge three (λ x. edge_value two x both || edge_value two x neither) e → GivesEdge three (λ x. beq (edge_value old x a) (edge_value old x b)) e
+GivesEdge-both_or_neither old one two three a b both neither e s p q i j is_both is_neither is_or =
+    GivesEdge-same three e (λ x.
     let at : (f : AigEdge) → IsInRange old f → edge_value one x (inverse f) ≡ not (edge_value old x f) = λ f h. edge_value-inverse one x f ∙ ap not (edge_value-Grows old one s p x f h) in
-    let is : edge_value three x e ≡ ((edge_value old x a && edge_value old x b) || (not (edge_value old x a) && not (edge_value old x b))) =
-    is_or x
-    ∙ ap (λ v. v || edge_value two x neither) (edge_value-Grows one two p.sound q x both k ∙ is_both x)
-    ∙ ap (λ v. (edge_value old x a && edge_value old x b) || v) (is_neither x ∙ ap (λ v. v && edge_value one x (inverse b)) (at a i) ∙ ap (λ v. not (edge_value old x a) && v) (at b j))
-    in
-    rw is (equal_says (edge_value old x a) (edge_value old x b))
+    ap (λ v. v || edge_value two x neither) (edge_value-Grows one two p.sound q x both is_both.there ∙ is_both.value x)
+    ∙ ap (λ v. (edge_value old x a && edge_value old x b) || v) (is_neither.value x ∙ ap (λ v. v && edge_value one x (inverse b)) (at a i) ∙ ap (λ v. not (edge_value old x a) && v) (at b j))
+    ∙ equal_is (edge_value old x a) (edge_value old x b)) is_or
+
+-- it is true exactly where the two values are equal
+pub true_where_equal : (nodes : List AigNode) (e : AigEdge) (v w : (ℕ → Bool) → Bool)
+    → GivesEdge nodes (λ x. beq (v x) (w x)) e → (x : ℕ → Bool)
+    → IsTrue (edge_value nodes x e) ↔ (v x ≡ w x)
+true_where_equal nodes e v w gives x = rw (gives.value x) (booleans_Decides (v x) (w x))
 
 -- one step more
 pub joins_from_left_push : (Step : JoiningStep) (old : List AigNode) (all : AigEdge) (es : List AigEdge) (mid new : List AigNode) (next f e : AigEdge) → JoinsFromLeft Step old all es mid next → Step mid new next f e → JoinsFromLeft Step old all (es ++ f ∷ []) new e

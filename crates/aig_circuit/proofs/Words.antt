@@ -1,5 +1,5 @@
 -- Words of circuits that proofs share, from one place.
-pub use Rattle.aig_circuit.specs.Build.{AddsGate, AddsGateForEach, AddsGates, Folds, FoldsOrAdds, FoldsOrAddsAll, FoldsOrAddsEq, Grows, JoinsByAnd, JoinsByOr, JoinsFromLeft, false_first, false_second, opposite, same, true_first, true_second, with_node}
+pub use Rattle.aig_circuit.specs.Build.{AddsGate, AddsGateForEach, AddsGates, Folds, FoldsOrAdds, FoldsOrAddsAll, FoldsOrAddsEq, GivesEdge, Grows, JoinsByAnd, JoinsByOr, JoinsFromLeft, false_first, false_second, opposite, same, true_first, true_second, with_node}
 pub use Rattle.aig_circuit.specs.Circuit.{AreNodes, Circuit, HasFreeLeaf, IsCircuit, IsClosed, IsFree, IsInRange, IsLatch, IsLeaf, latch_leaves, only_false}
 pub use Rattle.aig_circuit.specs.Edge.{edge_to, inverse, inverted_if, lit_of, literal_of}
 pub use Rattle.aig_circuit.specs.Edges.{HasConstantInit, HasNonConstantInit, ReferTo, initial_edges, latch_edges, nodes_of, property_edges, roots_of}

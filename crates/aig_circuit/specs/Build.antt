@@ -16,6 +16,11 @@ use Rattle.aig_circuit.specs.Circuit.{Circuit, AreNodes, IsInRange}
 abbrev pub with_node : List AigNode → AigNodeType → List AigNode
 with_node nodes kind = nodes ++ record { node_id = length nodes; typ = kind } ∷ []
 
+-- the edge e has its node among these, and its value is `wanted x` for all leaf values x
+pub record GivesEdge (nodes : List AigNode) (wanted : (ℕ → Bool) → Bool) (e : AigEdge) : Type 0 where
+  pub there : IsInRange nodes e
+  pub value : (x : ℕ → Bool) → edge_value nodes x e ≡ wanted x
+
 -- the and of the edges a and b is the edge e, with no gate of its own
 pub data Folds (a b e : AigEdge) : Type 0 where
   true_first : a ≡ edge_to 0 true → e ≡ b → Folds a b e
@@ -35,23 +40,16 @@ abbrev pub FoldsOrAdds : List AigNode → List AigNode → AigEdge → AigEdge �
 FoldsOrAdds old new a b e =
     (Folds a b e × (new ≡ old)) ⊎ (((f : AigEdge) → ¬ Folds a b f) × AddsGate old new a b e)
 
--- every old node keeps its tree, and so its value for all leaf values
-abbrev pub KeepsTrees : List AigNode → List AigNode → Type 0
-KeepsTrees old new = (n : ℕ) → n < length old → tree_of new n ≡ tree_of old n
-
--- every edge to an old node keeps its value for all leaf values
-abbrev pub KeepsValues : List AigNode → List AigNode → Type 0
-KeepsValues old new =
-    (x : ℕ → Bool) (e : AigEdge) → IsInRange old e → edge_value new x e ≡ edge_value old x e
-
--- sound nodes, the old ones first, which keep their trees and values
+-- sound nodes, the old ones first: every old node keeps its tree, and every edge to an old node its
+-- value for all leaf values
 pub record Grows (old new : List AigNode) : Type 0 where
   pub sound : AreNodes new
   pub added : List AigNode
   pub appended : new ≡ old ++ added
   pub longer : length old ≤ length new
-  pub trees : KeepsTrees old new
-  pub values : KeepsValues old new
+  pub trees : (n : ℕ) → n < length old → tree_of new n ≡ tree_of old n
+  pub values : (x : ℕ → Bool) (e : AigEdge) → IsInRange old e
+      → edge_value new x e ≡ edge_value old x e
 
 -- gates alone are added, after the old nodes
 pub record AddsGates (old new : List AigNode) : Type 0 where
@@ -101,8 +99,7 @@ pub record FoldsOrAddsEq (old new : List AigNode) (a b e : AigEdge) : Type 0 whe
 -- constant, and of one edge it is that one
 pub record Joins (join : (AigEdge → Bool) → List AigEdge → Bool) (unit : Bool)
     (old new : List AigNode) (es : List AigEdge) (e : AigEdge) : Type 0 where
-  pub there : IsInRange new e
-  pub value : (x : ℕ → Bool) → edge_value new x e ≡ join (edge_value old x) es
+  pub gives : GivesEdge new (λ x. join (edge_value old x) es) e
   pub none : es ≡ [] → (e ≡ edge_to 0 unit) × (new ≡ old)
   pub one : (f : AigEdge) → es ≡ f ∷ [] → (e ≡ f) × (new ≡ old)
 

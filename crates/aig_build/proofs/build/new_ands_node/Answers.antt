@@ -22,7 +22,7 @@ loop-fanin-preserved c =
     let more = take_more c.args.fanins.now c.loop-fanin.fanin-index d c.loop-fanin-test.true in
     record {
       joined = rw more
-          (AndSoFar-push c.args.nodes.now.items before after (take c.loop-fanin.fanin-index c.args.fanins.now) c.loop-fanin.all f c.in-Ok.e c.requires.sound so_far (c.requires.edges c.loop-fanin.fanin-index d c.loop-fanin-test.true) c.in-Ok.ensures.gates c.in-Ok.ensures.edge c.in-Ok.ensures.value
+          (AndSoFar-push c.args.nodes.now.items before after (take c.loop-fanin.fanin-index c.args.fanins.now) c.loop-fanin.all f c.in-Ok.e c.requires.sound so_far (c.requires.edges c.loop-fanin.fanin-index d c.loop-fanin-test.true) c.in-Ok.ensures.gates c.in-Ok.ensures.gives
           (λ h. adds_none-true before after f c.in-Ok.e (subst (λ (a : AigEdge). FoldsOrAdds before after a f c.in-Ok.e) (so_far.joins.none h).0 c.in-Ok.ensures.rule)));
       rule = rw more
           (joins_from_left_push FoldsOrAdds c.args.nodes.now.items (edge_to 0 true) (take c.loop-fanin.fanin-index c.args.fanins.now) before after c.loop-fanin.all f c.in-Ok.e c.loop-fanin.invariant.rule c.in-Ok.ensures.rule);
@@ -32,7 +32,7 @@ pub new_and_node-requires-clause-sound : goal.new_and_node-requires-clause-sound
 new_and_node-requires-clause-sound c = c.loop-fanin.invariant.joined.gates.grows.sound
 
 pub new_and_node-requires-clause-first : goal.new_and_node-requires-clause-first
-new_and_node-requires-clause-first c = c.loop-fanin.invariant.joined.joins.there
+new_and_node-requires-clause-first c = c.loop-fanin.invariant.joined.joins.gives.there
 
 pub new_and_node-requires-clause-second : goal.new_and_node-requires-clause-second
 new_and_node-requires-clause-second c =

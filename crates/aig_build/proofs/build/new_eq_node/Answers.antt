@@ -7,11 +7,8 @@ use Rattle.aig_build.proofs.build.new_eq_node.Goals as goal
 pub returns-in-Ok-clause-rule : goal.returns-in-Ok-clause-rule
 returns-in-Ok-clause-rule c = c.in-Ok.ensures.rule
 
-pub returns-in-Ok-clause-edge : goal.returns-in-Ok-clause-edge
-returns-in-Ok-clause-edge c = c.in-Ok.ensures.edge
-
-pub returns-in-Ok-clause-value : goal.returns-in-Ok-clause-value
-returns-in-Ok-clause-value c = c.in-Ok.ensures.value
+pub returns-in-Ok-clause-gives : goal.returns-in-Ok-clause-gives
+returns-in-Ok-clause-gives c = c.in-Ok.ensures.gives
 
 pub returns-in-Ok-clause-gates : goal.returns-in-Ok-clause-gates
 returns-in-Ok-clause-gates c = c.in-Ok.ensures.gates

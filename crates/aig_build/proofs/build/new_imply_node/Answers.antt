@@ -1,7 +1,7 @@
-use Rattle.aig_base.proofs.Words.{◌≡◌, sym, ap, subst, ◌∙◌, IfOk}
+use Rattle.aig_base.proofs.Words.{◌≡◌, ◌||◌, ℕ, Bool, sym, ap, subst, ◌∙◌, IfOk, IfOk-weaker}
 use Rattle.aig_circuit.specs.declared.edge.AigEdge.{AigEdge}
-use Rattle.aig_circuit.proofs.Words.{inverse, Folds, FoldsOrAdds, IsInRange}
-use Rattle.aig_circuit.proofs.Joining.{inverse_twice}
+use Rattle.aig_circuit.proofs.Words.{inverse, edge_value, Folds, FoldsOrAdds, IsInRange}
+use Rattle.aig_circuit.proofs.Joining.{GivesEdge-same, edge_value-inverse, inverse_twice}
 use Rattle.aig_build.proofs.build.new_imply_node.Goals as goal
 
 pub returns-clause-rule : goal.returns-clause-rule
@@ -23,8 +23,12 @@ new_or_node-requires-clause-first c = subst (IsInRange c.args.nodes.now.items) (
 pub new_or_node-requires-clause-second : goal.new_or_node-requires-clause-second
 new_or_node-requires-clause-second c = c.requires.second
 
-pub returns-clause-edge : goal.returns-clause-edge
-returns-clause-edge c = c.new_or_node.ensures.edge
+pub returns-clause-gives : goal.returns-clause-gives
+returns-clause-gives c =
+    let old = c.args.nodes.now.items in
+    let new = c.new_or_node.new.nodes.items in
+    let first = λ (x : ℕ → Bool). ap (edge_value old x) c.not.ensures ∙ edge_value-inverse old x c.args.fanin0 in
+    IfOk-weaker c.new_or_node.result _ _ (λ e. GivesEdge-same new e (λ x. ap (λ v. v || edge_value old x c.args.fanin1) (first x))) c.new_or_node.ensures.gives
 
 pub returns-clause-gates : goal.returns-clause-gates
 returns-clause-gates c = c.new_or_node.ensures.gates

@@ -1,7 +1,7 @@
 use Rattle.aig_base.proofs.Words.{◌≡◌, refl, sym, ap, subst, ◌∙◌, false≢true}
 use Rattle.aig_circuit.proofs.Words.{inverse, IsInRange}
 use Rattle.aig_circuit.proofs.Joining.{inverse_twice}
-use Rattle.aig_build.proofs.Joined.{value-or}
+use Rattle.aig_build.proofs.Joined.{GivesEdge-or}
 use Rattle.aig_build.proofs.build.new_or_node.Goals as goal
 
 pub returns-in_err-new_and_node-clause-folds : goal.returns-in_err-new_and_node-clause-folds
@@ -27,11 +27,8 @@ returns-in_err-new_and_node-clause-gates c = c.new_and_node.ensures.gates
 pub returns-clause-folds : goal.returns-clause-folds
 returns-clause-folds c = λ f h. refl
 
-pub returns-clause-edge : goal.returns-clause-edge
-returns-clause-edge c = subst (IsInRange c.new_and_node.new.nodes.items) (sym c.not-3.ensures) c.in_ok-new_and_node.ensures.edge
-
-pub returns-clause-value : goal.returns-clause-value
-returns-clause-value c = value-or c.args.nodes.now.items c.new_and_node.new.nodes.items c.args.fanin0 c.args.fanin1 c.not.result c.not-2.result c.in_ok-new_and_node.field-0 c.not-3.result c.not.ensures c.not-2.ensures c.not-3.ensures c.in_ok-new_and_node.ensures.value
+pub returns-clause-gives : goal.returns-clause-gives
+returns-clause-gives c = GivesEdge-or c.args.nodes.now.items c.new_and_node.new.nodes.items c.args.fanin0 c.args.fanin1 c.not.result c.not-2.result c.in_ok-new_and_node.field-0 c.not-3.result c.not.ensures c.not-2.ensures c.not-3.ensures c.in_ok-new_and_node.ensures.gives
 
 pub returns-clause-gates : goal.returns-clause-gates
 returns-clause-gates c = c.new_and_node.ensures.gates

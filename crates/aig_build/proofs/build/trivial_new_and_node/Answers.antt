@@ -1,7 +1,7 @@
-use Rattle.std.proofs.Common.{◌≡◌, ◌++◌, [], ◌∷◌, false, length, subst, sym, ap, ◌∙◌, arith, length-append}
+use Rattle.std.proofs.Common.{◌≡◌, ◌++◌, [], ◌∷◌, false, length, subst, sym, ap, ◌∙◌, arith}
 use Rattle.aig_circuit.specs.declared.node.AigNode.{AigNode}
 use Rattle.aig_circuit.proofs.Words.{edge_to, and_of, AddsGate, AddsGates}
-use Rattle.aig_circuit.proofs.Building.{value-AddsGate, AddsGates-itself, AddsGates-with_node}
+use Rattle.aig_circuit.proofs.Building.{AddsGates-itself, AddsGates-with_node, GivesEdge-AddsGate}
 use Rattle.aig_build.proofs.build.trivial_new_and_node.Goals as goal
 
 -- the gate is added
@@ -19,11 +19,8 @@ adds c =
 pub returns-clause-ok : goal.returns-clause-ok
 returns-clause-ok c = adds c
 
-pub returns-clause-edge : goal.returns-clause-edge
-returns-clause-edge c = rw ((adds c).edge, (adds c).gate) (omega (arith, length-append {A = AigNode}))
-
-pub returns-clause-value : goal.returns-clause-value
-returns-clause-value c = value-AddsGate _ _ _ _ _ c.requires.sound c.requires.first c.requires.second (adds c)
+pub returns-clause-gives : goal.returns-clause-gives
+returns-clause-gives c = GivesEdge-AddsGate _ _ _ _ _ c.requires.sound c.requires.first c.requires.second (adds c)
 
 pub returns-clause-gates : goal.returns-clause-gates
 returns-clause-gates c = subst (AddsGates c.args.nodes.now.items) (sym (adds c).gate) (AddsGates-with_node c.args.nodes.now.items c.args.fanin0 c.args.fanin1 c.requires.sound c.requires.first c.requires.second)

@@ -34,7 +34,7 @@ loop-fanin-preserved c =
     let rest = All-tail (IsInRange c.args.nodes.now.items) c.in-Some.first.now c.in-Some.rest.now (All-same (IsInRange c.args.nodes.now.items) _ _ (sym c.in-Some.ensures.cases.0) c.requires.edges) in
     record {
       joined = rw (take_more c.in-Some.rest.now i d c.loop-fanin-test.true)
-          (AndSoFar-push c.args.nodes.now.items c.loop-fanin.nodes.items c.trivial_new_and_node.new.nodes.items (c.in-Some.first.now ∷ take i c.in-Some.rest.now) c.loop-fanin.all (get_or c.in-Some.rest.now i d) c.in-Ok.e c.requires.sound c.loop-fanin.invariant.joined (rest i d c.loop-fanin-test.true) c.in-Ok.ensures.gates c.in-Ok.ensures.edge c.in-Ok.ensures.value (λ h. cc));
+          (AndSoFar-push c.args.nodes.now.items c.loop-fanin.nodes.items c.trivial_new_and_node.new.nodes.items (c.in-Some.first.now ∷ take i c.in-Some.rest.now) c.loop-fanin.all (get_or c.in-Some.rest.now i d) c.in-Ok.e c.requires.sound c.loop-fanin.invariant.joined (rest i d c.loop-fanin-test.true) c.in-Ok.ensures.gates c.in-Ok.ensures.gives (λ h. cc));
       rule = rw (take_more c.in-Some.rest.now i d c.loop-fanin-test.true)
           (joins_from_left_push AddsGate c.args.nodes.now.items c.in-Some.first.now (take i c.in-Some.rest.now) c.loop-fanin.nodes.items c.trivial_new_and_node.new.nodes.items c.loop-fanin.all (get_or c.in-Some.rest.now i d) c.in-Ok.e c.loop-fanin.invariant.rule c.in-Ok.ensures.ok);
       count = rw c.in-Ok.ensures.ok.gate (omega (arith, length-append {A = AigNode}));
@@ -52,7 +52,7 @@ pub trivial_new_and_node-requires-clause-sound : goal.trivial_new_and_node-requi
 trivial_new_and_node-requires-clause-sound c = c.loop-fanin.invariant.joined.gates.grows.sound
 
 pub trivial_new_and_node-requires-clause-first : goal.trivial_new_and_node-requires-clause-first
-trivial_new_and_node-requires-clause-first c = c.loop-fanin.invariant.joined.joins.there
+trivial_new_and_node-requires-clause-first c = c.loop-fanin.invariant.joined.joins.gives.there
 
 -- what stands after a refusal
 refused : (c : goal.After-truncate) → c.truncate.new.self.items ≡ c.args.nodes.now.items
