@@ -15,6 +15,6 @@ compressed old is new inverted all bad bads inverted_is gates folds joins bad_is
     let rule : FoldsOrAddsAll old.nodes (map inverse old.properties.bads) new (inverse bad) = subst (λ es. FoldsOrAddsAll old.nodes es new (inverse bad)) inverted_is (subst (FoldsOrAddsAll old.nodes inverted new) (sym (ap inverse bad_is ∙ inverse_twice all)) folds) in
     let or : JoinsByOr old.nodes new old.properties.bads bad = subst (JoinsByOr old.nodes new old.properties.bads) (sym bad_is) (JoinsByOr-inverse old.nodes new old.properties.bads all (subst (λ es. JoinsByAnd old.nodes new es all) inverted_is joins)) in
     let grown = IsCircuit-grown old new is gates.grows in
-    let there : All (IsInRange new) bads = subst (All (IsInRange new)) (sym only) (All-push (IsInRange new) [] bad (All-nil (IsInRange new)) or.there) in
+    let there : All (IsInRange new) bads = subst (All (IsInRange new)) (sym only) (All-push (IsInRange new) [] bad (All-nil (IsInRange new)) or.gives.there) in
     let properties : AllProperties (IsInRange new) (record old.properties { bads = bads }) = assumption (grown.properties, there) in
     (assumption (grown, properties), record { bad = bad; bads = only; gates = gates; rule = rule; value = or; rest = refl })

@@ -1,15 +1,16 @@
 -- Constraints in place of initial edges that aren't constant, from what the builders promise.
 use Rattle.aig_base.proofs.Words.{◌≡◌, ◌≢◌, ◌↔◌, ℕ, zero, suc, ◌+◌, ◌<◌, Bool, true, false, not, ◌||◌, cond, eqb, Option, Some, None, List, [], ◌∷◌, ◌++◌, length, map, take, get_or, refl, sym, ap, subst, ◌∙◌, arith, append_assoc, append-nil, AllZip, eq-eqb, ne_eqb, take_at, take_more, All-append, All-nil, All-filter, All-map, All-push, filter-append}
+use Rattle.std.specs.Bool.{beq}
 use Rattle.std.specs.Prelude.{All, Contains, IfSome, IsTrue}
 use Rattle.aig_circuit.specs.declared.edge.AigEdge.{AigEdge}
 use Rattle.aig_circuit.specs.declared.node.AigNode.{AigNode}
 use Rattle.aig_circuit.specs.declared.node.AigNodeType.TheVariants.{False, Leaf}
 use Rattle.aig_circuit.specs.declared.node.AigLatch.{AigLatch}
-use Rattle.aig_circuit.proofs.Words.{edge_to, inverse, edge_value, AreNodes, Circuit, IsCircuit, IsFree, IsInRange, IsLatch, latch_leaves, AllProperties, AddsGates, FoldsOrAdds, FoldsOrAddsEq, Grows, with_node, HasConstantInit}
+use Rattle.aig_circuit.proofs.Words.{edge_to, inverse, edge_value, AreNodes, Circuit, IsCircuit, IsFree, IsInRange, IsLatch, latch_leaves, AllProperties, AddsGates, FoldsOrAdds, FoldsOrAddsEq, GivesEdge, Grows, with_node, HasConstantInit}
 use Rattle.aig_change.specs.Runs.{IsAllowedRun}
 use Rattle.aig_circuit.proofs.Building.{Grows-itself, Grows-leaf, edge_value-Grows}
 use Rattle.aig_circuit.proofs.Circuits.{IsCircuit-grown, IsFree-fresh}
-use Rattle.aig_circuit.proofs.Joining.{edge_value-inverse, inverse_twice}
+use Rattle.aig_circuit.proofs.Joining.{edge_value-inverse, inverse_twice, true_where_equal}
 use Rattle.aig_circuit.proofs.Trees.{kind_at-last, kind_at-within, node_value-leaf}
 use Rattle.aig_circuit.proofs.Writing.{IsCircuit-add_latch, IsCircuit-latchs}
 use Rattle.aig_change.specs.Changes.{ConstrainsInits, constant_start, first_step_latch, with_constant_start}
@@ -55,14 +56,14 @@ SayInSteps-append old mid new first (c ∷ cs) (l ∷ ls) ds ms steps more =
 -- the constraint of one latch
 pub constrained_one : (old one two : List AigNode) (first equal implied not_first leaf_edge start : AigEdge) (latch : AigLatch) (before after : List AigEdge)
     → AreNodes old → IsInRange old first → IsLatch old latch → latch.init ≡ Some start → start.node_id ≢ 0
-    → AddsGates old one → ((x : ℕ → Bool) → IsTrue (edge_value one x equal) ↔ (edge_value old x leaf_edge ≡ edge_value old x start)) → leaf_edge ≡ edge_to latch.input false
+    → AddsGates old one → GivesEdge one (λ x. beq (edge_value old x leaf_edge) (edge_value old x start)) equal → leaf_edge ≡ edge_to latch.input false
     → FoldsOrAddsEq old one leaf_edge start equal → FoldsOrAdds one two (inverse not_first) (inverse equal) (inverse implied)
-    → IsInRange two implied → ((x : ℕ → Bool) → edge_value two x implied ≡ (edge_value one x not_first || edge_value one x equal)) → not_first ≡ inverse first
+    → GivesEdge two (λ x. edge_value one x not_first || edge_value one x equal) implied → not_first ≡ inverse first
     → after ≡ before ++ implied ∷ [] → Constrains old two first (latch ∷ []) before after
-constrained_one old one two first equal implied not_first leaf_edge start latch before after are there is init_is differs gates says edge_is equal_rule implied_rule implied_there value not_is appended = record {
+constrained_one old one two first equal implied not_first leaf_edge start latch before after are there is init_is differs gates equals edge_is equal_rule implied_rule implies not_is appended = record {
   constrained = implied ∷ [];
   appended = appended;
-  there = All-one (IsInRange two) implied implied_there;
+  there = All-one (IsInRange two) implied implies.there;
   steps = subst (λ b. SayInSteps old first (implied ∷ []) (cond b (latch ∷ []) []) two) (sym variable) (
     two,
     record {
@@ -85,14 +86,16 @@ constrained_one old one two first equal implied not_first leaf_edge start latch 
 
     implied_is : (x : ℕ → Bool)
         → edge_value two x implied ≡ (not (edge_value old x first) || edge_value one x equal)
-    implied_is x = value x ∙ ap (λ b. b || edge_value one x equal) (ap (edge_value one x) not_is ∙ edge_value-inverse one x first ∙ ap not (edge_value-Grows old one are gates.grows x first there))
+    implied_is x = implies.value x ∙ ap (λ b. b || edge_value one x equal) (ap (edge_value one x) not_is ∙ edge_value-inverse one x first ∙ ap not (edge_value-Grows old one are gates.grows x first there))
 
     leaf_is : (x : ℕ → Bool) → edge_value old x leaf_edge ≡ x latch.input
     leaf_is x = ap (edge_value old x) edge_is ∙ node_value-leaf old x latch.input is.leaf
 
     equal_says : (x : ℕ → Bool)
         → IsTrue (edge_value one x equal) ↔ (edge_value old x start ≡ x latch.input)
-    equal_says x = (λ h. sym ((says x).0 h) ∙ leaf_is x, λ e. (says x).1 (leaf_is x ∙ sym e))
+    equal_says x =
+        let says = true_where_equal one equal _ _ equals x in
+        (λ h. sym (says.0 h) ∙ leaf_is x, λ e. says.1 (leaf_is x ∙ sym e))
 
     says_one : (x : ℕ → Bool)
         → All (λ e. IsTrue (edge_value two x e)) (implied ∷ [])

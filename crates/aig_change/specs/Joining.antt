@@ -1,13 +1,13 @@
 -- Part of what is promised.
 -- The first edge of a list joined with another edge.
-use Rattle.std.specs.Prelude.{◌≡◌, ℕ, ◌&&◌, Bool, false, Some, List, [], length, drop, All, slice_get}
+use Rattle.std.specs.Prelude.{◌≡◌, ◌&&◌, false, Some, List, [], length, drop, All, slice_get}
 use Rattle.aig_circuit.specs.declared.edge.AigEdge.{AigEdge}
 use Rattle.aig_circuit.specs.declared.node.AigNode.{AigNode}
 use Rattle.aig_circuit.specs.declared.node.AigNodeType.TheVariants.{Leaf}
 use Rattle.aig_circuit.specs.Edge.{edge_to}
 use Rattle.aig_circuit.specs.Tree.{edge_value}
 use Rattle.aig_circuit.specs.Circuit.{Circuit, IsInRange}
-use Rattle.aig_circuit.specs.Build.{AddsGates, FoldsOrAdds, FoldsOrAddsAll, JoinsByAnd, with_node}
+use Rattle.aig_circuit.specs.Build.{AddsGates, FoldsOrAdds, FoldsOrAddsAll, GivesEdge, JoinsByAnd, with_node}
 
 -- the first edge, where there is one, becomes the and of itself and of the edge `next`; the others
 -- stay
@@ -19,8 +19,8 @@ pub record JoinsFirst (old new : List AigNode) (next : AigEdge) (edges joined : 
   pub none : edges ≡ [] → new ≡ old
   pub rule : (e f : AigEdge) → slice_get edges 0 ≡ Some e → slice_get joined 0 ≡ Some f
       → FoldsOrAdds old new e next f
-  pub value : (e f : AigEdge) → slice_get edges 0 ≡ Some e → slice_get joined 0 ≡ Some f
-      → (x : ℕ → Bool) → edge_value new x f ≡ (edge_value old x e && edge_value old x next)
+  pub gives : (e f : AigEdge) → slice_get edges 0 ≡ Some e → slice_get joined 0 ≡ Some f
+      → GivesEdge new (λ x. edge_value old x e && edge_value old x next) f
 
 -- What is added step by step by the builders' rules: a leaf, the and of all constraints, the and
 -- `next` of the two, and the joined edges.
@@ -32,10 +32,8 @@ pub record JoinsInSteps (old : Circuit) (one two three four : List AigNode)
   pub joins : JoinsByAnd (with_node old.nodes Leaf) one old.properties.constraints constraint
   pub second : AddsGates one two
   pub rule : FoldsOrAdds one two (edge_to (length old.nodes) false) constraint next
-  pub there : IsInRange two next
-  pub value : (x : ℕ → Bool)
-      → edge_value two x next
-      ≡ (edge_value one x (edge_to (length old.nodes) false) && edge_value one x constraint)
+  pub gives : GivesEdge two
+      (λ x. edge_value one x (edge_to (length old.nodes) false) && edge_value one x constraint) next
   pub third : AddsGates two three
   pub joins_bads : JoinsFirst two three next old.properties.bads bads
   pub fourth : AddsGates three four

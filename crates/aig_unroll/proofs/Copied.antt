@@ -269,7 +269,7 @@ module _ (from : Circuit) (circuit : IsCircuit from) (old mid new : List AigNode
         value = λ y x below leaf. sym (leaf is) ∙ sym (node_value-leaf from.nodes x i is);
         size = let long : length new ≡ length mid + 1 = ap length same ∙ length-append mid _ in omega (arith, none_more false none, so_far.size);
       })
-  copies_more count marks (gate a b is adds size value) =
+  copies_more count marks (gate a b is adds size gives) =
       let typ = kind_is (And a b) is in
       let other : is_other_leaf from node ≡ false = ap (λ k. is_other_leaf from (record { node_id = node.node_id; typ = k })) typ in
       let none : takes_no_node from node ≡ false = ap (λ k. takes_no_node from (record { node_id = node.node_id; typ = k })) typ in
@@ -279,7 +279,7 @@ module _ (from : Circuit) (circuit : IsCircuit from) (old mid new : List AigNode
             others_more false other ∙ append-nil _ ∙ so_far.others
             ∙ ap (map (λ n. edge_to n false)) (sym (leaves_after-gates (length old) mid new (Grows-longer old mid so_far.grows) adds));
         value = λ y x below leaf.
-            value y
+            gives.value y
             ∙ ap (λ v. v && edge_value mid y (image_in images b)) (edge_value-image_in mid y images a ∙ ap (inverted_if a.compl) (below a.node_id (circuit.nodes.ordered.first_before i a b is)))
             ∙ ap (λ v. edge_value from.nodes x a && v) (edge_value-image_in mid y images b ∙ ap (inverted_if b.compl) (below b.node_id (circuit.nodes.ordered.second_before i a b is)))
             ∙ sym (node_value-and from.nodes circuit.nodes.ordered x i a b is);

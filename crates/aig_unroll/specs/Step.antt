@@ -12,7 +12,7 @@ use Rattle.aig_circuit.specs.Edge.{edge_to, inverted_if}
 use Rattle.aig_circuit.specs.Node.{is_gate, kind_at}
 use Rattle.aig_circuit.specs.Tree.{edge_value, node_value}
 use Rattle.aig_circuit.specs.Circuit.{Circuit, IsCircuit, IsInRange, IsLeaf, latch_leaves}
-use Rattle.aig_circuit.specs.Build.{AddsGates, Grows, with_node}
+use Rattle.aig_circuit.specs.Build.{AddsGates, GivesEdge, Grows, with_node}
 use Rattle.aig_circuit.specs.Properties.{Properties, append_properties, map_properties}
 use Rattle.aig_circuit.specs.Runs.{next_edges}
 use Rattle.aig_circuit.specs.View.{HasRoomFor, lists_circuit, properties_of}
@@ -72,9 +72,8 @@ pub data Copies (from : Circuit) (n start : ℕ) (old new : List AigNode) (image
       → Copies from n start old new images e
   gate : (a b : AigEdge) → kind_at from.nodes n ≡ Some (And a b) → AddsGates old new
       → length new ≤ length old + 1
-      → ((y : ℕ → Bool)
-      → edge_value new y e
-      ≡ (edge_value old y (image_in images a) && edge_value old y (image_in images b)))
+      → GivesEdge new
+      (λ y. edge_value old y (image_in images a) && edge_value old y (image_in images b)) e
       → Copies from n start old new images e
 
 -- ---- the first nodes

@@ -16,13 +16,13 @@ pub new_and_node-requires-clause-sound : goal.new_and_node-requires-clause-sound
 new_and_node-requires-clause-sound c = c.in_ok-constraint.ensures.gates.grows.sound
 
 pub new_and_node-requires-clause-second : goal.new_and_node-requires-clause-second
-new_and_node-requires-clause-second c = c.in_ok-constraint.ensures.joins.there
+new_and_node-requires-clause-second c = c.in_ok-constraint.ensures.joins.gives.there
 
 pub join_first-requires-clause-sound : goal.join_first-requires-clause-sound
 join_first-requires-clause-sound c = c.in_ok-next.ensures.gates.grows.sound
 
 pub join_first-requires-clause-next_edge : goal.join_first-requires-clause-next_edge
-join_first-requires-clause-next_edge c = c.in_ok-next.ensures.edge
+join_first-requires-clause-next_edge c = c.in_ok-next.ensures.gives.there
 
 pub join_first-requires-clause-edges : goal.join_first-requires-clause-edges
 join_first-requires-clause-edges c = All-grown _ _ _ (Grows-then _ _ _ (Grows-then _ _ _ c.in_ok-leaf.ensures.grows c.in_ok-constraint.ensures.gates.grows) c.in_ok-next.ensures.gates.grows) c.requires.circuit.properties.bads
@@ -31,7 +31,7 @@ pub join_first-requires-2-clause-sound : goal.join_first-requires-2-clause-sound
 join_first-requires-2-clause-sound c = c.in_ok-join_first.ensures.gates.grows.sound
 
 pub join_first-requires-2-clause-next_edge : goal.join_first-requires-2-clause-next_edge
-join_first-requires-2-clause-next_edge c = omega (arith, c.in_ok-next.ensures.edge, Grows-longer _ _ c.in_ok-join_first.ensures.gates.grows)
+join_first-requires-2-clause-next_edge c = omega (arith, c.in_ok-next.ensures.gives.there, Grows-longer _ _ c.in_ok-join_first.ensures.gates.grows)
 
 pub join_first-requires-2-clause-edges : goal.join_first-requires-2-clause-edges
 join_first-requires-2-clause-edges c =
@@ -48,6 +48,6 @@ returns c =
     c.new_leaf_node.new.nodes.items c.new_ands_node.new.nodes.items c.new_and_node.new.nodes.items c.join_first.new.nodes.items c.join_first-2.new.nodes.items
     c.in_ok-leaf.leaf c.from.result c.in_ok-constraint.constraint c.in_ok-next.next c.new.result c.push.new.self.items c.join_first.new.edges.items c.join_first-2.new.edges.items c.clear.new.self.items
     c.in_ok-leaf.ensures.number c.in_ok-leaf.ensures.ok c.in_ok-constraint.ensures.gates rule joins c.from.ensures
-    c.in_ok-next.ensures.gates c.in_ok-next.ensures.rule c.in_ok-next.ensures.edge c.in_ok-next.ensures.value
+    c.in_ok-next.ensures.gates c.in_ok-next.ensures.rule c.in_ok-next.ensures.gives
     c.in_ok-join_first.ensures.gates c.in_ok-join_first.ensures.joins c.in_ok-join_first-2.ensures.gates c.in_ok-join_first-2.ensures.joins
     latch c.in_ok-push.ensures.items c.clear.ensures.items

@@ -10,7 +10,7 @@ pub new_or_node-requires-clause-sound : goal.new_or_node-requires-clause-sound
 new_or_node-requires-clause-sound c = c.in_ok-equal.ensures.gates.grows.sound
 
 pub new_or_node-requires-clause-second : goal.new_or_node-requires-clause-second
-new_or_node-requires-clause-second c = c.in_ok-equal.ensures.edge
+new_or_node-requires-clause-second c = c.in_ok-equal.ensures.gives.there
 
 pub new_or_node-requires-clause-first : goal.new_or_node-requires-clause-first
 new_or_node-requires-clause-first c = rw c.not.ensures (omega (arith, c.requires.first_edge, Grows-longer _ _ c.in_ok-equal.ensures.gates.grows))
@@ -28,6 +28,6 @@ pub returns-in_ok-push-clause-constrains : goal.returns-in_ok-push-clause-constr
 returns-in_ok-push-clause-constrains c =
     constrained_one c.args.nodes.now.items c.new_eq_node.new.nodes.items c.new_or_node.new.nodes.items c.args.first c.in_ok-equal.equal c.in_ok-implied.implied c.not.result c.from.result c.in-Some.start c.args.latch c.args.constraints.now.items c.push.new.self.items
     c.requires.sound c.requires.first_edge c.requires.latch (sym c.init.ensures ∙ c.in-Some.is) (λ e. c.if-node_id-ne0.true (c.node_id.ensures ∙ e))
-    c.in_ok-equal.ensures.gates c.in_ok-equal.ensures.value (c.from.ensures ∙ ap (λ n. edge_to n _) c.input.ensures)
+    c.in_ok-equal.ensures.gates c.in_ok-equal.ensures.gives (c.from.ensures ∙ ap (λ n. edge_to n _) c.input.ensures)
     c.in_ok-equal.ensures.rule c.in_ok-implied.ensures.rule
-    c.in_ok-implied.ensures.edge c.in_ok-implied.ensures.value c.not.ensures c.in_ok-push.ensures.items
+    c.in_ok-implied.ensures.gives c.not.ensures c.in_ok-push.ensures.items

@@ -10,4 +10,4 @@ returns-clause-joins c =
     let long = c.args.edges.now.ok.0 in
     let some : 0 < length c.args.edges.now.items = grind (arith, nat_tests) in
     JoinsFirst-set c.args.nodes.now.items c.new_and_node.new.nodes.items c.args.next c.in_ok-joined.joined c.index.result.now c.args.edges.now.items
-    some c.index.ensures (All-grown _ _ _ c.in_ok-joined.ensures.gates.grows c.requires.edges) c.in_ok-joined.ensures.edge c.in_ok-joined.ensures.rule c.in_ok-joined.ensures.value
+    some c.index.ensures (All-grown _ _ _ c.in_ok-joined.ensures.gates.grows c.requires.edges) c.in_ok-joined.ensures.rule c.in_ok-joined.ensures.gives

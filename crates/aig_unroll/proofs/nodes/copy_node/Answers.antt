@@ -1,4 +1,4 @@
-use Rattle.aig_base.proofs.Words.{Ok, Err, Result, ◌≡◌, ◌&&◌, ◌<◌, ◌≤◌, ℕ, false, List, [], ◌++◌, length, append-nil, refl, sym, ap, ◌∙◌, arith, IfOk}
+use Rattle.aig_base.proofs.Words.{Ok, Err, Result, ◌≡◌, ◌&&◌, ◌<◌, ◌≤◌, ℕ, false, List, [], ◌++◌, length, append-nil, refl, sym, ap, ◌∙◌, arith, IfOk, IfOk-weaker}
 use Rattle.aig_circuit.specs.declared.node.AigNodeType.TheVariants.{And, False, Leaf}
 use Rattle.aig_circuit.specs.Tree.{edge_value}
 use Rattle.aig_circuit.proofs.Trees.{kind_at-within}
@@ -32,8 +32,8 @@ returns-in-And-clause-copies c =
     let new = c.new_and_node.new.nodes.items in
     let is = kind_read c.args.from.now.nodes c.nodes.result.now c.args.id (And a b) c.typ.result.now c.requires.there c.nodes.ensures.value c.typ.ensures c.in-And.is in
     let ensures = c.new_and_node.ensures in
-    from_both c.new_and_node.result _ _ _ (λ e rule value. gate a b is ensures.gates (at_most_one_more old new c.image_of-first.result c.image_of-second.result e rule)
-    (λ y. value y ∙ ap (λ f. edge_value old y f && edge_value old y c.image_of-second.result) c.image_of-first.ensures ∙ ap (λ f. edge_value old y (image_in c.args.images.now a) && edge_value old y f) c.image_of-second.ensures)) ensures.rule ensures.value
+    from_both c.new_and_node.result _ _ _ (λ e rule gives. gate a b is ensures.gates (at_most_one_more old new c.image_of-first.result c.image_of-second.result e rule)
+    (rw (c.image_of-first.ensures, c.image_of-second.ensures) at gives)) ensures.rule ensures.gives
 
 pub returns-in-False-clause-copies : goal.returns-in-False-clause-copies
 returns-in-False-clause-copies c =
@@ -81,7 +81,7 @@ new_and_node-requires-clause-second c =
     rw c.image_of-second.ensures (c.requires.images c.in-And.fanin1.node_id (c.nodes.ensures.circuit.nodes.ordered.second_before c.args.id c.in-And.fanin0 c.in-And.fanin1 is))
 
 pub returns-in-And-clause-edge : goal.returns-in-And-clause-edge
-returns-in-And-clause-edge c = c.new_and_node.ensures.edge
+returns-in-And-clause-edge c = IfOk-weaker c.new_and_node.result _ _ (λ e gives. gives.there) c.new_and_node.ensures.gives
 
 pub returns-in-And-clause-grows : goal.returns-in-And-clause-grows
 returns-in-And-clause-grows c = c.new_and_node.ensures.gates.grows
