@@ -3,7 +3,7 @@ use Rattle.aig_base.proofs.Words.{◌≡◌, ◌⊎◌, ℕ, zero, suc, ◌+◌,
 use Rattle.std.specs.Prelude.{All, not}
 use Rattle.aig_circuit.specs.declared.edge.AigEdge.{AigEdge}
 use Rattle.aig_circuit.proofs.Words.{edge_to, inverse, IsInRange, edge_value, AreNodes}
-use Rattle.aig_circuit.proofs.Joining.{edge_value-inverse}
+use Rattle.aig_circuit.proofs.Joining.{GivesEdge-same, edge_value-inverse}
 use Rattle.aig_runs.specs.WindowClauses.{count_pairs}
 use Rattle.aig_bounded.specs.declared.frames.Frames.{Frames}
 use Rattle.aig_bounded.specs.Apart.{all_apart, apart_from, differ, seen_edge, states_differ}
@@ -52,67 +52,53 @@ all_apart_same v w count f g (suc n) same each =
 
 -- ---- gates
 
--- the exclusive or of two edges
-pub Gives-xor : (old one two new : Frames) (a b not_a not_b first second e : AigEdge)
-    → IsInRange old.nodes.items a → IsInRange old.nodes.items b → not_a ≡ inverse a
-    → not_b ≡ inverse b → AddsAnds old one → IsInRange one.nodes.items first
-    → ((y : ℕ → Bool) → edge_value one.nodes.items y first
-    ≡ (edge_value old.nodes.items y a && edge_value old.nodes.items y not_b))
-    → AddsAnds one two → IsInRange two.nodes.items second
-    → ((y : ℕ → Bool) → edge_value two.nodes.items y second
-    ≡ (edge_value one.nodes.items y not_a && edge_value one.nodes.items y b))
-    → AddsAnds two new → IsInRange new.nodes.items e
-    → ((y : ℕ → Bool) → edge_value new.nodes.items y e
-    ≡ (edge_value two.nodes.items y first || edge_value two.nodes.items y second))
-    → Gives (λ y. differ (edge_value old.nodes.items y a) (edge_value old.nodes.items y b)) old new
-    e
-Gives-xor old one two new a b not_a not_b first second e there_a there_b is_a is_b adds1 there1
-    value1 adds2 there2 value2 adds3 there3 value3 = record {
-      there = there3;
-      value = λ y.
-          let keep = adds1.nodes.grows.values y in
-          value3 y
-          ∙ either_same _ _ _ _
-          (adds2.nodes.grows.values y first there1 ∙ value1 y
-          ∙ ap (λ v. edge_value old.nodes.items y a && v) (ap (edge_value old.nodes.items y) is_b
-          ∙ edge_value-inverse old.nodes.items y b))
-          (value2 y
-          ∙ both_same _ _ _ _ (ap (edge_value one.nodes.items y) is_a
-          ∙ edge_value-inverse one.nodes.items y a ∙ ap not (keep a there_a)) (keep b there_b));
-      adds = AddsAnds-then old two new (AddsAnds-then old one two adds1 adds2) adds3;
-    }
-
--- an edge and a new one that are joined
-pub Gives-join : (join : Bool → Bool → Bool) (v : (ℕ → Bool) → Bool) (old mid new : Frames)
-    (a b e : AigEdge) → IsInRange old.nodes.items a → Gives v old mid b → AddsAnds mid new
-    → IsInRange new.nodes.items e
-    → ((y : ℕ → Bool) → edge_value new.nodes.items y e
-    ≡ join (edge_value mid.nodes.items y a) (edge_value mid.nodes.items y b))
-    → Gives (λ y. join (edge_value old.nodes.items y a) (v y)) old new e
-Gives-join join v old mid new a b e there_a gives adds there value = record {
-  there = there;
-  value = λ y.
-      value y ∙ ap (λ x. join x (edge_value mid.nodes.items y b)) (gives.adds.nodes.grows.values y a
-      there_a)
-      ∙ ap (join (edge_value old.nodes.items y a)) (gives.value y);
-  adds = AddsAnds-then old mid new gives.adds adds;
-}
-
 -- what is given after other gates
 pub Gives-then : (v w : (ℕ → Bool) → Bool) (old mid new : Frames) (e : AigEdge)
     → AddsAnds old mid → Gives w mid new e → ((y : ℕ → Bool) → w y ≡ v y) → Gives v old new e
 Gives-then v w old mid new e adds gives same = record {
-  there = gives.there;
-  value = λ y. gives.value y ∙ same y;
+  edge = GivesEdge-same new.nodes.items e same gives.edge;
   adds = AddsAnds-then old mid new adds gives.adds;
 }
+
+-- the exclusive or of two edges
+pub Gives-xor : (old one two new : Frames) (a b not_a not_b first second e : AigEdge)
+    → IsInRange old.nodes.items a → IsInRange old.nodes.items b → not_a ≡ inverse a
+    → not_b ≡ inverse b
+    → Gives (λ y. edge_value old.nodes.items y a && edge_value old.nodes.items y not_b) old one
+    first
+    → Gives (λ y. edge_value one.nodes.items y not_a && edge_value one.nodes.items y b) one two
+    second
+    → Gives (λ y. edge_value two.nodes.items y first || edge_value two.nodes.items y second) two new
+    e
+    → Gives (λ y. differ (edge_value old.nodes.items y a) (edge_value old.nodes.items y b)) old new
+    e
+Gives-xor old one two new a b not_a not_b first second e there_a there_b is_a is_b only_a only_b
+    either =
+    Gives-then _ _ old two new e (AddsAnds-then old one two only_a.adds only_b.adds) either (λ y.
+    let keep = only_a.adds.nodes.grows.values y in
+    either_same _ _ _ _
+    (only_b.adds.nodes.grows.values y first only_a.edge.there ∙ only_a.edge.value y
+    ∙ ap (λ v. edge_value old.nodes.items y a && v) (ap (edge_value old.nodes.items y) is_b
+    ∙ edge_value-inverse old.nodes.items y b))
+    (only_b.edge.value y
+    ∙ both_same _ _ _ _ (ap (edge_value one.nodes.items y) is_a
+    ∙ edge_value-inverse one.nodes.items y a ∙ ap not (keep a there_a)) (keep b there_b)))
+
+-- an edge and a new one that are joined
+pub Gives-join : (join : Bool → Bool → Bool) (v : (ℕ → Bool) → Bool) (old mid new : Frames)
+    (a b e : AigEdge) → IsInRange old.nodes.items a → Gives v old mid b
+    → Gives (λ y. join (edge_value mid.nodes.items y a) (edge_value mid.nodes.items y b)) mid new e
+    → Gives (λ y. join (edge_value old.nodes.items y a) (v y)) old new e
+Gives-join join v old mid new a b e there_a gives more =
+    Gives-then _ _ old mid new e gives.adds more (λ y.
+    ap (λ x. join x (edge_value mid.nodes.items y b)) (gives.adds.nodes.grows.values y a there_a)
+    ∙ ap (join (edge_value old.nodes.items y a)) (gives.edge.value y))
 
 -- an edge that is there
 pub Gives-itself : (f : Frames) (e : AigEdge) → AreNodes f.nodes.items → IsInRange f.nodes.items e
     → Gives (λ y. edge_value f.nodes.items y e) f f e
 Gives-itself f e sound there = record {
-  there = there;
-  value = λ y. refl;
+  edge = record { there = there; value = λ y. refl };
   adds = AddsAnds-itself f sound;
 }
 
@@ -120,8 +106,10 @@ Gives-itself f e sound there = record {
 pub Gives-false : (f : Frames) (e : AigEdge) → AreNodes f.nodes.items → e ≡ edge_to 0 false
     → Gives (λ y. false) f f e
 Gives-false f e sound is = subst (Gives (λ y. false) f f) (sym is) (record {
-  there = constant_there f.nodes.items false sound;
-  value = λ y. value-constant f.nodes.items sound y false;
+  edge = record {
+    there = constant_there f.nodes.items false sound;
+    value = λ y. value-constant f.nodes.items sound y false;
+  };
   adds = AddsAnds-itself f sound;
 })
 
@@ -160,7 +148,7 @@ module _ (old mid new : Frames) (seen : List AigEdge) (count : ℕ)
       (λ y. edge_value mid.nodes.items y any || differ (seen_value mid y seen count s i)
       (seen_value mid y seen count t i)) old mid new e so_far.adds gives
       (λ y.
-      either_same _ _ _ _ (so_far.value y)
+      either_same _ _ _ _ (so_far.edge.value y)
       (differ_same _ _ _ _ (seen_kept so_far.adds y s i first h)
       (seen_kept so_far.adds y t i second h))
       ∙ sym (ap (states_differ (seen_value old y seen count) s t) (add-one i)))
@@ -180,7 +168,7 @@ module _ (old mid new : Frames) (seen : List AigEdge) (count : ℕ)
       (λ y. edge_value mid.nodes.items y all && states_differ (seen_value mid y seen count) s t
       count) old mid new e so_far.adds gives
       (λ y.
-      both_same _ _ _ _ (so_far.value y)
+      both_same _ _ _ _ (so_far.edge.value y)
       (states_differ_same (seen_value mid y seen count) (seen_value old y seen count) s t count
       (λ i h. seen_kept so_far.adds y s i (row_before s t count (length seen) (omega arith) row)
       h) (λ i h. seen_kept so_far.adds y t i row h))
@@ -204,7 +192,7 @@ module _ (old mid new : Frames) (seen : List AigEdge) (count : ℕ)
       (λ y.
       apart_from_same (seen_value mid y seen count) (seen_value old y seen count) count (t + 1)
       (edge_value mid.nodes.items y all) (all_apart (seen_value old y seen count) count
-      (edge_value old.nodes.items y first) t) (t + 1) (so_far.value y)
+      (edge_value old.nodes.items y first) t) (t + 1) (so_far.edge.value y)
       (λ s i l h. seen_kept so_far.adds y s i (row_before s last count (length seen) (omega arith)
       rows) h)
       (λ i h. seen_kept so_far.adds y (t + 1) i (row_before (t + 1) last count (length seen)

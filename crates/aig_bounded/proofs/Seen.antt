@@ -154,12 +154,12 @@ pub Shows-apart : (c : Circuit) (t last : ℕ) (old new : Frames) (seen : List A
     (edge_value old.nodes.items y reached) last) old new e
     → Shows c t new e (λ run. all_apart (latch_value c run) (length c.latchs) (v run) last)
 Shows-apart c t last old new seen reached e v sees shows gives = record {
-  there = gives.there;
+  there = gives.edge.there;
   shown = λ y run is start reads.
       let extends = Extends-ands old new gives.adds in
       let before = extends.reads y run reads in
       let from = started c old new run extends.start start in
-      gives.value y
+      gives.edge.value y
       ∙ all_apart_same (seen_value old y seen (length c.latchs)) (latch_value c run)
       (length c.latchs) (edge_value old.nodes.items y reached) (v run) last
       (shows.shown y run is from before)

@@ -7,7 +7,7 @@ use Rattle.aig_circuit.proofs.Words.{edge_to, inverted_if, kind_at, AreNodes, Ci
 use Rattle.aig_circuit.proofs.Trees.{kind_at-last, kind_at-within, node_value-and, node_value-false, node_value-leaf}
 use Rattle.aig_bounded.specs.declared.frames.Frames.{Frames}
 use Rattle.aig_bounded.specs.Asked.{IsStart}
-use Rattle.aig_bounded.specs.Frames.{AddsAnds, AreFrames, Extends, Opens, ReadsOff, Shows}
+use Rattle.aig_bounded.specs.Frames.{AreFrames, Extends, Gives, Opens, ReadsOff, Shows}
 use Rattle.aig_bounded.specs.Steps.{ShowsNode, image_at, image_in}
 use Rattle.aig_bounded.proofs.Extended.{Extends-ands, opened_reads}
 
@@ -70,16 +70,14 @@ either_same a b x y p q = ap (λ v. v || b) p ∙ ap (λ v. x || v) q
 -- two edges that are joined
 pub Shows-join : (c : Circuit) (t : ℕ) (join : Bool → Bool → Bool) (old new : Frames)
     (a b e : AigEdge) (v w : (ℕ → ℕ → Bool) → Bool) → Shows c t old a v → Shows c t old b w
-    → AddsAnds old new → IsInRange new.nodes.items e
-    → ((y : ℕ → Bool) → edge_value new.nodes.items y e
-    ≡ join (edge_value old.nodes.items y a) (edge_value old.nodes.items y b))
+    → Gives (λ y. join (edge_value old.nodes.items y a) (edge_value old.nodes.items y b)) old new e
     → Shows c t new e (λ run. join (v run) (w run))
-Shows-join c t join old new a b e v w shows_a shows_b adds there value = record {
-  there = there;
+Shows-join c t join old new a b e v w shows_a shows_b gives = record {
+  there = gives.edge.there;
   shown = λ y run is start reads.
-      let before = (Extends-ands old new adds).reads y run reads in
-      let from = started c old new run adds.start start in
-      value y ∙ ap (λ x. join x (edge_value old.nodes.items y b)) (shows_a.shown y run is from before)
+      let before = (Extends-ands old new gives.adds).reads y run reads in
+      let from = started c old new run gives.adds.start start in
+      gives.edge.value y ∙ ap (λ x. join x (edge_value old.nodes.items y b)) (shows_a.shown y run is from before)
       ∙ ap (join (v run)) (shows_b.shown y run is from before);
 }
 
@@ -158,8 +156,7 @@ any_same p q (e ∷ es) all =
     either_same _ _ _ _ (all 0 e (omega arith)) (any_same p q es (λ k d h. all (suc k) d (omega arith)))
 
 module _ (c : Circuit) (t : ℕ) (old new : Frames) (images es : List AigEdge) (e : AigEdge)
-    (shows : All (λ f. ShowsNode c t old images f.node_id) es) (adds : AddsAnds old new)
-    (there : IsInRange new.nodes.items e) where
+    (shows : All (λ f. ShowsNode c t old images f.node_id) es) where
   -- the image of each has its value
   each : (y : ℕ → Bool) (run : ℕ → ℕ → Bool) → IsRun c t run → IsStart old.start c (run 0)
       → ReadsOff old y run
@@ -168,24 +165,23 @@ module _ (c : Circuit) (t : ℕ) (old new : Frames) (images es : List AigEdge) (
       (Shows-image c t old images (get_or es k d) (shows k d h)).shown y run is start reads
 
   pub Shows-all : (first : AigEdge) (v : (ℕ → ℕ → Bool) → Bool) → Shows c t old first v
-      → ((y : ℕ → Bool) → edge_value new.nodes.items y e
-      ≡ (edge_value old.nodes.items y first
-      && list_all (λ f. edge_value old.nodes.items y (image_in images f)) es))
+      → Gives (λ y. edge_value old.nodes.items y first
+      && list_all (λ f. edge_value old.nodes.items y (image_in images f)) es) old new e
       → Shows c t new e (λ run. v run && list_all (edge_value c.nodes (run t)) es)
-  Shows-all first v s value = record {
-    there = there;
+  Shows-all first v s gives = record {
+    there = gives.edge.there;
     shown = λ y run is start reads.
-        let before = (Extends-ands old new adds).reads y run reads in
-        let from = started c old new run adds.start start in
-        value y ∙ both_same _ _ _ _ (s.shown y run is from before) (all_same _ _ es (each y run is from before));
+        let before = (Extends-ands old new gives.adds).reads y run reads in
+        let from = started c old new run gives.adds.start start in
+        gives.edge.value y ∙ both_same _ _ _ _ (s.shown y run is from before) (all_same _ _ es (each y run is from before));
   }
 
-  pub Shows-any : ((y : ℕ → Bool) → edge_value new.nodes.items y e
-      ≡ list_any (λ f. edge_value old.nodes.items y (image_in images f)) es)
+  pub Shows-any : Gives (λ y. list_any (λ f. edge_value old.nodes.items y (image_in images f)) es)
+      old new e
       → Shows c t new e (λ run. list_any (edge_value c.nodes (run t)) es)
-  Shows-any value = record {
-    there = there;
+  Shows-any gives = record {
+    there = gives.edge.there;
     shown = λ y run is start reads.
-        let before = (Extends-ands old new adds).reads y run reads in
-        value y ∙ any_same _ _ es (each y run is (started c old new run adds.start start) before);
+        let before = (Extends-ands old new gives.adds).reads y run reads in
+        gives.edge.value y ∙ any_same _ _ es (each y run is (started c old new run gives.adds.start start) before);
   }

@@ -14,7 +14,7 @@ use Rattle.aig_bounded.specs.declared.asked.Start.{Start}
 use Rattle.aig_bounded.specs.declared.asked.Start.TheVariants.{Any, Initial}
 use Rattle.aig_bounded.specs.declared.frames.Frames.{Frames}
 use Rattle.aig_bounded.specs.Depths.{AreDepths, HaveNoDepth}
-use Rattle.aig_bounded.specs.Frames.{AddsAnds, AreFrames, Extends, Opens, Shows}
+use Rattle.aig_bounded.specs.Frames.{AreFrames, Extends, Gives, Opens, Shows}
 use Rattle.aig_bounded.specs.Asked.{HasStarts, IsFree, IsStart, first_state, next_reached, next_within, reached_to, within_to}
 use Rattle.aig_bounded.specs.Question.{IsPlaceOf}
 use Rattle.aig_bounded.specs.Steps.{HasImages, HasStates, MakesImage, SetsStates, ShowsNode, Sum, image_at, image_in}
@@ -323,17 +323,16 @@ pub makes_gate : (c : Circuit) (t id : ℕ) (old new : Frames) (images : List Ai
     → kind_at c.nodes id ≡ Some (And a b)
     → ((m : ℕ) → IsFanin c.nodes id m → ShowsNode c t old images m)
     → first ≡ image_in images a → second ≡ image_in images b
-    → AddsAnds old new → IsInRange new.nodes.items e
-    → ((y : ℕ → Bool) → edge_value new.nodes.items y e
-    ≡ (edge_value old.nodes.items y first && edge_value old.nodes.items y second))
+    → Gives (λ y. edge_value old.nodes.items y first && edge_value old.nodes.items y second) old new
+    e
     → MakesImage c t id old new e
-makes_gate c t id old new images a b first second e circuit are kind operands is_first is_second adds there value =
+makes_gate c t id old new images a b first second e circuit are kind operands is_first is_second gives =
     let shows_a = subst (λ x. Shows c t old x (λ run. edge_value c.nodes (run t) a)) (sym is_first) (Shows-image c t old images a (operands a.node_id (a, b, kind, inl refl))) in
     let shows_b = subst (λ x. Shows c t old x (λ run. edge_value c.nodes (run t) b)) (sym is_second) (Shows-image c t old images b (operands b.node_id (a, b, kind, inr refl))) in
     record {
-      shows = Shows-gate c t id new a b e circuit kind (Shows-join c t (λ x y. x && y) old new first second e (λ run. edge_value c.nodes (run t) a) (λ run. edge_value c.nodes (run t) b) shows_a shows_b adds there value);
-      frames = AreFrames-next_node c t id new (AreFrames-ands c t id old new are adds);
-      extends = Extends-ands old new adds;
+      shows = Shows-gate c t id new a b e circuit kind (Shows-join c t (λ x y. x && y) old new first second e (λ run. edge_value c.nodes (run t) a) (λ run. edge_value c.nodes (run t) b) shows_a shows_b gives);
+      frames = AreFrames-next_node c t id new (AreFrames-ands c t id old new are gives.adds);
+      extends = Extends-ands old new gives.adds;
     }
 
 -- ---- what an answer says
@@ -343,12 +342,6 @@ pub if_ok : {X E : Type 0} (r : Result X E) (P Q : X → Type 0) → ((x : X) �
     → IfOk r Q
 if_ok (Ok x) P Q w p = w x p
 if_ok (Err e) P Q w p = tt
-
--- and from three
-pub if_ok_all : {X E : Type 0} (r : Result X E) (P Q R : X → Type 0) (A : Type 0)
-    → ((x : X) → P x → Q x → A → R x) → IfOk r P → IfOk r Q → OnOk r A → IfOk r R
-if_ok_all (Ok x) P Q R A w p q a = w x p q a
-if_ok_all (Err e) P Q R A w p q a = tt
 
 -- what follows at all
 pub on_ok : {X E : Type 0} (r : Result X E) (P : X → Type 0) (A : Type 0) → ((x : X) → P x → A)
@@ -489,23 +482,17 @@ module _ (c : Circuit) (sought : Sought) (t : ℕ) (images : List AigEdge) (f0 f
     (constraints : All (λ e. ShowsNode c t f0 images e.node_id) c.properties.constraints)
     (bads : All (λ e. ShowsNode c t f0 images e.node_id) c.properties.bads)
     (sum : Sum c sought t t f0 sums)
-    (adds1 : AddsAnds f0 f1) (there1 : IsInRange f1.nodes.items within)
-    (value1 : (y : ℕ → Bool) → edge_value f1.nodes.items y within
-    ≡ (edge_value f0.nodes.items y sums.within
-    && list_all (λ e. edge_value f0.nodes.items y (image_in images e)) c.properties.constraints))
-    (adds2 : AddsAnds f1 f2) (there2 : IsInRange f2.nodes.items bad)
-    (value2 : (y : ℕ → Bool) → edge_value f2.nodes.items y bad
-    ≡ list_any (λ e. edge_value f1.nodes.items y (image_in images e)) c.properties.bads)
-    (adds3 : AddsAnds f2 f3) (there3 : IsInRange f3.nodes.items now)
-    (value3 : (y : ℕ → Bool) → edge_value f3.nodes.items y now
-    ≡ (edge_value f2.nodes.items y within && edge_value f2.nodes.items y bad))
-    (adds4 : AddsAnds f3 f4)
-    (there4 : IsInRange f4.nodes.items more.within × IsInRange f4.nodes.items more.reached)
-    (value4 : (y : ℕ → Bool) → edge_value f4.nodes.items y more.within
-    ≡ next_within sought (edge_value f3.nodes.items y within) (edge_value f3.nodes.items y bad))
-    (value5 : (y : ℕ → Bool) → edge_value f4.nodes.items y more.reached
-    ≡ next_reached sought (edge_value f3.nodes.items y sums.reached)
-    (edge_value f3.nodes.items y now)) where
+    (gives1 : Gives (λ y. edge_value f0.nodes.items y sums.within
+    && list_all (λ e. edge_value f0.nodes.items y (image_in images e)) c.properties.constraints)
+    f0 f1 within)
+    (gives2 : Gives (λ y. list_any (λ e. edge_value f1.nodes.items y (image_in images e))
+    c.properties.bads) f1 f2 bad)
+    (gives3 : Gives (λ y. edge_value f2.nodes.items y within && edge_value f2.nodes.items y bad)
+    f2 f3 now)
+    (gives4 : Gives (λ y. next_within sought (edge_value f3.nodes.items y within)
+    (edge_value f3.nodes.items y bad)) f3 f4 more.within)
+    (gives5 : Gives (λ y. next_reached sought (edge_value f3.nodes.items y sums.reached)
+    (edge_value f3.nodes.items y now)) f3 f4 more.reached) where
   abbrev is_within : (ℕ → ℕ → Bool) → Bool
   is_within run =
       within_to sought c run t
@@ -515,37 +502,37 @@ module _ (c : Circuit) (sought : Sought) (t : ℕ) (images : List AigEdge) (f0 f
   is_bad run = list_any (edge_value c.nodes (run t)) c.properties.bads
 
   extends1 : Extends f0 f1
-  extends1 = Extends-ands f0 f1 adds1
+  extends1 = Extends-ands f0 f1 gives1.adds
 
   extends2 : Extends f1 f2
-  extends2 = Extends-ands f1 f2 adds2
+  extends2 = Extends-ands f1 f2 gives2.adds
 
   extends3 : Extends f2 f3
-  extends3 = Extends-ands f2 f3 adds3
+  extends3 = Extends-ands f2 f3 gives3.adds
 
   shows1 : Shows c t f1 within is_within
-  shows1 = Shows-all c t f0 f1 images c.properties.constraints within constraints adds1 there1 sums.within (λ run. within_to sought c run t) sum.within value1
+  shows1 = Shows-all c t f0 f1 images c.properties.constraints within constraints sums.within (λ run. within_to sought c run t) sum.within gives1
 
   bads1 : All (λ e. ShowsNode c t f1 images e.node_id) c.properties.bads
   bads1 k d h = Shows-extends c t f0 f1 _ _ extends1 (bads k d h)
 
   shows2 : Shows c t f2 bad is_bad
-  shows2 = Shows-any c t f1 f2 images c.properties.bads bad bads1 adds2 there2 value2
+  shows2 = Shows-any c t f1 f2 images c.properties.bads bad bads1 gives2
 
   within2 : Shows c t f2 within is_within
   within2 = Shows-extends c t f1 f2 within is_within extends2 shows1
 
   shows3 : Shows c t f3 now (λ run. is_within run && is_bad run)
-  shows3 = Shows-join c t (λ x y. x && y) f2 f3 within bad now is_within is_bad within2 shows2 adds3 there3 value3
+  shows3 = Shows-join c t (λ x y. x && y) f2 f3 within bad now is_within is_bad within2 shows2 gives3
 
   extends03 : Extends f0 f3
   extends03 = Extends-then f0 f2 f3 (Extends-then f0 f1 f2 extends1 extends2) extends3
 
   shows4 : Shows c t f4 more.within (λ run. next_within sought (is_within run) (is_bad run))
-  shows4 = Shows-join c t (next_within sought) f3 f4 within bad more.within is_within is_bad (Shows-extends c t f2 f3 within is_within extends3 within2) (Shows-extends c t f2 f3 bad is_bad extends3 shows2) adds4 there4.0 value4
+  shows4 = Shows-join c t (next_within sought) f3 f4 within bad more.within is_within is_bad (Shows-extends c t f2 f3 within is_within extends3 within2) (Shows-extends c t f2 f3 bad is_bad extends3 shows2) gives4
 
   shows5 : Shows c t f4 more.reached (λ run. next_reached sought (reached_to sought c run t) (is_within run && is_bad run))
-  shows5 = Shows-join c t (next_reached sought) f3 f4 sums.reached now more.reached (λ run. reached_to sought c run t) (λ run. is_within run && is_bad run) (Shows-extends c t f0 f3 sums.reached (λ run. reached_to sought c run t) extends03 sum.reached) shows3 adds4 there4.1 value5
+  shows5 = Shows-join c t (next_reached sought) f3 f4 sums.reached now more.reached (λ run. reached_to sought c run t) (λ run. is_within run && is_bad run) (Shows-extends c t f0 f3 sums.reached (λ run. reached_to sought c run t) extends03 sum.reached) shows3 gives5
 
   pub Sum-more : Sum c sought t (t + 1) f4 more
   Sum-more = record {
@@ -554,11 +541,11 @@ module _ (c : Circuit) (sought : Sought) (t : ℕ) (images : List AigEdge) (f0 f
   }
 
   Extends-more : Extends f0 f4
-  Extends-more = Extends-then f0 f3 f4 extends03 (Extends-ands f3 f4 adds4)
+  Extends-more = Extends-then f0 f3 f4 extends03 (Extends-ands f3 f4 gives4.adds)
 
   AreFrames-more : (u n : ℕ) → AreFrames c u n f0 → AreFrames c u n f4
   AreFrames-more u n are =
-      AreFrames-ands c u n f3 f4 (AreFrames-ands c u n f2 f3 (AreFrames-ands c u n f1 f2 (AreFrames-ands c u n f0 f1 are adds1) adds2) adds3) adds4
+      AreFrames-ands c u n f3 f4 (AreFrames-ands c u n f2 f3 (AreFrames-ands c u n f1 f2 (AreFrames-ands c u n f0 f1 are gives1.adds) gives2.adds) gives3.adds) gives4.adds
 
   pub all_more : (u n : ℕ) → AreFrames c u n f0
       → Sum c sought t (t + 1) f4 more × AreFrames c u n f4 × Extends f0 f4

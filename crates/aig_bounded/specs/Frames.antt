@@ -4,7 +4,7 @@ use Rattle.std.specs.Prelude.{◌≡◌, ◌≢◌, ℕ, ◌+◌, ◌*◌, ◌<�
 use Rattle.aig_circuit.specs.declared.edge.AigEdge.{AigEdge}
 use Rattle.aig_circuit.specs.declared.node.AigNodeType.TheVariants.{Leaf}
 use Rattle.aig_circuit.specs.Edge.{edge_to}
-use Rattle.aig_circuit.specs.Build.{AddsGates, Grows, with_node}
+use Rattle.aig_circuit.specs.Build.{AddsGates, GivesEdge, Grows, with_node}
 use Rattle.aig_circuit.specs.Circuit.{AreNodes, Circuit, IsInRange, IsLeaf}
 use Rattle.aig_circuit.specs.Runs.{IsRun}
 use Rattle.aig_circuit.specs.Tree.{edge_value}
@@ -44,8 +44,7 @@ pub record AddsAnds (old new : Frames) : Type 0 where
 
 -- gates alone are added, of which an edge has this value
 pub record Gives (wanted : (ℕ → Bool) → Bool) (old new : Frames) (e : AigEdge) : Type 0 where
-  pub there : IsInRange new.nodes.items e
-  pub value : (y : ℕ → Bool) → edge_value new.nodes.items y e ≡ wanted y
+  pub edge : GivesEdge new.nodes.items wanted e
   pub adds : AddsAnds old new
 
 -- one leaf is added, the input of this place, within the limit

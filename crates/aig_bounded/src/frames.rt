@@ -1,12 +1,12 @@
 //! The nodes of a question while it is made.
 
-ghost use Rattle.std.specs.Prelude.{◌≡◌, ◌≤◌, ◌++◌, ◌∷◌, [], ◌&&◌, ◌||◌, ℕ, Bool, IfOk, OnOk, length};
+ghost use Rattle.std.specs.Prelude.{◌≡◌, ◌≤◌, ◌++◌, ◌∷◌, [], ◌&&◌, ◌||◌, IfOk, OnOk, length};
 ghost use Rattle.aig_circuit.specs.declared.node.AigNodeType.TheVariants.{Leaf};
 ghost use Rattle.aig_circuit.specs.Build.{with_node};
 ghost use Rattle.aig_circuit.specs.Circuit.{AreNodes, Circuit, IsInRange};
 ghost use Rattle.aig_circuit.specs.Tree.{edge_value};
 ghost use Rattle.aig_bounded.specs.Apart.{differ};
-ghost use Rattle.aig_bounded.specs.Frames.{AddsAnds, AddsUpTo, AreFrames, Gives, Opens};
+ghost use Rattle.aig_bounded.specs.Frames.{AddsUpTo, AreFrames, Gives, Opens};
 
 use crate::asked::Start;
 use crate::error::BoundedError;
@@ -91,11 +91,8 @@ impl Frames {
         requires sound { AreNodes self.old.nodes.items }
         requires first { IsInRange self.old.nodes.items fanin0 }
         requires second { IsInRange self.old.nodes.items fanin1 }
-        ensures edge { IfOk result (IsInRange self.new.nodes.items) }
-        ensures value { IfOk result (λ e. (y : ℕ → Bool) → edge_value self.new.nodes.items y e
-            ≡ (edge_value self.old.nodes.items y fanin0
-            && edge_value self.old.nodes.items y fanin1)) }
-        ensures adds { OnOk result (AddsAnds self.old self.new) }
+        ensures gives { IfOk result (Gives (λ y. edge_value self.old.nodes.items y fanin0
+            && edge_value self.old.nodes.items y fanin1) self.old self.new) }
         ensures size { AddsUpTo 1 self.old self.new result }
     {
         if fanin1 < fanin0 {
@@ -110,11 +107,8 @@ impl Frames {
         requires sound { AreNodes self.old.nodes.items }
         requires first { IsInRange self.old.nodes.items fanin0 }
         requires second { IsInRange self.old.nodes.items fanin1 }
-        ensures edge { IfOk result (IsInRange self.new.nodes.items) }
-        ensures value { IfOk result (λ e. (y : ℕ → Bool) → edge_value self.new.nodes.items y e
-            ≡ (edge_value self.old.nodes.items y fanin0
-            && edge_value self.old.nodes.items y fanin1)) }
-        ensures adds { OnOk result (AddsAnds self.old self.new) }
+        ensures gives { IfOk result (Gives (λ y. edge_value self.old.nodes.items y fanin0
+            && edge_value self.old.nodes.items y fanin1) self.old self.new) }
         ensures size { AddsUpTo 1 self.old self.new result }
     {
         if let Some(n) = self.gates.find(&self.nodes, fanin0, fanin1) {
@@ -128,11 +122,8 @@ impl Frames {
         requires sound { AreNodes self.old.nodes.items }
         requires first { IsInRange self.old.nodes.items fanin0 }
         requires second { IsInRange self.old.nodes.items fanin1 }
-        ensures edge { IfOk result (IsInRange self.new.nodes.items) }
-        ensures value { IfOk result (λ e. (y : ℕ → Bool) → edge_value self.new.nodes.items y e
-            ≡ (edge_value self.old.nodes.items y fanin0
-            && edge_value self.old.nodes.items y fanin1)) }
-        ensures adds { OnOk result (AddsAnds self.old self.new) }
+        ensures gives { IfOk result (Gives (λ y. edge_value self.old.nodes.items y fanin0
+            && edge_value self.old.nodes.items y fanin1) self.old self.new) }
         ensures size { AddsUpTo 1 self.old self.new result }
     {
         let before = self.nodes.len();
@@ -151,11 +142,8 @@ impl Frames {
         requires sound { AreNodes self.old.nodes.items }
         requires first { IsInRange self.old.nodes.items fanin0 }
         requires second { IsInRange self.old.nodes.items fanin1 }
-        ensures edge { IfOk result (IsInRange self.new.nodes.items) }
-        ensures value { IfOk result (λ e. (y : ℕ → Bool) → edge_value self.new.nodes.items y e
-            ≡ (edge_value self.old.nodes.items y fanin0
-            || edge_value self.old.nodes.items y fanin1)) }
-        ensures adds { OnOk result (AddsAnds self.old self.new) }
+        ensures gives { IfOk result (Gives (λ y. edge_value self.old.nodes.items y fanin0
+            || edge_value self.old.nodes.items y fanin1) self.old self.new) }
         ensures size { AddsUpTo 1 self.old self.new result }
     {
         Ok(!self.and(!fanin0, !fanin1)?)

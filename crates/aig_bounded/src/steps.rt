@@ -10,7 +10,7 @@ ghost use Rattle.aig_bounded.specs.declared.frames.Frames.{Frames};
 ghost use Rattle.aig_bounded.specs.Asked.{HasStarts, IsFree, apart_size, asked_size, first_state, next_reached, next_within, reached_to, sought_to, tells_apart};
 ghost use Rattle.aig_bounded.specs.Question.{IsPlaceOf, step_size};
 ghost use Rattle.aig_bounded.specs.Depths.{AreDepths, HaveNoLatchDepth};
-ghost use Rattle.aig_bounded.specs.Frames.{AddsAnds, AddsUpTo, AreFrames, Extends, Sees, Shows};
+ghost use Rattle.aig_bounded.specs.Frames.{AddsUpTo, AreFrames, Extends, Gives, Sees, Shows};
 ghost use Rattle.aig_bounded.specs.Steps.{HasImages, HasStates, MakesImage, SetsStates, ShowsNode, Sum, image_in};
 
 use crate::apart::note_states;
@@ -131,12 +131,9 @@ impl Frames {
         requires edges { All (λ e. e.node_id < length images.now) edges.now }
         requires images { All (λ e.
             IsInRange self.old.nodes.items (image_in images.now e)) edges.now }
-        ensures edge { IfOk result (IsInRange self.new.nodes.items) }
-        ensures value { IfOk result (λ all. (y : ℕ → Bool) → edge_value self.new.nodes.items y all
-            ≡ (edge_value self.old.nodes.items y first
-            && list_all
-            (λ e. edge_value self.old.nodes.items y (image_in images.now e)) edges.now)) }
-        ensures adds { OnOk result (AddsAnds self.old self.new) }
+        ensures gives { IfOk result (Gives (λ y. edge_value self.old.nodes.items y first
+            && list_all (λ e. edge_value self.old.nodes.items y (image_in images.now e)) edges.now)
+            self.old self.new) }
         ensures size { AddsUpTo (length edges.now) self.old self.new result }
     {
         let mut all = first;
@@ -152,10 +149,9 @@ impl Frames {
         requires edges { All (λ e. e.node_id < length images.now) edges.now }
         requires images { All (λ e.
             IsInRange self.old.nodes.items (image_in images.now e)) edges.now }
-        ensures edge { IfOk result (IsInRange self.new.nodes.items) }
-        ensures value { IfOk result (λ any. (y : ℕ → Bool) → edge_value self.new.nodes.items y any
-            ≡ list_any (λ e. edge_value self.old.nodes.items y (image_in images.now e)) edges.now) }
-        ensures adds { OnOk result (AddsAnds self.old self.new) }
+        ensures gives { IfOk result (Gives (λ y. list_any
+            (λ e. edge_value self.old.nodes.items y (image_in images.now e)) edges.now)
+            self.old self.new) }
         ensures size { AddsUpTo (length edges.now) self.old self.new result }
     {
         let mut any = AigEdge::constant(false);
@@ -180,17 +176,12 @@ impl Frames {
         requires within { IsInRange self.old.nodes.items within }
         requires bad { IsInRange self.old.nodes.items bad }
         requires now { IsInRange self.old.nodes.items now }
-        ensures there { IfOk result (λ sums. IsInRange self.new.nodes.items sums.within
-            × IsInRange self.new.nodes.items sums.reached) }
-        ensures within { IfOk result (λ sums. (y : ℕ → Bool)
-            → edge_value self.new.nodes.items y sums.within
-            ≡ next_within sought (edge_value self.old.nodes.items y within)
-            (edge_value self.old.nodes.items y bad)) }
-        ensures reached { IfOk result (λ sums. (y : ℕ → Bool)
-            → edge_value self.new.nodes.items y sums.reached
-            ≡ next_reached sought (edge_value self.old.nodes.items y reached)
-            (edge_value self.old.nodes.items y now)) }
-        ensures adds { OnOk result (AddsAnds self.old self.new) }
+        ensures within { IfOk result (λ sums. Gives (λ y. next_within sought
+            (edge_value self.old.nodes.items y within) (edge_value self.old.nodes.items y bad))
+            self.old self.new sums.within) }
+        ensures reached { IfOk result (λ sums. Gives (λ y. next_reached sought
+            (edge_value self.old.nodes.items y reached) (edge_value self.old.nodes.items y now))
+            self.old self.new sums.reached) }
         ensures size { AddsUpTo 1 self.old self.new result }
     {
         match sought {

@@ -10,10 +10,8 @@ made : (c : goal.In_ok-more)
     × Extends c.args.self.now c.next_sums.new.self
 made c =
     all_more c.args.circuit.now c.args.sought c.args.step c.args.images.now c.args.self.now c.and_all.new.self c.or_all.new.self c.and.new.self c.next_sums.new.self c.args.sums c.in_ok-more.more c.in_ok-within.within c.in_ok-bad.bad c.in_ok-now.now c.requires.constraints c.requires.bads c.requires.sums
-    c.in_ok-within.ensures.adds c.in_ok-within.ensures.edge (rw c.constraints.ensures.value at c.in_ok-within.ensures.value)
-    c.in_ok-bad.ensures.adds c.in_ok-bad.ensures.edge (rw c.bads.ensures.value at c.in_ok-bad.ensures.value)
-    c.in_ok-now.ensures.adds c.in_ok-now.ensures.edge c.in_ok-now.ensures.value
-    c.in_ok-more.ensures.adds c.in_ok-more.ensures.there c.in_ok-more.ensures.within c.in_ok-more.ensures.reached
+    (rw c.constraints.ensures.value at c.in_ok-within.ensures.gives) (rw c.bads.ensures.value at c.in_ok-bad.ensures.gives)
+    c.in_ok-now.ensures.gives c.in_ok-more.ensures.within c.in_ok-more.ensures.reached
     (c.args.step + 1) 0 c.requires.frames
 
 pub returns-clause-sums : goal.returns-clause-sums

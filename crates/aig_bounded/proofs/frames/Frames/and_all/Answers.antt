@@ -1,13 +1,14 @@
 use Rattle.aig_base.proofs.Words.{false, ap, length, subst, arith, take_all, err_from_is_err_and}
 use Rattle.aig_circuit.specs.declared.edge.AigEdge.{AigEdge}
 use Rattle.aig_circuit.specs.Edge.{edge_to}
+use Rattle.aig_bounded.specs.Frames.{Gives}
 use Rattle.aig_bounded.proofs.Counted.{AddsUpTo-done, AddsUpTo-stops}
-use Rattle.aig_bounded.proofs.Joined.{AndSoFar, AndSoFar-more, AndSoFar-none}
+use Rattle.aig_bounded.proofs.Joined.{all_true, all_true-more, all_true-none}
 use Rattle.aig_bounded.proofs.frames.Frames.and_all.Goals as goal
 
 pub loop-edge-init : goal.loop-edge-init
 loop-edge-init c = record {
-  so_far = AndSoFar-none c.args.self.now c.args.images.now c.args.first c.requires.sound c.requires.first;
+  so_far = all_true-none c.args.self.now c.args.images.now c.args.first c.requires.sound c.requires.first;
   few = omega arith;
 }
 
@@ -16,7 +17,7 @@ loop-edge-preserved c =
     let d = edge_to 0 false in
     let i = c.loop-edge.edge-index in
     record {
-      so_far = AndSoFar-more c.args.self.now c.loop-edge.self c.and.new.self c.args.images.now c.args.edges.now i d c.loop-edge.all c.in_ok-all.all c.image_of.result c.loop-edge-test.true c.image_of.ensures (c.requires.images i d c.loop-edge-test.true) c.in_ok-all.ensures.adds c.in_ok-all.ensures.edge c.args.first c.loop-edge.invariant.so_far c.in_ok-all.ensures.value;
+      so_far = all_true-more c.args.self.now c.loop-edge.self c.and.new.self c.args.images.now c.args.edges.now i d c.loop-edge.all c.in_ok-all.all c.image_of.result c.loop-edge-test.true c.image_of.ensures (c.requires.images i d c.loop-edge-test.true) c.args.first c.loop-edge.invariant.so_far c.in_ok-all.ensures.gives;
       few = omega (arith, c.in_ok-all.ensures.size.few, c.loop-edge.invariant.few);
     }
 
@@ -24,22 +25,16 @@ pub and-requires-clause-sound : goal.and-requires-clause-sound
 and-requires-clause-sound c = c.loop-edge.invariant.so_far.adds.nodes.grows.sound
 
 pub and-requires-clause-first : goal.and-requires-clause-first
-and-requires-clause-first c = c.loop-edge.invariant.so_far.there
+and-requires-clause-first c = c.loop-edge.invariant.so_far.edge.there
 
 pub and-requires-clause-second : goal.and-requires-clause-second
 and-requires-clause-second c =
     omega (arith, c.requires.images c.loop-edge.edge-index (edge_to 0 false) c.loop-edge-test.true, c.loop-edge.invariant.so_far.adds.nodes.grows.longer, ap (λ (e : AigEdge). e.node_id) c.image_of.ensures)
 
-pub returns-clause-edge : goal.returns-clause-edge
-returns-clause-edge c = c.loop-edge.invariant.so_far.there
-
-pub returns-clause-value : goal.returns-clause-value
-returns-clause-value c =
+pub returns-clause-gives : goal.returns-clause-gives
+returns-clause-gives c =
     let whole = take_all c.loop-edge.edge-index c.args.edges.now c.loop-edge-test.false in
-    (subst (λ es. AndSoFar c.args.self.now c.loop-edge.self c.args.images.now c.args.first es c.loop-edge.all) whole c.loop-edge.invariant.so_far).value
-
-pub returns-clause-adds : goal.returns-clause-adds
-returns-clause-adds c = c.loop-edge.invariant.so_far.adds
+    subst (λ es. Gives (all_true c.args.self.now c.args.images.now c.args.first es) c.args.self.now c.loop-edge.self c.loop-edge.all) whole c.loop-edge.invariant.so_far
 
 pub returns-in_err-all-clause-size : goal.returns-in_err-all-clause-size
 returns-in_err-all-clause-size c =

@@ -5,7 +5,7 @@ use Rattle.aig_circuit.proofs.Words.{IsInRange, edge_value}
 use Rattle.aig_bounded.specs.Frames.{AddsAnds, AddsUpTo, Shows}
 use Rattle.aig_bounded.specs.Steps.{MakesImage}
 use Rattle.aig_bounded.proofs.Counted.{one_more}
-use Rattle.aig_bounded.proofs.Stepped.{if_ok, if_ok_all, if_some_at, kind_read, makes_false, makes_gate, makes_open, makes_state}
+use Rattle.aig_bounded.proofs.Stepped.{if_ok, if_some_at, kind_read, makes_false, makes_gate, makes_open, makes_state}
 use Rattle.aig_bounded.proofs.frames.Frames.image.Goals as goal
 
 pub returns-in-False-clause-makes : goal.returns-in-False-clause-makes
@@ -30,16 +30,10 @@ pub returns-in-And-clause-makes : goal.returns-in-And-clause-makes
 returns-in-And-clause-makes c =
     let a = c.in-And.fanin0 in
     let b = c.in-And.fanin1 in
-    let old = c.args.self.now in
-    let new = c.and.new.self in
-    let first = c.image_of-first.result in
-    let second = c.image_of-second.result in
     let is = kind_read c.args.circuit.now.nodes c.nodes.result.now c.args.id _ (And a b) c.typ.result.now c.requires.there c.nodes.ensures.value c.typ.ensures c.in-And.is in
-    if_ok_all c.and.result (IsInRange new.nodes.items)
-    (λ (e : AigEdge). (y : ℕ → Bool) → edge_value new.nodes.items y e ≡ (edge_value old.nodes.items y first && edge_value old.nodes.items y second))
-    (MakesImage c.args.circuit.now c.args.step c.args.id old new) (AddsAnds old new)
-    (λ e there value adds. makes_gate c.args.circuit.now c.args.step c.args.id old new c.args.images.now a b first second e c.nodes.ensures.circuit c.requires.frames is c.requires.operands c.image_of-first.ensures c.image_of-second.ensures adds there value)
-    c.and.ensures.edge c.and.ensures.value c.and.ensures.adds
+    if_ok c.and.result _ _
+    (λ e. makes_gate c.args.circuit.now c.args.step c.args.id c.args.self.now c.and.new.self c.args.images.now a b c.image_of-first.result c.image_of-second.result e c.nodes.ensures.circuit c.requires.frames is c.requires.operands c.image_of-first.ensures c.image_of-second.ensures)
+    c.and.ensures.gives
 
 pub returns-in-None-clause-size : goal.returns-in-None-clause-size
 returns-in-None-clause-size c =

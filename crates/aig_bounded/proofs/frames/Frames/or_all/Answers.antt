@@ -1,13 +1,15 @@
 use Rattle.aig_base.proofs.Words.{false, ap, length, subst, arith, take_all, err_from_is_err_and}
 use Rattle.aig_circuit.specs.declared.edge.AigEdge.{AigEdge}
 use Rattle.aig_circuit.specs.Edge.{edge_to}
+use Rattle.aig_bounded.specs.Frames.{Gives}
 use Rattle.aig_bounded.proofs.Counted.{AddsUpTo-done, AddsUpTo-stops}
-use Rattle.aig_bounded.proofs.Joined.{OrSoFar, OrSoFar-more, OrSoFar-none}
+use Rattle.aig_bounded.proofs.Differing.{Gives-false}
+use Rattle.aig_bounded.proofs.Joined.{any_true, any_true-more}
 use Rattle.aig_bounded.proofs.frames.Frames.or_all.Goals as goal
 
 pub loop-edge-init : goal.loop-edge-init
 loop-edge-init c = record {
-  so_far = OrSoFar-none c.args.self.now c.args.images.now c.constant-any.result c.requires.sound c.constant-any.ensures;
+  so_far = Gives-false c.args.self.now c.constant-any.result c.requires.sound c.constant-any.ensures;
   few = omega arith;
 }
 
@@ -16,7 +18,7 @@ loop-edge-preserved c =
     let d = edge_to 0 false in
     let i = c.loop-edge.edge-index in
     record {
-      so_far = OrSoFar-more c.args.self.now c.loop-edge.self c.or.new.self c.args.images.now c.args.edges.now i d c.loop-edge.any c.in_ok-any.any c.image_of.result c.loop-edge-test.true c.image_of.ensures (c.requires.images i d c.loop-edge-test.true) c.in_ok-any.ensures.adds c.in_ok-any.ensures.edge c.loop-edge.invariant.so_far c.in_ok-any.ensures.value;
+      so_far = any_true-more c.args.self.now c.loop-edge.self c.or.new.self c.args.images.now c.args.edges.now i d c.loop-edge.any c.in_ok-any.any c.image_of.result c.loop-edge-test.true c.image_of.ensures (c.requires.images i d c.loop-edge-test.true) c.loop-edge.invariant.so_far c.in_ok-any.ensures.gives;
       few = omega (arith, c.in_ok-any.ensures.size.few, c.loop-edge.invariant.few);
     }
 
@@ -24,22 +26,16 @@ pub or-requires-clause-sound : goal.or-requires-clause-sound
 or-requires-clause-sound c = c.loop-edge.invariant.so_far.adds.nodes.grows.sound
 
 pub or-requires-clause-first : goal.or-requires-clause-first
-or-requires-clause-first c = c.loop-edge.invariant.so_far.there
+or-requires-clause-first c = c.loop-edge.invariant.so_far.edge.there
 
 pub or-requires-clause-second : goal.or-requires-clause-second
 or-requires-clause-second c =
     omega (arith, c.requires.images c.loop-edge.edge-index (edge_to 0 false) c.loop-edge-test.true, c.loop-edge.invariant.so_far.adds.nodes.grows.longer, ap (λ (e : AigEdge). e.node_id) c.image_of.ensures)
 
-pub returns-clause-edge : goal.returns-clause-edge
-returns-clause-edge c = c.loop-edge.invariant.so_far.there
-
-pub returns-clause-value : goal.returns-clause-value
-returns-clause-value c =
+pub returns-clause-gives : goal.returns-clause-gives
+returns-clause-gives c =
     let whole = take_all c.loop-edge.edge-index c.args.edges.now c.loop-edge-test.false in
-    (subst (λ es. OrSoFar c.args.self.now c.loop-edge.self c.args.images.now es c.loop-edge.any) whole c.loop-edge.invariant.so_far).value
-
-pub returns-clause-adds : goal.returns-clause-adds
-returns-clause-adds c = c.loop-edge.invariant.so_far.adds
+    subst (λ es. Gives (any_true c.args.self.now c.args.images.now es) c.args.self.now c.loop-edge.self c.loop-edge.any) whole c.loop-edge.invariant.so_far
 
 pub returns-in_err-any-clause-size : goal.returns-in_err-any-clause-size
 returns-in_err-any-clause-size c =
