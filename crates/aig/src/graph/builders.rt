@@ -1,9 +1,10 @@
 //! Gates that are added for the connectives.
 
-ghost use Rattle.std.specs.Prelude.{◌≡◌, ◌↔◌, ◌&&◌, ◌||◌, ℕ, Bool, not, IsTrue, IfOk, IsOk, OnErr, All, map};
+ghost use Rattle.std.specs.Bool.{beq};
+ghost use Rattle.std.specs.Prelude.{◌≡◌, ◌&&◌, ◌||◌, not, IfOk, IsOk, OnErr, All, map};
 ghost use Rattle.std.specs.Iterator.{IsFiniteIterable};
 ghost use Rattle.aig_circuit.specs.Edge.{inverse};
-ghost use Rattle.aig_circuit.specs.Build.{AddsGate, AddsGateForEach, AddsOneEach, AddsOnlyGates, Folds, FoldsOrAdds, FoldsOrAddsAll, FoldsOrAddsEq, JoinsByAnd, JoinsByOr};
+ghost use Rattle.aig_circuit.specs.Build.{AddsGate, AddsGateForEach, AddsOneEach, AddsOnlyGates, Folds, FoldsOrAdds, FoldsOrAddsAll, FoldsOrAddsEq, GivesEdge, JoinsByAnd, JoinsByOr};
 ghost use Rattle.aig_circuit.specs.Circuit.{IsInRange};
 ghost use Rattle.aig_circuit.specs.Tree.{edge_value};
 ghost use Rattle.aig.specs.Items.{ForItems, TakesItems};
@@ -33,9 +34,8 @@ impl Aig {
         requires first { IsInRange self.old.nodes fanin0 }
         requires second { IsInRange self.old.nodes fanin1 }
         ensures gate { IfOk result (λ e. AddsGate self.old.nodes self.new.nodes fanin0 fanin1 e) }
-        ensures edge { IfOk result (λ e. IsInRange self.new.nodes e) }
-        ensures value { IfOk result (λ e. (x : ℕ → Bool) → edge_value self.new.nodes x e
-            ≡ (edge_value self.old.nodes x fanin0 && edge_value self.old.nodes x fanin1)) }
+        ensures gives { IfOk result (GivesEdge self.new.nodes (λ x.
+            edge_value self.old.nodes x fanin0 && edge_value self.old.nodes x fanin1)) }
         // Gates alone are added, after the old nodes: edges to old nodes keep their values, and lists and names stay.
         ensures gates { AddsOnlyGates self.old self.new }
         ensures err { OnErr result (self.new ≡ self.old) }
@@ -75,9 +75,8 @@ impl Aig {
         ensures rule { IfOk result
             (λ e. FoldsOrAdds self.old.nodes self.new.nodes fanin0 fanin1 e) }
         ensures folds { (f : AigEdge) → Folds fanin0 fanin1 f → IsOk result }
-        ensures edge { IfOk result (λ e. IsInRange self.new.nodes e) }
-        ensures value { IfOk result (λ e. (x : ℕ → Bool) → edge_value self.new.nodes x e
-            ≡ (edge_value self.old.nodes x fanin0 && edge_value self.old.nodes x fanin1)) }
+        ensures gives { IfOk result (GivesEdge self.new.nodes (λ x.
+            edge_value self.old.nodes x fanin0 && edge_value self.old.nodes x fanin1)) }
         // Gates alone are added, after the old nodes: edges to old nodes keep their values, and lists and names stay.
         ensures gates { AddsOnlyGates self.old self.new }
         ensures err { OnErr result (self.new ≡ self.old) }
@@ -105,9 +104,8 @@ impl Aig {
         requires second { IsInRange self.old.nodes fanin1 }
         ensures gate { IfOk result (λ e. AddsGate self.old.nodes self.new.nodes
             (inverse fanin0) (inverse fanin1) (inverse e)) }
-        ensures edge { IfOk result (λ e. IsInRange self.new.nodes e) }
-        ensures value { IfOk result (λ e. (x : ℕ → Bool) → edge_value self.new.nodes x e
-            ≡ (edge_value self.old.nodes x fanin0 || edge_value self.old.nodes x fanin1)) }
+        ensures gives { IfOk result (GivesEdge self.new.nodes (λ x.
+            edge_value self.old.nodes x fanin0 || edge_value self.old.nodes x fanin1)) }
         // Gates alone are added, after the old nodes: edges to old nodes keep their values, and lists and names stay.
         ensures gates { AddsOnlyGates self.old self.new }
         ensures err { OnErr result (self.new ≡ self.old) }
@@ -132,9 +130,8 @@ impl Aig {
         ensures rule { IfOk result (λ e. FoldsOrAdds self.old.nodes self.new.nodes
             (inverse fanin0) (inverse fanin1) (inverse e)) }
         ensures folds { (f : AigEdge) → Folds (inverse fanin0) (inverse fanin1) f → IsOk result }
-        ensures edge { IfOk result (λ e. IsInRange self.new.nodes e) }
-        ensures value { IfOk result (λ e. (x : ℕ → Bool) → edge_value self.new.nodes x e
-            ≡ (edge_value self.old.nodes x fanin0 || edge_value self.old.nodes x fanin1)) }
+        ensures gives { IfOk result (GivesEdge self.new.nodes (λ x.
+            edge_value self.old.nodes x fanin0 || edge_value self.old.nodes x fanin1)) }
         // Gates alone are added, after the old nodes: edges to old nodes keep their values, and lists and names stay.
         ensures gates { AddsOnlyGates self.old self.new }
         ensures err { OnErr result (self.new ≡ self.old) }
@@ -163,9 +160,8 @@ impl Aig {
         ensures rule { IfOk result
             (λ e. FoldsOrAdds self.old.nodes self.new.nodes fanin0 (inverse fanin1) (inverse e)) }
         ensures folds { (f : AigEdge) → Folds fanin0 (inverse fanin1) f → IsOk result }
-        ensures edge { IfOk result (λ e. IsInRange self.new.nodes e) }
-        ensures value { IfOk result (λ e. (x : ℕ → Bool) → edge_value self.new.nodes x e
-            ≡ (not (edge_value self.old.nodes x fanin0) || edge_value self.old.nodes x fanin1)) }
+        ensures gives { IfOk result (GivesEdge self.new.nodes (λ x.
+            not (edge_value self.old.nodes x fanin0) || edge_value self.old.nodes x fanin1)) }
         // Gates alone are added, after the old nodes: edges to old nodes keep their values, and lists and names stay.
         ensures gates { AddsOnlyGates self.old self.new }
         ensures err { OnErr result (self.new ≡ self.old) }
@@ -190,9 +186,8 @@ impl Aig {
         // The and of the two, the and of their inverses, and the or of these, each of which folds or adds one gate.
         ensures rule { IfOk result
             (λ e. FoldsOrAddsEq self.old.nodes self.new.nodes fanin0 fanin1 e) }
-        ensures edge { IfOk result (λ e. IsInRange self.new.nodes e) }
-        ensures value { IfOk result (λ e. (x : ℕ → Bool) → IsTrue (edge_value self.new.nodes x e)
-            ↔ (edge_value self.old.nodes x fanin0 ≡ edge_value self.old.nodes x fanin1)) }
+        ensures gives { IfOk result (GivesEdge self.new.nodes (λ x.
+            beq (edge_value self.old.nodes x fanin0) (edge_value self.old.nodes x fanin1))) }
         // Gates alone are added, after the old nodes: edges to old nodes keep their values, and lists and names stay.
         ensures gates { AddsOnlyGates self.old self.new }
         ensures err { OnErr result (self.new ≡ self.old) }
