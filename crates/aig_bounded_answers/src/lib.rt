@@ -21,6 +21,3 @@ pub use laws::{
 };
 pub use naming::Named;
 pub use solving::bounded_witness;
-
-#[cfg(test)]
-mod tests;

@@ -2,12 +2,11 @@
 
 ghost use Rattle.std.specs.Prelude.{◌<◌, ◌^◌};
 
-use crate::naming::Named;
-use crate::{
-    BoundedAnswerError, BoundedClauses, bounded, check_step_bounded, check_window_bounded,
+use aig_base::FromRead;
+use aig_bounded_answers::{
+    BoundedAnswerError, BoundedClauses, Named, bounded, check_step_bounded, check_window_bounded,
     step_bounded, window_bounded,
 };
-use aig_base::FromRead;
 use aig_circuit::AigEdge;
 use aig_runs::Window;
 use std::alloc::Global;
