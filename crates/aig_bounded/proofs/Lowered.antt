@@ -19,12 +19,6 @@ pub AreNoDeeper-then : (old mid new : List ℕ) → AreNoDeeper old mid → AreN
     → AreNoDeeper old new
 AreNoDeeper-then old mid new p q n = omega (arith, p n, q n)
 
--- nothing is lowered at first
-pub Lowers-start : (P : List ℕ → Type 0) (depths : List ℕ) → P depths → Lowers P depths depths false
-Lowers-start P depths holds = record {
-  none = λ e. (refl, holds);
-  some = λ e. cc;
-  lower = AreNoDeeper-same depths depths refl;
 }
 
 -- something else holds of the old depths where P does

@@ -116,13 +116,6 @@ question_of_check (errors.Question e) own = tt
 question_of_check (errors.Refutation e) own = absurd own
 question_of_check (errors.Solution e) own = absurd own
 
-pub question_of_witness : (e : BoundedAnswerError) → IsOfQuestion e → IsOfWitness e
-question_of_witness (errors.Read e) own = own
-question_of_witness errors.NoBads own = tt
-question_of_witness (errors.Question e) own = tt
-question_of_witness (errors.Refutation e) own = absurd own
-question_of_witness (errors.Solution e) own = absurd own
-
 untaken_read : (e : ReadError) → reading.verdict_of e ≢ Accepted
 untaken_read read.Memory is = cc
 untaken_read read.Stream is = cc

@@ -1,10 +1,10 @@
 -- Counts with a further byte.
-use Rattle.aig_base.proofs.Words.{◌≡◌, ℕ, ◌+◌, ◌-◌, ◌<◌, Bool, true, false, List, [], ◌∷◌, ◌++◌, length, take, drop, get_or, refl, sym, ap, ◌∙◌, arith, subst, length-append, add-one, length-drop, common_steps, Consumes, length-take}
-use Rattle.std.specs.Prelude.{◌==◌, Option, Some, None}
+use Rattle.aig_base.proofs.Words.{◌≡◌, ℕ, ◌+◌, ◌-◌, ◌<◌, Bool, false, List, [], ◌∷◌, ◌++◌, length, take, drop, get_or, refl, sym, ap, ◌∙◌, arith, subst, length-append, add-one, length-drop, Consumes, length-take}
+use Rattle.std.specs.Prelude.{Option, Some, None}
 use Rattle.std.proofs.lemmas.List.{length-append}
 use Rattle.std.proofs.Math.Seq.{take-suc, drop-cons, take-append_seam}
 use Rattle.aig_command_line.specs.Came.{Came, IsPlaceIn}
-use Rattle.aig_command_line.specs.Counts.{IsTally, feeds_in, place_of}
+use Rattle.aig_command_line.specs.Counts.{IsTally, place_of}
 use Rattle.aig_command_line.specs.declared.tally.Measure.{Measure}
 use Rattle.aig_command_line.specs.declared.tally.Place.{Place}
 use Rattle.aig_command_line.specs.declared.tally.Tally.{Tally}
@@ -15,18 +15,6 @@ front came b =
     let n : length (came ++ b ∷ []) - 1 ≡ length came =
     omega (arith, length-append came (b ∷ [])) in
     rw n (take-append_seam came (b ∷ []))
-
--- line feeds with a further one
-pub feeds_yes : (came : List ℕ) (b : ℕ) → (b == 10) ≡ true → feeds_in (came ++ b ∷ []) ≡ feeds_in
-    came + 1
-feeds_yes [] b e = rw e refl
-feeds_yes (x ∷ came) b e = let more = feeds_yes came b e in grind (arith, common_steps)
-
--- line feeds with another byte
-pub feeds_no : (came : List ℕ) (b : ℕ) → (b == 10) ≡ false → feeds_in (came ++ b ∷ []) ≡ feeds_in
-    came
-feeds_no [] b e = rw e refl
-feeds_no (x ∷ came) b e = let more = feeds_no came b e in grind (arith, common_steps)
 
 -- there is one
 pub is_within : (bytes rest : List ℕ) (n b : ℕ) → drop n bytes ≡ b ∷ rest → n < length bytes

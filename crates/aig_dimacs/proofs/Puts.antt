@@ -23,10 +23,3 @@ triple_line a b c =
     ap (λ l. (literal_text a ++ (literal_text b ++ l)) ++ 48 ∷ 10 ∷ []) (append-nil (literal_text c))
     ∙ append_assoc (literal_text a) (literal_text b ++ literal_text c) (48 ∷ 10 ∷ [])
     ∙ ap (λ l. literal_text a ++ l) (append_assoc (literal_text b) (literal_text c) (48 ∷ 10 ∷ []))
-
--- texts without the empty one after the last
-pub three_lines : (s t u : List ℕ) → s ++ (t ++ (u ++ [])) ≡ s ++ (t ++ u)
-three_lines s t u = ap (λ l. s ++ (t ++ l)) (append-nil u)
-
-pub four_lines : (s t u v : List ℕ) → s ++ (t ++ (u ++ (v ++ []))) ≡ s ++ (t ++ (u ++ v))
-four_lines s t u v = ap (λ l. s ++ (t ++ (u ++ l))) (append-nil v)

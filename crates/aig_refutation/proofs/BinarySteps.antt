@@ -153,10 +153,6 @@ abbrev pub ReadsOn : ℕ → PlainStep → Feed → PlainStep → Feed → Type 
 ReadsOn variables first before step mid = Leaves before mid (λ bytes rest.
     binary_left variables (Some first) bytes ≡ binary_left variables (Some step) rest)
 
-pub reads_start : (variables : ℕ) (step : PlainStep) (before : Feed)
-    → ReadsOn variables step before step before
-reads_start variables step before bytes known = (bytes, known, refl)
-
 module _ (variables : ℕ) (first step : PlainStep) (before mid : Feed)
     (so_far : ReadsOn variables first before step mid) (after : Feed) where
   abbrev Goes : List ℕ → List ℕ → Type 0
@@ -265,11 +261,6 @@ module _ (variables : ℕ) (before mid : Feed) (begun_as step : PlainStep) where
 abbrev pub GoesBinary : ℕ → List (List Lit) → Feed → List (List Lit) → Feed → Type 0
 GoesBinary variables clauses before now mid = Leaves before mid (λ bytes rest.
     PassesOn clauses now (binary_left variables None bytes) (binary_left variables None rest))
-
-pub binary_start : (variables : ℕ) (clauses : List (List Lit)) (before : Feed)
-    → GoesBinary variables clauses before clauses before
-binary_start variables clauses before bytes known =
-    (bytes, known, record { stand = λ s. s; fault = refl; empty = refl })
 
 inside_plain : (variables : ℕ) (s : held.Step) → are_in variables s.clause.items ≡ true
     → IsInside variables (Plain (plain_by s))

@@ -1,14 +1,14 @@
 -- What is found along clauses, one after another.
 use Rattle.std.proofs.Common.{◌≡◌, inr, ℕ, zero, suc, ◌+◌, ◌-◌, ◌*◌, ◌<◌, Bool, true, false, cond, Option, Some, None, List, [], ◌∷◌, length, slice_get, refl, sym, ap, subst, ◌∙◌, arith}
-use Rattle.aig_base.proofs.Words.{◌==◌, All, is_some, nat_lt, slice_index_or, slice_set, false≢true, true_from_ne_false, or_right, same_Some, AllPass-from_list_all}
+use Rattle.aig_base.proofs.Words.{◌==◌, All, is_some, nat_lt, slice_index_or, slice_set, false≢true, true_from_ne_false, same_Some, AllPass-from_list_all}
 use Rattle.aig_base.specs.declared.logic.literal.Lit.{Lit}
 use Rattle.aig_base.specs.Clauses.{are_true, is_true_clause, number_of_lit, variable_of}
 use Rattle.aig_refutation.specs.declared.propagation.Reading.TheVariants.{Conflict, Implied}
 use Rattle.aig_refutation.specs.declared.closure.Found.{Found}
 use Rattle.aig_refutation.specs.declared.closure.Found.TheVariants as found
-use Rattle.aig_refutation.specs.Closure.{AreAmong, Entails, Finds, unmarked}
+use Rattle.aig_refutation.specs.Closure.{Entails, Finds, unmarked}
 use Rattle.aig_refutation.specs.Formula.{Implies}
-use Rattle.aig_refutation.specs.Propagation.{FitsMarks, also, is_lit, marked, reading_of, when_false}
+use Rattle.aig_refutation.specs.Propagation.{FitsMarks, also, marked, reading_of, when_false}
 use Rattle.aig_refutation.specs.Tables.{Table, clause_in, entry_at, place_in}
 use Rattle.aig_refutation.proofs.Literals.{clause_there, implied_within, number-fits}
 use Rattle.aig_refutation.proofs.Numbering.{some_item}
@@ -74,9 +74,6 @@ module _ (clauses : List (List Lit)) (clause : List Lit) (holds : Lit → Bool)
       also_true v holds (so_far v are fails) lit (subst (Says v) (sym is) (says_there v are fails))
 
 -- ---- marks
-
-pub among_more : (lit : Lit) (holds : Lit → Bool) → AreAmong holds (also lit holds)
-among_more lit holds other is = or_right (is_lit lit other) (holds other) is
 
 pub unmarked_set : (marks : List Bool) (i : ℕ) → i < length marks
     → slice_index_or marks i false ≡ false → unmarked (slice_set marks i true) < unmarked marks

@@ -1,12 +1,12 @@
 -- Clauses that follow, and are added.
 use Rattle.std.proofs.Common.{◌≡◌, ℕ, ◌+◌, ◌<◌, true, Result, Ok, Err, OnOk, OnErr, Some, List, [], ◌∷◌, ◌++◌, length, take, get_or, slice_get, refl, sym, ap, subst, ◌∙◌, arith, append_assoc, append-nil}
-use Rattle.std.specs.Prelude.{All, IsTrue, slice_index_or}
+use Rattle.std.specs.Prelude.{All, slice_index_or}
 use Rattle.std.specs.List.{Contains}
 use Rattle.aig_base.proofs.Words.{and_from, take_more, All-append, All-cons, All-contains, All-contains_itself, Contains-get_or, get_or_from_slice_get, slice_get_within, Any-from_list_any, list_all-append, list_any_at}
 use Rattle.std.proofs.lemmas.List.Sums.{AllPass-from_list_all, list_all-from_AllPass}
 use Rattle.aig_base.specs.declared.logic.literal.Lit.{Lit}
 use Rattle.aig_base.specs.Clauses.{AreBelow, are_true, is_true_clause, literal_value, variable_of}
-use Rattle.aig_base.specs.Formula.{IsSatisfiable, clauses_in}
+use Rattle.aig_base.specs.Formula.{clauses_in}
 use Rattle.aig_refutation.specs.Formula.{Implies, ImpliesAll}
 use Rattle.aig_refutation.specs.Propagation.{is_rup}
 use Rattle.aig_refutation.proofs.Literals.{clause_there}
@@ -114,16 +114,6 @@ module _ {X E : Type 0} where
   kept_implied_on_ok (Ok x) given middle now e ok = subst (λ (list : List (List Lit)). ImpliesAll list now) e (kept_implied middle now ok)
   kept_implied_on_ok (Err f) given middle now e ok = tt
 
--- what follows from clauses follows from the same ones
-pub implied_at : (given clauses : List (List Lit)) (clause : List Lit) → clauses ≡ given → Implies clauses clause → Implies given clause
-implied_at given clauses clause e follows = subst (λ (list : List (List Lit)). Implies list clause) e follows
-
 pub implied_on : (formula clauses more : List (List Lit)) → ImpliesAll formula clauses
     → ImpliesAll clauses more → ImpliesAll formula more
 implied_on formula clauses more before here v holds = here v (before v holds)
-
--- where what follows can't be satisfied, the formula can't
-pub refuted_before : (formula clauses more : List (List Lit)) → clauses ≡ formula
-    → ImpliesAll clauses more → ¬ IsSatisfiable more → ¬ IsSatisfiable formula
-refuted_before formula clauses more is implied none some =
-    none (some.0, implied some.0 (subst (λ all. IsTrue (are_true some.0 all)) (sym is) some.1))

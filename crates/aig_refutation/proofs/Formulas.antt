@@ -26,10 +26,6 @@ pub contains_at : (clauses : List (List Lit)) (i : ℕ) (clause : List Lit) → 
 contains_at clauses i clause is = subst (Contains clauses) (get_or_from_slice_get clauses i clause []
     is) (Contains-get_or clauses i [] (slice_get_within clauses i clause is))
 
-pub empty_of : (clause : List Lit) → length clause < 1 → clause ≡ []
-empty_of [] small = refl
-empty_of (lit ∷ clause) small = absurd (omega (arith, small))
-
 pub one_of : (clause : List Lit) (d : Lit) → 1 ≤ length clause → length clause < 2 → clause ≡ get_or
     clause 0 d ∷ []
 one_of [] d least small = absurd (omega (arith, least))
