@@ -9,6 +9,7 @@ ghost use Rattle.aig_cnf.specs.Cnf.{AreNeeded, HasClauses};
 ghost use Rattle.aig_cnf.specs.Marks.{AreClausesOf};
 ghost use Rattle.aig_dimacs.specs.Circuit.{AreByMarks};
 ghost use Rattle.aig_dimacs.specs.Text.{IsTextWith, clause_line, header_line};
+ghost use Rattle.aig_dimacs.specs.declared.gate.TheConstants.{ROOM};
 ghost use Rattle.aig_output.specs.Sinks.{BuffersOrStops};
 
 use crate::gate::{ROOM, put_gate};
@@ -31,7 +32,7 @@ fn write_gate<W: Sink>(
     requires sound { AreNodes nodes.now }
     requires there { id < length nodes.now }
     requires few { length nodes.now ≤ 2 ^ 31 }
-    requires room { length text.old ≡ 272 }
+    requires room { length text.old ≡ ROOM }
     ensures { (clauses : List (List Lit)) → AreClausesOf nodes.now optimize needed id clauses
         → BuffersOrStops W.held W.failed buffer.old w.old result (flat_map clause_line clauses)
         buffer.new w.new }

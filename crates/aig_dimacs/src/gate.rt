@@ -6,6 +6,7 @@ ghost use Rattle.aig_base.specs.Clauses.{and_clauses, ite_clauses, xor_clauses};
 ghost use Rattle.aig_cnf.specs.Cnf.{clauses_of, edges_of_form};
 ghost use Rattle.aig_dimacs.specs.Circuit.{Puts};
 ghost use Rattle.aig_dimacs.specs.Text.{clause_line, literal_text, sign_of};
+ghost use Rattle.aig_dimacs.specs.declared.gate.TheConstants.{ROOM};
 
 use aig_base::Lit;
 use aig_circuit::AigEdge;
@@ -101,10 +102,10 @@ fn put_triple(text: &mut [u8], end: usize, a: Lit, b: Lit, c: Lit) -> usize
 
 /// Puts the lines of the clauses that `n` is the and of `a` and `b`, and returns where they start.
 fn put_and(text: &mut [u8], n: Lit, a: Lit, b: Lit) -> usize
-    requires { length text.old ≡ 272 }
-    ensures puts { Puts text.old 272 text.new result
+    requires { length text.old ≡ ROOM }
+    ensures puts { Puts text.old ROOM text.new result
         (flat_map clause_line (and_clauses n (a ∷ b ∷ []))) }
-    ensures within { result ≤ 272 }
+    ensures within { result ≤ ROOM }
 {
     let third = put_triple(text, ROOM, n, !a, !b);
     let second = put_pair(text, third, !n, b);
@@ -113,9 +114,9 @@ fn put_and(text: &mut [u8], n: Lit, a: Lit, b: Lit) -> usize
 
 /// Puts the lines of the clauses that `n` is `x` or `y` and not both, and returns where they start.
 fn put_xor(text: &mut [u8], n: Lit, x: Lit, y: Lit) -> usize
-    requires { length text.old ≡ 272 }
-    ensures puts { Puts text.old 272 text.new result (flat_map clause_line (xor_clauses n x y)) }
-    ensures within { result ≤ 272 }
+    requires { length text.old ≡ ROOM }
+    ensures puts { Puts text.old ROOM text.new result (flat_map clause_line (xor_clauses n x y)) }
+    ensures within { result ≤ ROOM }
 {
     let fourth = put_triple(text, ROOM, n, x, !y);
     let third = put_triple(text, fourth, n, !x, y);
@@ -125,9 +126,9 @@ fn put_xor(text: &mut [u8], n: Lit, x: Lit, y: Lit) -> usize
 
 /// Puts the lines of the clauses that `n` is `t` if `c` is true, and else `e`, and returns where they start.
 fn put_ite(text: &mut [u8], n: Lit, c: Lit, t: Lit, e: Lit) -> usize
-    requires { length text.old ≡ 272 }
-    ensures puts { Puts text.old 272 text.new result (flat_map clause_line (ite_clauses n c t e)) }
-    ensures within { result ≤ 272 }
+    requires { length text.old ≡ ROOM }
+    ensures puts { Puts text.old ROOM text.new result (flat_map clause_line (ite_clauses n c t e)) }
+    ensures within { result ≤ ROOM }
 {
     let fourth = put_triple(text, ROOM, c, e, !n);
     let third = put_triple(text, fourth, c, !e, n);
@@ -137,11 +138,11 @@ fn put_ite(text: &mut [u8], n: Lit, c: Lit, t: Lit, e: Lit) -> usize
 
 /// Puts the lines of the clauses of gate `id` at the end of the text, and returns where they start.
 pub(crate) fn put_gate(text: &mut [u8], id: usize, form: Form) -> usize
-    requires room { length text.old ≡ 272 }
+    requires room { length text.old ≡ ROOM }
     requires few { id < 2 ^ 31 }
     requires below { All (λ e. e.node_id < id) (edges_of_form form) }
-    ensures puts { Puts text.old 272 text.new result (flat_map clause_line (clauses_of id form)) }
-    ensures within { result ≤ 272 }
+    ensures puts { Puts text.old ROOM text.new result (flat_map clause_line (clauses_of id form)) }
+    ensures within { result ≤ ROOM }
 {
     let n = AigEdge::from(id).to_lit();
     match form {

@@ -70,7 +70,7 @@ fn magic_word(kind: FileKind) -> &'static [u8]
 }
 
 /// Room for nine numbers with a byte after each.
-const LINE: usize = 192;
+const HEADER_LINE: usize = 192;
 
 /// Writes a line of numbers, one at least and nine at most, apart by one space each.
 fn write_numbers<O: TextOut>(out: &mut O, numbers: &[usize]) -> Result<(), O::Error>
@@ -78,9 +78,9 @@ fn write_numbers<O: TextOut>(out: &mut O, numbers: &[usize]) -> Result<(), O::Er
     requires few { length numbers.now ≤ 9 }
     ensures { WritesPieces O.wrote O.stopped out.old result (line_text numbers.now) out.new }
 {
-    let mut text = [b' '; LINE + SHORT_PIECE];
-    let start = put_line(&mut text, LINE, numbers);
-    out.write_front(&text[start..], LINE - start)
+    let mut text = [b' '; HEADER_LINE + SHORT_PIECE];
+    let start = put_line(&mut text, HEADER_LINE, numbers);
+    out.write_front(&text[start..], HEADER_LINE - start)
 }
 
 /// Writes the header line.
