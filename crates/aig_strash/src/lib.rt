@@ -3,6 +3,7 @@
 
 mod hashing;
 mod laws;
+mod narrow;
 mod numbers;
 mod seeded;
 

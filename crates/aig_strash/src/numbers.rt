@@ -4,6 +4,7 @@ ghost use Rattle.std.specs.Prelude.{◌≡◌, ◌+◌, ◌*◌, ◌<◌, ◌≤
 ghost use Rattle.std.specs.HashMap.{IsEmpty};
 ghost use Rattle.aig_strash.specs.Tables.{PutsIfAbsent, are_same, gate_table, literal_limit, number_table};
 
+use crate::narrow::NarrowLiterals;
 use crate::seeded::Seeded;
 use aig_base::MemoryError;
 use aig_circuit::AigNode;
@@ -20,7 +21,7 @@ const MOST_NARROW: usize = 1 << 31;
 pub(crate) enum Tables {
     Narrow {
         numbers: Vec<u32>,
-        gates: HashMap<(u32, u32), u32, Seeded>,
+        gates: HashMap<NarrowLiterals, u32, Seeded>,
     },
     Wide {
         numbers: Vec<usize>,
@@ -94,7 +95,8 @@ impl Tables {
     {
         match self {
             Tables::Narrow { numbers: _, gates } => {
-                let number = value_at(gates, (literals.0 as u32, literals.1 as u32), next as u32)?;
+                let literals = NarrowLiterals::new(literals.0 as u32, literals.1 as u32);
+                let number = value_at(gates, literals, next as u32)?;
                 Ok(number as usize)
             }
             Tables::Wide { numbers: _, gates } => value_at(gates, literals, next),
