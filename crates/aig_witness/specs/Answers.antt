@@ -34,9 +34,9 @@ pub record IsStarted (c : Circuit) (w : Witness) : Type 0 where
   pub named : w.bad < length c.properties.bads
   pub start : AreStarts c.latchs w.state
 
--- what is wrong first of a witness
+-- what is wrong first of a witness; memory is taken only once it is started
 abbrev pub IsWrong : Circuit → Witness → WitnessFault → Type 0
-IsWrong c w errors.Memory = Unit {0}
+IsWrong c w errors.Memory = IsStarted c w
 IsWrong c w errors.Latches = length w.state ≢ length c.latchs
 IsWrong c w errors.NoStep = (length w.state ≡ length c.latchs) × (length w.steps ≡ 0)
 IsWrong c w errors.NoBad =
