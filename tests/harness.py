@@ -103,13 +103,14 @@ def limit(what, count):
     return lambda: resource.setrlimit(what, (count, count))
 
 
-def limit_files(count, ignore=True):
-    """Limits the size of files. A write past that fails where the signal is ignored, and by default ends the program by it."""
+def limit_files(count, ignore=True, most=None):
+    """Limits the size of files. A write past that fails where the signal is ignored, and by default ends the program by it. The process
+    may raise the limit to `most`."""
 
     def before():
         if ignore:
             signal.signal(signal.SIGXFSZ, signal.SIG_IGN)
-        resource.setrlimit(resource.RLIMIT_FSIZE, (count, count))
+        resource.setrlimit(resource.RLIMIT_FSIZE, (count, most or count))
 
     return before
 

@@ -373,6 +373,28 @@ def limits_on_files_are_told(room):
     out.is_written(True, "deep", whole, before=limit_files(len(whole), ignore=False))
 
 
+def the_limit_of_now_counts(room):
+    """Not the one that the process may raise it to."""
+    deep(room, 20_000)
+    room.refuses(b"write failed", "out", file="deep", before=limit_files(10_000, ignore=False, most=1 << 30))
+    room.has("and.aag", "deep")
+
+
+def what_a_descriptor_has_counts(room):
+    """Bytes are appended to the file, which may then be as long as the limit, and no longer."""
+    whole = deep(room, 20_000)
+    room.write("log", OLD)
+    with open(room.path("log"), "ab") as log:
+        name = f"/dev/fd/{log.fileno()}"
+        for count, status in [(len(OLD + whole) - 1, 1), (len(OLD + whole), 0)]:
+            log.truncate(len(OLD))
+            found, _, error = room.run("binary", "deep", name, before=limit_files(count, ignore=False), pass_fds=[log.fileno()])
+            wanted = (status, b"aigtool: write failed\n" * status)
+            room.check((found, error) == wanted, f"limit {count}: status {found}, {error}")
+    room.holds("log", OLD + whole)
+    room.has("and.aag", "deep", "log")
+
+
 def full_disks_leave_out(room):
     """A disk that is full before the new bytes are there, and one that has room for them, but not twice."""
     data = deep(room, 20_000)
@@ -438,6 +460,10 @@ def failed_writes_and_syncs_are_told(room):
             room.shell('"$0" binary and.aag /dev/fd/3 3> log', status=1)
     out.stays()
     linked.stays()
+    # The bytes behind the old ones are kept, and then those in their place.
+    with room.faults(REFUSE="fsync", AFTER=1):
+        room.refuses(b"write failed", "linked")
+    linked.becomes(BINARY_AND, replaced=False)
     room.has("and.aag", "linked", "log", "other", "out")
 
 

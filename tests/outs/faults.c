@@ -4,6 +4,7 @@
  * FULL=n      writes to files take n bytes in all, and then the disk is full
  * REFUSE=call such a call fails: write, fsync or rename
  * KILL=call   the program is killed at such a call
+ * AFTER=n     the first n of these calls are as they were
  */
 #define _GNU_SOURCE
 #include <dlfcn.h>
@@ -26,8 +27,10 @@ static int names(const char *name, const char *call) {
 
 /* Whether a call is to fail. It doesn't come back where the program is to be killed. */
 static int fails(const char *call, int error) {
+    static long passed;
+    if (!names("KILL", call) && !names("REFUSE", call)) return 0;
+    if (passed++ < number("AFTER")) return 0;
     if (names("KILL", call)) kill(getpid(), SIGKILL);
-    if (!names("REFUSE", call)) return 0;
     errno = error;
     return 1;
 }
