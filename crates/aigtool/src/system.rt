@@ -1,6 +1,7 @@
 //! What the system tells.
 
-ghost use Rattle.std.specs.Prelude.{◌≡◌, IfErr, IfOk};
+ghost use Rattle.std.specs.Prelude.{◌≡◌, ◌≢◌, IfErr, IfOk, None, Some};
+ghost use Rattle.std.specs.IoError.{error_kind};
 
 use aig_base::MemoryError;
 use std::fs;
@@ -10,7 +11,10 @@ use std::rt::Files;
 /// What a call gave, or nothing where it failed, unless it failed for want of memory.
 pub fn told<T>(answer: io::Result<T>) -> Result<Option<T>, MemoryError>
     ensures value { IfOk answer (λ value. result ≡ Ok (Some value)) }
-    ensures nothing { IfErr answer (λ _. IfOk result (λ told. told ≡ None)) }
+    ensures nothing { IfErr answer
+        (λ e. error_kind e ≢ ErrorKind.OutOfMemory → result ≡ Ok None) }
+    ensures memory { IfErr answer
+        (λ e. error_kind e ≡ ErrorKind.OutOfMemory → result ≡ Err MemoryError.Memory) }
 {
     match answer {
         Ok(value) => Ok(Some(value)),
