@@ -14,27 +14,9 @@ use Rattle.aig_reader.specs.Verdicts.{Accepted, IsOfFile, IsSaidOf, Judges, verd
 use Rattle.aig_unroll.proofs.NoStep.{unrolls-none}
 use Rattle.aig_unroll.specs.Places.{unrolled_size}
 use Rattle.aig_unroll.specs.Unroll.{UnrollsTo}
-use Rattle.aig_commands.specs.declared.clauses.Unrolled.{Unrolled}
-use Rattle.aig_commands.specs.Unrolled.{IsUnrolledOf, Unrolls, UnrollsOrRefuses}
-
--- without a further step
-pub unrolled_by_none : (lists : CircuitLists) (k : ℕ) → k ≡ 0 → IsCircuit (lists_circuit lists)
-    → Unrolls (lists_circuit lists) k (record { circuit = lists; last_bads = 0 })
-unrolled_by_none lists k none is =
-    let c = lists_circuit lists in
-    subst (λ k. Unrolls c k (record { circuit = lists; last_bads = 0 })) (sym none)
-    (record { circuit = is; steps = unrolls-none c is; place = omega arith })
-
--- with some
-pub unrolled_by_some : (of : Circuit) (k : ℕ) (made : CircuitLists) (place : ℕ)
-    → IsCircuit (lists_circuit made) → UnrollsTo of k (lists_circuit made)
-    → place ≡ length made.properties.bads.items - length of.properties.bads
-    → Unrolls of k (record { circuit = made; last_bads = place })
-unrolled_by_some of k made place is steps at =
-    let y : ℕ → Bool = λ n. false in
-    let run = steps.run_of y in
-    let count = (steps.same y run.0 run.1 run.2).properties.bads.count in
-    record { circuit = is; steps = steps; place = omega (arith, at, count) }
+use Rattle.aig_unrolled.proofs.Asking.{unrolls_to}
+use Rattle.aig_unrolled.specs.Unrolled.{IsUnrolledOf, UnrolledCircuit, Unrolls}
+use Rattle.aig_commands.specs.Unrolled.{UnrollsOrRefuses}
 
 module _ (lists : CircuitLists) (limit k : ℕ) where
   -- the circuit's size with the further steps is that of the file's
@@ -43,7 +25,7 @@ module _ (lists : CircuitLists) (limit k : ℕ) where
   low f size same = subst (λ circuit. unrolled_size circuit k ≤ limit) same size
 
   -- what is said of the file that the circuit is of
-  said : (result : Result Unrolled EncodeError)
+  said : (result : Result UnrolledCircuit EncodeError)
       → UnrollsOrRefuses (lists_circuit lists) limit k result → (f : File) → AreListsOf f lists
       → IsSaidOf (encoded_verdict limit k) f (verdict_by verdict_of result)
   said (Ok u) h f same = sym (encoded_verdict-within limit k f (low f h.1 same))
@@ -52,7 +34,7 @@ module _ (lists : CircuitLists) (limit k : ℕ) where
       (encoded_verdict-beyond limit k f (subst (λ circuit. limit < unrolled_size circuit k) same h))
   said (Err (errors.Read e)) h f same = absurd h
 
-  of_file : (result : Result Unrolled EncodeError)
+  of_file : (result : Result UnrolledCircuit EncodeError)
       → UnrollsOrRefuses (lists_circuit lists) limit k result
       → IsOfFile (verdict_by verdict_of result)
   of_file (Ok u) h = tt
@@ -60,7 +42,7 @@ module _ (lists : CircuitLists) (limit k : ℕ) where
   of_file (Err errors.TooLarge) h = tt
   of_file (Err (errors.Read e)) h = absurd h
 
-  pub never_read : (result : Result Unrolled EncodeError)
+  pub never_read : (result : Result UnrolledCircuit EncodeError)
       → UnrollsOrRefuses (lists_circuit lists) limit k result
       → IsErrOf result (errors.Read read.Open) → ⊥
   never_read (Ok u) h is = cc
@@ -70,7 +52,7 @@ module _ (lists : CircuitLists) (limit k : ℕ) where
 
   module _ (old new : Option (List ℕ))
       (read : IsReadAs (λ bytes. Accepts bytes limit) AreListsOf old new lists) where
-    pub judged : (failed : Bool) (result : Result Unrolled EncodeError)
+    pub judged : (failed : Bool) (result : Result UnrolledCircuit EncodeError)
         → Judges (λ f. Accepted) limit old new failed Accepted
         → UnrollsOrRefuses (lists_circuit lists) limit k result
         → Judges (encoded_verdict limit k) limit old new failed (verdict_by verdict_of result)
@@ -78,7 +60,7 @@ module _ (lists : CircuitLists) (limit k : ℕ) where
         new failed (verdict_by verdict_of result) (of_file result h) told read (said result h)
 
     -- the file that was read is unrolled
-    pub answered : (result : Result Unrolled EncodeError)
+    pub answered : (result : Result UnrolledCircuit EncodeError)
         → UnrollsOrRefuses (lists_circuit lists) limit k result
         → IfOk result (IsReadAs
         (λ bytes f. Accepts bytes limit f × (unrolled_size (circuit_of f) k ≤ limit))
@@ -95,7 +77,7 @@ module _ (lists : CircuitLists) (limit k : ℕ) where
             fits = read.holds.1;
             unrolls = unrolls;
             few =
-                omega (arith, unrolls.steps.size, size);
+                omega (arith, (unrolls_to (circuit_of read.file) k u unrolls).size, size);
           };
           taken = read.taken;
         }

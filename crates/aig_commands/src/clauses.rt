@@ -1,6 +1,6 @@
 //! The clauses of a file's circuit, printed from the circuit itself.
 
-ghost use Rattle.std.specs.Prelude.{◌≡◌, ◌≤◌, ◌↔◌, ◌^◌, IfErr, IfOk, IsErrOf, IsTrue, List, drop, length};
+ghost use Rattle.std.specs.Prelude.{◌≡◌, ◌≤◌, ◌↔◌, ◌^◌, IfErr, IfOk, IsErrOf, IsTrue, List, length};
 ghost use Rattle.aig.specs.declared.aiger.WriteError.TheVariants as write;
 ghost use Rattle.aig_base.specs.declared.logic.literal.Lit.{Lit};
 ghost use Rattle.aig_base.specs.Clauses.{AreBelow};
@@ -9,7 +9,7 @@ ghost use Rattle.aig_circuit.specs.View.{lists_circuit};
 ghost use Rattle.aig_cnf.specs.Cnf.{AreNeeded, HasClauses};
 ghost use Rattle.aig_commands.specs.declared.tool.ToolError.TheVariants as errors;
 ghost use Rattle.aig_commands.specs.Printing.{PrintsClauses};
-ghost use Rattle.aig_commands.specs.Unrolled.{IsUnrolledOf, Unrolls, UnrollsOrRefuses};
+ghost use Rattle.aig_commands.specs.Unrolled.{UnrollsOrRefuses};
 ghost use Rattle.aig_dimacs.specs.Text.{IsTextWith};
 ghost use Rattle.aig_encode.specs.Encoding.{encoded_verdict, verdict_of};
 ghost use Rattle.aig_encode.specs.declared.error.EncodeError.TheVariants as encode;
@@ -17,53 +17,19 @@ ghost use Rattle.aig_format.specs.Circuit.{circuit_of};
 ghost use Rattle.aig_format.specs.Fits.{Accepts};
 ghost use Rattle.aig_reader.specs.Reading.{IsReadAs};
 ghost use Rattle.aig_reader.specs.Verdicts.{Judges, verdict_by};
-ghost use Rattle.aig_runs.specs.Queries.{asking_clauses};
+ghost use Rattle.aig_runs.specs.Queries as queries;
 ghost use Rattle.aig_unroll.specs.Places.{unrolled_size};
+ghost use Rattle.aig_unrolled.specs.Unrolled.{IsUnrolledOf};
 
 use crate::tool::ToolError;
 use aig::ReadError;
-use aig_base::{LitVvec, MemoryError, Sink, Source};
+use aig_base::{LitVvec, Sink, Source};
 use aig_circuit::{CircuitLists, CircuitView};
 use aig_cnf::{NeededGates, find_needed};
 use aig_dimacs::write_circuit;
 use aig_encode::EncodeError;
+use aig_unrolled::Unrolled;
 use std::alloc::Global;
-
-/// A circuit with its further steps.
-#[derive(Drop)]
-pub(crate) struct Unrolled {
-    /// The circuit.
-    pub circuit: CircuitLists,
-    /// The place of the first bad edge of the last step.
-    pub last_bads: usize,
-}
-
-/// How many bad edges a circuit has.
-fn count_bads(circuit: &CircuitView<'_>) -> usize
-    ensures { result ≡ length circuit.now.properties.bads }
-{
-    circuit.bads().len()
-}
-
-/// Gives a circuit `k` steps more. Without any it is not copied.
-fn add_steps(lists: CircuitLists, k: usize) -> Result<Unrolled, MemoryError>
-    requires { IsCircuit (lists_circuit lists) }
-    ensures { IfOk result (Unrolls (lists_circuit lists) k) }
-{
-    if k == 0 {
-        return Ok(Unrolled {
-            circuit: lists,
-            last_bads: 0,
-        });
-    }
-    let view = CircuitView::new(&lists);
-    let circuit = aig_unroll::unroll_to(&view, k)?;
-    let all = count_bads(&CircuitView::new(&circuit));
-    Ok(Unrolled {
-        last_bads: all.saturating_sub(count_bads(&view)),
-        circuit,
-    })
-}
 
 /// Whether a circuit with `k` further steps has at most `limit` nodes, by the bound that `unroll_to` keeps.
 fn is_within(circuit: &CircuitView<'_>, k: usize, limit: usize) -> bool
@@ -80,7 +46,7 @@ fn add_steps_within(lists: CircuitLists, limit: usize, k: usize) -> Result<Unrol
     if !is_within(&CircuitView::new(&lists), k, limit) {
         return Err(EncodeError::TooLarge);
     }
-    Ok(add_steps(lists, k)?)
+    Ok(Unrolled::new(lists, k)?)
 }
 
 /// Reads a file, and gives its circuit `k` steps more, unless that may pass the limit.
@@ -103,23 +69,15 @@ pub(crate) fn read_unrolled<R: Source>(
     add_steps_within(lists, limit, k)
 }
 
-/// The clauses of a query, over the nodes of the unrolled circuit.
-pub(crate) fn query_clauses(
-    alloc: Global,
-    circuit: &CircuitLists,
-    last_bads: usize,
-) -> Result<LitVvec, EncodeError>
-    requires circuit { IsCircuit (lists_circuit circuit.now) }
-    requires few { length circuit.now.nodes.items ≤ 2 ^ 31 }
-    requires place { last_bads ≤ length circuit.now.properties.bads.items }
-    ensures exact { IfOk result (λ further. further ≡ asking_clauses circuit.now.latchs.items
-        circuit.now.properties.constraints.items
-        (drop last_bads circuit.now.properties.bads.items)) }
+/// The clauses of a query.
+pub(crate) fn query_clauses(alloc: Global, asked: &Unrolled) -> Result<LitVvec, EncodeError>
+    requires { length asked.now.unrolled.nodes ≤ 2 ^ 31 }
+    ensures exact { IfOk result (λ further. further
+        ≡ queries.query_clauses asked.now.circuit asked.now.steps asked.now.unrolled) }
+    ensures below { IfOk result (AreBelow (length asked.now.unrolled.nodes)) }
     ensures memory { IfErr result (λ e. e ≡ encode.Memory) }
 {
-    let view = CircuitView::new(circuit);
-    let bads = view.bads();
-    Ok(aig_runs::query_clauses(alloc, view.latchs(), view.constraints(), &bads[last_bads..])?)
+    Ok(asked.query_clauses(alloc)?)
 }
 
 /// Finds which gates need clauses.
@@ -158,17 +116,14 @@ fn print_text<W: Sink>(
 pub(crate) fn print_clauses<W: Sink>(
     alloc: Global,
     w: &mut W,
-    circuit: &CircuitLists,
+    circuit: &CircuitView<'_>,
     optimize: bool,
     further: &LitVvec,
 ) -> Result<(), ToolError>
-    requires circuit { IsCircuit (lists_circuit circuit.now) }
-    requires few { length circuit.now.nodes.items ≤ 2 ^ 31 }
-    requires below { AreBelow (length circuit.now.nodes.items) further.now }
-    ensures { PrintsClauses W.held W.failed (lists_circuit circuit.now) optimize further.now
-        w.old result w.new }
+    requires few { length circuit.now.nodes ≤ 2 ^ 31 }
+    requires below { AreBelow (length circuit.now.nodes) further.now }
+    ensures { PrintsClauses W.held W.failed circuit.now optimize further.now w.old result w.new }
 {
-    let view = CircuitView::new(circuit);
-    let needed = find_gates(alloc, &view, optimize)?;
-    print_text(w, &view, optimize, &needed, further)
+    let needed = find_gates(alloc, circuit, optimize)?;
+    print_text(w, circuit, optimize, &needed, further)
 }

@@ -125,7 +125,7 @@ fn print_cnf<R: Source, W: Sink>(
 {
     let read = read_unrolled(alloc, r, LIMIT, k)?;
     let further = LitVvec::new(alloc);
-    print_clauses(alloc, w, &read.circuit, optimize, &further)
+    print_clauses(alloc, w, &read.unrolled(), optimize, &further)
 }
 
 /// Prints clauses that ask for a run to a bad state after `k` steps.
@@ -140,8 +140,8 @@ fn print_query<R: Source, W: Sink>(
         Runs R.left R.failed W.held W.failed command LIMIT r.old w.old result r.new w.new }
 {
     let read = read_unrolled(alloc, r, LIMIT, k)?;
-    let further = query_clauses(alloc, &read.circuit, read.last_bads)?;
-    print_clauses(alloc, w, &read.circuit, optimize, &further)
+    let further = query_clauses(alloc, &read)?;
+    print_clauses(alloc, w, &read.unrolled(), optimize, &further)
 }
 
 /// Reads FILE's bytes from `r`, and writes to `w` what the command prints, or for `Binary` what it puts into OUT.

@@ -9,12 +9,4 @@ returns-in_err-needed g c =
     rw (p.1, p.2, c.in_err-needed.ensures.memory) (inl (refl, refl))
 
 pub returns : goal.returns
-returns g c =
-    let told = c.print_text.ensures in
-    inr (
-      told.fault,
-      told.text.0,
-      subst (λ (x : Circuit). HasClauses x c.args.optimize told.text.0)
-          c.new-view.ensures told.text.1,
-      told.text.2,
-    )
+returns g c = let told = c.print_text.ensures in inr (told.fault, told.text.0, told.text.1, told.text.2)

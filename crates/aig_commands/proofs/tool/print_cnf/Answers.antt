@@ -23,4 +23,4 @@ returns g c =
     (commands.Cnf c.args.k c.args.optimize) 16777216 c.args.r.now c.args.w.now _ _ c.args.k
     c.args.optimize c.in_ok-read.read [] _ refl read.verdict read.answer
     (λ f lists is has formula. cnf_answers f 16777216 c.args.k c.args.optimize c.in_ok-read.read
-    lists is has formula) (rw c.new-further.ensures at c.print_clauses.ensures)
+    lists is has formula) (rw (c.new-further.ensures, c.unrolled.ensures.value) at c.print_clauses.ensures)

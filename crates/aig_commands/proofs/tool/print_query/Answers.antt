@@ -3,7 +3,7 @@ use Rattle.aig_reader.proofs.Verdicts.{short_of}
 use Rattle.aig_reader.specs.declared.error.ReadError.TheVariants as read
 use Rattle.aig_encode.specs.declared.error.EncodeError.TheVariants as encode
 use Rattle.aig_commands.specs.declared.command.Command.TheVariants as commands
-use Rattle.aig_commands.proofs.Printed.{printed, query_answers, place_within, query_exact, query_is_below}
+use Rattle.aig_commands.proofs.Printed.{printed, query_answers}
 use Rattle.aig_commands.proofs.Outcomes.{not_encoded}
 use Rattle.aig_commands.proofs.Running.{err_of}
 use Rattle.aig_commands.proofs.tool.print_query.Goals as goal
@@ -26,19 +26,9 @@ returns-in_err-further g c =
     (commands.Query c.args.k c.args.optimize) _ c.args.r.now c.args.w.now _ c.args.k
     encode.Memory refl (short_of _ 16777216 _ _ _ c.in_ok-read.ensures.verdict) (λ is. cc))
 
-pub query_clauses-requires-clause-place : goal.query_clauses-requires-clause-place
-query_clauses-requires-clause-place g c =
-    let u = c.in_ok-read.read in
-    place_within c.in_ok-read.ensures.answer.file 16777216 c.args.k u
-    c.in_ok-read.ensures.answer.means
-
 pub print_clauses-requires-clause-below : goal.print_clauses-requires-clause-below
 print_clauses-requires-clause-below g c =
-    let u = c.in_ok-read.read in
-    let f = c.in_ok-read.ensures.answer.file in
-    let is = c.in_ok-read.ensures.answer.means in
-    query_is_below f 16777216 c.args.k u c.in_ok-further.further is
-    (query_exact f 16777216 c.args.k u c.in_ok-further.further is c.in_ok-further.ensures.exact)
+    rw c.unrolled.ensures.value c.in_ok-further.ensures.below
 
 pub returns : goal.returns
 returns g c =
@@ -49,5 +39,5 @@ returns g c =
     (commands.Query c.args.k c.args.optimize) 16777216 c.args.r.now c.args.w.now _ _ c.args.k
     c.args.optimize u further _ refl read.verdict read.answer
     (λ f lists is has formula. query_answers f 16777216 c.args.k c.args.optimize u lists is has
-    further (query_exact f 16777216 c.args.k u further is c.in_ok-further.ensures.exact)
-    formula) c.print_clauses.ensures
+    further c.in_ok-further.ensures.exact formula) (rw c.unrolled.ensures.value at
+    c.print_clauses.ensures)
