@@ -1,10 +1,12 @@
 -- The query and the window of the file that was read.
-use Rattle.aig_base.proofs.Words.{◌≡◌, ◌≢◌, ℕ, ◌+◌, ◌≤◌, Bool, Option, Result, Ok, Err, List, [], sym, subst, IfOk}
+use Rattle.aig_base.proofs.Words.{◌≡◌, ◌≢◌, ℕ, ◌+◌, ◌≤◌, Bool, Option, Result, Ok, Err, List, [], sym, subst, arith, IfOk}
 use Rattle.aig_base.specs.declared.logic.literal.Lit.{Lit}
 use Rattle.aig_circuit.specs.Circuit.{Circuit}
+use Rattle.aig_circuit.specs.View.{lists_circuit}
+use Rattle.aig_circuit.specs.declared.view.CircuitLists.{CircuitLists}
 use Rattle.aig_cnf.specs.Cnf.{FixesRoots, HasClauses, NodeValuesSatisfy}
 use Rattle.aig_format.proofs.Words.{circuit_of, File, Accepts, Fits}
-use Rattle.aig_reader.specs.Reading.{IsReadAs}
+use Rattle.aig_reader.specs.Reading.{AreListsOf, IsReadAs}
 use Rattle.aig_reader.specs.Verdicts.{Accepted, verdict_by}
 use Rattle.aig.specs.Reading.{IsFileCircuit}
 use Rattle.aig_unroll.specs.Places.{unrolled_size}
@@ -20,6 +22,8 @@ use Rattle.aig_answers.specs.declared.error.AnswerError.{AnswerError}
 use Rattle.aig_answers.specs.declared.windows.WindowClauses.{WindowClauses}
 use Rattle.aig_answers.specs.Answers.{IsAsked, IsCircuitQuery, verdict_of}
 use Rattle.aig_answers.specs.Parts.{IsSaidBy, circuit_verdict, circuit_window_verdict}
+use Rattle.aig_unrolled.proofs.Asking.{unrolls_to}
+use Rattle.aig_unrolled.specs.Unrolled.{IsUnrolledOf, UnrolledCircuit, Unrolls}
 use Rattle.aig_answers.proofs.Verdicts.{asked_circuit, bads_of}
 
 -- that what encodes a file's circuit encodes the file
@@ -42,6 +46,18 @@ query_of_file limit k c optimize q encodes asks made f fits is =
       subst (λ d. IsQueryOf f k d q.unrolled q.clauses q.further) (sym is) (asks f limit k q.unrolled q.clauses q.further fits asked),
     )
 
+-- the circuit of lists that were read
+pub read_lists : (limit : ℕ) (lists : CircuitLists) (old new : Option (List ℕ))
+    → IsReadAs (λ bytes. Accepts bytes limit) AreListsOf old new lists
+    → IsReadAs (λ bytes. Accepts bytes limit) IsFileCircuit old new (lists_circuit lists)
+read_lists limit lists old new read = record {
+  file = read.file;
+  bytes = read.bytes;
+  holds = read.holds;
+  means = read.means;
+  taken = read.taken;
+}
+
 -- a circuit was read of which something is asked
 module _ (limit k : ℕ) (c : Circuit) (old new : Option (List ℕ)) (read : IsReadAs (λ bytes. Accepts bytes limit) IsFileCircuit old new c) where
   asked_file : {X : Type 0} (steps : ℕ) (Means : File → X → Type 0) (x : X) → (unrolled_size c steps ≤ limit) × (c.properties.bads ≢ []) → ((f : File) → Fits f limit → IsFileCircuit f c → Means f x)
@@ -57,6 +73,14 @@ module _ (limit k : ℕ) (c : Circuit) (old new : Option (List ℕ)) (read : IsR
   pub query_answers : EncodesFiles → AsksFiles → (optimize : Bool) (q : CircuitQuery) → IsCircuitQuery c k optimize q → Accepted ≡ circuit_verdict limit k c
       → IsReadAs (IsAsked limit k) (IsQuery k optimize) old new (record { encoded = record { circuit = c; unrolled = q.unrolled; clauses = q.clauses }; extra = q.further })
   query_answers encodes asks optimize q made said = asked_file k (IsQuery k optimize) _ (asked_circuit limit k c Accepted said) (query_of_file limit k c optimize q encodes asks made)
+
+  pub circuit_answers : (r : Result UnrolledCircuit AnswerError) → IsSaidBy (circuit_verdict limit k c) (verdict_by verdict_of r) → IfOk r (Unrolls c k)
+      → IfOk r (IsReadAs (IsAsked limit k) (IsUnrolledOf k limit) old new)
+  circuit_answers (Ok u) said made =
+      let asked = asked_circuit limit k c Accepted said in
+      let few = (unrolls_to c k u made).size in
+      asked_file k (IsUnrolledOf k limit) u asked (λ f fits is. record { fits = fits; unrolls = subst (λ d. Unrolls d k u) is made; few = omega (arith, few, asked.0) })
+  circuit_answers (Err e) said made = tt
 
   pub window_answers : (form : Window) (optimize : Bool) (r : Result WindowClauses AnswerError) → IsSaidBy (circuit_window_verdict form limit k c) (verdict_by verdict_of r) → IfOk r (λ made. AsksWindow form c k optimize made.clauses made.further)
       → IfOk r (IsReadAs (IsAsked limit (k + 1)) (λ f made. AsksWindow form (circuit_of f) k optimize made.clauses made.further) old new)

@@ -1,31 +1,39 @@
 //! Whether something is asked of a circuit, and whether there is room for it.
 
-ghost use Rattle.std.specs.Prelude.{◌≡◌, ◌≤◌, ◌↔◌, IfErr, IsTrue};
+ghost use Rattle.std.specs.Prelude.{◌≡◌, ◌≤◌, ◌↔◌, IfErr, IsTrue, length};
 ghost use Rattle.aig_answers.specs.Answers.{IsOfQuery, verdict_of};
-ghost use Rattle.aig_answers.specs.Parts.{circuit_verdict};
+ghost use Rattle.aig_answers.specs.Parts.{asks_verdict};
 ghost use Rattle.aig_reader.specs.Verdicts.{verdict_by};
 ghost use Rattle.aig_unroll.specs.Places.{unrolled_size};
 
 use crate::error::AnswerError;
-use aig::Aig;
+use aig::{Aig, AigEdge, AigLatch, AigNode};
 use aig_encode::EncodeError;
+use aig_unroll::is_size_within;
 
 /// Whether a circuit with `k` further steps has at most `limit` nodes, by the bound that `unroll_to` keeps.
 pub(crate) fn is_within(circuit: &Aig, k: usize, limit: usize) -> bool
     ensures { IsTrue result ↔ (unrolled_size circuit.now k ≤ limit) }
 {
-    aig_unroll::is_size_within(circuit.num_nodes(), circuit.latchs().len(), k, limit)
+    is_size_within(circuit.num_nodes(), circuit.latchs().len(), k, limit)
 }
 
-/// Refuses a circuit whose `k` further steps may pass the limit, and one without bad edges, as nothing is asked of it.
-pub(crate) fn check_asks(circuit: &Aig, limit: usize, k: usize) -> Result<(), AnswerError>
-    ensures said { verdict_by verdict_of result ≡ circuit_verdict limit k circuit.now }
+/// Refuses a circuit of these lists whose `k` further steps may pass the limit, and one without bad edges, as nothing is asked of it.
+pub(crate) fn check_asks(
+    nodes: &[AigNode],
+    latchs: &[AigLatch],
+    bads: &[AigEdge],
+    limit: usize,
+    k: usize,
+) -> Result<(), AnswerError>
+    ensures said { verdict_by verdict_of result
+        ≡ asks_verdict limit k (length nodes.now) (length latchs.now) (length bads.now) }
     ensures own { IfErr result IsOfQuery }
 {
-    if !is_within(circuit, k, limit) {
+    if !is_size_within(nodes.len(), latchs.len(), k, limit) {
         return Err(AnswerError::Encode(EncodeError::TooLarge));
     }
-    if circuit.bads().is_empty() {
+    if bads.is_empty() {
         return Err(AnswerError::NoBads);
     }
     Ok(())

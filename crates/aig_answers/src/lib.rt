@@ -15,5 +15,5 @@ pub use aig_runs::Window;
 pub use circuits::{CircuitQuery, check_query_of, query_of};
 pub use error::AnswerError;
 pub use laws::windows_are_asked;
-pub use step::{asked_query, check_step};
+pub use step::{asked_circuit, asked_query, check_step};
 pub use windows::{WindowClauses, check_window, window};

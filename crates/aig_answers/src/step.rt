@@ -4,7 +4,10 @@ ghost use Rattle.std.specs.Prelude.{◌≡◌, ◌≢◌, ◌^◌, ◌≤◌, If
 ghost use Rattle.aig_answers.specs.Answers.{IsAsked, IsCircuitQuery, IsOfQuery, IsOfStep, TellsOfStep, asked_verdict, verdict_of};
 ghost use Rattle.aig_answers.specs.Parts.{IsSaidBy, circuit_verdict};
 ghost use Rattle.aig_base.specs.Clauses.{AreBelow};
+ghost use Rattle.aig_circuit.specs.Circuit.{IsCircuit};
+ghost use Rattle.aig_circuit.specs.View.{lists_circuit};
 ghost use Rattle.aig_runs.specs.Safety.{IsSafeAt};
+ghost use Rattle.aig_unrolled.specs.Unrolled.{IsUnrolledOf, Unrolls};
 ghost use Rattle.aig_encode.specs.Encoding.{IsQuery};
 ghost use Rattle.aig_reader.specs.Reading.{IsReadAs};
 ghost use Rattle.aig_reader.specs.Verdicts.{Accepted, Judges, verdict_by};
@@ -15,11 +18,13 @@ use crate::error::AnswerError;
 use crate::refuting::refute;
 use aig::Aig;
 use aig_base::Source;
+use aig_circuit::{CircuitLists, CircuitView};
 use aig_encode::{Encoded, Query};
 use aig_refutation::RefutationError;
 use aig_runs::{
     circuit_witnesses_are_file_witnesses, clauses_are_file_runs, refuted_queries_have_no_witness,
 };
+use aig_unrolled::Unrolled;
 use std::alloc::Global;
 
 /// The query of a circuit for step `k`, unless its further steps may pass the limit or nothing is asked of it.
@@ -35,7 +40,7 @@ fn ask_query(
     ensures said { IsSaidBy (circuit_verdict limit k circuit.now) (verdict_by verdict_of result) }
     ensures own { IfErr result IsOfQuery }
 {
-    check_asks(circuit, limit, k)?;
+    check_asks(circuit.nodes(), circuit.latchs(), circuit.bads(), limit, k)?;
     Ok(make_query(alloc, circuit, k, optimize)?)
 }
 
@@ -79,6 +84,41 @@ pub fn asked_query<R: Source>(
         },
         extra: further,
     })
+}
+
+/// Gives a circuit `k` steps more, unless these may pass the limit or nothing is asked of it.
+fn ask_steps(circuit: CircuitLists, limit: usize, k: usize) -> Result<Unrolled, AnswerError>
+    requires { IsCircuit (lists_circuit circuit) }
+    ensures unrolls { IfOk result (Unrolls (lists_circuit circuit) k) }
+    ensures said { IsSaidBy (circuit_verdict limit k (lists_circuit circuit))
+        (verdict_by verdict_of result) }
+    ensures own { IfErr result IsOfQuery }
+{
+    let view = CircuitView::new(&circuit);
+    check_asks(view.nodes(), view.latchs(), view.bads(), limit, k)?;
+    Ok(Unrolled::new(circuit, k)?)
+}
+
+/// Reads a circuit from the bytes of an AIGER file, and gives it `k` steps more, as `asked_query` does, but makes no clauses. Requires
+/// `1 <= limit <= 2^31`.
+pub fn asked_circuit<R: Source>(
+    alloc: Global,
+    r: &mut R,
+    limit: usize,
+    k: usize,
+) -> Result<Unrolled, AnswerError>
+    requires some { 1 ≤ limit }
+    requires few { limit ≤ 2 ^ 31 }
+    // The bytes that were read are a file within the limit, with a bad literal, and it is that file's circuit.
+    ensures answer { IfOk result (IsReadAs (IsAsked limit k) (IsUnrolledOf k limit)
+        (R.left r.old) (R.left r.new)) }
+    // Each file within the limit that has a bad literal is answered, and a refusal says why.
+    ensures verdict { Judges (asked_verdict limit k) limit (R.left r.old) (R.left r.new)
+        (R.failed r.new) (verdict_by verdict_of result) }
+    ensures own { IfErr result IsOfQuery }
+{
+    let circuit = aig_reader::read(alloc, r, limit)?;
+    ask_steps(circuit, limit, k)
 }
 
 /// Reads a circuit from the bytes of an AIGER file, and checks a proof, in the LRAT or the DRAT format, that the clauses of its

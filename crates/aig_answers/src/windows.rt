@@ -153,7 +153,13 @@ fn ask_window(
         (verdict_by verdict_of result) }
     ensures own { IfErr result IsOfWindow }
 {
-    check_asks(circuit, limit, k + 1)?;
+    check_asks(
+        circuit.nodes(),
+        circuit.latchs(),
+        circuit.bads(),
+        limit,
+        k + 1,
+    )?;
     if !has_room(circuit, k, form, limit) {
         return Err(AnswerError::TooLarge);
     }

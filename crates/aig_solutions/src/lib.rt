@@ -14,6 +14,6 @@ mod words;
 pub use checked::checked_witness;
 pub use error::SolutionError;
 pub use laws::solutions_show;
-pub use places::Places;
+pub use places::{HasLeaves, Places};
 pub use reading::read_solution;
 pub use witness::witness_of;

@@ -1,21 +1,75 @@
 //! Where the leaves of a circuit stand in the circuit unrolled.
 
 ghost use Rattle.std.specs.Prelude.{◌≡◌, Contains, IfOk, count_by, length};
-ghost use Rattle.aig_circuit.specs.Circuit.{IsCircuit};
+ghost use Rattle.aig_circuit.specs.Circuit.{Circuit, IsCircuit};
 ghost use Rattle.aig_solutions.specs.Turns.{CountsOthers, HasStep, MarksLatchLeaves};
 ghost use Rattle.aig_unroll.specs.Places.{is_other_leaf, other_leaves, place_at};
 
 use aig::Aig;
 use aig_base::MemoryError;
+use aig_circuit::{AigLatch, AigNode, CircuitView};
 use std::alloc::Global;
 use std::marker::Model;
 
+/// A circuit, owned or borrowed.
+pub trait HasLeaves {
+    /// The circuit.
+    ghost circuit: { Self → Circuit };
+
+    /// The nodes.
+    fn nodes(&self) -> &[AigNode]
+        ensures value { result.now ≡ (circuit self.now).nodes }
+        ensures circuit { IsCircuit (circuit self.now) };
+
+    /// The numbers of the inputs.
+    fn inputs(&self) -> &[usize]
+        ensures value { result.now ≡ (circuit self.now).inputs }
+        ensures circuit { IsCircuit (circuit self.now) };
+
+    /// The latches.
+    fn latchs(&self) -> &[AigLatch]
+        ensures value { result.now ≡ (circuit self.now).latchs }
+        ensures circuit { IsCircuit (circuit self.now) };
+}
+
+impl HasLeaves for Aig {
+    ghost circuit = { λ c. c };
+
+    fn nodes(&self) -> &[AigNode] {
+        self.nodes()
+    }
+
+    fn inputs(&self) -> &[usize] {
+        self.inputs()
+    }
+
+    fn latchs(&self) -> &[AigLatch] {
+        self.latchs()
+    }
+}
+
+impl<'a> HasLeaves for CircuitView<'a> {
+    ghost circuit = { λ c. c };
+
+    fn nodes(&self) -> &[AigNode] {
+        self.nodes()
+    }
+
+    fn inputs(&self) -> &[usize] {
+        self.inputs()
+    }
+
+    fn latchs(&self) -> &[AigLatch] {
+        self.latchs()
+    }
+}
+
 /// Marks the leaves of latches.
-fn mark_latchs(alloc: Global, circuit: &Aig) -> Result<Vec<bool>, MemoryError>
-    ensures { IfOk result (λ marks. MarksLatchLeaves circuit.now marks.items) }
+fn mark_latchs<C: HasLeaves>(alloc: Global, circuit: &C) -> Result<Vec<bool>, MemoryError>
+    ensures { IfOk result (λ marks. MarksLatchLeaves (C.circuit circuit.now) marks.items) }
 {
     let latchs = circuit.latchs();
-    let mut marks = vec![in alloc; false; circuit.num_nodes()]?;
+    let mut marks = vec![in alloc; false; circuit.nodes().len()]?;
     for latch in latchs {
         marks[latch.input()] = true;
     }
@@ -23,16 +77,16 @@ fn mark_latchs(alloc: Global, circuit: &Aig) -> Result<Vec<bool>, MemoryError>
 }
 
 /// For each node how many leaves that are no latch's come before it, and how many there are.
-fn count_others(
+fn count_others<C: HasLeaves>(
     alloc: Global,
-    circuit: &Aig,
+    circuit: &C,
     marks: &[bool],
 ) -> Result<(Vec<usize>, usize), MemoryError>
-    requires { MarksLatchLeaves circuit.now marks.now }
-    ensures turns { IfOk result (λ counts. CountsOthers circuit.now counts.0.items) }
-    ensures all { IfOk result
-        (λ counts. counts.1 ≡ count_by (is_other_leaf circuit.now) circuit.now.nodes) }
-    ensures circuit { IsCircuit circuit.now }
+    requires { MarksLatchLeaves (C.circuit circuit.now) marks.now }
+    ensures turns { IfOk result (λ counts. CountsOthers (C.circuit circuit.now) counts.0.items) }
+    ensures all { let c = C.circuit circuit.now in
+        IfOk result (λ counts. counts.1 ≡ count_by (is_other_leaf c) c.nodes) }
+    ensures circuit { IsCircuit (C.circuit circuit.now) }
 {
     let nodes = circuit.nodes();
     let mut turns = Vec::with_capacity(alloc, nodes.len())?;
@@ -49,13 +103,13 @@ fn count_others(
 /// Where the leaves of a circuit that are no latch's stand in the circuit unrolled. It is made once, in a pass over the
 /// nodes, and then tells a place at once.
 #[derive(Drop)]
-pub struct Places<'a> {
-    circuit: &'a Aig,
+pub struct Places<'a, C: HasLeaves> {
+    circuit: &'a C,
     turns: Vec<usize>,
     others: usize,
 }
 
-impl<'a> Model for Places<'a> {
+impl<'a, C: HasLeaves> Model for Places<'a, C> {
     ghost use Rattle.aig_circuit.specs.Circuit.{Circuit};
 
     ghost Value = { Circuit };
@@ -67,17 +121,17 @@ impl<'a> Model for Places<'a> {
     ghost coded = { Prim.hlevel
         (codes, finite_map.code {R = nat_cmp} coded_ℕ (coded_list coded_ℕ)) };
 
-    ghost view = { λ p. p.circuit.now };
+    ghost view = { λ p. C.circuit p.circuit.now };
 
     ghost use Rattle.aig_solutions.specs.Turns.{HasTurns};
 
-    ghost invariant = { λ p. HasTurns p.circuit.now p.turns.items p.others };
+    ghost invariant = { λ p. HasTurns (C.circuit p.circuit.now) p.turns.items p.others };
 }
 
-impl<'a> Places<'a> {
+impl<'a, C: HasLeaves> Places<'a, C> {
     /// The places of a circuit's leaves. The one error is refused memory.
-    pub fn new(alloc: Global, circuit: &'a Aig) -> Result<Self, MemoryError>
-        ensures { IfOk result (λ places. places ≡ circuit.entry.now) }
+    pub fn new(alloc: Global, circuit: &'a C) -> Result<Self, MemoryError>
+        ensures { IfOk result (λ places. places ≡ C.circuit circuit.entry.now) }
     {
         let marks = mark_latchs(alloc, circuit)?;
         let (turns, others) = count_others(alloc, circuit, &marks)?;
@@ -90,10 +144,10 @@ impl<'a> Places<'a> {
 
     /// The node that stands for leaf `n`, which is no latch's, at step `t` of the circuit unrolled. Requires that it has the
     /// inputs of that step.
-    pub fn place(&self, unrolled: &Aig, t: usize, n: usize) -> usize
+    pub fn place(&self, unrolled: &C, t: usize, n: usize) -> usize
         requires leaf { Contains (other_leaves self.now) n }
-        requires step { HasStep self.now unrolled.now t }
-        ensures { result ≡ place_at self.now unrolled.now t n }
+        requires step { HasStep self.now (C.circuit unrolled.now) t }
+        ensures { result ≡ place_at self.now (C.circuit unrolled.now) t n }
     {
         if t == 0 {
             return n;

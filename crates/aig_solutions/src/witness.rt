@@ -40,7 +40,7 @@ fn read_state(alloc: Global, circuit: &Aig, values: &[Lbool]) -> Result<Vec<Lboo
 fn read_inputs(
     alloc: Global,
     circuit: &Aig,
-    places: &Places<'_>,
+    places: &Places<'_, Aig>,
     unrolled: &Aig,
     values: &[Lbool],
     t: usize,

@@ -1,4 +1,4 @@
--- Serves private clauses alone.
+-- Part of what is promised.
 -- A circuit beside itself with further steps. (Bounded model checking: time frames.)
 use Rattle.std.specs.Prelude.{◌≡◌, ◌≤◌, ℕ, length, Option, Some, None}
 use Rattle.aig_circuit.specs.Circuit.{Circuit, IsCircuit}

@@ -71,7 +71,8 @@ impl Unrolled {
 
     /// How many further steps there are.
     pub fn steps(&self) -> usize
-        ensures { result ≡ self.now.steps }
+        ensures value { result ≡ self.now.steps }
+        ensures unrolled { IsUnrolled self.now }
     {
         self.steps
     }
@@ -107,6 +108,11 @@ impl Unrolled {
     {
         let circuit = self.circuit();
         let unrolled = self.unrolled();
-        aig_runs::query_clauses(alloc, circuit.latchs(), unrolled.constraints(), self.last_bads())
+        aig_runs::query_clauses(
+            alloc,
+            circuit.latchs(),
+            unrolled.constraints(),
+            self.last_bads(),
+        )
     }
 }

@@ -10,19 +10,19 @@ abbrev none : AigNode
 none = record { node_id = 0; typ = False }
 
 pub bounds-marks-i : goal.bounds-marks-i
-bounds-marks-i c = omega (arith, c.requires.count, ap length c.nodes-nodes.ensures.value, c.loop-i-test.true)
+bounds-marks-i g c = omega (arith, c.requires.count, ap length c.nodes-nodes.ensures.value, c.loop-i-test.true)
 
 pub overflow_add-count : goal.overflow_add-count
-overflow_add-count c =
+overflow_add-count g c =
     let i = c.loop-i.i in
     let nodes = c.nodes-nodes.result.now in
-    let few = count_by-le-length (is_other_leaf c.args.circuit.now) (take i nodes) in
+    let few = count_by-le-length (is_other_leaf (g.C.HasLeaves.circuit c.args.circuit.now)) (take i nodes) in
     let long = length-take-le i nodes (omega (arith, c.loop-i-test.true)) in
     omega (arith, c.loop-i.invariant.so_far, few, long, c.loop-i-test.true, c.nodes-nodes.type_inv.0)
 
 pub loop-i-preserved : goal.loop-i-preserved
-loop-i-preserved c =
-    let circuit = c.args.circuit.now in
+loop-i-preserved g c =
+    let circuit = g.C.HasLeaves.circuit c.args.circuit.now in
     let marks = c.args.marks.now in
     let nodes = c.nodes-nodes.ensures.value in
     let are = c.nodes-nodes.ensures.circuit.nodes in
@@ -42,18 +42,18 @@ loop-i-preserved c =
     }
 
 pub returns-clause-turns : goal.returns-clause-turns
-returns-clause-turns c =
+returns-clause-turns g c =
     let before = c.loop-i.invariant in
     let nodes = c.nodes-nodes.ensures.value in
     let long = ap length nodes in
-    let end : c.loop-i.i ≡ length c.args.circuit.now.nodes = omega (arith, long, c.loop-i-test.false) in
+    let end : c.loop-i.i ≡ length (g.C.HasLeaves.circuit c.args.circuit.now).nodes = omega (arith, long, c.loop-i-test.false) in
     record {
       count = before.count ∙ end;
-      each = λ n low. before.each n (omega (arith, end, low)) ∙ ap (λ ns. count_by (is_other_leaf c.args.circuit.now) (take n ns)) nodes;
+      each = λ n low. before.each n (omega (arith, end, low)) ∙ ap (λ ns. count_by (is_other_leaf (g.C.HasLeaves.circuit c.args.circuit.now)) (take n ns)) nodes;
     }
 
 pub returns-clause-all : goal.returns-clause-all
-returns-clause-all c =
+returns-clause-all g c =
     let nodes = c.nodes-nodes.result.now in
     c.loop-i.invariant.so_far
-    ∙ ap (count_by (is_other_leaf c.args.circuit.now)) (take_all c.loop-i.i nodes (omega (arith, c.loop-i-test.false)) ∙ c.nodes-nodes.ensures.value)
+    ∙ ap (count_by (is_other_leaf (g.C.HasLeaves.circuit c.args.circuit.now))) (take_all c.loop-i.i nodes (omega (arith, c.loop-i-test.false)) ∙ c.nodes-nodes.ensures.value)

@@ -3,7 +3,7 @@ use Rattle.aig_circuit.proofs.Words.{latch_leaves, is_in}
 use Rattle.aig_solutions.proofs.places.mark_latchs.Given as goal
 
 abbrev pub invariant-loop-latch : goal.invariant-loop-latch
-invariant-loop-latch l = record {
-  count : length l.marks.items ≡ length l.circuit.nodes;
-  each : (n : ℕ) (d : Bool) → n < length l.circuit.nodes → slice_index_or l.marks.items n d ≡ is_in (latch_leaves (take l.latch-index l.latchs)) n;
+invariant-loop-latch g l = record {
+  count : length l.marks.items ≡ length (g.C.HasLeaves.circuit l.circuit).nodes;
+  each : (n : ℕ) (d : Bool) → n < length (g.C.HasLeaves.circuit l.circuit).nodes → slice_index_or l.marks.items n d ≡ is_in (latch_leaves (take l.latch-index l.latchs)) n;
 }

@@ -19,20 +19,20 @@ room_for u is k c d bads all so_many first second few many =
 
 pub overflow_mul-first : goal.overflow_mul-first
 overflow_mul-first c =
-    let room = room_for c.args.self.now c.circuit.ensures.unrolled c.steps.result c.circuit.result c.unrolled.result c.bads.result.now c.bads-bads.result.now c.steps.ensures c.circuit.ensures.value c.unrolled.ensures.value c.bads.ensures.value c.bads-bads.ensures.value in
+    let room = room_for c.args.self.now c.circuit.ensures.unrolled c.steps.result c.circuit.result c.unrolled.result c.bads.result.now c.bads-bads.result.now c.steps.ensures.value c.circuit.ensures.value c.unrolled.ensures.value c.bads.ensures.value c.bads-bads.ensures.value in
     omega (arith, room, c.bads-bads.type_inv.0)
 
 pub offset_bounds-bads-first : goal.offset_bounds-bads-first
 offset_bounds-bads-first c =
-    let room = room_for c.args.self.now c.circuit.ensures.unrolled c.steps.result c.circuit.result c.unrolled.result c.bads.result.now c.bads-bads.result.now c.steps.ensures c.circuit.ensures.value c.unrolled.ensures.value c.bads.ensures.value c.bads-bads.ensures.value in
+    let room = room_for c.args.self.now c.circuit.ensures.unrolled c.steps.result c.circuit.result c.unrolled.result c.bads.result.now c.bads-bads.result.now c.steps.ensures.value c.circuit.ensures.value c.unrolled.ensures.value c.bads.ensures.value c.bads-bads.ensures.value in
     omega (arith, room, c.bads-bads.type_inv.1)
 
 pub slice_bounds-result-count : goal.slice_bounds-result-count
 slice_bounds-result-count c =
-    let room = room_for c.args.self.now c.circuit.ensures.unrolled c.steps.result c.circuit.result c.unrolled.result c.bads.result.now c.bads-bads.result.now c.steps.ensures c.circuit.ensures.value c.unrolled.ensures.value c.bads.ensures.value c.bads-bads.ensures.value in
+    let room = room_for c.args.self.now c.circuit.ensures.unrolled c.steps.result c.circuit.result c.unrolled.result c.bads.result.now c.bads-bads.result.now c.steps.ensures.value c.circuit.ensures.value c.unrolled.ensures.value c.bads.ensures.value c.bads-bads.ensures.value in
     omega (arith, room)
 
 pub slice_bounds-result-start : goal.slice_bounds-result-start
 slice_bounds-result-start c =
-    let room = room_for c.args.self.now c.circuit.ensures.unrolled c.steps.result c.circuit.result c.unrolled.result c.bads.result.now c.bads-bads.result.now c.steps.ensures c.circuit.ensures.value c.unrolled.ensures.value c.bads.ensures.value c.bads-bads.ensures.value in
+    let room = room_for c.args.self.now c.circuit.ensures.unrolled c.steps.result c.circuit.result c.unrolled.result c.bads.result.now c.bads-bads.result.now c.steps.ensures.value c.circuit.ensures.value c.unrolled.ensures.value c.bads.ensures.value c.bads-bads.ensures.value in
     omega (arith, room)
