@@ -9,7 +9,7 @@ ghost use Rattle.aig_unroll.specs.Unroll.{UnrollsTo};
 ghost use Rattle.aig_calls.specs.Numbers.{edge_number, input_numbers, map_numbers, variable_number};
 
 use crate::numbers::number_of;
-use aig::{AigEdge, AigLatch};
+use aig::{Aig, AigEdge, AigLatch};
 use aig_base::{MemoryError, Var};
 use aig_encode::Query;
 use aig_solutions::Places;
@@ -19,7 +19,7 @@ use std::alloc::Global;
 fn push_inputs(
     numbers: &mut Vec<i32>,
     asked: &Query,
-    places: &Places<'_>,
+    places: &Places<'_, Aig>,
     t: usize,
 ) -> Result<(), MemoryError>
     requires places { places.now ≡ asked.now.encoded.circuit }
@@ -42,7 +42,7 @@ fn push_inputs(
 fn push_steps(
     numbers: &mut Vec<i32>,
     asked: &Query,
-    places: &Places<'_>,
+    places: &Places<'_, Aig>,
     k: usize,
 ) -> Result<(), MemoryError>
     requires places { places.now ≡ asked.now.encoded.circuit }

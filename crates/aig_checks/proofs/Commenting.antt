@@ -14,11 +14,14 @@ use Rattle.aig_dimacs.specs.Reading.{after_comments, parse_formula}
 use Rattle.aig_dimacs.specs.Text.{IsFormula, dimacs_of, sign_of}
 use Rattle.aig_dimacs.proofs.Comments.{ArePassed, StaysInside, decimal_inside, ends-append, ends-line_feed, inside-append, inside-cons, line_passed, parse_formula-passed, passed-append, passed-flat_map, sign_inside}
 use Rattle.aig_dimacs.proofs.Reading.{parse_formula-dimacs_of}
-use Rattle.aig_encode.specs.declared.query_clauses.Query.{Query}
+use Rattle.aig_format.proofs.Words.{File, circuit_of}
+use Rattle.aig_unrolled.proofs.Asking.{asks, encodes}
+use Rattle.aig_unrolled.specs.Unrolled.{IsUnrolledOf, UnrolledCircuit}
 use Rattle.aig_bounded_answers.specs.declared.clauses.BoundedClauses.{BoundedClauses}
 use Rattle.aig_checks.specs.Bounded.{bounded_comments, letter_of, place_line}
 use Rattle.aig_checks.specs.Comments.{bad_line, comments_of, input_line, input_lines, latch_comment, literal_line}
-use Rattle.aig_checks.specs.Printing.{query_text}
+use Rattle.aig_checks.specs.Printing.{IsQueryText}
+use Rattle.aig_checks.specs.Running.{IsClausesText}
 
 pub line_at : {X : Type 0} (line : ℕ × X → List ℕ) (xs : List X) (i : ℕ) (d : X) → i < length xs → line (get_or (enumerate_from 0 xs) i (0, d)) ≡ line (i, get_or xs i d)
 line_at {X} line xs i d h = ap line (get_or-enumerate_from 0 xs i (0, d) h) ∙ ap (λ j. line (j, get_or xs i d)) (zero-add i)
@@ -95,9 +98,26 @@ bounded_again made formula =
     let all = clauses_in made.clauses ++ made.further in
     parse_formula-passed (bounded_comments made) (dimacs_of (length made.clauses) all) (bounded_passed made) ∙ parse_formula-dimacs_of (length made.clauses) all formula
 
-pub query_text-again : (q : Query) (k : ℕ) (text : List ℕ) → text ≡ query_text q k
-    → IsFormula (length q.encoded.clauses) (clauses_in q.encoded.clauses ++ q.extra)
-    → parse_formula text ≡ Some (length q.encoded.clauses, clauses_in q.encoded.clauses ++ q.extra)
-query_text-again q k text is formula =
-    let all = clauses_in q.encoded.clauses ++ q.extra in
-    ap parse_formula is ∙ parse_formula-passed (comments_of q.encoded.circuit q.encoded.unrolled k) (dimacs_of (length q.encoded.clauses) all) (comments_passed q.encoded.circuit q.encoded.unrolled k) ∙ parse_formula-dimacs_of (length q.encoded.clauses) all formula
+-- the text of the query of the file's circuit is that of the file
+pub clauses_text : (f : File) (limit k : ℕ) (optimize : Bool) (u : UnrolledCircuit)
+    (text : List ℕ) → IsUnrolledOf k limit f u → IsQueryText u optimize text
+    → IsClausesText f k optimize text
+clauses_text f limit k optimize u text of is =
+    let all = clauses_in is.lists ++ is.further in
+    let comments = ap (λ (c : Circuit). comments_of c u.unrolled u.steps) of.unrolls.circuit
+    ∙ ap (comments_of (circuit_of f) u.unrolled) of.unrolls.steps in
+    record {
+      query = record {
+        encoded = record { circuit = circuit_of f; unrolled = u.unrolled; clauses = is.lists };
+        extra = is.further;
+      };
+      asks = (
+        encodes f limit k optimize u is.lists of is.has,
+        asks f limit k optimize u is.lists of is.has is.further is.asks,
+      );
+      exact = is.exact ∙ ap (λ (cs : List ℕ). cs ++ dimacs_of (length is.lists) all) comments;
+      again = ap parse_formula is.exact
+          ∙ parse_formula-passed (comments_of u.circuit u.unrolled u.steps)
+          (dimacs_of (length is.lists) all) (comments_passed u.circuit u.unrolled u.steps)
+          ∙ parse_formula-dimacs_of (length is.lists) all is.formula;
+    }

@@ -3,10 +3,13 @@
 use Rattle.std.specs.Prelude.{◌≡◌, ◌≢◌, ℕ, ◌+◌, Bool, false, List, ◌++◌, length, Option, Result, IfErr, IsErrOf, OnOk}
 use Rattle.std.specs.Io.KnownBytes.{Appends}
 use Rattle.aig_base.specs.Formula.{clauses_in}
-use Rattle.aig_dimacs.specs.Text.{dimacs_of}
+use Rattle.aig_base.specs.declared.logic.literal.Lit.{Lit}
+use Rattle.aig_cnf.specs.Cnf.{HasClauses}
+use Rattle.aig_dimacs.specs.Text.{IsFormula, dimacs_of}
 use Rattle.aig_encode.specs.declared.encoding.Encoded.{Encoded}
-use Rattle.aig_encode.specs.declared.query_clauses.Query.{Query}
-use Rattle.aig_output.specs.Sinks.{Stops}
+use Rattle.aig_output.specs.Sinks.{Stops, WritesOrStops}
+use Rattle.aig_runs.specs.Queries.{query_clauses}
+use Rattle.aig_unrolled.specs.Unrolled.{UnrolledCircuit}
 use Rattle.aig_solutions.specs.Checked.{RefusesSolution, SaysWitness}
 use Rattle.aig_witness.specs.Witness.{Witness, witness_text}
 use Rattle.aig_witness.specs.Shown.{IsKnownWitness}
@@ -14,11 +17,30 @@ use Rattle.aig_checks.specs.Comments.{comments_of}
 use Rattle.aig_checks.specs.declared.tool.CheckError.{CheckError}
 use Rattle.aig_checks.specs.declared.tool.CheckError.TheVariants as errors
 
--- the text of a query for step k: its comments, and then its clauses
-abbrev pub query_text : Query → ℕ → List ℕ
-query_text asked k =
-    comments_of asked.encoded.circuit asked.encoded.unrolled k
-    ++ dimacs_of (length asked.encoded.clauses) (clauses_in asked.encoded.clauses ++ asked.extra)
+-- the text of a query: its comments, and then these clauses
+abbrev pub query_text : UnrolledCircuit → List (List (List Lit)) → List (List Lit) → List ℕ
+query_text u lists further =
+    comments_of u.circuit u.unrolled u.steps
+    ++ dimacs_of (length lists) (clauses_in lists ++ further)
+
+-- it is written with the clauses of the circuit with its further steps, or a beginning of it, and
+-- the clauses are a formula
+pub record WritesQuery {W T E : Type 0} (held : W → Option (List ℕ)) (failed : W → Bool)
+    (u : UnrolledCircuit) (optimize : Bool) (further : List (List Lit)) (old : W)
+    (result : Result T E) (new : W) : Type 0 where
+  pub lists : List (List (List Lit))
+  pub has : HasClauses u.unrolled optimize lists
+  pub formula : IsFormula (length lists) (clauses_in lists ++ further)
+  pub writes : WritesOrStops held failed old result (query_text u lists further) new
+
+-- the text with the clauses that ask for a bad state at the last step
+pub record IsQueryText (u : UnrolledCircuit) (optimize : Bool) (text : List ℕ) : Type 0 where
+  pub lists : List (List (List Lit))
+  pub has : HasClauses u.unrolled optimize lists
+  pub further : List (List Lit)
+  pub asks : further ≡ query_clauses u.circuit u.steps u.unrolled
+  pub formula : IsFormula (length lists) (clauses_in lists ++ further)
+  pub exact : text ≡ query_text u lists further
 
 -- the text of a witness of k + 1 steps that a solver's answer says and that was checked in three
 -- values

@@ -1,21 +1,21 @@
 //! Comments that say which literals of a query's clauses stand for inputs, latches and bad state properties.
 
-ghost use Rattle.std.specs.Prelude.{◌≡◌, ℕ, ◌+◌, ◌*◌, ◌<◌, ◌≤◌, ◌^◌, All, length};
+ghost use Rattle.std.specs.Prelude.{◌≡◌, ◌+◌, ◌<◌, ◌≤◌, ◌^◌, All, length};
 ghost use Rattle.std.specs.List.{enumerate_from, flat_map, range_with_len};
 ghost use Rattle.aig_circuit.specs.Circuit.{latch_leaves};
 ghost use Rattle.aig_dimacs.specs.Text.{sign_of};
 ghost use Rattle.aig_solutions.specs.Turns.{HasStep};
 ghost use Rattle.aig_unroll.specs.Places.{place_at};
-ghost use Rattle.aig_unroll.specs.Unroll.{UnrollsTo};
 ghost use Rattle.aig_output.specs.Sinks.{BuffersOrStops, WritesOrStops};
 ghost use Rattle.aig_checks.specs.Comments.{bad_line, comments_of, input_lines, latch_comment, literal_line};
 
 use crate::line::buffer_named;
 use aig::{AigEdge, AigLatch};
 use aig_base::{Lit, Sink, StreamFault, Var};
-use aig_encode::Query;
+use aig_circuit::CircuitView;
 use aig_output::OutputBuffer;
 use aig_solutions::Places;
+use aig_unrolled::Unrolled;
 
 /// The sign of a literal.
 fn sign(lit: Lit) -> &'static [u8]
@@ -43,48 +43,44 @@ pub(crate) fn buffer_literal<W: Sink>(
 }
 
 /// Buffers the lines of the inputs at step `t`.
-fn buffer_inputs<W: Sink>(
+fn buffer_inputs<'a, W: Sink>(
     buffer: &mut OutputBuffer,
     w: &mut W,
-    asked: &Query,
-    places: &Places<'_>,
+    asked: &'a Unrolled,
+    places: &Places<'_, CircuitView<'a>>,
     t: usize,
 ) -> Result<(), StreamFault>
-    requires places { places.now ≡ asked.now.encoded.circuit }
-    requires step { HasStep asked.now.encoded.circuit asked.now.encoded.unrolled t }
-    requires few { let place = place_at asked.now.encoded.circuit asked.now.encoded.unrolled t in
-        All (λ n. place n < 2 ^ 31) asked.now.encoded.circuit.inputs }
-    ensures { let text = input_lines asked.now.encoded.circuit asked.now.encoded.unrolled t in
+    requires places { places.now ≡ asked.now.circuit }
+    requires step { HasStep asked.now.circuit asked.now.unrolled t }
+    requires few { let place = place_at asked.now.circuit asked.now.unrolled t in
+        All (λ n. place n < 2 ^ 31) asked.now.circuit.inputs }
+    ensures { let text = input_lines asked.now.circuit asked.now.unrolled t in
         BuffersOrStops W.held W.failed buffer.old w.old result text buffer.new w.new }
 {
-    let unrolled = &asked.encoded.unrolled;
-    let inputs = asked.encoded.circuit.inputs();
+    let unrolled = asked.unrolled();
+    let inputs = asked.circuit().inputs();
     for (i, n) in inputs.iter().enumerate() {
-        let place = Var::new(places.place(unrolled, t, *n));
+        let place = Var::new(places.place(&unrolled, t, *n));
         buffer_literal(buffer, w, b"c i", i, t, place.lit())?;
     }
     Ok(())
 }
 
-/// Buffers the lines of the inputs at the steps 0 to `k`.
-fn buffer_steps<W: Sink>(
+/// Buffers the lines of the inputs at each step.
+fn buffer_steps<'a, W: Sink>(
     buffer: &mut OutputBuffer,
     w: &mut W,
-    asked: &Query,
-    places: &Places<'_>,
-    k: usize,
+    asked: &'a Unrolled,
+    places: &Places<'_, CircuitView<'a>>,
 ) -> Result<(), StreamFault>
-    requires places { places.now ≡ asked.now.encoded.circuit }
-    requires steps { UnrollsTo asked.now.encoded.circuit k asked.now.encoded.unrolled }
-    requires few { let place = place_at asked.now.encoded.circuit asked.now.encoded.unrolled in
-        (t : ℕ) → t ≤ k → All (λ n. place t n < 2 ^ 31) asked.now.encoded.circuit.inputs }
-    requires small { k < 2 ^ 32 }
-    ensures { let text = flat_map
-        (input_lines asked.now.encoded.circuit asked.now.encoded.unrolled)
-        (range_with_len 0 (k + 1)) in
+    requires places { places.now ≡ asked.now.circuit }
+    requires few { length asked.now.unrolled.nodes ≤ 2 ^ 31 }
+    requires small { asked.now.steps < 2 ^ 32 }
+    ensures { let text = flat_map (input_lines asked.now.circuit asked.now.unrolled)
+        (range_with_len 0 (asked.now.steps + 1)) in
         BuffersOrStops W.held W.failed buffer.old w.old result text buffer.new w.new }
 {
-    for t in 0..k + 1 {
+    for t in 0..asked.steps() + 1 {
         buffer_inputs(buffer, w, asked, places, t)?;
     }
     Ok(())
@@ -123,48 +119,38 @@ fn buffer_bads<W: Sink>(
     Ok(())
 }
 
-/// Buffers the comments of a query for step `k`.
-fn buffer_comments<W: Sink>(
+/// Buffers the comments of a query.
+fn buffer_comments<'a, W: Sink>(
     buffer: &mut OutputBuffer,
     w: &mut W,
-    asked: &Query,
-    places: &Places<'_>,
-    k: usize,
+    asked: &'a Unrolled,
+    places: &Places<'_, CircuitView<'a>>,
 ) -> Result<(), StreamFault>
-    requires places { places.now ≡ asked.now.encoded.circuit }
-    requires steps { UnrollsTo asked.now.encoded.circuit k asked.now.encoded.unrolled }
-    requires few { length asked.now.encoded.unrolled.nodes ≤ 2 ^ 31 }
-    requires bads { length asked.now.encoded.unrolled.properties.bads
-        ≡ (k + 1) * length asked.now.encoded.circuit.properties.bads }
-    requires small { k < 2 ^ 32 }
-    ensures { let text = comments_of asked.now.encoded.circuit asked.now.encoded.unrolled k in
+    requires places { places.now ≡ asked.now.circuit }
+    requires few { length asked.now.unrolled.nodes ≤ 2 ^ 31 }
+    requires small { asked.now.steps < 2 ^ 32 }
+    ensures { let text = comments_of asked.now.circuit asked.now.unrolled asked.now.steps in
         BuffersOrStops W.held W.failed buffer.old w.old result text buffer.new w.new }
 {
-    let latchs = asked.encoded.circuit.latchs();
-    let bads = asked.encoded.unrolled.bads();
-    let first = k * asked.encoded.circuit.bads().len();
-    buffer_steps(buffer, w, asked, places, k)?;
-    buffer_latchs(buffer, w, latchs)?;
-    buffer_bads(buffer, w, &bads[first..], k)
+    buffer_steps(buffer, w, asked, places)?;
+    buffer_latchs(buffer, w, asked.circuit().latchs())?;
+    buffer_bads(buffer, w, asked.last_bads(), asked.steps())
 }
 
-/// Writes the comments of a query for step `k`: a line for each input at each step, for each latch at step 0, and for each bad
-/// state property at step `k`, that says which literal of the clauses stands for it. Requires that the query is of step `k`, which
-/// is below 2^32.
-pub(crate) fn write_comments<W: Sink>(
+/// Writes the comments of a query: a line for each input at each step, for each latch at step 0, and for each bad state property
+/// at the last step, that says which literal of the clauses stands for it. Requires that there are fewer than 2^32 steps.
+pub(crate) fn write_comments<'a, W: Sink>(
     w: &mut W,
-    asked: &Query,
-    places: &Places<'_>,
-    k: usize,
+    asked: &'a Unrolled,
+    places: &Places<'_, CircuitView<'a>>,
 ) -> Result<(), StreamFault>
-    requires places { places.now ≡ asked.now.encoded.circuit }
-    requires steps { UnrollsTo asked.now.encoded.circuit k asked.now.encoded.unrolled }
-    requires few { length asked.now.encoded.unrolled.nodes ≤ 2 ^ 31 }
-    requires small { k < 2 ^ 32 }
-    ensures { let text = comments_of asked.now.encoded.circuit asked.now.encoded.unrolled k in
+    requires places { places.now ≡ asked.now.circuit }
+    requires few { length asked.now.unrolled.nodes ≤ 2 ^ 31 }
+    requires small { asked.now.steps < 2 ^ 32 }
+    ensures { let text = comments_of asked.now.circuit asked.now.unrolled asked.now.steps in
         WritesOrStops W.held W.failed w.old result text w.new }
 {
     let mut buffer = OutputBuffer::new();
-    buffer_comments(&mut buffer, w, asked, places, k)?;
+    buffer_comments(&mut buffer, w, asked, places)?;
     buffer.flush(w)
 }

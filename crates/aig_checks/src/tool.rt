@@ -1,28 +1,35 @@
 //! What the commands do with the bytes of a file, and of a proof, a solver's answer or a witness.
 
-ghost use Rattle.std.specs.Prelude.{◌≡◌, ◌<◌, ◌≤◌, ◌^◌, ◌++◌, ◌∷◌, [], IfErr, decimal, length};
+ghost use Rattle.std.specs.Prelude.{◌≡◌, ◌<◌, ◌≤◌, ◌^◌, ◌++◌, ◌∷◌, [], IfErr, List, decimal, length};
+ghost use Rattle.aig_base.specs.declared.logic.literal.Lit.{Lit};
 ghost use Rattle.aig_base.specs.Clauses.{AreBelow};
 ghost use Rattle.aig_base.specs.Formula.{clauses_in};
+ghost use Rattle.aig_cnf.specs.Cnf.{AreNeeded, HasClauses};
 ghost use Rattle.aig_dimacs.specs.Text.{IsFormula};
 ghost use Rattle.aig_output.specs.Sinks.{BuffersOrStops, WritesOrStops};
 ghost use Rattle.aig_unroll.specs.Unroll.{UnrollsTo};
-ghost use Rattle.aig_checks.specs.Printing.{IsKnownText, IsOfSolution, IsOfText, Prints, query_text};
+ghost use Rattle.aig_checks.specs.Printing.{IsKnownText, IsOfSolution, IsOfText, IsQueryText, Prints, WritesQuery};
 ghost use Rattle.aig_checks.specs.Running.{Runs, error_status, nothing_fails, nothing_given, shown_line};
 ghost use Rattle.aig_checks.specs.declared.tool.CheckError.TheVariants as errors;
 
 use crate::command::FileCommand;
 use crate::comments::write_comments;
 use crate::line::buffer_named;
-use aig_answers::{AnswerError, Window, asked_query, check_step, check_window, window};
+use aig_answers::{
+    AnswerError, Window, asked_circuit, asked_query, check_step, check_window, window,
+};
 use aig_base::{DagCnf, LitVvec, MemoryError, Sink, Source, StreamFault};
 use aig_bounded_answers::BoundedAnswerError;
 use aig_certificates::CertificateError;
+use aig_circuit::CircuitView;
+use aig_cnf::{NeededGates, find_needed};
 use aig_command_line::HasStatus;
-use aig_dimacs::write_dimacs;
+use aig_dimacs::{write_circuit, write_dimacs};
 use aig_encode::Query;
 use aig_output::OutputBuffer;
 use aig_runs::inductive_windows_are_safe;
 use aig_solutions::{Places, SolutionError, checked_witness};
+use aig_unrolled::Unrolled;
 use aig_witness::{ShowError, Shown, check_witness, known_witnesses_show, write_witness};
 use std::alloc::Global;
 use thiserror::Error;
@@ -245,19 +252,63 @@ pub(crate) fn tell_formula(clauses: &DagCnf, further: &LitVvec)
     let _counts = (clauses.num_vars(), clauses.num_clauses(), further.len());
 }
 
-/// Prints a query for step `k`: comments that say which literals stand for what, and then its clauses.
-fn print_query<W: Sink>(alloc: Global, asked: &Query, k: usize, w: &mut W) -> Result<(), CheckError>
-    requires small { k < 2 ^ 32 }
-    requires steps { UnrollsTo asked.now.encoded.circuit k asked.now.encoded.unrolled }
-    requires few { length asked.now.encoded.unrolled.nodes ≤ 2 ^ 31 }
-    requires below { AreBelow (length asked.now.encoded.clauses) asked.now.extra }
-    ensures prints { let text = query_text asked.now k in
-        Prints W.held W.failed (λ printed. printed ≡ text) w.old result w.new }
+/// Tells that the clauses of a circuit and further ones are read again from their text, as the counts of variables and of clauses
+/// fit.
+fn tell_circuit(circuit: &CircuitView<'_>, optimize: bool, needed: &NeededGates, further: &LitVvec)
+    requires few { length circuit.now.nodes ≤ 2 ^ 31 }
+    requires needed { AreNeeded circuit.now optimize needed.now.marks.items needed.now.clauses }
+    requires below { AreBelow (length circuit.now.nodes) further.now }
+    ensures { (lists : List (List (List Lit))) × HasClauses circuit.now optimize lists
+        × IsFormula (length lists) (clauses_in lists ++ further.now) }
+{
+    let _counts = (
+        circuit.nodes().len(),
+        needed.clauses,
+        optimize,
+        further.len(),
+    );
+}
+
+/// Writes a query: comments that say which literals stand for what, and then its clauses.
+fn write_query<'a, W: Sink>(
+    w: &mut W,
+    asked: &'a Unrolled,
+    places: &Places<'_, CircuitView<'a>>,
+    optimize: bool,
+    needed: &NeededGates,
+    further: &LitVvec,
+) -> Result<(), StreamFault>
+    requires places { places.now ≡ asked.now.circuit }
+    requires few { length asked.now.unrolled.nodes ≤ 2 ^ 31 }
+    requires small { asked.now.steps < 2 ^ 32 }
+    requires needed { AreNeeded asked.now.unrolled optimize needed.now.marks.items
+        needed.now.clauses }
+    requires below { AreBelow (length asked.now.unrolled.nodes) further.now }
+    ensures { WritesQuery W.held W.failed asked.now optimize further.now w.old result w.new }
+{
+    let unrolled = asked.unrolled();
+    tell_circuit(&unrolled, optimize, needed, further);
+    write_comments(w, asked, places)?;
+    write_circuit(w, &unrolled, optimize, needed, further)
+}
+
+/// Prints a query of a circuit. The clauses are written from the circuit, and no list of them is made.
+fn print_query<W: Sink>(
+    alloc: Global,
+    asked: &Unrolled,
+    optimize: bool,
+    w: &mut W,
+) -> Result<(), CheckError>
+    requires few { length asked.now.unrolled.nodes ≤ 2 ^ 31 }
+    requires small { asked.now.steps < 2 ^ 32 }
+    ensures prints { Prints W.held W.failed (IsQueryText asked.now optimize) w.old result w.new }
     ensures own { IfErr result IsOfText }
 {
-    let places = Places::new(alloc, &asked.encoded.circuit)?;
-    write_comments(w, asked, &places, k)?;
-    Ok(write_dimacs(w, &asked.encoded.clauses, &asked.extra)?)
+    let circuit = asked.circuit();
+    let places = Places::new(alloc, &circuit)?;
+    let further = asked.query_clauses(alloc)?;
+    let needed = find_needed(alloc, &asked.unrolled(), optimize)?;
+    Ok(write_query(w, asked, &places, optimize, &needed, &further)?)
 }
 
 /// Prints the clauses of the query of a file for step `k`, as `write_dimacs` does, and before them comments that say which
@@ -275,9 +326,8 @@ pub fn print_clauses<R: Source, W: Sink>(
         Runs R.left R.failed nothing_given nothing_fails W.held W.failed
         command LIMIT r.old tt w.old result r.new tt w.new }
 {
-    let asked = asked_query(alloc, r, LIMIT, k, optimize)?;
-    tell_formula(&asked.encoded.clauses, &asked.extra);
-    print_query(alloc, &asked, k, w)
+    let asked = asked_circuit(alloc, r, LIMIT, k)?;
+    print_query(alloc, &asked, optimize, w)
 }
 
 /// Reads a solver's answer to a query for step `k`, and prints the witness that it says, which was checked.
