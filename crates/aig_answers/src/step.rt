@@ -7,7 +7,7 @@ ghost use Rattle.aig_base.specs.Clauses.{AreBelow};
 ghost use Rattle.aig_circuit.specs.Circuit.{IsCircuit};
 ghost use Rattle.aig_circuit.specs.View.{lists_circuit};
 ghost use Rattle.aig_runs.specs.Safety.{IsSafeAt};
-ghost use Rattle.aig_unrolled.specs.Unrolled.{IsUnrolledOf, Unrolls};
+ghost use Rattle.aig_runs.specs.Unrolled.{IsUnrolledOf, Unrolls};
 ghost use Rattle.aig_encode.specs.Encoding.{IsQuery};
 ghost use Rattle.aig_reader.specs.Reading.{IsReadAs};
 ghost use Rattle.aig_reader.specs.Verdicts.{Accepted, Judges, verdict_by};
@@ -22,9 +22,9 @@ use aig_circuit::{CircuitLists, CircuitView};
 use aig_encode::{Encoded, Query};
 use aig_refutation::RefutationError;
 use aig_runs::{
-    circuit_witnesses_are_file_witnesses, clauses_are_file_runs, refuted_queries_have_no_witness,
+    Unrolled, circuit_witnesses_are_file_witnesses, clauses_are_file_runs,
+    refuted_queries_have_no_witness,
 };
-use aig_unrolled::Unrolled;
 use std::alloc::Global;
 
 /// The query of a circuit for step `k`, unless its further steps may pass the limit or nothing is asked of it.

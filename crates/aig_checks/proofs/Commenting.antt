@@ -15,8 +15,8 @@ use Rattle.aig_dimacs.specs.Text.{IsFormula, dimacs_of, sign_of}
 use Rattle.aig_dimacs.proofs.Comments.{ArePassed, StaysInside, decimal_inside, ends-append, ends-line_feed, inside-append, inside-cons, line_passed, parse_formula-passed, passed-append, passed-flat_map, sign_inside}
 use Rattle.aig_dimacs.proofs.Reading.{parse_formula-dimacs_of}
 use Rattle.aig_format.proofs.Words.{File, circuit_of}
-use Rattle.aig_unrolled.proofs.Asking.{asks, encodes}
-use Rattle.aig_unrolled.specs.Unrolled.{IsUnrolledOf, UnrolledCircuit}
+use Rattle.aig_runs.proofs.Asking.{asks, encodes}
+use Rattle.aig_runs.specs.Unrolled.{IsUnrolledOf, UnrolledCircuit}
 use Rattle.aig_bounded_answers.specs.declared.clauses.BoundedClauses.{BoundedClauses}
 use Rattle.aig_checks.specs.Bounded.{bounded_comments, letter_of, place_line}
 use Rattle.aig_checks.specs.Comments.{bad_line, comments_of, input_line, input_lines, latch_comment, literal_line}

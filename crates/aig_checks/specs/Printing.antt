@@ -9,7 +9,7 @@ use Rattle.aig_dimacs.specs.Text.{IsFormula, dimacs_of}
 use Rattle.aig_encode.specs.declared.encoding.Encoded.{Encoded}
 use Rattle.aig_output.specs.Sinks.{Stops, WritesOrStops}
 use Rattle.aig_runs.specs.Queries.{query_clauses}
-use Rattle.aig_unrolled.specs.Unrolled.{UnrolledCircuit}
+use Rattle.aig_runs.specs.Unrolled.{UnrolledCircuit}
 use Rattle.aig_solutions.specs.Checked.{RefusesSolution, SaysWitness}
 use Rattle.aig_witness.specs.Witness.{Witness, witness_text}
 use Rattle.aig_witness.specs.Shown.{IsKnownWitness}

@@ -14,8 +14,8 @@ use aig::{AigEdge, AigLatch};
 use aig_base::{Lit, Sink, StreamFault, Var};
 use aig_circuit::CircuitView;
 use aig_output::OutputBuffer;
+use aig_runs::Unrolled;
 use aig_solutions::Places;
-use aig_unrolled::Unrolled;
 
 /// The sign of a literal.
 fn sign(lit: Lit) -> &'static [u8]

@@ -28,8 +28,8 @@ use Rattle.aig_commands.specs.declared.command.Command.TheVariants as commands
 use Rattle.aig_commands.specs.declared.tool.ToolError.{ToolError}
 use Rattle.aig_commands.specs.Printing.{PrintsClauses}
 use Rattle.aig_commands.specs.Running.{Answers, Runs, steps_of}
-use Rattle.aig_unrolled.specs.Unrolled.{IsUnrolledOf, UnrolledCircuit}
-use Rattle.aig_unrolled.proofs.Asking.{asks, encodes}
+use Rattle.aig_runs.specs.Unrolled.{IsUnrolledOf, UnrolledCircuit}
+use Rattle.aig_runs.proofs.Asking.{asks, encodes}
 use Rattle.aig_commands.proofs.Answering.{clauses_answer, is_text}
 use Rattle.aig_commands.proofs.Outcomes.{clauses_end, not_encoded}
 

@@ -14,8 +14,8 @@ use Rattle.aig_reader.specs.Verdicts.{Accepted, IsOfFile, IsSaidOf, Judges, verd
 use Rattle.aig_unroll.proofs.NoStep.{unrolls-none}
 use Rattle.aig_unroll.specs.Places.{unrolled_size}
 use Rattle.aig_unroll.specs.Unroll.{UnrollsTo}
-use Rattle.aig_unrolled.proofs.Asking.{unrolls_to}
-use Rattle.aig_unrolled.specs.Unrolled.{IsUnrolledOf, UnrolledCircuit, Unrolls}
+use Rattle.aig_runs.proofs.Asking.{unrolls_to}
+use Rattle.aig_runs.specs.Unrolled.{IsUnrolledOf, UnrolledCircuit, Unrolls}
 use Rattle.aig_commands.specs.Unrolled.{UnrollsOrRefuses}
 
 module _ (lists : CircuitLists) (limit k : ℕ) where

@@ -5,7 +5,7 @@ use Rattle.aig_circuit.specs.Circuit.{Circuit}
 use Rattle.aig_encode.specs.declared.error.EncodeError.{EncodeError}
 use Rattle.aig_encode.specs.declared.error.EncodeError.TheVariants as errors
 use Rattle.aig_unroll.specs.Places.{unrolled_size}
-use Rattle.aig_unrolled.specs.Unrolled.{UnrolledCircuit, Unrolls}
+use Rattle.aig_runs.specs.Unrolled.{UnrolledCircuit, Unrolls}
 
 -- it has the further steps, or memory is wanting, within the limit, and it is refused beyond that
 abbrev pub UnrollsOrRefuses : Circuit → ℕ → ℕ → Result UnrolledCircuit EncodeError → Type 0

@@ -19,7 +19,7 @@ ghost use Rattle.aig_reader.specs.Reading.{IsReadAs};
 ghost use Rattle.aig_reader.specs.Verdicts.{Judges, verdict_by};
 ghost use Rattle.aig_runs.specs.Queries as queries;
 ghost use Rattle.aig_unroll.specs.Places.{unrolled_size};
-ghost use Rattle.aig_unrolled.specs.Unrolled.{IsUnrolledOf};
+ghost use Rattle.aig_runs.specs.Unrolled.{IsUnrolledOf};
 
 use crate::tool::ToolError;
 use aig::ReadError;
@@ -28,7 +28,7 @@ use aig_circuit::{CircuitLists, CircuitView};
 use aig_cnf::{NeededGates, find_needed};
 use aig_dimacs::write_circuit;
 use aig_encode::EncodeError;
-use aig_unrolled::Unrolled;
+use aig_runs::Unrolled;
 use std::alloc::Global;
 
 /// Whether a circuit with `k` further steps has at most `limit` nodes, by the bound that `unroll_to` keeps.

@@ -21,3 +21,4 @@ mod Differing
 pub mod Below
 mod Windows
 mod SafetyExamples
+pub mod Asking

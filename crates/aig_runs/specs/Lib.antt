@@ -8,3 +8,4 @@ pub mod Inductive
 pub mod Induction
 pub mod WindowClauses
 pub mod Certificate
+pub mod Unrolled

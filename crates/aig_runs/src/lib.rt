@@ -6,6 +6,7 @@ mod circuits;
 mod clauses;
 mod laws;
 mod safety;
+mod unrolled;
 mod window;
 
 pub use circuits::{refuted_circuit_queries_have_no_witness, safe_circuits_are_safe_machines};
@@ -20,4 +21,5 @@ pub use safety::{
     refutations_are_safe, refuted_queries_have_no_witness, refuted_windows_are_inductive,
     safe_steps_are_safe,
 };
+pub use unrolled::Unrolled;
 pub use window::Window;

@@ -3,8 +3,8 @@ use Rattle.aig_circuit.specs.Circuit.{Circuit, IsCircuit}
 use Rattle.aig_circuit.specs.View.{lists_circuit}
 use Rattle.aig_unroll.proofs.NoStep.{unrolls-none}
 use Rattle.aig_unroll.specs.Unroll.{UnrollsTo}
-use Rattle.aig_unrolled.specs.Unrolled.{IsUnrolled}
-use Rattle.aig_unrolled.proofs.unrolled.Unrolled.new.Goals as goal
+use Rattle.aig_runs.specs.Unrolled.{IsUnrolled}
+use Rattle.aig_runs.proofs.unrolled.Unrolled.new.Goals as goal
 
 -- a circuit is itself without a further step
 by_none : (c : Circuit) (k : ℕ) → k ≡ 0 → IsCircuit c

@@ -5,8 +5,9 @@ ghost use Rattle.aig_base.specs.Clauses.{AreBelow};
 ghost use Rattle.aig_circuit.specs.Circuit.{IsCircuit};
 ghost use Rattle.aig_circuit.specs.View.{lists_circuit};
 ghost use Rattle.aig_runs.specs.Queries as queries;
-ghost use Rattle.aig_unrolled.specs.Unrolled.{IsUnrolled, Unrolls};
+ghost use Rattle.aig_runs.specs.Unrolled.{IsUnrolled, Unrolls};
 
+use crate::clauses::query_clauses;
 use aig_base::{LitVvec, MemoryError};
 use aig_circuit::{AigEdge, CircuitLists, CircuitView};
 use aig_unroll::unroll_to;
@@ -22,7 +23,7 @@ pub struct Unrolled {
 }
 
 impl Model for Unrolled {
-    ghost use Rattle.aig_unrolled.specs.Unrolled.{UnrolledCircuit};
+    ghost use Rattle.aig_runs.specs.Unrolled.{UnrolledCircuit};
 
     ghost Value = { UnrolledCircuit };
 
@@ -33,7 +34,7 @@ impl Model for Unrolled {
     ghost coded = { Prim.hlevel
         (codes, finite_map.code {R = nat_cmp} coded_ℕ (coded_list coded_ℕ)) };
 
-    ghost use Rattle.aig_unrolled.specs.Unrolled.{IsUnrolled, unrolled_lists};
+    ghost use Rattle.aig_runs.specs.Unrolled.{IsUnrolled, unrolled_lists};
 
     ghost view = { λ u. unrolled_lists u.circuit u.steps u.further };
 
@@ -108,7 +109,7 @@ impl Unrolled {
     {
         let circuit = self.circuit();
         let unrolled = self.unrolled();
-        aig_runs::query_clauses(
+        query_clauses(
             alloc,
             circuit.latchs(),
             unrolled.constraints(),

@@ -2,8 +2,8 @@ use Rattle.std.proofs.Common.{◌≡◌, ℕ, ◌+◌, ◌*◌, List, length, sy
 use Rattle.aig_circuit.specs.Circuit.{Circuit}
 use Rattle.aig_circuit.specs.declared.edge.AigEdge.{AigEdge}
 use Rattle.aig_runs.proofs.Below.{bads_count}
-use Rattle.aig_unrolled.specs.Unrolled.{IsUnrolled, UnrolledCircuit}
-use Rattle.aig_unrolled.proofs.unrolled.Unrolled.last_bads.Goals as goal
+use Rattle.aig_runs.specs.Unrolled.{IsUnrolled, UnrolledCircuit}
+use Rattle.aig_runs.proofs.unrolled.Unrolled.last_bads.Goals as goal
 
 -- the bad edges are those of all steps
 room_for : (u : UnrolledCircuit) → IsUnrolled u → (k : ℕ) (c d : Circuit) (bads all : List AigEdge)

@@ -2,7 +2,7 @@ use Rattle.aig_base.proofs.Words.{◌≡◌, length, sym, subst, IfOk, IfOk-weak
 use Rattle.aig_base.specs.Clauses.{AreBelow}
 use Rattle.aig_runs.proofs.Below.{query_below}
 use Rattle.aig_runs.specs.Queries as queries
-use Rattle.aig_unrolled.proofs.unrolled.Unrolled.query_clauses.Goals as goal
+use Rattle.aig_runs.proofs.unrolled.Unrolled.query_clauses.Goals as goal
 
 pub returns-clause-below : goal.returns-clause-below
 returns-clause-below c =

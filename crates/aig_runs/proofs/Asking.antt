@@ -10,7 +10,7 @@ use Rattle.aig_runs.specs.Queries.{IsQueryOf, query_clauses}
 use Rattle.aig_runs.proofs.FileRuns.{files_are_encoded}
 use Rattle.aig_runs.proofs.Queries.{queries_ask}
 use Rattle.aig_unroll.specs.Unroll.{UnrollsTo}
-use Rattle.aig_unrolled.specs.Unrolled.{IsUnrolledOf, UnrolledCircuit, Unrolls}
+use Rattle.aig_runs.specs.Unrolled.{IsUnrolledOf, UnrolledCircuit, Unrolls}
 
 pub unrolls_to : (c : Circuit) (k : ℕ) (u : UnrolledCircuit) → Unrolls c k u
     → UnrollsTo c k u.unrolled
