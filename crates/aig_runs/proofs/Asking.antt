@@ -1,5 +1,5 @@
 -- The clauses of a file's circuit with further steps ask for the file's runs and witnesses.
-use Rattle.aig_base.proofs.Words.{◌≡◌, ℕ, ◌≤◌, Bool, List, length, sym, subst}
+use Rattle.aig_base.proofs.Words.{◌≡◌, ℕ, Bool, List, sym, subst}
 use Rattle.aig_base.specs.declared.logic.literal.Lit.{Lit}
 use Rattle.aig_circuit.specs.Circuit.{Circuit}
 use Rattle.aig_cnf.specs.Cnf.{HasClauses}
