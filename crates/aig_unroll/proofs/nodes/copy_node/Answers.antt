@@ -1,10 +1,9 @@
-use Rattle.aig_base.proofs.Words.{Ok, Err, Result, ◌≡◌, ◌&&◌, ◌<◌, ◌≤◌, ℕ, false, List, [], ◌++◌, length, append-nil, refl, sym, ap, ◌∙◌, arith, IfOk, IfOk-weaker}
+use Rattle.aig_base.proofs.Words.{Ok, Err, Result, ◌≡◌, ◌<◌, ◌≤◌, ℕ, List, [], ◌++◌, length, append-nil, refl, sym, ap, ◌∙◌, arith, IfOk, IfOk-weaker}
 use Rattle.aig_circuit.specs.declared.node.AigNodeType.TheVariants.{And, False, Leaf}
-use Rattle.aig_circuit.specs.Tree.{edge_value}
 use Rattle.aig_circuit.proofs.Trees.{kind_at-within}
 use Rattle.aig_circuit.proofs.Building.{Grows-itself}
 use Rattle.aig_unroll.specs.Step.Copies.{false_node, gate, latch_leaf, other_leaf}
-use Rattle.aig_unroll.specs.Step.{image_at, image_in}
+use Rattle.aig_unroll.specs.Step.{image_at}
 use Rattle.aig_unroll.specs.Places.{leaves_after}
 use Rattle.aig_unroll.proofs.Copied.{added_leaves-gates, added_leaves-leaf, at_most_one_more, kind_read, leaf_in_range, leaves_after-all, operands_there}
 use Rattle.aig_unroll.proofs.Pushed.{if_ok, on_err}
