@@ -17,7 +17,8 @@ abbrev pub with_node : List AigNode → AigNodeType → List AigNode
 with_node nodes kind = nodes ++ record { node_id = length nodes; typ = kind } ∷ []
 
 -- the edge e has its node among these, and its value is `wanted x` for all leaf values x
-pub record GivesEdge (nodes : List AigNode) (wanted : (ℕ → Bool) → Bool) (e : AigEdge) : Type 0 where
+pub record GivesEdge (nodes : List AigNode) (wanted : (ℕ → Bool) → Bool) (e : AigEdge)
+    : Type 0 where
   pub there : IsInRange nodes e
   pub value : (x : ℕ → Bool) → edge_value nodes x e ≡ wanted x
 
