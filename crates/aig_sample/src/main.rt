@@ -4,7 +4,8 @@
 
 mod counter;
 
-ghost use Rattle.std.specs.Prelude.{◌≡◌, ◌<◌, ◌&&◌, ◌||◌, ℕ, Bool, IfOk, length, not, slice_index_or};
+ghost use Rattle.std.specs.Prelude.{◌<◌, ◌&&◌, ◌||◌, IfOk, length, not, slice_index_or};
+ghost use Rattle.aig_circuit.specs.Build.{GivesEdge};
 ghost use Rattle.aig_circuit.specs.Circuit.{IsInRange};
 ghost use Rattle.aig_circuit.specs.Tree.{edge_value};
 
@@ -35,9 +36,7 @@ enum SampleError {
 fn output_where(aig: &mut Aig, enable: AigEdge) -> Result<AigEdge, MemoryError>
     requires some { 0 < length aig.old.properties.outputs }
     requires enable { IsInRange aig.old.nodes enable }
-    ensures edge { IfOk result (λ e. IsInRange aig.new.nodes e) }
-    ensures value { IfOk result (λ e. (x : ℕ → Bool) → edge_value aig.new.nodes x e
-        ≡ (not (edge_value aig.old.nodes x enable)
+    ensures { IfOk result (GivesEdge aig.new.nodes (λ x. not (edge_value aig.old.nodes x enable)
         || (edge_value aig.old.nodes x (slice_index_or aig.old.properties.outputs 0 enable)
         && edge_value aig.old.nodes x enable))) }
 {
