@@ -1,7 +1,8 @@
 -- What is read at the front of a list of bytes, byte after byte.
 use Rattle.std.proofs.Common.{◌≡◌, ℕ, ◌+◌, ◌<◌, List, [], ◌∷◌, ◌++◌, Option, length, take, slice_index_or, ap, ◌∙◌, append_assoc, arith}
 use Rattle.std.specs.Char.{IsNotAsciiDigit}
-use Rattle.aig_base.proofs.Words.{take_more}
+use Rattle.aig_format.specs.Parse.{is_digit}
+use Rattle.aig_base.proofs.Words.{false, nat_tests, take_more}
 use Rattle.aig_format.proofs.NumberReaders.{OtherThanDigit}
 
 -- one byte more is read, after those before it
@@ -17,3 +18,6 @@ reads_more p q r bytes i inside before next rest =
 -- a byte that std takes for no digit
 pub is_other_than_digit : (b : ℕ) → IsNotAsciiDigit b → OtherThanDigit b
 is_other_than_digit b h = grind arith
+
+pub no_digit : (b : ℕ) → IsNotAsciiDigit b → is_digit b ≡ false
+no_digit b h = grind (arith, nat_tests)

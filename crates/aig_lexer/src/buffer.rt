@@ -1,6 +1,7 @@
 //! A buffer of bytes in front of a source.
 
-ghost use Rattle.std.specs.Prelude.{◌≡◌, ◌≤◌, [], List, ℕ, drop, length, slice_range, OnErr};
+ghost use Rattle.std.specs.Io.KnownBytes.{Consumes, IsAtEnd};
+ghost use Rattle.std.specs.Prelude.{◌≡◌, ◌<◌, ◌≤◌, [], List, ℕ, drop, length, slice_range, take, true, IfOk, OnErr, OnOk};
 ghost use Rattle.aig_lexer.specs.Bytes.{Fills, Pops};
 ghost use Rattle.aig_lexer.specs.Takes.{StepsOrFails, feed};
 ghost use Rattle.aig_lexer.specs.declared.buffer.TheConstants.{SIZE};
@@ -10,6 +11,25 @@ use std::marker::Model;
 
 /// How many bytes a buffer has room for.
 const SIZE: usize = 1 << 14;
+
+/// Pulls bytes until there are this many, or the source ends, and returns how many there are.
+fn pull_front<R: Source>(r: &mut R, bytes: &mut [u8], count: usize) -> Result<usize, StreamFault>
+    requires { count ≤ length bytes.old }
+    ensures bound { IfOk result (λ n. n ≤ length bytes.new) }
+    ensures moved { IfOk result (λ n. Consumes (R.left r.old) (R.left r.new) (take n bytes.new)) }
+    ensures enough { IfOk result (λ n. n < count → IsAtEnd (R.left r.new)) }
+    ensures failed { OnErr result (R.failed r.new ≡ true) }
+{
+    let mut end = 0;
+    while end < count {
+        let pulled = r.pull(&mut bytes[end..])?;
+        if pulled == 0 {
+            break;
+        }
+        end += pulled;
+    }
+    Ok(end)
+}
 
 /// Bytes of a source, in order, that were pulled and not yet taken.
 #[derive(Drop)]
@@ -62,6 +82,21 @@ impl InputBuffer {
         self.at = 0;
         self.end = 0;
         self.end = r.pull(&mut self.bytes)?;
+        Ok(())
+    }
+
+    /// Pulls bytes of the source until there are `count`, or it ends, and takes none. Requires that no byte is in the buffer, and
+    /// that it has room for so many.
+    pub fn hold<R: Source>(&mut self, r: &mut R, count: usize) -> Result<(), StreamFault>
+        requires none { self.old ≡ [] }
+        requires room { count ≤ SIZE }
+        ensures moved { OnOk result (Consumes (R.left r.old) (R.left r.new) self.new) }
+        ensures enough { OnOk result (length self.new < count → IsAtEnd (R.left r.new)) }
+        ensures failed { OnErr result (R.failed r.new ≡ true) }
+    {
+        self.at = 0;
+        self.end = 0;
+        self.end = pull_front(r, &mut self.bytes, count)?;
         Ok(())
     }
 

@@ -1,6 +1,6 @@
 //! Words of the format: bytes, numbers, lines of numbers, and differences.
 
-ghost use Rattle.std.specs.Prelude.{◌≡◌, ◌^◌, ◌+◌, ◌-◌, ◌++◌, ◌<◌, ◌≤◌, ℕ, List, Some, length, take, IfSome};
+ghost use Rattle.std.specs.Prelude.{◌≡◌, ◌+◌, ◌-◌, ◌++◌, ◌<◌, ◌≤◌, ℕ, List, Some, length, take, IfSome};
 ghost use Rattle.std.specs.Char.{IsNotAsciiDigit};
 ghost use Rattle.std.specs.Int.{IsInRange};
 ghost use Rattle.aig_format.specs.Parse.{
@@ -12,6 +12,7 @@ ghost use Rattle.aig_format.specs.Parse.{
   parse_number,
   parse_pair,
 };
+ghost use Rattle.aig_lexer.specs.Digits.{GivesDigits};
 ghost use Rattle.aig_lexer.specs.Faults.{word_cause};
 ghost use Rattle.aig_lexer.specs.Takes.{Gives, feed};
 ghost use Rattle.aig_lexer.specs.Words.{parse_number_from};
@@ -79,27 +80,49 @@ pub(crate) fn number_in(bytes: &[u8]) -> Option<(u32, u8, usize)>
     }
 }
 
-/// Reads on in a number whose value so far is `first`, byte by byte.
+/// Reads on in a number after its first digit, byte by byte, as `digits_from` does.
 #[cold]
-fn number_by_bytes<R: Source>(
+fn digits_by_bytes<R: Source>(
     buffer: &mut InputBuffer,
     r: &mut R,
     first: u64,
-) -> Result<(u32, u8), LexError>
-    requires { first < 2 ^ 32 }
-    ensures { Gives word_cause (λ x. (x.0, x.1)) (feed R.left R.failed R.pulls buffer.old r.old)
-        (feed R.left R.failed R.pulls buffer.new r.new) result (parse_digits first) }
+) -> Result<(u32, Option<u8>), LexError>
+    requires { first < 10 }
+    ensures { GivesDigits first (feed R.left R.failed R.pulls buffer.old r.old)
+        (feed R.left R.failed R.pulls buffer.new r.new) result }
 {
     let mut value = first;
-    loop {
-        let b = next_byte(buffer, r)?;
+    while let Some(b) = buffer.next(r)? {
         if !b.is_ascii_digit() {
-            return Ok((value as u32, b));
+            return Ok((value as u32, Some(b)));
         }
         value = 10 * value + (b - b'0') as u64;
         if value > u32::MAX as u64 {
             return Err(LexError::Shape);
         }
+    }
+    Ok((value as u32, None))
+}
+
+/// Reads on in a number after its first digit, whose value is `first`: the number, and the byte after it, or none at the end of
+/// the stream.
+///
+/// Returns `Shape` where the number isn't below 2^32, and `Stream` where a read failed.
+pub fn digits_from<R: Source>(
+    buffer: &mut InputBuffer,
+    r: &mut R,
+    first: u64,
+) -> Result<(u32, Option<u8>), LexError>
+    requires { first < 10 }
+    ensures { GivesDigits first (feed R.left R.failed R.pulls buffer.old r.old)
+        (feed R.left R.failed R.pulls buffer.new r.new) result }
+{
+    match digits_in(buffer.window(), first) {
+        Some((value, end, count)) => {
+            buffer.consume(count);
+            Ok((value, Some(end)))
+        }
+        None => digits_by_bytes(buffer, r, first),
     }
 }
 
@@ -118,14 +141,11 @@ pub fn number_from<R: Source>(
     if !first.is_ascii_digit() {
         return Err(LexError::Shape);
     }
-    let digit = (first - b'0') as u64;
-    match digits_in(buffer.window(), digit) {
-        Some((value, end, count)) => {
-            buffer.consume(count);
-            Ok((value, end))
-        }
-        None => number_by_bytes(buffer, r, digit),
-    }
+    let (value, end) = digits_from(buffer, r, (first - b'0') as u64)?;
+    let Some(end) = end else {
+        return Err(LexError::Shape);
+    };
+    Ok((value, end))
 }
 
 /// Reads a number as `number_from` does, its first byte by itself.

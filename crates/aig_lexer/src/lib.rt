@@ -12,6 +12,6 @@ pub use aig_format::FileKind;
 pub use buffer::InputBuffer;
 pub use error::{LexError, LineError};
 pub use header::{Header, header_line};
-pub use lexer::{delta, ended, next_line, number_from, pair};
+pub use lexer::{delta, digits_from, ended, next_line, number_from, pair};
 pub use list::append;
 pub use signed::{Signed, signed_in};

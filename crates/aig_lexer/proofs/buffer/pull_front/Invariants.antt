@@ -1,5 +1,5 @@
 use Rattle.aig_base.proofs.Words.{◌≤◌, ◌-◌, length, take, Consumes}
-use Rattle.aig_refutation.proofs.buffer.pull_front.Given as goal
+use Rattle.aig_lexer.proofs.buffer.pull_front.Given as goal
 
 abbrev pub invariant-loop-end : goal.invariant-loop-end
 invariant-loop-end g l = record {

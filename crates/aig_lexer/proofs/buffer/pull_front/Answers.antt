@@ -1,7 +1,7 @@
 use Rattle.aig_base.proofs.Words.{◌≡◌, ℕ, zero, suc, ◌+◌, ◌-◌, ◌≤◌, List, [], ◌∷◌, ◌++◌, length, take, subst, sym, ap, ◌∙◌, length-append, arith, Consumes, Consumes-trans, length-take-le, take-take}
 use Rattle.std.proofs.lemmas.Slice.{take-put_mid}
 use borrow.Rule.Slice.PartMut.{post_of, put_mid}
-use Rattle.aig_refutation.proofs.buffer.pull_front.Goals as goal
+use Rattle.aig_lexer.proofs.buffer.pull_front.Goals as goal
 
 -- a list, and then the first of others
 part_front : (xs ys : List ℕ) (m n : ℕ) → m ≡ length xs + n → take m (xs ++ ys) ≡ xs ++ take n ys
