@@ -1,5 +1,5 @@
 -- The digits of a number, one after another.
-use Rattle.aig_base.proofs.Words.{◌≡◌, ℕ, ◌+◌, ◌-◌, ◌*◌, ◌^◌, ◌<◌, ◌≤◌, Bool, true, false, cond, List, [], ◌∷◌, ◌++◌, take, drop, Option, Some, None, refl, sym, ap, subst, ◌∙◌, append_assoc, append-nil, arith, nat_lt, lt-ltb, le-ltb, ltb-true, same_Some}
+use Rattle.aig_base.proofs.Words.{◌≡◌, ℕ, ◌+◌, ◌-◌, ◌*◌, ◌^◌, ◌<◌, ◌≤◌, Bool, true, false, cond, List, [], ◌∷◌, ◌++◌, take, drop, Option, Some, None, refl, sym, ap, subst, ◌∙◌, append_assoc, append-nil, nat_lt, lt-ltb, le-ltb, ltb-true, same_Some}
 use Rattle.std.specs.Prelude.{◌&&◌}
 use Rattle.std.proofs.KnownBytes.{Consumes-whole}
 use Rattle.aig_format.specs.Parse.{is_digit, parse_digits}
@@ -9,33 +9,36 @@ use Rattle.aig_lexer.specs.Takes.{Advances, Ends, Feed, Misses, Steps, Takes, fe
 use Rattle.aig_lexer.proofs.Feeds.{advances_front, advances_none, advances_on, ends_on, steps_byte, steps_end}
 use Rattle.aig_lexer.proofs.Going.{known_after}
 
-pub number_none : (value : ℕ) → number_after value [] ≡ Some value
+pub number_after-nil : (value : ℕ) → number_after value [] ≡ Some value
 unfolding number_after
-number_none value = refl
+number_after-nil value = refl
 
 -- one digit more in front
-pub number_digit : (value b : ℕ) (bs : List ℕ) → is_digit b ≡ true → 10 * value + (b - 48) < 2 ^ 32
+pub number_after-digit : (value b : ℕ) (bs : List ℕ) → is_digit b ≡ true
+    → 10 * value + (b - 48) < 2 ^ 32
     → number_after value (b ∷ bs) ≡ number_after (10 * value + (b - 48)) bs
 unfolding number_after
-number_digit value b bs digit small = rw (digit, lt-ltb _ _ small) refl
+number_after-digit value b bs digit small = rw (digit, lt-ltb _ _ small) refl
 
 -- a byte that is none, or with which the number is too large
-pub number_other : (value b : ℕ) (bs : List ℕ) → is_digit b ≡ false
+pub number_after-other : (value b : ℕ) (bs : List ℕ) → is_digit b ≡ false
     → number_after value (b ∷ bs) ≡ None
 unfolding number_after
-number_other value b bs other = rw other refl
+number_after-other value b bs other = rw other refl
 
-pub number_large : (value b : ℕ) (bs : List ℕ) → is_digit b ≡ true → 2 ^ 32 ≤ 10 * value + (b - 48)
+pub number_after-large : (value b : ℕ) (bs : List ℕ) → is_digit b ≡ true
+    → 2 ^ 32 ≤ 10 * value + (b - 48)
     → number_after value (b ∷ bs) ≡ None
 unfolding number_after
-number_large value b bs digit large = rw (digit, le-ltb _ _ large) refl
+number_after-large value b bs digit large = rw (digit, le-ltb _ _ large) refl
 
 -- the first digit of a number
 pub number_first : (value b : ℕ) (bs : List ℕ) (n : ℕ) → number_after value (b ∷ bs) ≡ Some n
     → (is_digit b ≡ true) × (10 * value + (b - 48) < 2 ^ 32)
     × (number_after (10 * value + (b - 48)) bs ≡ Some n)
 unfolding number_after
-number_first value b bs n is = by (is_digit b) (nat_lt (10 * value + (b - 48)) (2 ^ 32)) refl refl is
+number_first value b bs n is =
+    by (is_digit b) (nat_lt (10 * value + (b - 48)) (2 ^ 32)) refl refl is
   where
     by : (digit small : Bool) → is_digit b ≡ digit → nat_lt (10 * value + (b - 48)) (2 ^ 32) ≡ small
         → cond (digit && small) (number_after (10 * value + (b - 48)) bs) None ≡ Some n
@@ -46,13 +49,14 @@ number_first value b bs n is = by (is_digit b) (nat_lt (10 * value + (b - 48)) (
     by false small digit is k = absurd cc
 
 -- digits after digits
-pub number_more : (value : ℕ) (xs ys : List ℕ) (n : ℕ) → number_after value xs ≡ Some n
+pub number_after-append : (value : ℕ) (xs ys : List ℕ) (n : ℕ) → number_after value xs ≡ Some n
     → number_after value (xs ++ ys) ≡ number_after n ys
-number_more value [] ys n is =
-    ap (λ (v : ℕ). number_after v ys) (same_Some value n (sym (number_none value) ∙ is))
-number_more value (x ∷ xs) ys n is =
+number_after-append value [] ys n is =
+    ap (λ (v : ℕ). number_after v ys) (same_Some value n (sym (number_after-nil value) ∙ is))
+number_after-append value (x ∷ xs) ys n is =
     let d = number_first value x xs n is in
-    number_digit value x (xs ++ ys) d.0 d.1 ∙ number_more (10 * value + (x - 48)) xs ys n d.2
+    number_after-digit value x (xs ++ ys) d.0 d.1
+    ∙ number_after-append (10 * value + (x - 48)) xs ys n d.2
 
 -- ---- digits that are read byte by byte
 
@@ -64,20 +68,21 @@ pub record DigitsTaken (first : ℕ) (start now : Feed) (value : ℕ) : Type 0 w
 
 pub digits_start : (first : ℕ) (start : Feed) → DigitsTaken first start start first
 digits_start first start =
-    record { digits = []; is = number_none first; came = advances_none start }
+    record { digits = []; is = number_after-nil first; came = advances_none start }
 
-module _ (first : ℕ) (start now after : Feed) (value : ℕ) (so_far : DigitsTaken first start now value)
-    (o : Option ℕ) (step : Steps now after o) where
+module _ (first : ℕ) (start now after : Feed) (value : ℕ)
+    (so_far : DigitsTaken first start now value) (o : Option ℕ) (step : Steps now after o) where
   module _ (b : ℕ) (is : o ≡ Some b) where
     one_more : Advances start after (so_far.digits ++ b ∷ [])
-    one_more = advances_on start now after so_far.digits (b ∷ []) so_far.came (steps_byte now after o step b is)
+    one_more = advances_on start now after so_far.digits (b ∷ []) so_far.came
+        (steps_byte now after o step b is)
 
     pub digits_more : is_digit b ≡ true → 10 * value + (b - 48) < 2 ^ 32
         → DigitsTaken first start after (10 * value + (b - 48))
     digits_more digit small = record {
       digits = so_far.digits ++ b ∷ [];
-      is = number_more first so_far.digits (b ∷ []) value so_far.is
-          ∙ number_digit value b [] digit small ∙ number_none (10 * value + (b - 48));
+      is = number_after-append first so_far.digits (b ∷ []) value so_far.is
+          ∙ number_after-digit value b [] digit small ∙ number_after-nil (10 * value + (b - 48));
       came = one_more;
     }
 
@@ -109,13 +114,13 @@ module _ (first : ℕ) (start now after : Feed) (value : ℕ) (so_far : DigitsTa
 -- ---- digits that lie among the bytes that are held
 
 -- digits were read up to a byte that is none
-record AreRead (value : ℕ) (bytes : List ℕ) (n e : ℕ) (rest : List ℕ) : Type 0 where
-  digits : List ℕ
-  whole : bytes ≡ digits ++ e ∷ rest
-  is : number_after value digits ≡ Some n
-  other : is_digit e ≡ false
+pub record AreRead (value : ℕ) (bytes : List ℕ) (n e : ℕ) (rest : List ℕ) : Type 0 where
+  pub digits : List ℕ
+  pub whole : bytes ≡ digits ++ e ∷ rest
+  pub is : number_after value digits ≡ Some n
+  pub other : is_digit e ≡ false
 
-digits_read : (value : ℕ) (bytes : List ℕ) (n e : ℕ) (rest : List ℕ)
+pub digits_read : (value : ℕ) (bytes : List ℕ) (n e : ℕ) (rest : List ℕ)
     → parse_digits value bytes ≡ Some ((n, e), rest) → AreRead value bytes n e rest
 unfolding parse_digits
 digits_read value [] n e rest h = absurd cc
@@ -126,21 +131,22 @@ digits_read value (b ∷ bs) n e rest h =
     by : (digit small : Bool) → is_digit b ≡ digit → nat_lt (10 * value + (b - 48)) (2 ^ 32) ≡ small
         → (parse_digits (10 * value + (b - 48)) bs ≡ Some ((n, e), rest)
         → AreRead (10 * value + (b - 48)) bs n e rest)
-        → cond digit (cond small (parse_digits (10 * value + (b - 48)) bs) None) (Some ((value, b), bs))
+        → cond digit (cond small (parse_digits (10 * value + (b - 48)) bs) None)
+        (Some ((value, b), bs))
         ≡ Some ((n, e), rest)
         → AreRead value (b ∷ bs) n e rest
     by true true digit small on k =
         let more = on k in record {
           digits = b ∷ more.digits;
           whole = ap (λ (l : List ℕ). b ∷ l) more.whole;
-          is = number_digit value b more.digits digit (ltb-true _ _ small) ∙ more.is;
+          is = number_after-digit value b more.digits digit (ltb-true _ _ small) ∙ more.is;
           other = more.other;
         }
     by true false digit small on k = absurd cc
     by false small digit is on k =
         let same : ((value, b), bs) ≡ ((n, e), rest) = same_Some _ _ k in
         subst (λ (x : (ℕ × ℕ) × List ℕ). AreRead value (b ∷ bs) x.0.0 x.0.1 x.1) same
-        (record { digits = []; whole = refl; is = number_none value; other = digit })
+        (record { digits = []; whole = refl; is = number_after-nil value; other = digit })
 
 pub digits_near : {S : Type 0} (left : S → Option (List ℕ)) (failed : S → Bool) (pulls : S → ℕ)
     (first : ℕ) (hand held rest : List ℕ) (count : ℕ) (s : S) (n e : ℕ) → hand ≡ held
@@ -160,15 +166,15 @@ digits_near left failed pulls first hand held rest count s n e is others reads =
 
 -- ---- a number that a byte has to end
 
-digits_on : (value n : ℕ) (ds rest : List ℕ) → number_after value ds ≡ Some n
+parse_digits-append : (value n : ℕ) (ds rest : List ℕ) → number_after value ds ≡ Some n
     → parse_digits value (ds ++ rest) ≡ parse_digits n rest
-digits_on value n [] rest is =
-    ap (λ (v : ℕ). parse_digits v rest) (same_Some value n (sym (number_none value) ∙ is))
-digits_on value n (d ∷ ds) rest is =
+parse_digits-append value n [] rest is =
+    ap (λ (v : ℕ). parse_digits v rest) (same_Some value n (sym (number_after-nil value) ∙ is))
+parse_digits-append value n (d ∷ ds) rest is =
     let first = number_first value d ds n is in
     let digit = digit_true d first.0 in
     digits_go value d digit.0 digit.1 first.1 (ds ++ rest)
-    ∙ digits_on (10 * value + (d - 48)) n ds rest first.2
+    ∙ parse_digits-append (10 * value + (d - 48)) n ds rest first.2
 
 stops : (n e : ℕ) (rest : List ℕ) → is_digit e ≡ false
     → parse_digits n (e ∷ rest) ≡ Some ((n, e), rest)
@@ -181,7 +187,7 @@ digits_then : (value n : ℕ) (ds rest : List ℕ) (b : ℕ) (x : Option ((ℕ �
     → parse_digits value ((ds ++ b ∷ []) ++ rest) ≡ x
 digits_then value n ds rest b x is then =
     ap (parse_digits value) (append_assoc ds (b ∷ []) rest)
-    ∙ digits_on value n ds (b ∷ rest) is ∙ then
+    ∙ parse_digits-append value n ds (b ∷ rest) is ∙ then
 
 module _ (first : ℕ) (before after : Feed) where
   pub takes_number : (n e : ℕ) → TakesDigits first before after n (Some e)
@@ -198,7 +204,8 @@ module _ (first : ℕ) (before after : Feed) where
   misses_end n t =
       Consumes-whole before.coming after.coming t.digits (λ bytes. parse_digits first bytes ≡ None)
       t.came.consumed t.came.at_end
-      (ap (parse_digits first) (sym (append-nil t.digits)) ∙ digits_on first n t.digits [] t.is
+      (ap (parse_digits first) (sym (append-nil t.digits))
+      ∙ parse_digits-append first n t.digits [] t.is
       ∙ digits_end n)
 
   pub misses_large : TakesTooMany first before after → Misses (parse_digits first) before

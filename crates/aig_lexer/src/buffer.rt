@@ -103,6 +103,7 @@ impl InputBuffer {
     /// Takes the next byte, from the source where there is none in the buffer, or returns none at the end.
     ///
     /// Returns an error where a read failed. No byte is in the buffer after that, so that none is given again.
+    #[inline(always)]
     pub fn next<R: Source>(&mut self, r: &mut R) -> Result<Option<u8>, StreamFault>
         ensures steps { StepsOrFails (feed R.left R.failed R.pulls self.old r.old)
             (feed R.left R.failed R.pulls self.new r.new) result }
@@ -123,6 +124,7 @@ impl InputBuffer {
     }
 
     /// Takes the first `count` bytes. Requires that there are so many in the buffer.
+    #[inline(always)]
     pub fn consume(&mut self, count: usize)
         requires { count ≤ length self.old }
         ensures { self.new ≡ drop count self.old }

@@ -5,9 +5,12 @@ use Rattle.aig_lexer.proofs.lexer.digits_by_bytes.Given as goal
 
 abbrev pub invariant-loop-b : goal.invariant-loop-b
 invariant-loop-b g l = record {
-  taken : DigitsTaken l.fn.first (feed g.R.Source.left g.R.Source.failed g.R.Source.pulls l.fn.buffer l.fn.r) (feed g.R.Source.left g.R.Source.failed g.R.Source.pulls l.buffer l.r) l.value;
+  taken : DigitsTaken l.fn.first
+      (feed g.R.Source.left g.R.Source.failed g.R.Source.pulls l.fn.buffer l.fn.r)
+      (feed g.R.Source.left g.R.Source.failed g.R.Source.pulls l.buffer l.r) l.value;
   small : l.value < 2 ^ 32;
 }
 
 abbrev pub decreases-loop-b : goal.decreases-loop-b
-decreases-loop-b g l = (feed g.R.Source.left g.R.Source.failed g.R.Source.pulls l.buffer l.r).most
+decreases-loop-b g l =
+    (feed g.R.Source.left g.R.Source.failed g.R.Source.pulls l.buffer l.r).most

@@ -13,7 +13,9 @@ use Rattle.aig_lexer.proofs.lexer.number_from.Goals as goal
 
 pub returns-then-not-is_ascii_digit : goal.returns-then-not-is_ascii_digit
 returns-then-not-is_ascii_digit g c =
-    misses_all (parse_number_from c.args.first) (feed g.R.Source.left g.R.Source.failed g.R.Source.pulls c.args.buffer.now c.args.r.now) (number_stops c.args.first (is_other_than_digit _ c.if-not-is_ascii_digit.ensures.cases))
+    misses_all (parse_number_from c.args.first)
+    (feed g.R.Source.left g.R.Source.failed g.R.Source.pulls c.args.buffer.now c.args.r.now)
+    (number_stops c.args.first (is_other_than_digit _ c.if-not-is_ascii_digit.ensures.cases))
 
 pub returns-in_err-value : goal.returns-in_err-value
 returns-in_err-value g c =
@@ -25,7 +27,9 @@ returns-in_err-value g c =
     let digits = parse_digits (c.args.first - 48) in
     rw (p.1, p.2)
     (tells-weaker (word_cause c.in_err-value.field-0.0) _ _ after.failed
-    (λ many. misses_same digits (parse_number_from c.args.first) before (misses_large (c.args.first - 48) before after many) (λ bs. sym (number_goes c.args.first digit.0 digit.1 bs)))
+    (λ many. misses_same digits (parse_number_from c.args.first) before
+    (misses_large (c.args.first - 48) before after many)
+    (λ bs. sym (number_goes c.args.first digit.0 digit.1 bs)))
     c.in_err-value.ensures)
 
 pub returns-in_default : goal.returns-in_default
@@ -35,7 +39,9 @@ returns-in_default g c =
     let after = at c.digits_from.new.buffer c.digits_from.new.r in
     let digit = c.if-not-is_ascii_digit.ensures.cases in
     misses_same (parse_digits (c.args.first - 48)) (parse_number_from c.args.first) before
-    (misses_end (c.args.first - 48) before after c.in_ok-value.value (rw c.in_default.is at c.in_ok-value.ensures)) (λ bs. sym (number_goes c.args.first digit.0 digit.1 bs))
+    (misses_end (c.args.first - 48) before after c.in_ok-value.value
+    (rw c.in_default.is at c.in_ok-value.ensures))
+    (λ bs. sym (number_goes c.args.first digit.0 digit.1 bs))
 
 pub returns : goal.returns
 returns g c =
@@ -43,5 +49,8 @@ returns g c =
     let before = at c.args.buffer.now c.args.r.now in
     let after = at c.digits_from.new.buffer c.digits_from.new.r in
     let digit = c.if-not-is_ascii_digit.ensures.cases in
-    takes_same (parse_digits (c.args.first - 48)) (parse_number_from c.args.first) before after (c.in_ok-value.value, c.in-Some.end)
-    (takes_number (c.args.first - 48) before after c.in_ok-value.value c.in-Some.end (rw c.in-Some.is at c.in_ok-value.ensures)) (λ bs. sym (number_goes c.args.first digit.0 digit.1 bs))
+    takes_same (parse_digits (c.args.first - 48)) (parse_number_from c.args.first) before after
+    (c.in_ok-value.value, c.in-Some.end)
+    (takes_number (c.args.first - 48) before after c.in_ok-value.value c.in-Some.end
+    (rw c.in-Some.is at c.in_ok-value.ensures))
+    (λ bs. sym (number_goes c.args.first digit.0 digit.1 bs))
