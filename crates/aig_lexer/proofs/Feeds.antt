@@ -45,7 +45,7 @@ filled_consumed bytes (Some xs) (Some ys) c = c
 
 module _ {S : Type 0} (left : S → Option (List ℕ)) (failed : S → Bool) (pulls : S → ℕ) where
   -- the first of the bytes that are held
-  advances_held : (front rest : List ℕ) (s : S) → Advances (feed left failed pulls (front ++ rest) s) (feed left failed pulls rest s) front
+  pub advances_held : (front rest : List ℕ) (s : S) → Advances (feed left failed pulls (front ++ rest) s) (feed left failed pulls rest s) front
   advances_held front rest s = record {
     consumed = held_consumed front rest (left s);
     fewer = omega (arith, length-append front rest);

@@ -1,7 +1,7 @@
 //! Numbers that may have a minus in front, as the texts of proofs and of solutions have them.
 
-ghost use Rattle.std.specs.Prelude.{◌≡◌, ◌++◌, ◌<◌, ◌≤◌, ℕ, List, Some, length, take, IfSome};
-ghost use Rattle.aig_lexer.specs.SignedNumbers.{minus_at, parse_signed};
+ghost use Rattle.std.specs.Prelude.{◌≡◌, ◌<◌, ◌≤◌, length, take, IfSome};
+ghost use Rattle.aig_lexer.specs.SignedNumbers.{IsSigned, minus_at};
 
 use crate::lexer::number_in;
 
@@ -35,9 +35,8 @@ fn minus_at(bytes: &[u8]) -> usize
 #[inline(always)]
 pub fn signed_in(bytes: &[u8]) -> Option<Signed>
     ensures within { IfSome result (λ x. (0 < x.count) × (x.count ≤ length bytes.now)) }
-    ensures reads { IfSome result (λ x. (rest : List ℕ)
-        → parse_signed (take x.count bytes.now ++ rest)
-        ≡ Some ((x.positive, (x.value, x.end)), rest)) }
+    ensures reads { IfSome result
+        (λ x. IsSigned (take x.count bytes.now) x.positive x.value x.end) }
 {
     let minus = minus_at(bytes);
     let Some((value, end, count)) = number_in(&bytes[minus..]) else {

@@ -1,8 +1,9 @@
 -- Numbers that lie among the bytes that are held.
-use Rattle.aig_base.proofs.Words.{◌≡◌, ◌≢◌, ℕ, zero, suc, ◌+◌, ◌-◌, ◌*◌, ◌^◌, Bool, true, false, cond, List, [], ◌∷◌, ◌++◌, take, drop, Option, Some, None, Result, Ok, Err, refl, sym, ap, subst, ◌∙◌, append_assoc, take-append-drop, arith, ◌==◌, nat_lt, prepend_known, eqb-true, false≢true, ltb-true, ne_eqb, same_Some}
+use Rattle.aig_base.proofs.Words.{◌≡◌, ◌≢◌, ℕ, zero, suc, ◌-◌, Bool, true, false, cond, List, [], ◌∷◌, ◌++◌, take, drop, Option, Some, None, Result, Ok, Err, refl, sym, ap, subst, ◌∙◌, append_assoc, take-append-drop, arith, ◌==◌, prepend_known, eqb-true, false≢true, ne_eqb, same_Some}
 use Rattle.aig_format.specs.Parse.{is_digit, parse_digits, parse_map, parse_number}
 use Rattle.aig_lexer.specs.SignedNumbers.{parse_signed}
 use Rattle.aig_lexer.specs.Takes.{Feed, feed}
+use Rattle.aig_lexer.proofs.Digits.{digits_read}
 use Rattle.aig_refutation.specs.declared.error.RefutationError.{RefutationError}
 use Rattle.aig_refutation.specs.declared.words.End.{End}
 use Rattle.aig_refutation.specs.declared.words.Word as code
@@ -12,41 +13,10 @@ use Rattle.aig_refutation.specs.Text.{◌>>=◌, digits_after, is_blank, lines_o
 use Rattle.aig_refutation.specs.Words.{Gives, GivesWord, Leaves, Says, end_after, held_word, left_after, left_at, next_in}
 use Rattle.aig_refutation.proofs.Known.{leaves_same, says_now, tells}
 use Rattle.aig_refutation.proofs.Lines.{at, next_some}
-use Rattle.aig_refutation.proofs.ReadWords.{signed_err, signed_ok}
-use Rattle.aig_refutation.proofs.Texts.{digit_no_blank, digit_no_line, digit_on, digits_end, digits_refused, first_digit, left_end, word_goes, word_minus, word_plain}
+use Rattle.aig_refutation.proofs.ReadWords.{digits_passed, signed_err, signed_ok}
+use Rattle.aig_refutation.proofs.Texts.{digit_no_blank, digit_no_line, digits_end, digits_refused, first_digit, left_end, word_goes, word_minus, word_plain}
 
 -- ---- what was read of bytes
-
--- digits after a value were read up to a byte that is none
-abbrev AreDigits : ℕ → List ℕ → ℕ → ℕ → List ℕ → Type 0
-AreDigits v bytes n e rest = (digits_after v bytes ≡ digits_after n (e ∷ rest))
-    × (left_after bytes ≡ left_after (e ∷ rest)) × (is_digit e ≡ false)
-
-digits_read : (v : ℕ) (bytes : List ℕ) (n e : ℕ) (rest : List ℕ)
-    → parse_digits v bytes ≡ Some ((n, e), rest) → AreDigits v bytes n e rest
-unfolding parse_digits
-digits_read v [] n e rest h = absurd cc
-digits_read v (b ∷ bs) n e rest h =
-    by (is_digit b) (nat_lt (10 * v + (b - 48)) (2 ^ 32)) refl refl
-    (λ k. digits_read (10 * v + (b - 48)) bs n e rest k) h
-  where
-    by : (digit small : Bool) → is_digit b ≡ digit → nat_lt (10 * v + (b - 48)) (2 ^ 32) ≡ small
-        → (parse_digits (10 * v + (b - 48)) bs ≡ Some ((n, e), rest)
-        → AreDigits (10 * v + (b - 48)) bs n e rest)
-        → cond digit (cond small (parse_digits (10 * v + (b - 48)) bs) None) (Some ((v, b), bs))
-        ≡ Some ((n, e), rest)
-        → AreDigits v (b ∷ bs) n e rest
-    by true true digit small on k =
-        let more = on k in (
-          digit_on v b bs digit (ltb-true (10 * v + (b - 48)) (2 ^ 32) small) ∙ more.0,
-          word_goes b bs (digit_no_line b digit) (digit_no_blank b digit) ∙ more.1,
-          more.2,
-        )
-    by true false digit small on k = absurd cc
-    by false small digit is on k =
-        let same : ((v, b), bs) ≡ ((n, e), rest) = same_Some _ _ k in
-        subst (λ (x : (ℕ × ℕ) × List ℕ). AreDigits v (b ∷ bs) x.0.0 x.0.1 x.1) same
-        (refl, refl, digit)
 
 -- a number was read
 abbrev IsNumber : ℕ → List ℕ → ℕ → ℕ → List ℕ → Type 0
@@ -62,8 +32,13 @@ number_read b bs n e rest h = by (is_digit b) refl h
         → cond digit (parse_digits (b - 48) bs) None ≡ Some ((n, e), rest)
         → IsNumber b bs n e rest
     by true digit k =
-        let more = digits_read (b - 48) bs n e rest k in
-        (digit, first_digit b bs digit ∙ more.0, more.1, more.2)
+        let read = digits_read (b - 48) bs n e rest k in
+        let passed = digits_passed (b - 48) n read.digits (e ∷ rest) read.is in (
+          digit,
+          first_digit b bs digit ∙ ap (digits_after (b - 48)) read.whole ∙ passed.0,
+          ap (λ (l : List ℕ). left_after l) read.whole ∙ passed.1,
+          read.other,
+        )
     by false digit k = absurd cc
 
 none_read : (n : ℕ × ℕ) (rest : List ℕ) → parse_number [] ≡ Some (n, rest) → ⊥

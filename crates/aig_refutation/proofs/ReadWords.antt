@@ -1,18 +1,23 @@
 -- Words that are read byte by byte.
-use Rattle.aig_base.proofs.Words.{◌≡◌, ◌≢◌, ℕ, ◌+◌, ◌-◌, ◌*◌, ◌<◌, ◌≤◌, ◌^◌, Bool, true, false, List, [], ◌∷◌, Option, Some, None, Result, Ok, Err, refl, sym, ap, subst, ◌∙◌, arith, ne_eqb}
+use Rattle.aig_base.proofs.Words.{◌≡◌, ◌≢◌, ℕ, ◌+◌, ◌-◌, ◌*◌, ◌<◌, ◌≤◌, ◌^◌, Bool, true, false, List, [], ◌∷◌, ◌++◌, Option, Some, None, Result, Ok, Err, refl, sym, ap, subst, ◌∙◌, append_assoc, arith, ne_eqb, same_Some}
+use Rattle.aig_lexer.specs.declared.error.LexError.{LexError}
+use Rattle.aig_lexer.specs.declared.error.LexError.TheVariants as lex
+use Rattle.aig_lexer.specs.Digits.{TakesDigits, TakesTooMany, number_after}
+use Rattle.aig_lexer.specs.Faults as lexer
+use Rattle.aig_lexer.specs.Faults.{word_cause}
 use Rattle.aig_lexer.specs.Takes.{Advances, Feed, Steps}
+use Rattle.aig_lexer.proofs.Digits.{number_after-nil, number_first}
 use Rattle.aig_format.specs.Parse.{is_digit}
 use Rattle.aig_refutation.specs.declared.error.RefutationError.{RefutationError}
 use Rattle.aig_refutation.specs.declared.error.RefutationError.TheVariants as errors
 use Rattle.aig_refutation.specs.declared.words.End.{End}
 use Rattle.aig_refutation.specs.declared.words.Word as code
 use Rattle.aig_refutation.specs.declared.words.Word.TheVariants as words
-use Rattle.aig_refutation.specs.Skipping.{GivesDigits}
 use Rattle.aig_refutation.specs.Text as text
-use Rattle.aig_refutation.specs.Text.{◌>>=◌, digits_after, is_blank, letter_before, lines_after, lines_of, number_in, signed, word_at, word_in, words_after, words_of}
-use Rattle.aig_refutation.specs.Words.{GivesWord, Leaves, Says, end_after, front, held_word, left_after, left_at}
-use Rattle.aig_refutation.proofs.Known.{leaves_on, leaves_same, says_now, says_on, step_leaves, tells, tells_on}
-use Rattle.aig_refutation.proofs.Texts.{digit_no_blank, digit_no_line, digit_on, digit_wrong, digits_end, digits_refused, is_a_digit, left_end, letter_end, letter_refused, number_digit, number_none, word_goes, word_letter, word_minus, word_plain}
+use Rattle.aig_refutation.specs.Text.{◌>>=◌, digits_after, fault, is_blank, letter_before, lines_after, lines_of, number_in, signed, word_at, word_in, words_after, words_of}
+use Rattle.aig_refutation.specs.Words.{GivesWord, Leaves, Says, end_after, error_of, front, held_word, left_after, left_at}
+use Rattle.aig_refutation.proofs.Known.{at_end, consumed, leaves_on, leaves_same, says_now, says_on, step_leaves, tells, tells_on}
+use Rattle.aig_refutation.proofs.Texts.{digit_no_blank, digit_no_line, digit_on, digit_wrong, digits_end, digits_refused, first_digit, left_end, letter_end, letter_refused, no_digit, number_digit, number_none, word_goes, word_letter, word_minus, word_plain}
 
 steps_some : (before after : Feed) (o : Option ℕ) (b : ℕ) → Steps before after o → o ≡ Some b →
     Advances before after (b ∷ [])
@@ -39,41 +44,63 @@ leaves_none before now after R S o so_far step is h =
 
 -- ---- digits
 
-module _ (start now after : Feed) (first value : ℕ) where
-  abbrev pub DigitsSoFar : ℕ → List ℕ → List ℕ → Type 0
-  DigitsSoFar v bytes rest = (number_in (first ∷ bytes) ≡ digits_after v rest) × (left_after bytes
-      ≡ left_after rest)
+-- what is read after the digits of a number
+pub digits_passed : (value n : ℕ) (ds rest : List ℕ) → number_after value ds ≡ Some n
+    → (digits_after value (ds ++ rest) ≡ digits_after n rest)
+    × (left_after (ds ++ rest) ≡ left_after rest)
+digits_passed value n [] rest is = (
+  ap (λ (v : ℕ). digits_after v rest) (same_Some value n (sym (number_after-nil value) ∙ is)),
+  refl,
+)
+digits_passed value n (d ∷ ds) rest is =
+    let first = number_first value d ds n is in
+    let more = digits_passed (10 * value + (d - 48)) n ds rest first.2 in (
+      digit_on value d (ds ++ rest) first.0 first.1 ∙ more.0,
+      word_goes d (ds ++ rest) (digit_no_line d first.0) (digit_no_blank d first.0) ∙ more.1,
+    )
 
-  module _ (so_far : Leaves start now (DigitsSoFar value)) (o : Option ℕ) (b : ℕ) (step : Steps now
-      after o) (is : o ≡ Some b) (low : 48 ≤ b) (high : b ≤ 57) where
-    digit : is_digit b ≡ true
-    digit = is_a_digit b low high
+module _ (before after : Feed) (first : ℕ) (digit : is_digit first ≡ true) where
+  abbrev AreDigits : ℕ → Option ℕ → List ℕ → List ℕ → Type 0
+  AreDigits n o bytes rest = (number_in (first ∷ bytes) ≡ digits_after n (front o rest))
+      × (left_after bytes ≡ left_after (front o rest))
 
-    pub digits_byte : 10 * value + (b - 48) < 2 ^ 32 → now.most ≤ start.most
-        → record {
-          small : 10 * value + (b - 48) < 2 ^ 32;
-          fewer : after.most ≤ start.most;
-          digits : Leaves start after (DigitsSoFar (10 * value + (b - 48)));
-        }
-    digits_byte small most = record {
-      small = small;
-      fewer = let came = steps_some now after o b step is in omega (arith, came.fewer);
-      digits =
-          leaves_byte start now after (DigitsSoFar value) (DigitsSoFar (10 * value + (b - 48))) o b
-          so_far step is
-          (λ bytes rest h. (
-            h.0 ∙ digit_on value b rest digit small,
-            h.1 ∙ word_goes b rest
-                (digit_no_line b digit) (digit_no_blank b digit),
-          ));
-    }
+  digits_taken : (n : ℕ) (o : Option ℕ) (ds rest bytes : List ℕ) → number_after (first - 48) ds ≡
+      Some n → bytes ≡ ds ++ front o rest → AreDigits n o bytes rest
+  digits_taken n o ds rest bytes is all =
+      let passed = digits_passed (first - 48) n ds (front o rest) is in (
+        first_digit first bytes digit ∙ ap (digits_after (first - 48)) all ∙ passed.0,
+        ap (λ (l : List ℕ). left_after l) all ∙ passed.1,
+      )
 
-    pub digits_large : 2 ^ 32 ≤ 10 * value + (b - 48) → Says start (λ bytes. number_in (first ∷
-        bytes) ≡ Err errors.Line)
-    digits_large large bytes known =
-        (leaves_byte start now after (DigitsSoFar value) (λ bytes rest. number_in (first ∷ bytes) ≡
-        Err errors.Line) o b so_far step is
-        (λ bytes rest h. h.0 ∙ digit_wrong value b rest digit large) bytes known).2
+  pub digits_leave : (n : ℕ) (o : Option ℕ) → TakesDigits (first - 48) before after n o
+      → Leaves before after (AreDigits n o)
+  digits_leave n (Some b) t bytes known =
+      let c = consumed before.coming after.coming (t.digits ++ b ∷ []) bytes t.came.consumed known
+      in (
+        c.0,
+        c.1,
+        digits_taken n (Some b) t.digits c.0 bytes t.is
+            (c.2 ∙ append_assoc t.digits (b ∷ []) c.0),
+      )
+  digits_leave n None t bytes known =
+      let c = consumed before.coming after.coming t.digits bytes t.came.consumed known in
+      (
+        c.0,
+        c.1,
+        digits_taken n None t.digits c.0 bytes t.is
+            (c.2 ∙ ap (λ (l : List ℕ). t.digits ++ l) (at_end after.coming c.0 t.came.at_end c.1)),
+      )
+
+  -- digits of a number that is too large
+  pub digits_many : TakesTooMany (first - 48) before after
+      → Says before (λ bytes. number_in (first ∷ bytes) ≡ Err errors.Line)
+  digits_many t bytes known =
+      let c = consumed before.coming after.coming (t.digits ++ t.last ∷ []) bytes t.came.consumed
+      known in
+      first_digit first bytes digit
+      ∙ ap (digits_after (first - 48)) (c.2 ∙ append_assoc t.digits (t.last ∷ []) c.0)
+      ∙ (digits_passed (first - 48) t.number t.digits (t.last ∷ c.0) t.is).0
+      ∙ digit_wrong t.number t.last c.0 t.digit t.large
 
 -- ---- numbers
 
@@ -88,20 +115,22 @@ signed_ok positive value x is = ap (λ (r : Result ℕ RefutationError). signed 
 
 pub number_ends : (before after : Feed) (digit value : ℕ) (positive : Bool) (o : Option ℕ) (end now
     : Option End) → end ≡ None
-    → GivesDigits digit before after (Ok (value, o)) → end_after end o ≡ Ok now
+    → is_digit digit ≡ true → TakesDigits (digit - 48) before after value o
+    → end_after end o ≡ Ok now
     → GivesWord (λ bytes. signed positive (number_in (digit ∷ bytes))) before after now (Ok
     (words.Number (record { value = value; positive = positive })))
-number_ends before after digit value positive o end now none given is =
+number_ends before after digit value positive o end now none first given is =
     let at_none : end_after None o ≡ Ok now = subst (λ (e : Option End). end_after e o ≡ Ok now)
     none is in
     leaves_same before after (λ bytes rest. (number_in (digit ∷ bytes) ≡ digits_after value (front
-    o rest)) × (left_after bytes ≡ left_after (front o rest))) given.1
+    o rest)) × (left_after bytes ≡ left_after (front o rest)))
+    (digits_leave before after digit first value o given)
     (λ bytes rest. ((signed positive (number_in (digit ∷ bytes)) >>= λ x. Ok (held_word x)) ≡ Ok
     (words.Number (record { value = value; positive = positive }))) × (left_at now rest ≡
     left_after bytes))
     (λ bytes rest h. (
       signed_ok positive value (number_in (digit ∷ bytes)) (h.0 ∙ digits_end value end now o rest
-          given.0 is),
+          given.other is),
       left_end now o rest at_none ∙ sym h.1,
     ))
 
@@ -111,23 +140,43 @@ signed_err positive x e is = ap (signed positive) is
 
 pub number_stops : (before after : Feed) (digit value : ℕ) (positive : Bool) (o : Option ℕ) (end
     now : Option End) (e : RefutationError)
-    → GivesDigits digit before after (Ok (value, o)) → end_after end o ≡ Err e
+    → is_digit digit ≡ true → TakesDigits (digit - 48) before after value o
+    → end_after end o ≡ Err e
     → GivesWord (λ bytes. signed positive (number_in (digit ∷ bytes))) before after now (Err e)
-number_stops before after digit value positive o end now e given is =
+number_stops before after digit value positive o end now e first given is =
     tells e (Says before (λ bytes. signed positive (number_in (digit ∷ bytes)) ≡ Err e))
     (says_now before after (λ bytes rest. (number_in (digit ∷ bytes) ≡ digits_after value (front o
-    rest)) × (left_after bytes ≡ left_after (front o rest))) given.1
+    rest)) × (left_after bytes ≡ left_after (front o rest)))
+    (digits_leave before after digit first value o given)
     (λ bytes. signed positive (number_in (digit ∷ bytes)) ≡ Err e)
     (λ bytes rest h. signed_err positive (number_in (digit ∷ bytes)) e (h.0 ∙ digits_refused value
-    end o rest e given.0 is)))
+    end o rest e given.other is)))
 
-pub number_fails : (before after : Feed) (digit : ℕ) (positive : Bool) (now : Option End) (e :
-    RefutationError) → GivesDigits digit before after (Err e)
+-- a byte that begins no number
+pub number_other : (before after : Feed) (digit : ℕ) (positive : Bool) (now : Option End)
+    (e : RefutationError) → is_digit digit ≡ false → e ≡ fault digit
     → GivesWord (λ bytes. signed positive (number_in (digit ∷ bytes))) before after now (Err e)
-number_fails before after digit positive now e given =
-    tells_on e (Says before (λ bytes. number_in (digit ∷ bytes) ≡ Err e)) (Says before (λ bytes.
-    signed positive (number_in (digit ∷ bytes)) ≡ Err e))
-    (λ h bytes known. signed_err positive (number_in (digit ∷ bytes)) e (h bytes known)) given
+number_other before after digit positive now e other is =
+    tells e (Says before (λ bytes. signed positive (number_in (digit ∷ bytes)) ≡ Err e))
+    (λ bytes known. signed_err positive (number_in (digit ∷ bytes)) e
+    (no_digit digit bytes other ∙ ap (λ f. Err f) (sym is)))
+
+-- the error of a number that is too large, or of a failed read
+pub number_fails : (before after : Feed) (digit : ℕ) (positive : Bool) (now : Option End)
+    (e : LexError) → is_digit digit ≡ true → lexer.Tells (word_cause e) (TakesTooMany (digit - 48) before after)
+    after.failed
+    → GivesWord (λ bytes. signed positive (number_in (digit ∷ bytes))) before after now
+    (Err (error_of e))
+number_fails before after digit positive now lex.Stream first given = tt
+number_fails before after digit positive now lex.Shape first given =
+    λ bytes known. signed_err positive (number_in (digit ∷ bytes)) errors.Line
+    (digits_many before after digit first given bytes known)
+
+pub stream_fails : {X : Type 0} (e : LexError) (P : Type 0) (failed : Bool)
+    → lexer.Tells (word_cause e) P failed
+    → ◌≡◌ {A = Result X RefutationError} (Err (error_of e)) (Err errors.Stream) → failed ≡ true
+stream_fails lex.Stream P failed told is = told
+stream_fails lex.Shape P failed told is = absurd cc
 
 -- ---- words
 

@@ -4,12 +4,11 @@ use Rattle.std.specs.Prelude.{◌≡◌, ◌<◌, ◌≤◌, ℕ, Bool, true, fa
 use Rattle.aig_lexer.specs.declared.signed.Signed.{Signed}
 use Rattle.aig_lexer.specs.SignedNumbers.{parse_signed}
 use Rattle.aig_lexer.specs.Takes.{Feed}
-use Rattle.aig_format.specs.Parse.{is_digit}
 use Rattle.aig_refutation.specs.declared.error.RefutationError.{RefutationError}
 use Rattle.aig_refutation.specs.declared.error.RefutationError.TheVariants as errors
 use Rattle.aig_refutation.specs.Proofs.{ended}
-use Rattle.aig_refutation.specs.Text.{◌>>=◌, digits_after, is_blank, lines_after, lines_of, number_in}
-use Rattle.aig_refutation.specs.Words.{Leaves, Says, Tells, Text, front, left_after}
+use Rattle.aig_refutation.specs.Text.{◌>>=◌, is_blank, lines_after, lines_of}
+use Rattle.aig_refutation.specs.Words.{Leaves, Says, Text, front}
 
 -- the next byte that isn't blank, if there is one
 abbrev pub SkipsBlanks : Feed → Feed → Result (Option ℕ) RefutationError → Type 0
@@ -23,15 +22,6 @@ EndsLine before after (Ok true) =
     Leaves before after (λ bytes rest. lines_after bytes ≡ lines_of rest)
 EndsLine before after (Ok false) = Says before (λ bytes. lines_after bytes ≡ [])
 EndsLine before after (Err e) = e ≡ errors.Stream
-
--- the digits of a number of which the first came before are read, and the byte after them
-abbrev pub GivesDigits : ℕ → Feed → Feed → Result (ℕ × Option ℕ) RefutationError → Type 0
-GivesDigits first before after (Ok x) = IfSome x.1 (λ b. is_digit b ≡ false)
-    × Leaves before after (λ bytes rest.
-    (number_in (first ∷ bytes) ≡ digits_after x.0 (front x.1 rest))
-    × (left_after bytes ≡ left_after (front x.1 rest)))
-GivesDigits first before after (Err e) =
-    Tells e (Says before (λ bytes. number_in (first ∷ bytes) ≡ Err e))
 
 -- nothing more stands in a line
 abbrev pub end_line : Bool → List (List ℕ) → Result (Unit {0} × List (List ℕ)) RefutationError

@@ -13,17 +13,17 @@ ghost use Rattle.aig_refutation.specs.ReadingBinary.{EndsStep, GivesBinary, Give
 ghost use Rattle.aig_refutation.specs.Reading.{plain_by};
 ghost use Rattle.aig_refutation.specs.Words.{Answers};
 
-use crate::buffer::ProofBuffer;
 use crate::error::RefutationError;
 use crate::list::push;
 use crate::step::Step;
 use aig_base::{Lit, Source, Var};
+use aig_lexer::InputBuffer;
 
 /// How many groups of seven bits a number has at most.
 const MOST_GROUPS: u32 = 5;
 
 /// Reads a number, which is below 2^32.
-fn read_code<R: Source>(buffer: &mut ProofBuffer, r: &mut R) -> Result<u32, RefutationError>
+fn read_code<R: Source>(buffer: &mut InputBuffer, r: &mut R) -> Result<u32, RefutationError>
     ensures stream { IsErrOf result RefutationError.Stream → R.failed r.new ≡ true }
     ensures fewer { OnOk result ((feed R.left R.failed R.pulls buffer.new r.new).most
         < (feed R.left R.failed R.pulls buffer.old r.old).most) }
@@ -69,7 +69,7 @@ fn literal(code: u32, variables: usize) -> Result<Lit, RefutationError>
 /// Reads the letter of the next step, none of whose literals is read then, and says whether there is
 /// one.
 fn read_letter<R: Source>(
-    buffer: &mut ProofBuffer,
+    buffer: &mut InputBuffer,
     r: &mut R,
     step: &mut Step,
 ) -> Result<bool, RefutationError>
@@ -94,7 +94,7 @@ fn read_letter<R: Source>(
 
 /// Reads literals up to a 0, and appends them to the clause of the step.
 fn read_literals<R: Source>(
-    buffer: &mut ProofBuffer,
+    buffer: &mut InputBuffer,
     r: &mut R,
     step: &mut Step,
     variables: usize,
@@ -121,7 +121,7 @@ fn read_literals<R: Source>(
 /// Reads the next step, and says whether there is one. Literals are those of the variables below
 /// `variables`.
 pub(crate) fn read_step<R: Source>(
-    buffer: &mut ProofBuffer,
+    buffer: &mut InputBuffer,
     r: &mut R,
     step: &mut Step,
     variables: usize,

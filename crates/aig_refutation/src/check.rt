@@ -17,14 +17,15 @@ ghost use Rattle.aig_refutation.specs.Tables.{Holds};
 ghost use Rattle.aig_refutation.specs.Words.{place};
 
 use crate::binary::read_step;
-use crate::buffer::{ProofBuffer, is_binary};
 use crate::checker::Checker;
 use crate::error::RefutationError;
+use crate::form::{TELLING, is_binary};
 use crate::step::Step;
 use crate::units::find_conflict;
 use crate::words::Words;
 use aig_base::{DagCnf, Lit, LitVvec, Source, Var};
 use aig_hints::Search;
+use aig_lexer::InputBuffer;
 use std::alloc::Global;
 
 /// Appends clauses of the formula, under the next numbers.
@@ -371,7 +372,7 @@ fn take_steps<R: Source>(
 /// used, whatever it has.
 fn check_steps<R: Source>(
     alloc: Global,
-    buffer: ProofBuffer,
+    buffer: InputBuffer,
     r: &mut R,
     checker: &mut Checker,
     step: &mut Step,
@@ -402,7 +403,7 @@ fn check_steps<R: Source>(
 
 /// Takes the steps that are read of a binary proof, up to the first with the empty clause.
 fn take_binary<R: Source>(
-    buffer: &mut ProofBuffer,
+    buffer: &mut InputBuffer,
     r: &mut R,
     checker: &mut Checker,
     search: &mut Search,
@@ -429,7 +430,7 @@ fn take_binary<R: Source>(
 /// `step` is used, whatever it has.
 fn check_binary<R: Source>(
     alloc: Global,
-    buffer: &mut ProofBuffer,
+    buffer: &mut InputBuffer,
     r: &mut R,
     checker: &mut Checker,
     step: &mut Step,
@@ -468,7 +469,8 @@ fn check_proof<R: Source>(
         → checker.old.variables ≡ variables → (IsInConflict clauses → ⊥)
         → Shows variables clauses (R.left r.old) result }
 {
-    let mut buffer = ProofBuffer::begin(r)?;
+    let mut buffer = InputBuffer::new();
+    buffer.hold(r, TELLING)?;
     if is_binary(buffer.window()) {
         return check_binary(alloc, &mut buffer, r, checker, step, variables);
     }

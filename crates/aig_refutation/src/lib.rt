@@ -2,12 +2,12 @@
 #![tactic(auto)]
 
 mod binary;
-mod buffer;
 mod check;
 mod checker;
 mod closure;
 mod compare;
 mod error;
+mod form;
 mod laws;
 mod list;
 mod marks;

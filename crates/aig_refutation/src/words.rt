@@ -6,14 +6,13 @@
 
 ghost use Rattle.std.specs.Prelude.{◌≡◌, ◌+◌, ◌<◌, ◌≤◌, ◌^◌, ◌∷◌, [], None, Some, IfOk, IfSome, IsErrOf, IsTrue, OnOk, true};
 ghost use Rattle.aig_lexer.specs.Takes.{feed};
-ghost use Rattle.aig_refutation.specs.Skipping.{EndsLine, GivesDigits, IsNear, SkipsBlanks, end_line};
+ghost use Rattle.aig_refutation.specs.Skipping.{EndsLine, IsNear, SkipsBlanks, end_line};
 ghost use Rattle.aig_refutation.specs.Text.{fault, number_in, signed, word_in};
 ghost use Rattle.aig_refutation.specs.Words.{Answers, ClosesAt, Gives, GivesFirst, GivesWord, IsAfter, IsClosed, IsWord, end_after, fault_of, is_last, next_in, next_number, place, rest, said_number};
 
-use crate::buffer::ProofBuffer;
 use crate::error::RefutationError;
 use aig_base::Source;
-use aig_lexer::{Signed, signed_in};
+use aig_lexer::{InputBuffer, Signed, digits_from, signed_in};
 use std::marker::Model;
 
 /// A number, which may have a minus in front.
@@ -70,7 +69,7 @@ fn fault(byte: u8) -> RefutationError
 /// The next byte that isn't blank, if there is one.
 #[inline(always)]
 fn skip_blanks<R: Source>(
-    buffer: &mut ProofBuffer,
+    buffer: &mut InputBuffer,
     r: &mut R,
 ) -> Result<Option<u8>, RefutationError>
     ensures stream { IsErrOf result RefutationError.Stream → R.failed r.new ≡ true }
@@ -89,7 +88,7 @@ fn skip_blanks<R: Source>(
 }
 
 /// Goes past the line feed of a line, and says whether there is one.
-fn skip_line<R: Source>(buffer: &mut ProofBuffer, r: &mut R) -> Result<bool, RefutationError>
+fn skip_line<R: Source>(buffer: &mut InputBuffer, r: &mut R) -> Result<bool, RefutationError>
     ensures stream { IsErrOf result RefutationError.Stream → R.failed r.new ≡ true }
     ensures fewer { IfOk result (λ there. IsTrue there
         → (feed R.left R.failed R.pulls buffer.new r.new).most
@@ -105,40 +104,10 @@ fn skip_line<R: Source>(buffer: &mut ProofBuffer, r: &mut R) -> Result<bool, Ref
     Ok(false)
 }
 
-/// Reads on in a number after its first digit: its value, which is below 2^32, and the byte after
-/// it, if there is one.
-#[inline(always)]
-fn read_digits<R: Source>(
-    buffer: &mut ProofBuffer,
-    r: &mut R,
-    first: u8,
-) -> Result<(u32, Option<u8>), RefutationError>
-    ensures stream { IsErrOf result RefutationError.Stream → R.failed r.new ≡ true }
-    ensures fewer { IfOk result (λ x. IfSome x.1 (λ _.
-        (feed R.left R.failed R.pulls buffer.new r.new).most
-        ≤ (feed R.left R.failed R.pulls buffer.old r.old).most)) }
-    ensures digits { GivesDigits first (feed R.left R.failed R.pulls buffer.old r.old)
-        (feed R.left R.failed R.pulls buffer.new r.new) result }
-{
-    if !first.is_ascii_digit() {
-        return Err(fault(first));
-    }
-    let mut value = (first - b'0') as u64;
-    loop {
-        match buffer.next(r)? {
-            Some(byte @ b'0'..=b'9') => value = 10 * value + (byte - b'0') as u64,
-            end => return Ok((value as u32, end)),
-        }
-        if value > u32::MAX as u64 {
-            return Err(RefutationError::Line);
-        }
-    }
-}
-
 /// The text of a proof, from which words are taken.
 #[derive(Drop)]
 pub(crate) struct Words {
-    buffer: ProofBuffer,
+    buffer: InputBuffer,
     /// How the line ended whose words were taken, if it did.
     end: Option<End>,
 }
@@ -153,7 +122,7 @@ impl Model for Words {
 
 impl Words {
     /// A text none of which was taken: what is held of it, and what is left in the source.
-    pub(crate) fn new(buffer: ProofBuffer) -> Words
+    pub(crate) fn new(buffer: InputBuffer) -> Words
         ensures { result ≡ record { held = buffer; end = None } }
     {
         Words { buffer, end: None }
@@ -192,7 +161,10 @@ impl Words {
             (feed R.left R.failed R.pulls self.new.held r.new) self.new.end result }
         ensures some { IfOk result IsWord }
     {
-        let (value, end) = read_digits(&mut self.buffer, r, digit)?;
+        if !digit.is_ascii_digit() {
+            return Err(fault(digit));
+        }
+        let (value, end) = digits_from(&mut self.buffer, r, (digit - b'0') as u64)?;
         self.end_word(end)?;
         Ok(Word::Number(Number { value, positive }))
     }

@@ -1,135 +1,154 @@
 -- How the digits of a word are read.
-use Rattle.std.proofs.Common.{◌≡◌, ℕ, ◌≤◌, List, [], ◌∷◌, ◌++◌, Option, Some, None, Ok, Err, refl, sym, ap, subst, ◌∙◌, append_assoc, append-nil, arith}
-use Rattle.aig_lexer.specs.Takes.{Feed, Steps}
-use Rattle.aig_lexer.proofs.Feeds.{steps_byte}
+use Rattle.aig_base.proofs.Words.{◌≡◌, ℕ, ◌+◌, ◌-◌, ◌*◌, ◌^◌, ◌<◌, ◌≤◌, Bool, true, false, List, [], ◌∷◌, ◌++◌, Option, Some, None, Ok, Err, refl, sym, ap, subst, ◌∙◌, append_assoc, append-nil, arith, ne_eqb, false≢true, same_Some}
+use Rattle.std.specs.Prelude.{◌==◌}
+use Rattle.aig_format.specs.Parse.{is_digit}
+use Rattle.aig_format.proofs.NumberReaders.{digit_true}
+use Rattle.aig_lexer.specs.declared.error.LexError.{LexError}
+use Rattle.aig_lexer.specs.declared.error.LexError.TheVariants as lex
+use Rattle.aig_lexer.specs.Digits.{TakesDigits, TakesTooMany, number_after}
+use Rattle.aig_lexer.specs.Faults.{Tells, word_cause}
+use Rattle.aig_lexer.specs.Takes.{Advances, Feed}
+use Rattle.aig_lexer.proofs.Digits.{number_after-append, number_after-digit, number_after-large, number_after-nil, number_after-other, number_first}
 use Rattle.aig_solutions.specs.declared.error.SolutionError.TheVariants as errors
 use Rattle.aig_solutions.specs.declared.words.End.{End}
 use Rattle.aig_solutions.specs.declared.words.End.TheVariants.{Blank, Line, Stream}
-use Rattle.aig_solutions.specs.Lines.{GivesNumber, GoesOnBy, IsLeft, IsNoMore, Leaves, digit_after, end_of}
-use Rattle.aig_solutions.specs.Reading.{lines_after, number_after, words_from}
-use Rattle.aig_solutions.proofs.Leaving.{leaves_byte, leaves_end, leaves_start, says_byte}
-use Rattle.aig_solutions.proofs.Numbers.{digit_none, digit_some, number_more, number_none}
+use Rattle.aig_solutions.specs.Lines.{GivesNumber, IsLeft, IsNoMore, end_of, error_of}
+use Rattle.aig_solutions.specs.Reading.{lines_after, words_from}
+use Rattle.aig_solutions.proofs.Leaving.{consumed_known, ended_known}
 use Rattle.aig_solutions.proofs.Texts.{goes_on_by, lines_none, lines_on, words_end, words_none, words_on}
 
+digit_goes : (b : ℕ) → is_digit b ≡ true → end_of b ≡ None
+digit_goes b is = rw (other 10 refl, other 32 refl, other 9 refl, other 13 refl) refl
+  where
+    other : (k : ℕ) → is_digit k ≡ false → (b == k) ≡ false
+    other k no = ne_eqb b k (λ e. false≢true (sym no ∙ ap (λ n. is_digit n) (sym e) ∙ is))
+
 -- a word that has begun is read so far
-abbrev pub Passes : List ℕ → List ℕ → List ℕ → Type 0
+abbrev Passes : List ℕ → List ℕ → List ℕ → Type 0
 Passes taken bytes rest = ((c : ℕ) (word : List ℕ) → words_from (c ∷ word) bytes ≡ words_from
     (c ∷ word ++ taken) rest)
     × (lines_after bytes ≡ lines_after rest)
 
-pub passes_byte : (taken bytes rest : List ℕ) (b : ℕ) → end_of b ≡ None → Passes taken bytes
-    (b ∷ rest) → Passes (taken ++ b ∷ []) bytes rest
-passes_byte taken bytes rest b is h = (
+passes_byte : (taken rest : List ℕ) (b : ℕ) → end_of b ≡ None → Passes taken (taken ++ b ∷ rest)
+    (b ∷ rest) → Passes (taken ++ b ∷ []) (taken ++ b ∷ rest) rest
+passes_byte taken rest b is h = (
   λ c word. h.0 c word ∙ words_on b rest (c ∷ word ++ taken) is ∙ ap (λ w. words_from (c ∷ w) rest)
       (append_assoc word taken (b ∷ [])),
   h.1 ∙ lines_on b rest is,
 )
 
-module _ (start now : Feed) (first : ℕ) where
-  -- the digits so far
-  abbrev pub DigitsTaken : ℕ → Type 0
-  DigitsTaken value = (taken : List ℕ) × (number_after 0 (first ∷ taken) ≡ Some value)
-      × (now.most ≤ start.most) × Leaves start now (Passes taken)
+passes_digits : (value n : ℕ) (ds rest : List ℕ) → number_after value ds ≡ Some n
+    → Passes ds (ds ++ rest) rest
+passes_digits value n [] rest is =
+    (λ c word. ap (λ w. words_from (c ∷ w) rest) (sym (append-nil word)), refl)
+passes_digits value n (d ∷ ds) rest is =
+    let first = number_first value d ds n is in
+    let goes = digit_goes d first.0 in
+    let more = passes_digits (10 * value + (d - 48)) n ds rest first.2 in (
+      λ c word. words_on d (ds ++ rest) (c ∷ word) goes ∙ more.0 c (word ++ d ∷ [])
+          ∙ ap (λ w. words_from (c ∷ w) rest) (append_assoc word (d ∷ []) ds),
+      lines_on d (ds ++ rest) goes ∙ more.1,
+    )
 
-  module _ (value : ℕ) (so_far : DigitsTaken value) where
-    number_on : (b : ℕ) → number_after 0 (first ∷ so_far.0 ++ b ∷ []) ≡ number_after value (b ∷ [])
-    number_on b = number_more 0 (first ∷ so_far.0) (b ∷ []) value so_far.1
+module _ (before after : Feed) (first : ℕ) (digit : is_digit first ≡ true) where
+  -- the first digit is one of the number
+  whole : (ds : List ℕ) (o : Option ℕ) → number_after (first - 48) ds ≡ o
+      → number_after 0 (first ∷ ds) ≡ o
+  whole ds o is =
+      let low = digit_true first digit in
+      let same : 10 * 0 + (first - 48) ≡ first - 48 = omega arith in
+      number_after-digit 0 first ds digit (omega (arith, low.0, low.1))
+      ∙ ap (λ (v : ℕ). number_after v ds) same ∙ is
 
-    module _ (after : Feed) (o : Option ℕ) (step : Steps now after o) where
-      pub digits_byte : (b n : ℕ) → o ≡ Some b → end_of b ≡ None → digit_after value b ≡ Some n
-          → (taken : List ℕ) × (number_after 0 (first ∷ taken) ≡ Some n) × (after.most ≤ start.most)
-          × Leaves start after (Passes taken)
-      digits_byte b n is goes digit = (
-        so_far.0 ++ b ∷ [],
-        number_on b ∙ digit_some value b [] n digit ∙ number_none n,
-        (let came = steps_byte now after o step b is in omega (arith, so_far.2, came.fewer)),
-        leaves_byte start now after (Passes so_far.0) so_far.3 (Passes (so_far.0 ++ b ∷ [])) o b
-            step is (λ bytes rest h. passes_byte so_far.0 bytes rest b goes h),
+  no_more_by : (e : End) → after.most ≤ before.most → IsNoMore e before after
+  no_more_by Blank h = h
+  no_more_by Line h = h
+  no_more_by Stream h = tt
+
+  pub digits_stop : (n b : ℕ) (e : End) → TakesDigits (first - 48) before after n (Some b)
+      → end_of b ≡ Some e → GivesNumber first before after (Ok (n, e))
+  digits_stop n b e t ends = (
+    t.digits,
+    whole t.digits (Some n) t.is,
+    (
+      no_more_by e (omega (arith, t.came.fewer)),
+      λ bytes known.
+          let c = consumed_known before.coming after.coming (t.digits ++ b ∷ []) bytes
+          t.came.consumed known in
+          let all : t.digits ++ b ∷ c.0 ≡ bytes = sym (c.2 ∙ append_assoc t.digits (b ∷ []) c.0) in
+          let passes = passes_digits (first - 48) n t.digits (b ∷ c.0) t.is in
+          let end = words_end b c.0 e ends in (
+            c.0,
+            c.1,
+            λ k word. (
+              end.0,
+              ap (words_from (k ∷ word)) (sym all) ∙ passes.0 k word
+                  ∙ end.1 (k ∷ word ++ t.digits),
+              subst (λ lines. IsLeft e end.0 lines c.0) (sym passes.1 ∙ ap lines_after all) end.2,
+            ),
+          ),
+    ),
+  )
+
+  pub digits_last : (n : ℕ) → TakesDigits (first - 48) before after n None
+      → GivesNumber first before after (Ok (n, Stream))
+  digits_last n t = (
+    t.digits,
+    whole t.digits (Some n) t.is,
+    (
+      tt,
+      λ bytes known.
+          let c = consumed_known before.coming after.coming t.digits bytes t.came.consumed known in
+          let none = ended_known after.coming c.0 t.came.at_end c.1 in
+          let all = c.2 ∙ ap (λ (l : List ℕ). t.digits ++ l) none in
+          let passes = passes_digits (first - 48) n t.digits [] t.is in (
+            [],
+            subst (λ (l : List ℕ). after.coming ≡ Some l) none c.1,
+            λ k word. (
+              [],
+              ap (words_from (k ∷ word)) all ∙ passes.0 k word
+                  ∙ words_none (k ∷ word ++ t.digits),
+              (refl, ap lines_after all ∙ passes.1 ∙ lines_none, refl),
+            ),
+          ),
+    ),
+  )
+
+  -- a byte after digits with which the word is no number
+  refused : (n b : ℕ) (ds : List ℕ) → number_after (first - 48) ds ≡ Some n → end_of b ≡ None
+      → ((more : List ℕ) → number_after n (b ∷ more) ≡ None) → Advances before after (ds ++ b ∷ [])
+      → GivesNumber first before after (Err errors.Literal)
+  refused n b ds is goes none came bytes known =
+      let c = consumed_known before.coming after.coming (ds ++ b ∷ []) bytes came.consumed known in
+      let all : ds ++ b ∷ c.0 ≡ bytes = sym (c.2 ∙ append_assoc ds (b ∷ []) c.0) in
+      let passes = passes_byte ds c.0 b goes (passes_digits (first - 48) n ds (b ∷ c.0) is) in (
+        refl,
+        ds ++ b ∷ [],
+        λ more. whole ((ds ++ b ∷ []) ++ more) None
+            (ap (λ (l : List ℕ). number_after (first - 48) l) (append_assoc ds (b ∷ []) more)
+            ∙ number_after-append (first - 48) ds (b ∷ more) n is ∙ none more),
+        goes_on_by (ds ++ b ∷ []) bytes c.0
+            (λ k word. ap (words_from (k ∷ word)) (sym all) ∙ passes.0 k word),
       )
 
-      pub digits_wrong : (b : ℕ) → o ≡ Some b → end_of b ≡ None → digit_after value b ≡ None
-          → GivesNumber first start after (Err errors.Literal)
-      digits_wrong b is goes digit =
-          says_byte start now after (Passes so_far.0) so_far.3
-          (λ bytes. (errors.Literal ≡ errors.Literal) × (taken : List ℕ)
-          × ((more : List ℕ) → number_after 0 (first ∷ taken ++ more) ≡ None)
-          × GoesOnBy taken bytes) o b step is
-          (λ bytes rest h. (
-            refl,
-            so_far.0 ++ b ∷ [],
-            λ more. ap (λ w. number_after 0 (first ∷ w)) (append_assoc so_far.0 (b ∷ []) more)
-                ∙ number_more 0 (first ∷ so_far.0) (b ∷ more) value so_far.1
-                ∙ digit_none value b more digit,
-            goes_on_by (so_far.0 ++ b ∷ []) bytes rest (passes_byte so_far.0 bytes rest b goes h).0,
-          ))
+  pub digits_wrong : (n b : ℕ) → TakesDigits (first - 48) before after n (Some b)
+      → end_of b ≡ None → GivesNumber first before after (Err errors.Literal)
+  digits_wrong n b t goes =
+      refused n b t.digits t.is goes (λ more. number_after-other n b more t.other) t.came
 
-      no_more_by : (e : End) → after.most ≤ start.most → IsNoMore e start after
-      no_more_by Blank h = h
-      no_more_by Line h = h
-      no_more_by Stream h = tt
+  pub digits_fail : (e : LexError)
+      → Tells (word_cause e) (TakesTooMany (first - 48) before after) after.failed
+      → GivesNumber first before after (Err (error_of e))
+  digits_fail lex.Stream t = t
+  digits_fail lex.Shape t =
+      refused t.number t.last t.digits t.is (digit_goes t.last t.digit)
+      (λ more. number_after-large t.number t.last more t.digit t.large) t.came
 
-      pub digits_stop : (b : ℕ) (e : End) → o ≡ Some b → end_of b ≡ Some e
-          → GivesNumber first start after (Ok (value, e))
-      digits_stop b e is ends = (
-        so_far.0,
-        so_far.1,
-        (
-          no_more_by e (let came = steps_byte now after o step b is in
-              omega (arith, so_far.2, came.fewer)),
-          leaves_byte start now after (Passes so_far.0) so_far.3
-              (λ bytes rest. (c : ℕ) (word : List ℕ) → (words : List (List ℕ))
-              × (words_from (c ∷ word) bytes ≡ (c ∷ word ++ so_far.0) ∷ words)
-              × IsLeft e words (lines_after bytes) rest) o b step is
-              (λ bytes rest h c word. let end = words_end b rest e ends in (
-                end.0,
-                h.0 c word ∙ end.1 (c ∷ word ++ so_far.0),
-                subst
-                    (λ lines. IsLeft e end.0 lines rest) (sym h.1) end.2,
-              )),
-        ),
-      )
-
-      pub digits_end : o ≡ None → GivesNumber first start after (Ok (value, Stream))
-      digits_end is = (
-        so_far.0,
-        so_far.1,
-        (
-          tt,
-          leaves_end start now after (Passes so_far.0) so_far.3 (λ bytes rest. (c : ℕ) (word : List ℕ)
-              → (words : List (List ℕ))
-              × (words_from (c ∷ word) bytes ≡ (c ∷ word ++ so_far.0) ∷ words) × IsLeft Stream words
-              (lines_after bytes) rest) o step is
-              (λ bytes h c word. (
-                [],
-                h.0 c word ∙ words_none (c ∷ word ++ so_far.0),
-                (
-                  refl,
-                  h.1
-                      ∙ lines_none,
-                  refl,
-                ),
-              )),
-        ),
-      )
-
-pub digits_begin : (start : Feed) (first n : ℕ) → digit_after 0 first ≡ Some n
-    → DigitsTaken start start first n
-digits_begin start first n digit = (
-  [],
-  digit_some 0 first [] n digit ∙ number_none n,
-  omega arith,
-  leaves_start start (Passes []) (λ bytes. (
-    λ c word. ap (λ w. words_from (c ∷ w) bytes)
-        (sym (append-nil word)),
-    refl,
-  )),
-)
-
-pub digits_none : (start now : Feed) (first : ℕ) → digit_after 0 first ≡ None
+pub digits_none : (start now : Feed) (first : ℕ) → is_digit first ≡ false
     → GivesNumber first start now (Err errors.Literal)
-digits_none start now first digit bytes known = (
+digits_none start now first other bytes known = (
   refl,
   [],
-  λ more. digit_none 0 first more digit,
+  λ more. number_after-other 0 first more other,
   goes_on_by [] bytes bytes (λ c word. ap (λ w. words_from (c ∷ w) bytes) (sym (append-nil word))),
 )

@@ -5,13 +5,13 @@ use Rattle.aig_lexer.specs.Takes.{Feed, Steps}
 use Rattle.aig_lexer.proofs.Feeds.{steps_byte, steps_end}
 use Rattle.aig_solutions.specs.Lines.{Leaves, Says}
 
-consumed_known : (old new : Option (List ℕ)) (taken xs : List ℕ) → Consumes old new taken
+pub consumed_known : (old new : Option (List ℕ)) (taken xs : List ℕ) → Consumes old new taken
     → old ≡ Some xs → (ys : List ℕ) × (new ≡ Some ys) × (xs ≡ taken ++ ys)
 consumed_known None new taken xs c is = absurd cc
 consumed_known (Some zs) None taken xs c is = absurd c
 consumed_known (Some zs) (Some ys) taken xs c is = (ys, refl, sym (same_Some zs xs is) ∙ c)
 
-ended_known : (known : Option (List ℕ)) (xs : List ℕ) → IsAtEnd known → known ≡ Some xs → xs ≡ []
+pub ended_known : (known : Option (List ℕ)) (xs : List ℕ) → IsAtEnd known → known ≡ Some xs → xs ≡ []
 ended_known None xs end is = absurd cc
 ended_known (Some zs) xs end is = sym (same_Some zs xs is) ∙ end
 

@@ -3,7 +3,8 @@ use Rattle.aig_base.proofs.Words.{◌≡◌, List, [], ◌∷◌, Ok, Err, refl,
 use Rattle.aig_base.specs.declared.logic.three.Lbool.{Lbool}
 use Rattle.aig_base.specs.declared.logic.three.Lbool.TheVariants.{FALSE, TRUE, NONE}
 use Rattle.aig_solutions.specs.declared.error.SolutionError.TheVariants as errors
-use Rattle.aig_solutions.specs.Reading.{last_answer, lines_after, number_after, solution_from, solution_in, take_words, words_from}
+use Rattle.aig_lexer.specs.Digits.{number_after}
+use Rattle.aig_solutions.specs.Reading.{last_answer, lines_after, solution_from, solution_in, take_words, words_from}
 
 -- 2 alone is true
 abbrev second : List Lbool

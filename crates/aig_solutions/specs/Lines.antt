@@ -1,10 +1,12 @@
 -- Serves private clauses alone.
 -- What the calls that read a solver's answer take of its lines, and what they leave.
-use Rattle.std.specs.Prelude.{◌≡◌, ◌≢◌, ℕ, ◌+◌, ◌-◌, ◌*◌, ◌^◌, ◌==◌, ◌&&◌, ◌<◌, ◌≤◌, nat_lt, Bool, true, false, if◌then◌else◌, List, [], ◌∷◌, ◌++◌, length, take, Option, Some, None, Result, Ok, Err}
+use Rattle.std.specs.Prelude.{◌≡◌, ◌≢◌, ℕ, ◌==◌, ◌<◌, ◌≤◌, Bool, true, false, if◌then◌else◌, List, [], ◌∷◌, ◌++◌, length, take, Option, Some, None, Result, Ok, Err}
 use Rattle.std.specs.Option.{option_map_or}
 use Rattle.aig_base.specs.declared.logic.three.Lbool.{Lbool}
+use Rattle.aig_lexer.specs.declared.error.LexError.{LexError}
+use Rattle.aig_lexer.specs.declared.error.LexError.TheVariants as lex
+use Rattle.aig_lexer.specs.Digits.{number_after}
 use Rattle.aig_lexer.specs.Takes.{Feed}
-use Rattle.aig_format.specs.Parse.{is_digit}
 use Rattle.aig_solutions.specs.declared.error.SolutionError.{SolutionError}
 use Rattle.aig_solutions.specs.declared.error.SolutionError.TheVariants as errors
 use Rattle.aig_solutions.specs.declared.values.Reached.{Reached}
@@ -12,7 +14,7 @@ use Rattle.aig_solutions.specs.declared.values.Reached.TheVariants as reached
 use Rattle.aig_solutions.specs.declared.words.End.{End}
 use Rattle.aig_solutions.specs.declared.words.End.TheVariants as ends
 use Rattle.aig_solutions.specs.declared.words.Word.{Word}
-use Rattle.aig_solutions.specs.Reading.{◌>>=◌, finished, is_blank, is_passed_over, last_answer, lines_after, lines_of, literal_in, number_after, solution_from, take_answer, take_words, words_from}
+use Rattle.aig_solutions.specs.Reading.{◌>>=◌, finished, is_blank, is_passed_over, last_answer, lines_after, lines_of, literal_in, solution_from, take_answer, take_words, words_from}
 
 -- ---- bytes that are known
 
@@ -62,11 +64,10 @@ abbrev pub GoesOnBy : List ℕ → List ℕ → Type 0
 GoesOnBy taken bytes = (c : ℕ) (word : List ℕ) → (more : List ℕ) × (words : List (List ℕ))
     × (words_from (c ∷ word) bytes ≡ (c ∷ word ++ (taken ++ more)) ∷ words)
 
--- the number after one digit more, if it is below 2^32
-abbrev pub digit_after : ℕ → ℕ → Option ℕ
-digit_after value b =
-    if is_digit b && nat_lt (10 * value + (b - 48)) (2 ^ 32) then Some (10 * value + (b - 48))
-    else None
+-- an error of the lexer as one of a solution
+abbrev pub error_of : LexError → SolutionError
+error_of lex.Stream = errors.Stream
+error_of lex.Shape = errors.Literal
 
 -- the number of digits of which the first came before, or a word that is none
 abbrev pub GivesNumber : ℕ → Feed → Feed → Result (ℕ × End) SolutionError → Type 0

@@ -5,13 +5,13 @@
 -- line `s SATISFIABLE`. A line of values is `v` and literals; a 0 ends the last of these lines,
 -- before the answer or after it, and what follows both is not read. Lines without a word are passed
 -- over, and those whose first word begins with `c`.
-use Rattle.std.specs.Prelude.{◌≡◌, ℕ, ◌+◌, ◌-◌, ◌*◌, ◌^◌, ◌==◌, ◌&&◌, ◌||◌, nat_lt, nat_le, Bool, true, false, not, if◌then◌else◌, List, [], ◌∷◌, ◌++◌, length, replicate, slice_set, codes, Option, Some, None, IfSome, IsTrue, Result, Ok, Err, Vec}
+use Rattle.std.specs.Prelude.{◌≡◌, ℕ, ◌+◌, ◌-◌, ◌==◌, ◌&&◌, ◌||◌, nat_le, Bool, true, false, not, if◌then◌else◌, List, [], ◌∷◌, ◌++◌, length, replicate, slice_set, codes, Option, Some, None, IfSome, IsTrue, Result, Ok, Err, Vec}
 use Rattle.std.specs.Option.{option_map_or}
 use Rattle.std.specs.Str.{bytes_eq}
 use Rattle.std.specs.declared.alloc.Global.{Global}
 use Rattle.aig_base.specs.declared.logic.three.Lbool.{Lbool}
 use Rattle.aig_base.specs.declared.logic.three.Lbool.TheVariants.{FALSE, TRUE, NONE}
-use Rattle.aig_format.specs.Parse.{is_digit}
+use Rattle.aig_lexer.specs.Digits.{number_after}
 use Rattle.aig_solutions.specs.declared.error.SolutionError.{SolutionError}
 use Rattle.aig_solutions.specs.declared.error.SolutionError.TheVariants as errors
 use Rattle.aig_solutions.specs.Solutions.{value_at}
@@ -56,14 +56,6 @@ is_passed_over [] = true
 is_passed_over (word ∷ words) = begins 99 word
 
 -- ---- numbers
-
--- the number of digits after others, if it is below 2^32
-unfoldable pub number_after : ℕ → List ℕ → Option ℕ
-number_after value [] = Some value
-number_after value (b ∷ bs) =
-    if is_digit b && nat_lt (10 * value + (b - 48)) (2 ^ 32)
-    then number_after (10 * value + (b - 48)) bs
-    else None
 
 -- the number of a word of one digit or more
 abbrev pub number_in : List ℕ → Option ℕ

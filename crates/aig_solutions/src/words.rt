@@ -2,12 +2,12 @@
 
 ghost use Rattle.std.specs.Prelude.{◌≡◌, false, not, IsTrue};
 ghost use Rattle.aig_lexer.specs.Takes.{feed};
-ghost use Rattle.aig_solutions.specs.Lines.{GivesNumber, GivesWord, digit_after, end_of};
+ghost use Rattle.aig_solutions.specs.Lines.{GivesNumber, GivesWord, end_of};
 ghost use Rattle.aig_solutions.specs.Reading.{is_blank, is_end};
 
 use crate::error::SolutionError;
 use aig_base::Source;
-use aig_lexer::InputBuffer;
+use aig_lexer::{InputBuffer, digits_from};
 
 /// How a word ends.
 #[derive(Clone, Copy, Debug, PartialEq, Eq)]
@@ -60,20 +60,6 @@ impl Word {
     }
 }
 
-/// The number after one digit more, if it is a digit and the number is below 2^32.
-fn digit_after(value: u32, digit: u8) -> Option<u32>
-    ensures { result ≡ digit_after value digit }
-{
-    if !digit.is_ascii_digit() {
-        return None;
-    }
-    let more = 10 * value as u64 + (digit - b'0') as u64;
-    if more > u32::MAX as u64 {
-        return None;
-    }
-    Some(more as u32)
-}
-
 /// Reads the digits of a number of which this is the first: their value, and how they end.
 fn read_digits<R: Source>(
     buffer: &mut InputBuffer,
@@ -83,19 +69,17 @@ fn read_digits<R: Source>(
     ensures { GivesNumber first (feed R.left R.failed R.pulls buffer.old r.old)
         (feed R.left R.failed R.pulls buffer.new r.new) result }
 {
-    let Some(mut value) = digit_after(0, first) else {
+    if !first.is_ascii_digit() {
+        return Err(SolutionError::Literal);
+    }
+    let (number, next) = digits_from(buffer, r, (first - b'0') as u64)?;
+    let Some(b) = next else {
+        return Ok((number, End::Stream));
+    };
+    let Some(end) = end_of(b) else {
         return Err(SolutionError::Literal);
     };
-    while let Some(b) = buffer.next(r)? {
-        if let Some(end) = end_of(b) {
-            return Ok((value, end));
-        }
-        let Some(more) = digit_after(value, b) else {
-            return Err(SolutionError::Literal);
-        };
-        value = more;
-    }
-    Ok((value, End::Stream))
+    Ok((number, end))
 }
 
 /// Reads the literal that begins with this byte.

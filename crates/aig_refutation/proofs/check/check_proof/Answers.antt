@@ -15,17 +15,17 @@ returns-then-is_binary-clause-shown g c clauses fresh formula list same none =
     let left = g.R.Source.left c.args.r.now in
     let variables = c.args.variables in
     let checker = c.args.checker.now in
-    let held = c.in_ok-buffer.buffer in
-    let after = g.R.Source.left c.begin.new.r in
-    let f = feed g.R.Source.left g.R.Source.failed g.R.Source.pulls held c.begin.new.r in
-    let moved = c.in_ok-buffer.ensures.moved in
+    let held = c.hold.new.self in
+    let after = g.R.Source.left c.hold.new.r in
+    let f = feed g.R.Source.left g.R.Source.failed g.R.Source.pulls held c.hold.new.r in
+    let moved = c.in_ok-hold.ensures.moved in
     let inside = formula_inside checker variables clauses formula same list in
     let ahead : IsAhead clauses checker.table = subst (λ (l : List (List Lit)). IsAhead l
     checker.table) list (formula_ahead checker.table formula.holds) in
     let told : is_binary held ≡ true =
     ap is_binary (sym c.window.ensures) ∙ sym c.is_binary.ensures ∙ c.if-is_binary.true in
     shows_binary variables clauses left inside none f (front_coming left after held moved)
-    (λ bytes known. front_binary left after held moved c.in_ok-buffer.ensures.enough bytes known
+    (λ bytes known. front_binary left after held moved c.in_ok-hold.ensures.enough bytes known
     ∙ told) c.check_binary.result (c.check_binary.ensures.plain clauses ahead same)
 
 pub returns-clause-shown : goal.returns-clause-shown
@@ -33,10 +33,10 @@ returns-clause-shown g c clauses fresh formula list same none =
     let left = g.R.Source.left c.args.r.now in
     let variables = c.args.variables in
     let checker = c.args.checker.now in
-    let held = c.in_ok-buffer.buffer in
-    let after = g.R.Source.left c.begin.new.r in
-    let f = feed g.R.Source.left g.R.Source.failed g.R.Source.pulls held c.begin.new.r in
-    let moved = c.in_ok-buffer.ensures.moved in
+    let held = c.hold.new.self in
+    let after = g.R.Source.left c.hold.new.r in
+    let f = feed g.R.Source.left g.R.Source.failed g.R.Source.pulls held c.hold.new.r in
+    let moved = c.in_ok-hold.ensures.moved in
     let inside = formula_inside checker variables clauses formula same list in
     let ahead : IsAhead clauses checker.table = subst (λ (l : List (List Lit)). IsAhead l
     checker.table) list (formula_ahead checker.table formula.holds) in
@@ -45,6 +45,6 @@ returns-clause-shown g c clauses fresh formula list same none =
     let told : is_binary held ≡ false =
     ap is_binary (sym c.window.ensures) ∙ sym c.is_binary.ensures ∙ c.if-is_binary.false in
     shows_text variables clauses left inside none f (front_coming left after held moved)
-    (λ bytes known. front_binary left after held moved c.in_ok-buffer.ensures.enough bytes known
+    (λ bytes known. front_binary left after held moved c.in_ok-hold.ensures.enough bytes known
     ∙ told) c.check_steps.result (c.check_steps.ensures.shown (all_live clauses) fresh holds same)
     (c.check_steps.ensures.plain clauses fresh ahead same)

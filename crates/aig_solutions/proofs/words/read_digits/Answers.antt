@@ -1,51 +1,46 @@
-use Rattle.std.proofs.Common.{sym, ◌∙◌}
+use Rattle.aig_base.proofs.Words.{sym, ◌∙◌, err_from_is_err_and}
+use Rattle.aig_format.proofs.NumberReaders.{true_digit}
 use Rattle.aig_lexer.specs.Takes.{feed}
-use Rattle.aig_solutions.proofs.Digits.{digits_begin, digits_byte, digits_end, digits_none, digits_stop, digits_wrong}
+use Rattle.aig_lexer.proofs.Front.{no_digit}
+use Rattle.aig_solutions.proofs.Digits.{digits_fail, digits_last, digits_none, digits_stop, digits_wrong}
 use Rattle.aig_solutions.proofs.words.read_digits.Goals as goal
 
+pub returns-then-not-is_ascii_digit : goal.returns-then-not-is_ascii_digit
+returns-then-not-is_ascii_digit g c =
+    let at = feed g.R.Source.left g.R.Source.failed g.R.Source.pulls c.args.buffer.now c.args.r.now
+    in
+    digits_none at at c.args.first (no_digit c.args.first c.if-not-is_ascii_digit.ensures.cases)
+
+pub returns-in_err-number : goal.returns-in_err-number
+returns-in_err-number g c =
+    let at = feed g.R.Source.left g.R.Source.failed g.R.Source.pulls in
+    let p = err_from_is_err_and c.from_residual.result c.from_residual.ensures.1 in
+    rw (p.1, p.2)
+    (digits_fail (at c.args.buffer.now c.args.r.now) (at c.digits_from.new.buffer
+    c.digits_from.new.r) c.args.first
+    (true_digit c.args.first c.if-not-is_ascii_digit.ensures.cases) c.in_err-number.field-0.0
+    c.in_err-number.ensures)
+
 pub returns-in_default : goal.returns-in_default
-returns-in_default g c = digits_none (feed g.R.Source.left g.R.Source.failed g.R.Source.pulls
-    c.args.buffer.now c.args.r.now) (feed g.R.Source.left g.R.Source.failed g.R.Source.pulls
-    c.args.buffer.now c.args.r.now) c.args.first (sym c.digit_after.ensures ∙ c.in_default.is)
+returns-in_default g c =
+    let at = feed g.R.Source.left g.R.Source.failed g.R.Source.pulls in
+    digits_last (at c.args.buffer.now c.args.r.now)
+    (at c.digits_from.new.buffer c.digits_from.new.r) c.args.first (true_digit c.args.first c.if-not-is_ascii_digit.ensures.cases)
+    c.in_ok-number.number (rw c.in_default.is at c.in_ok-number.ensures)
 
-pub loop-b-init : goal.loop-b-init
-loop-b-init g c = digits_begin (feed g.R.Source.left g.R.Source.failed g.R.Source.pulls
-    c.args.buffer.now c.args.r.now) c.args.first c.in-Some.value (sym c.digit_after.ensures
-    ∙ c.in-Some.is)
-
-pub returns-in-Some-end_of : goal.returns-in-Some-end_of
-returns-in-Some-end_of g c =
-    digits_stop (feed g.R.Source.left g.R.Source.failed g.R.Source.pulls c.args.buffer.now
-    c.args.r.now) (feed g.R.Source.left g.R.Source.failed g.R.Source.pulls c.loop-b.buffer
-    c.loop-b.r) c.args.first c.loop-b.value c.loop-b.invariant
-    (feed g.R.Source.left g.R.Source.failed g.R.Source.pulls c.next.new.self c.next.new.r)
-    c.in_ok-b.field-0 c.in_ok-b.ensures.steps c.in-Some-2.b c.in-Some-end_of.end c.in-Some-2.is
-    (sym c.end_of.ensures ∙ c.in-Some-end_of.is)
-
-pub loop-b-preserved : goal.loop-b-preserved
-loop-b-preserved g c =
-    digits_byte (feed g.R.Source.left g.R.Source.failed g.R.Source.pulls c.args.buffer.now
-    c.args.r.now) (feed g.R.Source.left g.R.Source.failed g.R.Source.pulls c.loop-b.buffer
-    c.loop-b.r) c.args.first c.loop-b.value c.loop-b.invariant
-    (feed g.R.Source.left g.R.Source.failed g.R.Source.pulls c.next.new.self c.next.new.r)
-    c.in_ok-b.field-0 c.in_ok-b.ensures.steps c.in-Some-2.b c.in-Some-digit_after.more
-    c.in-Some-2.is (sym c.end_of.ensures ∙ c.in_default-end_of.is)
-    (sym c.digit_after-in-Some-2.ensures ∙ c.in-Some-digit_after.is)
-
-pub returns-in_default-digit_after : goal.returns-in_default-digit_after
-returns-in_default-digit_after g c =
-    digits_wrong (feed g.R.Source.left g.R.Source.failed g.R.Source.pulls c.args.buffer.now
-    c.args.r.now) (feed g.R.Source.left g.R.Source.failed g.R.Source.pulls c.loop-b.buffer
-    c.loop-b.r) c.args.first c.loop-b.value c.loop-b.invariant
-    (feed g.R.Source.left g.R.Source.failed g.R.Source.pulls c.next.new.self c.next.new.r)
-    c.in_ok-b.field-0 c.in_ok-b.ensures.steps c.in-Some-2.b c.in-Some-2.is (sym c.end_of.ensures
-    ∙ c.in_default-end_of.is) (sym c.digit_after-in-Some-2.ensures
-    ∙ c.in_default-digit_after.is)
+pub returns-in_default-end_of : goal.returns-in_default-end_of
+returns-in_default-end_of g c =
+    let at = feed g.R.Source.left g.R.Source.failed g.R.Source.pulls in
+    digits_wrong (at c.args.buffer.now c.args.r.now) (at c.digits_from.new.buffer
+    c.digits_from.new.r) c.args.first
+    (true_digit c.args.first c.if-not-is_ascii_digit.ensures.cases) c.in_ok-number.number
+    c.in-Some.b (rw c.in-Some.is at c.in_ok-number.ensures)
+    (sym c.end_of.ensures ∙ c.in_default-end_of.is)
 
 pub returns : goal.returns
 returns g c =
-    digits_end (feed g.R.Source.left g.R.Source.failed g.R.Source.pulls c.args.buffer.now
-    c.args.r.now) (feed g.R.Source.left g.R.Source.failed g.R.Source.pulls c.loop-b.buffer
-    c.loop-b.r) c.args.first c.loop-b.value c.loop-b.invariant
-    (feed g.R.Source.left g.R.Source.failed g.R.Source.pulls c.next.new.self c.next.new.r)
-    c.in_ok-b.field-0 c.in_ok-b.ensures.steps c.in_default-2.is
+    let at = feed g.R.Source.left g.R.Source.failed g.R.Source.pulls in
+    digits_stop (at c.args.buffer.now c.args.r.now)
+    (at c.digits_from.new.buffer c.digits_from.new.r) c.args.first (true_digit c.args.first c.if-not-is_ascii_digit.ensures.cases)
+    c.in_ok-number.number c.in-Some.b c.in-Some-end_of.end
+    (rw c.in-Some.is at c.in_ok-number.ensures) (sym c.end_of.ensures ∙ c.in-Some-end_of.is)
