@@ -1,10 +1,6 @@
 -- Words that are read byte by byte.
 use Rattle.aig_base.proofs.Words.{◌≡◌, ◌≢◌, ℕ, ◌+◌, ◌-◌, ◌*◌, ◌<◌, ◌≤◌, ◌^◌, Bool, true, false, List, [], ◌∷◌, ◌++◌, Option, Some, None, Result, Ok, Err, refl, sym, ap, subst, ◌∙◌, append_assoc, arith, ne_eqb, same_Some}
-use Rattle.aig_lexer.specs.declared.error.LexError.{LexError}
-use Rattle.aig_lexer.specs.declared.error.LexError.TheVariants as lex
 use Rattle.aig_lexer.specs.Digits.{TakesDigits, TakesTooMany, number_after}
-use Rattle.aig_lexer.specs.Faults as lexer
-use Rattle.aig_lexer.specs.Faults.{word_cause}
 use Rattle.aig_lexer.specs.Takes.{Advances, Feed, Steps}
 use Rattle.aig_lexer.proofs.Digits.{number_after-nil, number_first}
 use Rattle.aig_format.specs.Parse.{is_digit}
@@ -15,7 +11,7 @@ use Rattle.aig_refutation.specs.declared.words.Word as code
 use Rattle.aig_refutation.specs.declared.words.Word.TheVariants as words
 use Rattle.aig_refutation.specs.Text as text
 use Rattle.aig_refutation.specs.Text.{◌>>=◌, digits_after, fault, is_blank, letter_before, lines_after, lines_of, number_in, signed, word_at, word_in, words_after, words_of}
-use Rattle.aig_refutation.specs.Words.{GivesWord, Leaves, Says, end_after, error_of, front, held_word, left_after, left_at}
+use Rattle.aig_refutation.specs.Words.{GivesWord, Leaves, Says, end_after, front, held_word, left_after, left_at}
 use Rattle.aig_refutation.proofs.Known.{at_end, consumed, leaves_on, leaves_same, says_now, says_on, step_leaves, tells, tells_on}
 use Rattle.aig_refutation.proofs.Texts.{digit_no_blank, digit_no_line, digit_on, digit_wrong, digits_end, digits_refused, first_digit, left_end, letter_end, letter_refused, no_digit, number_digit, number_none, word_goes, word_letter, word_minus, word_plain}
 
@@ -83,8 +79,7 @@ module _ (before after : Feed) (first : ℕ) (digit : is_digit first ≡ true) w
             (c.2 ∙ append_assoc t.digits (b ∷ []) c.0),
       )
   digits_leave n None t bytes known =
-      let c = consumed before.coming after.coming t.digits bytes t.came.consumed known in
-      (
+      let c = consumed before.coming after.coming t.digits bytes t.came.consumed known in (
         c.0,
         c.1,
         digits_taken n None t.digits c.0 bytes t.is
@@ -161,22 +156,13 @@ number_other before after digit positive now e other is =
     (λ bytes known. signed_err positive (number_in (digit ∷ bytes)) e
     (no_digit digit bytes other ∙ ap (λ f. Err f) (sym is)))
 
--- the error of a number that is too large, or of a failed read
-pub number_fails : (before after : Feed) (digit : ℕ) (positive : Bool) (now : Option End)
-    (e : LexError) → is_digit digit ≡ true → lexer.Tells (word_cause e) (TakesTooMany (digit - 48) before after)
-    after.failed
+pub number_large : (before after : Feed) (digit : ℕ) (positive : Bool) (now : Option End)
+    → is_digit digit ≡ true → TakesTooMany (digit - 48) before after
     → GivesWord (λ bytes. signed positive (number_in (digit ∷ bytes))) before after now
-    (Err (error_of e))
-number_fails before after digit positive now lex.Stream first given = tt
-number_fails before after digit positive now lex.Shape first given =
-    λ bytes known. signed_err positive (number_in (digit ∷ bytes)) errors.Line
-    (digits_many before after digit first given bytes known)
-
-pub stream_fails : {X : Type 0} (e : LexError) (P : Type 0) (failed : Bool)
-    → lexer.Tells (word_cause e) P failed
-    → ◌≡◌ {A = Result X RefutationError} (Err (error_of e)) (Err errors.Stream) → failed ≡ true
-stream_fails lex.Stream P failed told is = told
-stream_fails lex.Shape P failed told is = absurd cc
+    (Err errors.Line)
+number_large before after digit positive now first many bytes known =
+    signed_err positive (number_in (digit ∷ bytes)) errors.Line
+    (digits_many before after digit first many bytes known)
 
 -- ---- words
 

@@ -2,7 +2,7 @@
 -- Bytes that are read before a word, and in one.
 use Rattle.std.specs.Prelude.{◌≡◌, ◌<◌, ◌≤◌, ℕ, Bool, true, false, IfSome, List, [], ◌∷◌, ◌++◌, length, take, Option, Some, None, Result, Ok, Err}
 use Rattle.aig_lexer.specs.declared.signed.Signed.{Signed}
-use Rattle.aig_lexer.specs.SignedNumbers.{parse_signed}
+use Rattle.aig_lexer.specs.SignedNumbers.{IsSigned}
 use Rattle.aig_lexer.specs.Takes.{Feed}
 use Rattle.aig_refutation.specs.declared.error.RefutationError.{RefutationError}
 use Rattle.aig_refutation.specs.declared.error.RefutationError.TheVariants as errors
@@ -32,5 +32,4 @@ pub record IsNear (text : Text) (x : Signed) : Type 0 where
   pub goes_on : text.end ≡ None
   pub some : 0 < x.count
   pub within : x.count ≤ length text.held
-  pub reads : (rest : List ℕ) → parse_signed (take x.count text.held ++ rest)
-      ≡ Some ((x.positive, (x.value, x.end)), rest)
+  pub reads : IsSigned (take x.count text.held) x.positive x.value x.end

@@ -1,8 +1,6 @@
 -- Serves private clauses alone.
 -- How a text is read, word by word: what is still to come, and what was taken.
 use Rattle.std.specs.Prelude.{◌≡◌, ℕ, ◌+◌, ◌<◌, ◌≤◌, ◌==◌, Bool, true, false, if◌then◌else◌, List, [], ◌∷◌, Option, Some, None, Result, Ok, Err}
-use Rattle.aig_lexer.specs.declared.error.LexError.{LexError}
-use Rattle.aig_lexer.specs.declared.error.LexError.TheVariants as lex
 use Rattle.aig_lexer.specs.Takes.{Feed, feed}
 use Rattle.aig_refutation.specs.declared.error.RefutationError.{RefutationError}
 use Rattle.aig_refutation.specs.declared.error.RefutationError.TheVariants as errors
@@ -60,11 +58,6 @@ abbrev pub Tells : RefutationError → Type 0 → Type 0
 Tells errors.Memory P = Unit {0}
 Tells errors.Stream P = Unit {0}
 Tells e P = P
-
--- what an error of the lexer is in a proof
-abbrev pub error_of : LexError → RefutationError
-error_of lex.Stream = errors.Stream
-error_of lex.Shape = errors.Line
 
 -- a value that is given, or an error
 abbrev pub Answers : {X Y : Type 0} → (X → Y) → Result Y RefutationError → Result X RefutationError

@@ -372,7 +372,7 @@ fn take_steps<R: Source>(
 /// used, whatever it has.
 fn check_steps<R: Source>(
     alloc: Global,
-    buffer: InputBuffer,
+    words: &mut Words,
     r: &mut R,
     checker: &mut Checker,
     step: &mut Step,
@@ -381,15 +381,16 @@ fn check_steps<R: Source>(
     requires { variables ≤ 2 ^ 31 }
     ensures refuted { OnOk result (¬ IsSatisfiable checker.old.table.clauses) }
     ensures stream { IsErrOf result RefutationError.Stream → R.failed r.new ≡ true }
-    ensures shown { (live : Live) → step.old.is_numbered ≡ false
+    ensures shown { (live : Live) → words.old.end ≡ None → step.old.is_numbered ≡ false
         → Holds checker.old.table live → checker.old.variables ≡ variables
-        → ShowsText (feed R.left R.failed R.pulls buffer r.old) (text_outcome variables live)
-        result }
-    ensures plain { (clauses : List (List Lit)) → step.old.is_numbered ≡ false
+        → ShowsText (feed R.left R.failed R.pulls words.old.held r.old)
+        (text_outcome variables live) result }
+    ensures plain { (clauses : List (List Lit)) → words.old.end ≡ None
+        → step.old.is_numbered ≡ false
         → IsAhead clauses checker.old.table → checker.old.variables ≡ variables
-        → ShowsPlain (feed R.left R.failed R.pulls buffer r.old) variables clauses result }
+        → ShowsPlain (feed R.left R.failed R.pulls words.old.held r.old) variables clauses
+        result }
 {
-    let words = &mut Words::new(buffer);
     let there = step.read(words, r, variables)?;
     let mut search = search_for(alloc, checker, step)?;
     if refutes_at_first(checker, &mut search, step)? {
@@ -469,12 +470,12 @@ fn check_proof<R: Source>(
         → checker.old.variables ≡ variables → (IsInConflict clauses → ⊥)
         → Shows variables clauses (R.left r.old) result }
 {
-    let mut buffer = InputBuffer::new();
-    buffer.hold(r, TELLING)?;
-    if is_binary(buffer.window()) {
-        return check_binary(alloc, &mut buffer, r, checker, step, variables);
+    let mut words = Words::new();
+    words.buffer.hold(r, TELLING)?;
+    if is_binary(words.buffer.window()) {
+        return check_binary(alloc, &mut words.buffer, r, checker, step, variables);
     }
-    check_steps(alloc, buffer, r, checker, step, variables)
+    check_steps(alloc, &mut words, r, checker, step, variables)
 }
 
 /// Checks steps against a formula's clauses, where these aren't in conflict by themselves. There are

@@ -1,11 +1,9 @@
 //! Why a proof doesn't show that clauses can't be satisfied.
 
 ghost use Rattle.std.specs.Prelude.{◌≡◌};
-ghost use Rattle.aig_refutation.specs.Words.{error_of};
 ghost use Rattle.aig_refutation.specs.declared.error.RefutationError.TheVariants as errors;
 
 use aig_base::{MemoryError, StreamFault};
-use aig_lexer::LexError;
 use thiserror::Error;
 
 /// Why a proof doesn't show that clauses can't be satisfied.
@@ -55,17 +53,6 @@ impl From<StreamFault> for RefutationError {
 
     fn from(_fault: StreamFault) -> RefutationError {
         RefutationError::Stream
-    }
-}
-
-impl From<LexError> for RefutationError {
-    ghost from_gives = { λ e r. r ≡ error_of e };
-
-    fn from(error: LexError) -> RefutationError {
-        match error {
-            LexError::Stream => RefutationError::Stream,
-            LexError::Shape => RefutationError::Line,
-        }
     }
 }
 

@@ -12,7 +12,7 @@ ghost use Rattle.aig_refutation.specs.Words.{Answers, ClosesAt, Gives, GivesFirs
 
 use crate::error::RefutationError;
 use aig_base::Source;
-use aig_lexer::{InputBuffer, Signed, digits_from, signed_in};
+use aig_lexer::{InputBuffer, LexError, Signed, digits_from, signed_in};
 use std::marker::Model;
 
 /// A number, which may have a minus in front.
@@ -107,7 +107,8 @@ fn skip_line<R: Source>(buffer: &mut InputBuffer, r: &mut R) -> Result<bool, Ref
 /// The text of a proof, from which words are taken.
 #[derive(Drop)]
 pub(crate) struct Words {
-    buffer: InputBuffer,
+    /// The bytes that are held.
+    pub(crate) buffer: InputBuffer,
     /// How the line ended whose words were taken, if it did.
     end: Option<End>,
 }
@@ -121,11 +122,14 @@ impl Model for Words {
 }
 
 impl Words {
-    /// A text none of which was taken: what is held of it, and what is left in the source.
-    pub(crate) fn new(buffer: InputBuffer) -> Words
-        ensures { result ≡ record { held = buffer; end = None } }
+    /// A text of which nothing is held, and none was taken.
+    pub(crate) fn new() -> Words
+        ensures { result ≡ record { held = []; end = None } }
     {
-        Words { buffer, end: None }
+        Words {
+            buffer: InputBuffer::new(),
+            end: None,
+        }
     }
 
     /// Ends a word at the byte after it, or at the end of the stream.
@@ -164,7 +168,11 @@ impl Words {
         if !digit.is_ascii_digit() {
             return Err(fault(digit));
         }
-        let (value, end) = digits_from(&mut self.buffer, r, (digit - b'0') as u64)?;
+        let (value, end) = match digits_from(&mut self.buffer, r, (digit - b'0') as u64) {
+            Ok(number) => number,
+            Err(LexError::Stream) => return Err(RefutationError::Stream),
+            Err(LexError::Shape) => return Err(RefutationError::Line),
+        };
         self.end_word(end)?;
         Ok(Word::Number(Number { value, positive }))
     }

@@ -5,6 +5,7 @@ use Rattle.aig_refutation.specs.Ahead.{IsAhead}
 use Rattle.aig_refutation.specs.Checking.{all_live}
 use Rattle.aig_refutation.specs.Forms.{is_binary}
 use Rattle.aig_refutation.specs.Tables.{Holds}
+use Rattle.aig_refutation.specs.Words.{Text}
 use Rattle.aig_refutation.proofs.Formulas.{formula_inside, shows_binary, shows_text}
 use Rattle.aig_refutation.proofs.Fronts.{front_binary, front_coming}
 use Rattle.aig_refutation.proofs.Keeping.{formula_ahead}
@@ -44,7 +45,9 @@ returns-clause-shown g c clauses fresh formula list same none =
     checker.table (all_live l)) list formula.holds.holds in
     let told : is_binary held ≡ false =
     ap is_binary (sym c.window.ensures) ∙ sym c.is_binary.ensures ∙ c.if-is_binary.false in
+    let goes_on = ap (λ (t : Text). t.end) (c.words.view_is ∙ c.new-words.ensures) in
     shows_text variables clauses left inside none f (front_coming left after held moved)
     (λ bytes known. front_binary left after held moved c.in_ok-hold.ensures.enough bytes known
-    ∙ told) c.check_steps.result (c.check_steps.ensures.shown (all_live clauses) fresh holds same)
-    (c.check_steps.ensures.plain clauses fresh ahead same)
+    ∙ told) c.check_steps.result
+    (c.check_steps.ensures.shown (all_live clauses) goes_on fresh holds same)
+    (c.check_steps.ensures.plain clauses goes_on fresh ahead same)

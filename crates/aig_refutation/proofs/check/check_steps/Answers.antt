@@ -5,83 +5,71 @@ use Rattle.aig_refutation.specs.Concluding.{Concludes, ConcludesPlain, ShowsPlai
 use Rattle.aig_refutation.specs.Proofs.{Line}
 use Rattle.aig_refutation.specs.Reading.{GivesStep, said_by}
 use Rattle.aig_refutation.specs.Tables.{Checked, Holds}
-use Rattle.aig_refutation.specs.Words.{Text, place}
+use Rattle.aig_refutation.specs.Words.{place}
 use Rattle.aig_refutation.specs.declared.step.Step as held
 use Rattle.aig_refutation.proofs.Outcomes.{by_truth, text_none, text_numbered, text_unnumbered, text_wrong}
 use Rattle.aig_refutation.proofs.Plainly.{first_none, first_numbered, first_plain, first_wrong, numbered_said, plain_same, shows_stays}
 use Rattle.aig_refutation.proofs.check.check_steps.Goals as goal
 
 pub returns-in_err-there-clause-shown : goal.returns-in_err-there-clause-shown
-returns-in_err-there-clause-shown g c live fresh holds same =
+returns-in_err-there-clause-shown g c live goes_on fresh holds same =
     let at = place g.R.Source.left g.R.Source.failed g.R.Source.pulls in
-    let none : Text = record { held = c.args.buffer; end = None } in
-    let before = at none c.args.r.now in
+    let before = at c.args.words.now c.args.r.now in
     let after = at c.read.new.words c.read.new.r in
     let variables = c.args.variables in
     let step = c.read.new.self in
     let e = c.in_err-there.field-0.0 in
     let p = err_from_is_err_and c.from_residual.result c.from_residual.ensures.1 in
     let given : GivesStep false variables (said_by step) before after (Err e) = subst (λ (b : Bool).
-    GivesStep b variables (said_by step) before after (Err e)) fresh (subst (λ (w : Text). GivesStep
-    c.args.step.now.is_numbered variables (said_by step) (at w c.args.r.now) after (Err e))
-    c.new.ensures c.in_err-there.ensures.step) in
-    rw (p.1, p.2) (text_wrong variables live before refl (said_by step) after e given)
+    GivesStep b variables (said_by step) before after (Err e)) fresh c.in_err-there.ensures.step in
+    rw (p.1, p.2) (text_wrong variables live before goes_on (said_by step) after e given)
 
 pub returns-in_err-search-clause-shown : goal.returns-in_err-search-clause-shown
-returns-in_err-search-clause-shown g c live fresh holds same =
+returns-in_err-search-clause-shown g c live goes_on fresh holds same =
     let at = place g.R.Source.left g.R.Source.failed g.R.Source.pulls in
-    let none : Text = record { held = c.args.buffer; end = None } in
-    let before = at none c.args.r.now in
+    let before = at c.args.words.now c.args.r.now in
     let after = at c.read.new.words c.read.new.r in
     let variables = c.args.variables in
     let step = c.read.new.self in
     let given : GivesStep false variables (said_by step) before after (Ok c.in_ok-there.there) =
     subst (λ (b : Bool). GivesStep b variables (said_by step) before after (Ok
-    c.in_ok-there.there)) fresh (subst (λ (w : Text). GivesStep c.args.step.now.is_numbered
-    variables (said_by step) (at w c.args.r.now) after (Ok c.in_ok-there.there)) c.new.ensures
-    c.in_ok-there.ensures.step) in
+    c.in_ok-there.there)) fresh c.in_ok-there.ensures.step in
     by_truth (ShowsText before.feed (text_outcome variables live)
     c.from_residual-in_err-search.result) step.is_numbered
     (λ n. let wrong = (c.in_err-search.ensures.numbered n).1 in absurd cc)
-    (λ n. text_unnumbered variables live before refl step after n c.in_ok-there.there given
+    (λ n. text_unnumbered variables live before goes_on step after n c.in_ok-there.there given
     c.from_residual-in_err-search.result)
 
 pub returns-in_err-refutes_at_first-clause-shown :
     goal.returns-in_err-refutes_at_first-clause-shown
-returns-in_err-refutes_at_first-clause-shown g c live fresh holds same =
+returns-in_err-refutes_at_first-clause-shown g c live goes_on fresh holds same =
     let at = place g.R.Source.left g.R.Source.failed g.R.Source.pulls in
-    let none : Text = record { held = c.args.buffer; end = None } in
-    let before = at none c.args.r.now in
+    let before = at c.args.words.now c.args.r.now in
     let after = at c.read.new.words c.read.new.r in
     let variables = c.args.variables in
     let step = c.read.new.self in
     let given : GivesStep false variables (said_by step) before after (Ok c.in_ok-there.there) =
     subst (λ (b : Bool). GivesStep b variables (said_by step) before after (Ok
-    c.in_ok-there.there)) fresh (subst (λ (w : Text). GivesStep c.args.step.now.is_numbered
-    variables (said_by step) (at w c.args.r.now) after (Ok c.in_ok-there.there)) c.new.ensures
-    c.in_ok-there.ensures.step) in
+    c.in_ok-there.there)) fresh c.in_ok-there.ensures.step in
     let searches = λ (n : step.is_numbered ≡ true). c.in_ok-search.ensures.numbered n in
     let no_search : step.is_numbered ≡ true → c.in_ok-search.search ≡ None = λ n. let is = (searches
     n).1 in cc in
     by_truth (ShowsText before.feed (text_outcome variables live)
     c.from_residual-in_err-refutes_at_first.result) step.is_numbered
     (λ n. let wrong = (c.in_err-refutes_at_first.ensures.numbered (no_search n)).3 in absurd cc)
-    (λ n. text_unnumbered variables live before refl step after n c.in_ok-there.there given
+    (λ n. text_unnumbered variables live before goes_on step after n c.in_ok-there.there given
     c.from_residual-in_err-refutes_at_first.result)
 
 pub returns-then-branch-clause-shown : goal.returns-then-branch-clause-shown
-returns-then-branch-clause-shown g c live fresh holds same =
+returns-then-branch-clause-shown g c live goes_on fresh holds same =
     let at = place g.R.Source.left g.R.Source.failed g.R.Source.pulls in
-    let none : Text = record { held = c.args.buffer; end = None } in
-    let before = at none c.args.r.now in
+    let before = at c.args.words.now c.args.r.now in
     let after = at c.read.new.words c.read.new.r in
     let variables = c.args.variables in
     let step = c.read.new.self in
     let given : GivesStep false variables (said_by step) before after (Ok c.in_ok-there.there) =
     subst (λ (b : Bool). GivesStep b variables (said_by step) before after (Ok
-    c.in_ok-there.there)) fresh (subst (λ (w : Text). GivesStep c.args.step.now.is_numbered
-    variables (said_by step) (at w c.args.r.now) after (Ok c.in_ok-there.there)) c.new.ensures
-    c.in_ok-there.ensures.step) in
+    c.in_ok-there.there)) fresh c.in_ok-there.ensures.step in
     let searches = λ (n : step.is_numbered ≡ true). c.in_ok-search.ensures.numbered n in
     let no_search : step.is_numbered ≡ true → c.in_ok-search.search ≡ None = λ n. let is = (searches
     n).1 in cc in
@@ -90,37 +78,31 @@ returns-then-branch-clause-shown g c live fresh holds same =
     let wrong = (c.in_ok-refutes_at_first.ensures.numbered (no_search n)).3 in
     let is : c.in_ok-refutes_at_first.field-0 ≡ false = cc in
     absurd (false≢true (sym is ∙ c.if-branch.true)))
-    (λ n. text_unnumbered variables live before refl step after n c.in_ok-there.there given (Ok tt))
+    (λ n. text_unnumbered variables live before goes_on step after n c.in_ok-there.there given (Ok tt))
 
 pub returns-then-not-there-clause-shown : goal.returns-then-not-there-clause-shown
-returns-then-not-there-clause-shown g c live fresh holds same =
+returns-then-not-there-clause-shown g c live goes_on fresh holds same =
     let at = place g.R.Source.left g.R.Source.failed g.R.Source.pulls in
-    let none : Text = record { held = c.args.buffer; end = None } in
-    let before = at none c.args.r.now in
+    let before = at c.args.words.now c.args.r.now in
     let after = at c.read.new.words c.read.new.r in
     let variables = c.args.variables in
     let step = c.read.new.self in
     let given : GivesStep false variables (said_by step) before after (Ok c.in_ok-there.there) =
     subst (λ (b : Bool). GivesStep b variables (said_by step) before after (Ok
-    c.in_ok-there.there)) fresh (subst (λ (w : Text). GivesStep c.args.step.now.is_numbered
-    variables (said_by step) (at w c.args.r.now) after (Ok c.in_ok-there.there)) c.new.ensures
-    c.in_ok-there.ensures.step) in
-    text_none variables live before refl (said_by step) after (subst (λ (b : Bool). GivesStep false
+    c.in_ok-there.there)) fresh c.in_ok-there.ensures.step in
+    text_none variables live before goes_on (said_by step) after (subst (λ (b : Bool). GivesStep false
     variables (said_by step) before after (Ok b)) c.if-not-there.true given) (Err errors.Unfinished)
 
 pub returns-clause-shown : goal.returns-clause-shown
-returns-clause-shown g c live fresh holds same =
+returns-clause-shown g c live goes_on fresh holds same =
     let at = place g.R.Source.left g.R.Source.failed g.R.Source.pulls in
-    let none : Text = record { held = c.args.buffer; end = None } in
-    let before = at none c.args.r.now in
+    let before = at c.args.words.now c.args.r.now in
     let after = at c.read.new.words c.read.new.r in
     let variables = c.args.variables in
     let step = c.read.new.self in
     let given : GivesStep false variables (said_by step) before after (Ok c.in_ok-there.there) =
     subst (λ (b : Bool). GivesStep b variables (said_by step) before after (Ok
-    c.in_ok-there.there)) fresh (subst (λ (w : Text). GivesStep c.args.step.now.is_numbered
-    variables (said_by step) (at w c.args.r.now) after (Ok c.in_ok-there.there)) c.new.ensures
-    c.in_ok-there.ensures.step) in
+    c.in_ok-there.there)) fresh c.in_ok-there.ensures.step in
     let searches = λ (n : step.is_numbered ≡ true). c.in_ok-search.ensures.numbered n in
     let no_search : step.is_numbered ≡ true → c.in_ok-search.search ≡ None = λ n. let is = (searches
     n).1 in cc in
@@ -133,33 +115,29 @@ returns-clause-shown g c live fresh holds same =
     h.table live) (sym kept) holds in
     let concludes = c.take_steps.ensures.shown live first.1 here (ap (λ h. h.variables) kept ∙ same)
     in
-    text_numbered variables live before refl step after n (subst (λ (b : Bool). GivesStep false
+    text_numbered variables live before goes_on step after n (subst (λ (b : Bool). GivesStep false
     variables (said_by step) before after (Ok b)) c.if-not-there.false given) r (subst (λ (s :
     held.Step). Concludes after.feed (left_outcome variables live (said_by s) after) r) first.2
     concludes))
-    (λ n. text_unnumbered variables live before refl step after n c.in_ok-there.there given r)
+    (λ n. text_unnumbered variables live before goes_on step after n c.in_ok-there.there given r)
 
 pub returns-in_err-there-clause-plain : goal.returns-in_err-there-clause-plain
-returns-in_err-there-clause-plain g c clauses fresh ahead same =
+returns-in_err-there-clause-plain g c clauses goes_on fresh ahead same =
     let at = place g.R.Source.left g.R.Source.failed g.R.Source.pulls in
-    let none : Text = record { held = c.args.buffer; end = None } in
-    let before = at none c.args.r.now in
+    let before = at c.args.words.now c.args.r.now in
     let after = at c.read.new.words c.read.new.r in
     let variables = c.args.variables in
     let step = c.read.new.self in
     let e = c.in_err-there.field-0.0 in
     let p = err_from_is_err_and c.from_residual.result c.from_residual.ensures.1 in
     let given : GivesStep false variables (said_by step) before after (Err e) = subst (λ (b : Bool).
-    GivesStep b variables (said_by step) before after (Err e)) fresh (subst (λ (w : Text). GivesStep
-    c.args.step.now.is_numbered variables (said_by step) (at w c.args.r.now) after (Err e))
-    c.new.ensures c.in_err-there.ensures.step) in
-    rw (p.1, p.2) (first_wrong variables clauses before refl (said_by step) after e given)
+    GivesStep b variables (said_by step) before after (Err e)) fresh c.in_err-there.ensures.step in
+    rw (p.1, p.2) (first_wrong variables clauses before goes_on (said_by step) after e given)
 
 pub returns-in_err-search-clause-plain : goal.returns-in_err-search-clause-plain
-returns-in_err-search-clause-plain g c clauses fresh ahead same =
+returns-in_err-search-clause-plain g c clauses goes_on fresh ahead same =
     let at = place g.R.Source.left g.R.Source.failed g.R.Source.pulls in
-    let none : Text = record { held = c.args.buffer; end = None } in
-    let before = at none c.args.r.now in
+    let before = at c.args.words.now c.args.r.now in
     let variables = c.args.variables in
     let e = c.in_err-search.field-0.0 in
     let p = err_from_is_err_and c.from_residual-in_err-search.result
@@ -169,10 +147,9 @@ returns-in_err-search-clause-plain g c clauses fresh ahead same =
 
 pub returns-in_err-refutes_at_first-clause-plain :
     goal.returns-in_err-refutes_at_first-clause-plain
-returns-in_err-refutes_at_first-clause-plain g c clauses fresh ahead same =
+returns-in_err-refutes_at_first-clause-plain g c clauses goes_on fresh ahead same =
     let at = place g.R.Source.left g.R.Source.failed g.R.Source.pulls in
-    let none : Text = record { held = c.args.buffer; end = None } in
-    let before = at none c.args.r.now in
+    let before = at c.args.words.now c.args.r.now in
     let variables = c.args.variables in
     let e = c.in_err-refutes_at_first.field-0.0 in
     let p = err_from_is_err_and c.from_residual-in_err-refutes_at_first.result
@@ -182,43 +159,37 @@ returns-in_err-refutes_at_first-clause-plain g c clauses fresh ahead same =
     (c.in_ok-search.ensures.ahead clauses ahead)))
 
 pub returns-then-not-there-clause-plain : goal.returns-then-not-there-clause-plain
-returns-then-not-there-clause-plain g c clauses fresh ahead same =
+returns-then-not-there-clause-plain g c clauses goes_on fresh ahead same =
     let at = place g.R.Source.left g.R.Source.failed g.R.Source.pulls in
-    let none : Text = record { held = c.args.buffer; end = None } in
-    let before = at none c.args.r.now in
+    let before = at c.args.words.now c.args.r.now in
     let after = at c.read.new.words c.read.new.r in
     let variables = c.args.variables in
     let step = c.read.new.self in
     let given_there : GivesStep false variables (said_by step) before after (Ok
     c.in_ok-there.there) = subst (λ (b : Bool). GivesStep b variables (said_by step) before after
-    (Ok c.in_ok-there.there)) fresh (subst (λ (w : Text). GivesStep c.args.step.now.is_numbered
-    variables (said_by step) (at w c.args.r.now) after (Ok c.in_ok-there.there)) c.new.ensures
-    c.in_ok-there.ensures.step) in
+    (Ok c.in_ok-there.there)) fresh c.in_ok-there.ensures.step in
     let given : GivesStep false variables (said_by step) before after (Ok false) = subst
     (λ (b : Bool). GivesStep false variables (said_by step) before after (Ok b))
     c.if-not-there.true given_there in
-    first_none variables clauses before refl (said_by step) after given
+    first_none variables clauses before goes_on (said_by step) after given
 
 pub returns-clause-plain : goal.returns-clause-plain
-returns-clause-plain g c clauses fresh ahead same =
+returns-clause-plain g c clauses goes_on fresh ahead same =
     let at = place g.R.Source.left g.R.Source.failed g.R.Source.pulls in
-    let none : Text = record { held = c.args.buffer; end = None } in
-    let before = at none c.args.r.now in
+    let before = at c.args.words.now c.args.r.now in
     let after = at c.read.new.words c.read.new.r in
     let variables = c.args.variables in
     let step = c.read.new.self in
     let given_there : GivesStep false variables (said_by step) before after (Ok
     c.in_ok-there.there) = subst (λ (b : Bool). GivesStep b variables (said_by step) before after
-    (Ok c.in_ok-there.there)) fresh (subst (λ (w : Text). GivesStep c.args.step.now.is_numbered
-    variables (said_by step) (at w c.args.r.now) after (Ok c.in_ok-there.there)) c.new.ensures
-    c.in_ok-there.ensures.step) in
+    (Ok c.in_ok-there.there)) fresh c.in_ok-there.ensures.step in
     let given : GivesStep false variables (said_by step) before after (Ok true) = subst
     (λ (b : Bool). GivesStep false variables (said_by step) before after (Ok b))
     c.if-not-there.false given_there in
     let r = c.take_steps.result in
     let first = c.in_ok-refutes_at_first.ensures in
     by_truth (ShowsPlain before.feed variables clauses r) step.is_numbered
-    (λ n. first_numbered variables clauses before refl (said_by step) after given _
+    (λ n. first_numbered variables clauses before goes_on (said_by step) after given _
     (numbered_said step n) r)
     (λ n.
     let now = c.refutes_at_first.new.step in
@@ -230,6 +201,6 @@ returns-clause-plain g c clauses fresh ahead same =
     (first.same.3 (c.in_ok-search.ensures.searches n))
     (first.ahead clauses (c.in_ok-search.ensures.ahead clauses ahead))
     (first.variables ∙ c.in_ok-search.ensures.variables ∙ same) inside in
-    first_plain variables clauses before refl (said_by step) after given r
+    first_plain variables clauses before goes_on (said_by step) after given r
     (subst (λ (line : Line). ConcludesPlain after.feed clauses (plain_left variables line after) r)
     said concludes))
