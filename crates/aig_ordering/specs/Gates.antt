@@ -1,12 +1,26 @@
 -- Serves private clauses alone.
 -- The gates of a file's variables, by the literals of their operands.
-use Rattle.std.specs.Prelude.{ℕ, ◌+◌, ◌==◌, if◌then◌else◌, List, [], ◌∷◌, Option, Some, None}
+use Rattle.std.specs.Prelude.{ℕ, ◌+◌, ◌==◌, if◌then◌else◌, max, min, List, [], ◌∷◌, Option, Some, None}
 use Rattle.aig_circuit.specs.declared.node.AigNodeType.{AigNodeType}
 use Rattle.aig_circuit.specs.declared.node.AigNodeType.TheVariants.{False, Leaf}
 use Rattle.aig_circuit.specs.declared.node.AigNode.{AigNode}
 use Rattle.aig_circuit.specs.Node.{and_of}
 use Rattle.aig_ordering.specs.declared.gates.Operands.{Operands}
 use Rattle.aig_ordering.specs.Lists.{edge_from}
+
+-- the operands, the greater one first
+abbrev pub falling : Operands → Operands
+falling gate = record { rhs0 = max gate.rhs0 gate.rhs1; rhs1 = min gate.rhs0 gate.rhs1 }
+
+-- the first operand of a gate, and 0 of none
+abbrev pub greater_in : Option Operands → ℕ
+greater_in (Some gate) = gate.rhs0
+greater_in None = 0
+
+-- the second operand of a gate, and 1 of none
+abbrev pub lesser_in : Option Operands → ℕ
+lesser_in (Some gate) = gate.rhs1
+lesser_in None = 1
 
 -- what a variable is: with a gate the and of its operands, put in order; else 0 is false, and any
 -- other a leaf

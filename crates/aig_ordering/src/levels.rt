@@ -8,7 +8,7 @@ ghost use Rattle.aig_ordering.specs.Gates.{kind_of_operands, nodes_in};
 ghost use Rattle.aig_ordering.specs.Search.{IsAt, IsAtRest, IsAtSome, IsLevelBy, IsTask, Opens, StaysOpen, work_of};
 ghost use Rattle.aig_ordering.specs.Tables.{AreLevelsOf, AreNodesOf, all_have_levels, order_cause};
 
-use crate::gates::Operands;
+use crate::gates::{GateEntry, Operands};
 use crate::order::entry_value;
 use aig_lexer::{LineError, append};
 use std::alloc::{AllocError, Global};
@@ -33,13 +33,13 @@ pub enum Task {
 }
 
 /// What is to be done for a variable with this gate, or none, by the levels that are known.
-fn task_of(levels: &[u32], variable: usize, gate: Option<Operands>) -> Task
+fn task_of(levels: &[u32], variable: usize, gate: GateEntry) -> Task
     requires operands { IfAnd (kind_of_operands variable gate) (λ n. n < length levels.now) }
     requires small { (level : ℕ) → IsLevelBy levels.now (kind_of_operands variable gate) level
         → level < 2 ^ 32 }
     ensures { IsTask levels.now (kind_of_operands variable gate) result }
 {
-    let Some(Operands { rhs0, rhs1 }) = gate else {
+    let Some(Operands { rhs0, rhs1 }) = gate.operands() else {
         return Task::Level(0);
     };
     let (first, second) = (rhs0 as usize / 2, rhs1 as usize / 2);
@@ -82,11 +82,7 @@ impl Search {
     }
 
     /// Goes one step on from a variable: to an operand, or, once its level is known, to the variable that waits for it.
-    fn step(
-        &mut self,
-        gates: &[Option<Operands>],
-        variable: usize,
-    ) -> Result<Option<usize>, LineError>
+    fn step(&mut self, gates: &[GateEntry], variable: usize) -> Result<Option<usize>, LineError>
         requires nodes { (f : File) × AreNodesOf f (nodes_in gates.now) }
         requires few { length gates.now ≤ 2 ^ 31 }
         requires within { variable < length gates.now }
@@ -109,7 +105,7 @@ impl Search {
     }
 
     /// Finds the level of a variable, with those of all that it stands on.
-    fn find(&mut self, gates: &[Option<Operands>], start: usize) -> Result<(), LineError>
+    fn find(&mut self, gates: &[GateEntry], start: usize) -> Result<(), LineError>
         requires nodes { (f : File) × AreNodesOf f (nodes_in gates.now) }
         requires few { length gates.now ≤ 2 ^ 31 }
         requires start { start < length gates.now }
@@ -133,7 +129,7 @@ impl Search {
 }
 
 /// The table of the levels of the variables: n + 1 for level n. `gates` has the gate of each, or none, with literals of variables.
-pub fn find_levels(alloc: Global, gates: &[Option<Operands>]) -> Result<Vec<u32>, LineError>
+pub fn find_levels(alloc: Global, gates: &[GateEntry]) -> Result<Vec<u32>, LineError>
     requires nodes { (f : File) × AreNodesOf f (nodes_in gates.now) }
     requires few { length gates.now ≤ 2 ^ 31 }
     ensures { (f : File) → AreNodesOf f (nodes_in gates.now)

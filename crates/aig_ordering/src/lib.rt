@@ -11,6 +11,6 @@ mod order;
 
 pub use bits::{has_bit, set_bit};
 pub use gate_nodes::nodes;
-pub use gates::{Operands, edge_of, variable_node};
+pub use gates::{GateEntry, Operands, edge_of, variable_node};
 pub use numbers::Recorded;
 pub use order::{Ordered, order_by_level};

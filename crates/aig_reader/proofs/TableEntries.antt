@@ -11,8 +11,8 @@ use Rattle.aig_format.proofs.Words.{GateLine, numbers_from}
 use Rattle.aig_format.specs.Variables.{gate_among}
 use Rattle.aig_format.proofs.Searches.{find_some}
 use Rattle.aig_ordering.specs.declared.gates.Operands.{Operands}
-use Rattle.aig_ordering.specs.Gates.{kind_of_operands, node_in, nodes_in, nodes_in_from}
-use Rattle.aig_ordering.proofs.NodesIn.{length-nodes_in}
+use Rattle.aig_ordering.specs.Gates.{falling, kind_of_operands, node_in, nodes_in, nodes_in_from}
+use Rattle.aig_ordering.proofs.NodesIn.{kind-falling, length-nodes_in}
 use Rattle.aig_ordering.specs.Lists.{edge_from, kind_of_line, kind_among, node_from, nodes_in_row}
 use Rattle.aig_reader.specs.declared.gate_store.InOrder.{InOrder}
 use Rattle.aig_reader.specs.Gates.{AreFirstNodes, AreInOrder, HasWords, gate_in, line_of, literals_of}
@@ -33,8 +33,8 @@ literal-back e = by_test (e % 2 == 1) refl
 gate-back : (v a b : ℕ)
     → kind_of_operands v (gate_in (and_of (edge_from a) (edge_from b))) ≡ and_of (edge_from a) (edge_from b)
 gate-back v a b = elim (and_of-cases (edge_from a) (edge_from b)) [
-  | inl c ↦ rw (c.0, literal-back a, literal-back b) (and_of-turned (edge_from b) (edge_from a) ∙ c.0)
-  | inr c ↦ rw (c.0, literal-back a, literal-back b) c.0
+  | inl c ↦ rw c.0 (kind-falling v (record { rhs0 = literal_of (edge_from b); rhs1 = literal_of (edge_from a) }) ∙ rw (literal-back a, literal-back b) (and_of-turned (edge_from b) (edge_from a) ∙ c.0))
+  | inr c ↦ rw c.0 (kind-falling v (record { rhs0 = literal_of (edge_from a); rhs1 = literal_of (edge_from b) }) ∙ rw (literal-back a, literal-back b) c.0)
 ]
 
 node-back : (gates : List GateLine) (v : ℕ)
@@ -119,14 +119,16 @@ more_entries gates (suc k) xs h =
 
 -- a gate in the place of its variable
 pub put_entry : (gates : List GateLine) (lhs : ℕ) (operands : Operands)
-    (xs : List (Option Operands))
+    (gate : Option Operands) (xs : List (Option Operands))
+    → gate ≡ Some (falling operands)
     → AreFirstNodes gates (nodes_in xs) → IsNewAmong (literals_of gates) lhs → 2 ≤ lhs
     → lhs / 2 < length xs
-    → AreFirstNodes (gates ++ line_of lhs operands ∷ []) (nodes_in (set xs (lhs / 2) (Some operands)))
-put_entry gates lhs operands xs h new own low =
+    → AreFirstNodes (gates ++ line_of lhs operands ∷ []) (nodes_in (set xs (lhs / 2) gate))
+put_entry gates lhs operands gate xs is h new own low =
     let g = line_of lhs operands in
     let here : 0 + lhs / 2 ≡ lhs / 2 = omega arith in
-    let sets = nodes_in-set 0 xs (lhs / 2) (Some operands) ∙ ap (λ (w : ℕ). set (nodes_in xs) (lhs / 2) (node_in w (Some operands))) here in
+    let kind = ap (kind_of_operands (lhs / 2)) is ∙ kind-falling (lhs / 2) operands in
+    let sets = nodes_in-set 0 xs (lhs / 2) gate ∙ ap (λ (w : ℕ). set (nodes_in xs) (lhs / 2) (node_in w gate)) here ∙ ap (λ (typ : AigNodeType). let node : AigNode = record { node_id = lhs / 2; typ = typ } in set (nodes_in xs) (lhs / 2) node) kind in
     subst (AreFirstNodes (gates ++ g ∷ [])) (sym sets) (first_gate_set gates (nodes_in xs) g h own new (omega (arith, low, length-nodes_in xs)))
 
 -- the table of the nodes of gates tells them

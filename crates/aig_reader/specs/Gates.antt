@@ -18,7 +18,7 @@ use Rattle.aig_reader.specs.declared.gate_store.GateStore.{GateStore}
 use Rattle.aig_reader.specs.declared.gate_store.GateStore.TheVariants as held
 use Rattle.aig_reader.specs.declared.variables.DefinedVariables.{DefinedVariables}
 use Rattle.aig_ordering.specs.declared.gates.Operands.{Operands}
-use Rattle.aig_ordering.specs.Gates.{nodes_in}
+use Rattle.aig_ordering.specs.Gates.{falling, nodes_in}
 use Rattle.aig_ordering.specs.Lists.{edge_from, nodes_in_row}
 use Rattle.aig_reader.specs.Variables.{AreDefined, IsNewAmong, TellsDefined}
 
@@ -35,9 +35,9 @@ line_of lhs operands = record { lhs = lhs; rhs0 = operands.rhs0; rhs1 = operands
 abbrev pub gate_node_of : GateLine → AigNode
 gate_node_of g = record { node_id = g.lhs / 2; typ = and_of (edge_from g.rhs0) (edge_from g.rhs1) }
 
--- the operands of what is a gate
+-- the operands of what is a gate, the greater one first
 abbrev pub gate_in : AigNodeType → Option Operands
-gate_in (And a b) = Some (record { rhs0 = literal_of a; rhs1 = literal_of b })
+gate_in (And a b) = Some (falling (record { rhs0 = literal_of a; rhs1 = literal_of b }))
 gate_in False = None
 gate_in Leaf = None
 

@@ -13,7 +13,7 @@ use crate::nodes::{add_leaves, first_node, put_gate, reserve_nodes};
 use crate::table::Table;
 use crate::variables::DefinedVariables;
 use aig_circuit::AigNode;
-use aig_ordering::{Operands, variable_node};
+use aig_ordering::{GateEntry, Operands, variable_node};
 use std::alloc::{AllocError, Global};
 
 /// Gates that rise, each above its operands.
@@ -160,7 +160,7 @@ impl GateStore {
     }
 
     /// The gates of so many variables in a table.
-    pub fn into_table(self, alloc: Global, len: usize) -> Result<Vec<Option<Operands>>, AllocError>
+    pub fn into_table(self, alloc: Global, len: usize) -> Result<Vec<GateEntry>, AllocError>
         requires { (greatest : ℕ) × (leaves : List ℕ) × (gates : List GateLine)
             × ArePlaced greatest leaves gates self }
         ensures { (greatest : ℕ) (leaves : List ℕ) (gates : List GateLine) → len ≡ greatest + 1

@@ -22,14 +22,14 @@ use crate::sections::Lists;
 use crate::variables::DefinedVariables;
 use aig_circuit::AigNode;
 use aig_lexer::LineError;
-use aig_ordering::{Operands, Ordered, Recorded, nodes, order_by_level};
+use aig_ordering::{GateEntry, Ordered, Recorded, nodes, order_by_level};
 use aig_renumber::{renumber_latches, renumber_nodes, renumber_properties};
 use std::alloc::Global;
 
 /// The nodes by level, and the number of each variable that is 0 or defined.
 fn number_nodes(
     alloc: Global,
-    gates: Vec<Option<Operands>>,
+    gates: Vec<GateEntry>,
     marked: &[u64],
 ) -> Result<(Vec<AigNode>, Vec<u32>), LineError>
     requires tables { (f : File) × AreNodesOf f (nodes_in gates.items) × AreMarksOf f marked.now }
@@ -43,7 +43,7 @@ fn number_nodes(
         numbers,
         gates: sorted,
     } = order_by_level(alloc, &gates, marked)?;
-    // The nodes take four times the memory of this table.
+    // The nodes take six times the memory of this table.
     drop(gates);
     let nodes = nodes(alloc, &Recorded { table: &numbers }, &sorted)?;
     Ok((nodes, numbers))
@@ -91,7 +91,7 @@ impl Lists {
     fn by_level(
         &mut self,
         alloc: Global,
-        gates: Vec<Option<Operands>>,
+        gates: Vec<GateEntry>,
         marked: &[u64],
     ) -> Result<Vec<AigNode>, ReadError>
         requires tables { (f : File) × AreTablesOf f gates.items marked.now self.old }

@@ -10,7 +10,7 @@ ghost use Rattle.aig_reader.specs.Variables.{IsNewAmong};
 ghost use Rattle.aig_reader.specs.declared.table.TheConstants.{MOST_PENDING};
 
 use aig_circuit::{AigEdge, AigNode, AigNodeType};
-use aig_ordering::Operands;
+use aig_ordering::{GateEntry, Operands};
 use std::alloc::{AllocError, Global};
 
 /// How many gates wait for their places at most.
@@ -29,7 +29,7 @@ pub struct PendingGate {
 #[derive(Drop)]
 pub struct Table {
     /// The operands of each of the first variables, from 0 on, that is a gate.
-    pub entries: Vec<Option<Operands>>,
+    pub entries: Vec<GateEntry>,
     /// The gates that were read last.
     pub pending: Vec<PendingGate>,
 }
@@ -42,35 +42,35 @@ fn literal(edge: AigEdge) -> u32
     2 * edge.node_id() as u32 + edge.compl() as u32
 }
 
-/// The operands of what is a gate.
-fn gate_of(kind: AigNodeType) -> Option<Operands>
+/// The entry of what may be a gate.
+fn gate_of(kind: AigNodeType) -> GateEntry
     requires { IfAnd kind (λ id. id < 2 ^ 31) }
     ensures { result ≡ gate_in kind }
 {
     match kind {
-        AigNodeType::And(first, second) => Some(Operands {
+        AigNodeType::And(first, second) => GateEntry::of(Operands {
             rhs0: literal(first),
             rhs1: literal(second),
         }),
-        AigNodeType::Leaf | AigNodeType::False => None,
+        AigNodeType::Leaf | AigNodeType::False => GateEntry::none(),
     }
 }
 
 /// Appends entries without a gate until there are so many.
-fn add_entries(entries: &mut Vec<Option<Operands>>, len: usize) -> Result<(), AllocError>
+fn add_entries(entries: &mut Vec<GateEntry>, len: usize) -> Result<(), AllocError>
     ensures exact { (gates : List GateLine) → AreFirstNodes gates (nodes_in entries.old.items)
         → AreFirstNodes gates (nodes_in entries.new.items) }
     ensures len { OnOk result (vec_len entries.new ≡ max (vec_len entries.old) len) }
 {
     if len > entries.len() {
-        entries.resize(len, None)?;
+        entries.resize(len, GateEntry::none())?;
     }
     Ok(())
 }
 
 /// Puts a gate in the place of its variable, which is a leaf or has no place yet.
 fn put_operands(
-    entries: &mut Vec<Option<Operands>>,
+    entries: &mut Vec<GateEntry>,
     lhs: u32,
     operands: Operands,
 ) -> Result<(), AllocError>
@@ -82,7 +82,7 @@ fn put_operands(
 {
     let variable = lhs as usize / 2;
     add_entries(entries, variable + 1)?;
-    entries[variable] = Some(operands);
+    entries[variable] = GateEntry::of(operands);
     Ok(())
 }
 
@@ -102,6 +102,8 @@ impl Table {
     }
 
     /// Puts the gates that wait in their places.
+    // In a frame of its own, so that `push` saves no registers for its loop.
+    #[inline(never)]
     fn place_pending(&mut self) -> Result<(), AllocError>
         ensures held { (size : ℕ) (gates : List GateLine) → HoldsPending size gates self.old
             → OnOk result (HoldsPending size gates self.new) }
@@ -130,7 +132,7 @@ impl Table {
     }
 
     /// The entries of so many variables, with the gates that wait in their places.
-    pub fn into_entries(mut self, len: usize) -> Result<Vec<Option<Operands>>, AllocError>
+    pub fn into_entries(mut self, len: usize) -> Result<Vec<GateEntry>, AllocError>
         ensures { (gates : List GateLine) → HoldsPending len gates self → IfOk result
             (λ entries. AreFirstNodes gates (nodes_in entries.items) × (vec_len entries ≡ len)) }
     {

@@ -7,4 +7,4 @@ returns-in_ok-resize-clause-exact c = λ gates h.
     let old = c.args.entries.now in
     let size = c.args.len in
     let kept = take_all size old.items (omega (arith, c.if-len.true, c.len.ensures, old.ok)) in
-    rw (c.in_ok-resize.ensures.items, kept) (more_entries gates (size - vec_len old) old.items h)
+    rw (c.in_ok-resize.ensures.items, c.none.ensures, kept) (more_entries gates (size - vec_len old) old.items h)
