@@ -118,6 +118,8 @@ impl Table {
     }
 
     /// Takes a gate, which waits for its place until there are so many that all are put in theirs.
+    // Outside the loop that reads gates, most of which never come here.
+    #[inline(never)]
     pub fn push(&mut self, lhs: u32, operands: Operands) -> Result<(), AllocError>
         ensures held { (size : ℕ) (gates : List GateLine) → HoldsPending size gates self.old
             → IsNewAmong (literals_of gates) lhs → 2 ≤ lhs → lhs / 2 < size
