@@ -1,26 +1,15 @@
 -- What a command that makes clauses does, once a file is read and unrolled.
-use Rattle.aig_base.proofs.Words.{◌≡◌, ℕ, suc, ◌≤◌, ◌++◌, ◌∷◌, [], Bool, false, Option, None, Some, Result, List, drop, get_or, length, map, refl, sym, ap, ap₂, subst, ◌∙◌, arith, inl, inr, flat_map}
+use Rattle.aig_base.proofs.Words.{◌≡◌, ℕ, ◌≤◌, ◌++◌, [], Bool, Option, Some, Result, List, length, inl, inr}
 use Rattle.aig_base.specs.declared.logic.literal.Lit.{Lit}
-use Rattle.aig_base.specs.Clauses.{AreBelow}
 use Rattle.aig_base.specs.Formula.{clauses_in}
-use Rattle.aig_circuit.proofs.Words.{latch_leaves, lit_of, lists_circuit}
-use Rattle.aig_circuit.specs.declared.edge.AigEdge.{AigEdge}
-use Rattle.aig_circuit.specs.declared.node.AigLatch.{AigLatch}
 use Rattle.aig_cnf.specs.Cnf.{HasClauses}
-use Rattle.aig_cnf.proofs.Fixing.{clauses_fix, node_values_satisfy}
 use Rattle.aig_dimacs.specs.Text.{IsFormula, dimacs_of}
-use Rattle.aig_format.proofs.Circuits.{IsCircuit-of_file}
 use Rattle.aig_format.proofs.Words.{File, circuit_of, Accepts}
 use Rattle.aig_reader.specs.Reading.{IsReadAs}
 use Rattle.aig_reader.specs.Verdicts.{Accepted, Judges}
 use Rattle.aig_reader.proofs.Verdicts.{short_of}
-use Rattle.aig_runs.proofs.Below.{query_below}
-use Rattle.aig_runs.specs.Encodes.{Encodes}
-use Rattle.aig_runs.specs.Queries.{IsQueryOf, query_clauses, start_clauses, unit_clauses}
-use Rattle.aig_runs.proofs.FileRuns.{files_are_encoded}
-use Rattle.aig_runs.proofs.Queries.{queries_ask}
+use Rattle.aig_runs.specs.Queries.{query_clauses}
 use Rattle.aig_unroll.specs.Places.{unrolled_size}
-use Rattle.aig_unroll.specs.Unroll.{starts_of}
 use Rattle.aig_encode.specs.Encoding.{encoded_verdict}
 use Rattle.aig_encode.specs.declared.error.EncodeError.TheVariants as encode
 use Rattle.aig_commands.specs.declared.command.Command.{Command}

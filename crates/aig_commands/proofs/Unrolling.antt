@@ -1,6 +1,6 @@
 -- A circuit that was read, with further steps, and what is said of its file by its size.
-use Rattle.aig_base.proofs.Words.{◌≡◌, ℕ, ◌-◌, ◌<◌, ◌≤◌, Bool, false, Option, Result, Ok, Err, List, length, sym, subst, arith, IfOk, IsErrOf}
-use Rattle.aig_circuit.proofs.Words.{Circuit, IsCircuit, lists_circuit}
+use Rattle.aig_base.proofs.Words.{ℕ, ◌<◌, ◌≤◌, Bool, Option, Result, Ok, Err, List, sym, subst, arith, IfOk, IsErrOf}
+use Rattle.aig_circuit.proofs.Words.{lists_circuit}
 use Rattle.aig_circuit.specs.declared.view.CircuitLists.{CircuitLists}
 use Rattle.aig_encode.proofs.Verdicts.{encoded_verdict-beyond, encoded_verdict-within}
 use Rattle.aig_encode.specs.declared.error.EncodeError.{EncodeError}
@@ -11,9 +11,7 @@ use Rattle.aig_reader.proofs.Verdicts.{said_of_read}
 use Rattle.aig_reader.specs.declared.error.ReadError.TheVariants as read
 use Rattle.aig_reader.specs.Reading.{AreListsOf, IsReadAs}
 use Rattle.aig_reader.specs.Verdicts.{Accepted, IsOfFile, IsSaidOf, Judges, verdict_by}
-use Rattle.aig_unroll.proofs.NoStep.{unrolls-none}
 use Rattle.aig_unroll.specs.Places.{unrolled_size}
-use Rattle.aig_unroll.specs.Unroll.{UnrollsTo}
 use Rattle.aig_runs.proofs.Asking.{unrolls_to}
 use Rattle.aig_runs.specs.Unrolled.{IsUnrolledOf, UnrolledCircuit, Unrolls}
 use Rattle.aig_commands.specs.Unrolled.{UnrollsOrRefuses}

@@ -1,6 +1,4 @@
-use Rattle.aig_base.proofs.Words.{inl, inr, refl, subst, err_from_is_err_and}
-use Rattle.aig_circuit.specs.Circuit.{Circuit}
-use Rattle.aig_cnf.specs.Cnf.{HasClauses}
+use Rattle.aig_base.proofs.Words.{inl, inr, refl, err_from_is_err_and}
 use Rattle.aig_commands.proofs.clauses.print_clauses.Goals as goal
 
 pub returns-in_err-needed : goal.returns-in_err-needed
