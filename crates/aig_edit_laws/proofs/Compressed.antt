@@ -36,7 +36,7 @@ module _ (old new : Circuit) (is : IsCircuit old) (made : CompressesBads old new
   bads_same : (x : ℕ → Bool) → list_any (edge_value new.nodes x) new.properties.bads
       ≡ list_any (edge_value old.nodes x) old.properties.bads
   bads_same x = ap (list_any (edge_value new.nodes x)) made.bads ∙ or_false (edge_value new.nodes x made.bad)
-      ∙ made.value.value x
+      ∙ made.value.gives.value x
 
   forth : (k : ℕ) (x : ℕ → ℕ → Bool) → IsCircuitWitness old k x → IsCircuitWitness mid k x
   forth k x w = record {

@@ -1,7 +1,7 @@
 //! Small callers on circuits.
 
 ghost use Rattle.std.specs.Prelude.{◌≡◌, ◌&&◌, ◌||◌, ◌<◌, ◌≤◌, ◌^◌, ℕ, Bool, IfOk, IfSome, length, not, true};
-ghost use Rattle.aig.specs.Build.{AddsOnlyGates};
+ghost use Rattle.aig.specs.Build.{AddsOnlyGates, GivesEdge};
 ghost use Rattle.aig.specs.Circuit.{IsClosed, IsInRange};
 ghost use Rattle.aig.specs.Clauses.{literal_value};
 ghost use Rattle.aig.specs.Cnf.{edge_in, HasClauses};
@@ -22,9 +22,8 @@ use aig_cnf::literals_have_edge_values;
 pub fn exclusive_or(aig: &mut Aig, one: AigEdge, other: AigEdge) -> Result<AigEdge, MemoryError>
     requires one { IsInRange aig.old.nodes one }
     requires other { IsInRange aig.old.nodes other }
-    ensures edge { IfOk result (λ e. IsInRange aig.new.nodes e) }
-    ensures value { IfOk result (λ e. (x : ℕ → Bool) → edge_value aig.new.nodes x e
-        ≡ ((edge_value aig.old.nodes x one && not (edge_value aig.old.nodes x other))
+    ensures gives { IfOk result (GivesEdge aig.new.nodes (λ x.
+        (edge_value aig.old.nodes x one && not (edge_value aig.old.nodes x other))
         || (not (edge_value aig.old.nodes x one) && edge_value aig.old.nodes x other))) }
     ensures gates { AddsOnlyGates aig.old aig.new }
 {
