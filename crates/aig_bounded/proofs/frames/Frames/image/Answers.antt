@@ -1,9 +1,7 @@
-use Rattle.std.proofs.Common.{◌&&◌, ℕ, Bool, ◌≡◌, subst, sym}
+use Rattle.std.proofs.Common.{subst, sym}
 use Rattle.aig_circuit.specs.declared.node.AigNodeType.TheVariants.{And, False, Leaf}
 use Rattle.aig_circuit.specs.declared.edge.AigEdge.{AigEdge}
-use Rattle.aig_circuit.proofs.Words.{IsInRange, edge_value}
-use Rattle.aig_bounded.specs.Frames.{AddsAnds, AddsUpTo, Shows}
-use Rattle.aig_bounded.specs.Steps.{MakesImage}
+use Rattle.aig_bounded.specs.Frames.{AddsUpTo, Shows}
 use Rattle.aig_bounded.proofs.Counted.{one_more}
 use Rattle.aig_bounded.proofs.Stepped.{if_ok, if_some_at, kind_read, makes_false, makes_gate, makes_open, makes_state}
 use Rattle.aig_bounded.proofs.frames.Frames.image.Goals as goal
