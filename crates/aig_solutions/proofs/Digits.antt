@@ -3,25 +3,22 @@ use Rattle.aig_base.proofs.Words.{◌≡◌, ℕ, ◌+◌, ◌-◌, ◌*◌, ◌
 use Rattle.std.specs.Prelude.{◌==◌}
 use Rattle.aig_format.specs.Parse.{is_digit}
 use Rattle.aig_format.proofs.NumberReaders.{digit_true}
-use Rattle.aig_lexer.specs.declared.error.LexError.{LexError}
-use Rattle.aig_lexer.specs.declared.error.LexError.TheVariants as lex
 use Rattle.aig_lexer.specs.Digits.{TakesDigits, TakesTooMany, number_after}
-use Rattle.aig_lexer.specs.Faults.{Tells, word_cause}
 use Rattle.aig_lexer.specs.Takes.{Advances, Feed}
 use Rattle.aig_lexer.proofs.Digits.{number_after-append, number_after-digit, number_after-large, number_after-nil, number_after-other, number_first}
 use Rattle.aig_solutions.specs.declared.error.SolutionError.TheVariants as errors
 use Rattle.aig_solutions.specs.declared.words.End.{End}
 use Rattle.aig_solutions.specs.declared.words.End.TheVariants.{Blank, Line, Stream}
-use Rattle.aig_solutions.specs.Lines.{GivesNumber, IsLeft, IsNoMore, end_of, error_of}
+use Rattle.aig_solutions.specs.Lines.{GivesNumber, IsLeft, IsNoMore, end_of}
 use Rattle.aig_solutions.specs.Reading.{lines_after, words_from}
 use Rattle.aig_solutions.proofs.Leaving.{consumed_known, ended_known}
 use Rattle.aig_solutions.proofs.Texts.{goes_on_by, lines_none, lines_on, words_end, words_none, words_on}
 
-digit_goes : (b : ℕ) → is_digit b ≡ true → end_of b ≡ None
+pub digit_goes : (b : ℕ) → is_digit b ≡ true → end_of b ≡ None
 digit_goes b is = rw (other 10 refl, other 32 refl, other 9 refl, other 13 refl) refl
   where
     other : (k : ℕ) → is_digit k ≡ false → (b == k) ≡ false
-    other k no = ne_eqb b k (λ e. false≢true (sym no ∙ ap (λ n. is_digit n) (sym e) ∙ is))
+    other k apart = ne_eqb b k (λ e. false≢true (sym apart ∙ ap (λ n. is_digit n) (sym e) ∙ is))
 
 -- a word that has begun is read so far
 abbrev Passes : List ℕ → List ℕ → List ℕ → Type 0
@@ -136,11 +133,9 @@ module _ (before after : Feed) (first : ℕ) (digit : is_digit first ≡ true) w
   digits_wrong n b t goes =
       refused n b t.digits t.is goes (λ more. number_after-other n b more t.other) t.came
 
-  pub digits_fail : (e : LexError)
-      → Tells (word_cause e) (TakesTooMany (first - 48) before after) after.failed
-      → GivesNumber first before after (Err (error_of e))
-  digits_fail lex.Stream t = t
-  digits_fail lex.Shape t =
+  pub digits_large : TakesTooMany (first - 48) before after
+      → GivesNumber first before after (Err errors.Literal)
+  digits_large t =
       refused t.number t.last t.digits t.is (digit_goes t.last t.digit)
       (λ more. number_after-large t.number t.last more t.digit t.large) t.came
 

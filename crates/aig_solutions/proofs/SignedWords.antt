@@ -1,14 +1,17 @@
 -- How the word of a literal is read.
-use Rattle.aig_base.proofs.Words.{◌≡◌, ◌≢◌, ℕ, ◌≤◌, Bool, true, false, List, [], ◌∷◌, ◌++◌, Option, Some, None, Result, Ok, Err, refl, sym, ap, subst, ◌∙◌, arith, is_some}
+use Rattle.aig_base.proofs.Words.{◌≡◌, ◌≢◌, ℕ, ◌≤◌, Bool, true, false, List, [], ◌∷◌, ◌++◌, Option, Some, None, Result, Ok, Err, refl, sym, ap, subst, ◌∙◌, arith}
 use Rattle.aig_lexer.specs.Takes.{Feed, Steps}
+use Rattle.aig_lexer.specs.Digits.{number_after}
+use Rattle.aig_lexer.proofs.Digits.{number_first}
 use Rattle.aig_lexer.proofs.Feeds.{steps_byte}
 use Rattle.aig_solutions.specs.declared.error.SolutionError.{SolutionError}
 use Rattle.aig_solutions.specs.declared.error.SolutionError.TheVariants as errors
 use Rattle.aig_solutions.specs.declared.words.End.{End}
 use Rattle.aig_solutions.specs.declared.words.End.TheVariants.{Blank, Line, Stream}
-use Rattle.aig_solutions.specs.Lines.{GivesNumber, GivesWord, IsLeft, IsNoMore, Leaves, Says, TellsError, end_of}
+use Rattle.aig_solutions.specs.Lines.{GivesNumber, GivesWord, GoesOnBy, IsLeft, IsNoMore, Leaves, Says, TellsError, end_of}
 use Rattle.aig_solutions.specs.Reading.{lines_after, literal_in, words_from}
-use Rattle.aig_solutions.proofs.Leaving.{leaves_byte, leaves_start, says_call, says_end, says_now}
+use Rattle.aig_solutions.proofs.Digits.{digit_goes}
+use Rattle.aig_solutions.proofs.Leaving.{leaves_byte, leaves_start, says_call, says_end}
 use Rattle.aig_solutions.proofs.Numbers.{literal_minus, literal_minus_none, literal_none, literal_plain}
 use Rattle.aig_solutions.proofs.Texts.{lines_on, words_end, words_none, words_on}
 
@@ -60,6 +63,11 @@ IsWord first positive number e bytes rest = (word : List ℕ) × (words : List (
     × (words_from (first ∷ []) bytes ≡ word ∷ words)
     × (literal_in word ≡ Ok (positive, number)) × IsLeft e words (lines_after bytes) rest
 
+abbrev IsNoNumber : ℕ → SolutionError → List ℕ → Type 0
+IsNoNumber first e bytes = (e ≡ errors.Literal)
+    × (taken : List ℕ) × ((more : List ℕ) → number_after 0 (first ∷ taken ++ more) ≡ None)
+    × GoesOnBy taken bytes
+
 abbrev pub IsNoWord : ℕ → SolutionError → List ℕ → Type 0
 IsNoWord first e bytes = (word : List ℕ) × (words : List (List ℕ))
     × (words_from (first ∷ []) bytes ≡ word ∷ words) × (literal_in word ≡ Err e)
@@ -91,14 +99,6 @@ word_none first before after e ne h =
 
 -- ---- with a minus
 
-pub is_ended : (o : Option End) → is_some o ≡ true → (e : End) × (o ≡ Some e)
-is_ended None is = absurd cc
-is_ended (Some e) is = (e, refl)
-
-pub is_no_end : (o : Option End) → is_some o ≡ false → o ≡ None
-is_no_end None is = refl
-is_no_end (Some e) is = absurd cc
-
 pub minus_end : (before after : Feed) (o : Option ℕ) → Steps before after o → o ≡ None
     → GivesWord 45 before after (Err errors.Literal)
 minus_end before after o step is =
@@ -109,56 +109,61 @@ minus_end before after o step is =
 
 module _ (before now : Feed) (o : Option ℕ) (digit : ℕ) (step : Steps before now o)
     (is : o ≡ Some digit) where
+  minus_on : end_of digit ≡ None → (bytes rest : List ℕ) → bytes ≡ digit ∷ rest
+      → words_from (45 ∷ []) bytes ≡ words_from (45 ∷ digit ∷ []) rest
+  minus_on goes bytes rest h = ap (words_from (45 ∷ [])) h ∙ words_on digit rest (45 ∷ []) goes
+
+  lines_same : end_of digit ≡ None → (bytes rest : List ℕ) → bytes ≡ digit ∷ rest
+      → lines_after bytes ≡ lines_after rest
+  lines_same goes bytes rest h = ap lines_after h ∙ lines_on digit rest goes
+
   begun : Leaves before now (λ bytes rest. bytes ≡ digit ∷ rest)
   begun = leaves_byte before before now (λ bytes rest. bytes ≡ rest)
       (leaves_start before (λ bytes rest. bytes ≡ rest) (λ bytes. refl))
       (λ bytes rest. bytes ≡ digit ∷ rest) o digit step is (λ bytes rest h. h)
 
-  pub minus_alone : (e : End) → end_of digit ≡ Some e → GivesWord 45 before now (Err errors.Literal)
-  minus_alone e ends = says_now before now (λ bytes rest. bytes ≡ digit ∷ rest) begun
-      (IsNoWord 45 errors.Literal)
-      (λ bytes rest h. let end = words_end digit rest e ends in
-      (45 ∷ [], end.0, ap (words_from (45 ∷ [])) h ∙ end.1 (45 ∷ []), refl))
-
-  module _ (goes : end_of digit ≡ None) where
-    minus_on : (bytes rest : List ℕ) → bytes ≡ digit ∷ rest
-        → words_from (45 ∷ []) bytes ≡ words_from (45 ∷ digit ∷ []) rest
-    minus_on bytes rest h = ap (words_from (45 ∷ [])) h ∙ words_on digit rest (45 ∷ []) goes
-
-    lines_same : (bytes rest : List ℕ) → bytes ≡ digit ∷ rest → lines_after bytes ≡ lines_after rest
-    lines_same bytes rest h = ap lines_after h ∙ lines_on digit rest goes
-
-    pub word_minus : (after : Feed) (n : ℕ) (e : End) → GivesNumber digit now after (Ok (n, e))
-        → GivesWord 45 before after (Ok (record { number = n; positive = false; end = e }))
-    word_minus after n e h = (
-      no_more-after e before now after (let came = steps_byte before now o step digit is in
-          omega (arith, came.fewer)) h.2.0,
-      λ bytes known.
-          let r = begun bytes known in
-          let s = h.2.1 r.0 r.1 in
-          let w = s.2 45 (digit ∷ []) in (
-            s.0,
-            s.1,
-            (
-              45 ∷ digit ∷ h.0,
-              w.0,
-              minus_on bytes r.0 r.2
-                  ∙ w.1,
-              literal_minus digit h.0 n h.1,
-              subst (λ lines. IsLeft e w.0 lines s.0)
-                  (sym (lines_same bytes r.0 r.2)) w.2,
-            ),
+  pub word_minus : (after : Feed) (n : ℕ) (e : End) → GivesNumber digit now after (Ok (n, e))
+      → GivesWord 45 before after (Ok (record { number = n; positive = false; end = e }))
+  word_minus after n e h = (
+    no_more-after e before now after (let came = steps_byte before now o step digit is in
+        omega (arith, came.fewer)) h.2.0,
+    λ bytes known.
+        let goes = digit_goes digit (number_first 0 digit h.0 n h.1).0 in
+        let r = begun bytes known in
+        let s = h.2.1 r.0 r.1 in
+        let w = s.2 45 (digit ∷ []) in (
+          s.0,
+          s.1,
+          (
+            45 ∷ digit ∷ h.0,
+            w.0,
+            minus_on goes bytes r.0 r.2 ∙ w.1,
+            literal_minus digit h.0 n h.1,
+            subst (λ lines. IsLeft e w.0 lines s.0)
+                (sym (lines_same goes bytes r.0 r.2)) w.2,
           ),
-    )
+        ),
+  )
 
-    pub minus_none : (after : Feed) (e : SolutionError) → GivesNumber digit now after (Err e)
-        → GivesWord 45 before after (Err e)
-    minus_none after e h =
-        error_call before now after (λ bytes rest. bytes ≡ digit ∷ rest) e _ (IsNoWord 45 e) begun
-        (λ bytes rest same x. let w = x.3 45 (digit ∷ []) in (
-          45 ∷ digit ∷ (x.1 ++ w.0),
-          w.1,
-          minus_on bytes rest same
-              ∙ w.2,
-          literal_minus_none digit (x.1 ++ w.0) (x.2 w.0) ∙ ap (λ e. Err e) (sym x.0),
-        )) h
+  pub minus_none : (after : Feed) (e : SolutionError) → GivesNumber digit now after (Err e)
+      → GivesWord 45 before after (Err e)
+  minus_none after e h =
+      error_call before now after (λ bytes rest. bytes ≡ digit ∷ rest) e _ (IsNoWord 45 e) begun
+      (λ bytes rest same x. by (end_of digit) refl bytes rest same x) h
+    where
+      by : (o : Option End) → end_of digit ≡ o → (bytes rest : List ℕ) → bytes ≡ digit ∷ rest
+          → IsNoNumber digit e rest → IsNoWord 45 e bytes
+      by (Some end) ends bytes rest same x =
+          let left = words_end digit rest end ends in (
+            45 ∷ [],
+            left.0,
+            ap (words_from (45 ∷ [])) same ∙ left.1 (45 ∷ []),
+            ap (λ e. Err e) (sym x.0),
+          )
+      by None goes bytes rest same x =
+          let w = x.3 45 (digit ∷ []) in (
+            45 ∷ digit ∷ (x.1 ++ w.0),
+            w.1,
+            minus_on goes bytes rest same ∙ w.2,
+            literal_minus_none digit (x.1 ++ w.0) (x.2 w.0) ∙ ap (λ e. Err e) (sym x.0),
+          )

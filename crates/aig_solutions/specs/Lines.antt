@@ -3,8 +3,6 @@
 use Rattle.std.specs.Prelude.{◌≡◌, ◌≢◌, ℕ, ◌==◌, ◌<◌, ◌≤◌, Bool, true, false, if◌then◌else◌, List, [], ◌∷◌, ◌++◌, length, take, Option, Some, None, Result, Ok, Err}
 use Rattle.std.specs.Option.{option_map_or}
 use Rattle.aig_base.specs.declared.logic.three.Lbool.{Lbool}
-use Rattle.aig_lexer.specs.declared.error.LexError.{LexError}
-use Rattle.aig_lexer.specs.declared.error.LexError.TheVariants as lex
 use Rattle.aig_lexer.specs.Digits.{number_after}
 use Rattle.aig_lexer.specs.Takes.{Feed}
 use Rattle.aig_solutions.specs.declared.error.SolutionError.{SolutionError}
@@ -63,11 +61,6 @@ EndsWord end taken before after = IsNoMore end before after
 abbrev pub GoesOnBy : List ℕ → List ℕ → Type 0
 GoesOnBy taken bytes = (c : ℕ) (word : List ℕ) → (more : List ℕ) × (words : List (List ℕ))
     × (words_from (c ∷ word) bytes ≡ (c ∷ word ++ (taken ++ more)) ∷ words)
-
--- an error of the lexer as one of a solution
-abbrev pub error_of : LexError → SolutionError
-error_of lex.Stream = errors.Stream
-error_of lex.Shape = errors.Literal
 
 -- the number of digits of which the first came before, or a word that is none
 abbrev pub GivesNumber : ℕ → Feed → Feed → Result (ℕ × End) SolutionError → Type 0

@@ -1,11 +1,9 @@
 //! Why there is no witness.
 
 ghost use Rattle.std.specs.Prelude.{◌≡◌};
-ghost use Rattle.aig_solutions.specs.Lines.{error_of};
 ghost use Rattle.aig_solutions.specs.declared.error.SolutionError.TheVariants as errors;
 
 use aig_base::{MemoryError, StreamFault};
-use aig_lexer::LexError;
 use aig_witness::WitnessFault;
 use thiserror::Error;
 
@@ -63,17 +61,6 @@ impl From<StreamFault> for SolutionError {
 
     fn from(_fault: StreamFault) -> SolutionError {
         SolutionError::Stream
-    }
-}
-
-impl From<LexError> for SolutionError {
-    ghost from_gives = { λ e r. r ≡ error_of e };
-
-    fn from(error: LexError) -> SolutionError {
-        match error {
-            LexError::Stream => SolutionError::Stream,
-            LexError::Shape => SolutionError::Literal,
-        }
     }
 }
 

@@ -1,13 +1,13 @@
 //! Words of a line of a solver's answer.
 
-ghost use Rattle.std.specs.Prelude.{◌≡◌, false, not, IsTrue};
+ghost use Rattle.std.specs.Prelude.{◌≡◌};
 ghost use Rattle.aig_lexer.specs.Takes.{feed};
 ghost use Rattle.aig_solutions.specs.Lines.{GivesNumber, GivesWord, end_of};
 ghost use Rattle.aig_solutions.specs.Reading.{is_blank, is_end};
 
 use crate::error::SolutionError;
 use aig_base::Source;
-use aig_lexer::{InputBuffer, digits_from};
+use aig_lexer::{InputBuffer, LexError, digits_from};
 
 /// How a word ends.
 #[derive(Clone, Copy, Debug, PartialEq, Eq)]
@@ -72,7 +72,11 @@ fn read_digits<R: Source>(
     if !first.is_ascii_digit() {
         return Err(SolutionError::Literal);
     }
-    let (number, next) = digits_from(buffer, r, (first - b'0') as u64)?;
+    let (number, next) = match digits_from(buffer, r, (first - b'0') as u64) {
+        Ok(number) => number,
+        Err(LexError::Stream) => return Err(SolutionError::Stream),
+        Err(LexError::Shape) => return Err(SolutionError::Literal),
+    };
     let Some(b) = next else {
         return Ok((number, End::Stream));
     };
@@ -110,9 +114,6 @@ fn read_inverted<R: Source>(buffer: &mut InputBuffer, r: &mut R) -> Result<Word,
     let Some(digit) = buffer.next(r)? else {
         return Err(SolutionError::Literal);
     };
-    if end_of(digit).is_some() {
-        return Err(SolutionError::Literal);
-    }
     let (number, end) = read_digits(buffer, r, digit)?;
     Ok(Word {
         number,
