@@ -22,6 +22,15 @@ CLAUSES_OF_AND = b"p cnf 4 4\n-1 0\n-4 2 0\n-4 3 0\n4 -2 -3 0\n"
 DEEP = 1_000_000
 # As much stack as docs/COMMANDS.md says is enough for aigtool, and for aigcheck, whose commands hold several readers at once.
 STACK, CHECK_STACK = 128 << 10, 176 << 10
+# Commands that refuse the file `wrong`.
+REFUSED = [
+    "inductive waiting.aag 0 wrong",
+    "refuted apart.aag to 0 wrong",
+    "certified waiting.aag held.aag wrong conflict",
+    "certified waiting.aag held.aag conflict wrong",
+    "witness delayed.aag 1 wrong",
+    "run counter.aag wrong",
+]
 
 
 class Room:
@@ -211,6 +220,16 @@ def a_small_stack_is_enough(room):
         for _ in range(10):
             status, _, error = harness.run([program, *words], cwd=room.folder, preexec_fn=limit(resource.RLIMIT_STACK, stack))
             room.check((status, error) == (0, b""), f"{program.name} {words}: status {status}, {error}")
+
+
+def a_small_stack_is_enough_for_refusals(room):
+    """Where a proof, a solver's answer or a witness is refused, `aigcheck` runs again for its place."""
+    harness.write_files(room.folder, memory.FILES)
+    room.write("wrong", b"1 -1 0 1 0\n")
+    for words in REFUSED:
+        for _ in range(10):
+            status, out, error = harness.run([room.checker, *words.split()], cwd=room.folder, preexec_fn=limit(resource.RLIMIT_STACK, CHECK_STACK))
+            room.check((status, out) == (1, b"") and error.startswith(b"aigcheck: wrong: "), f"{words}: status {status}, {error}")
 
 
 def program(path, folder):

@@ -117,6 +117,8 @@ fn place_told<R: Source, B: Origin>(counted: &Counted<R, B>, measure: Measure) -
 }
 
 /// Runs a command on a file and on what is given beside it, by single bytes. Returns the place of the last byte where that is refused so.
+// It and the next three are never inlined: else the buffers of all four are on the stack at once, of which one is used.
+#[inline(never)]
 fn place_beside<R: Source + Drop, B: Origin>(
     alloc: Global,
     command: FileCommand,
@@ -139,6 +141,7 @@ fn place_beside<R: Source + Drop, B: Origin>(
 }
 
 /// The same of a proof that two files' machines are equal at step `k`.
+#[inline(never)]
 fn place_in_equal<R: Source + Drop, B: Origin>(
     alloc: Global,
     k: usize,
@@ -169,6 +172,7 @@ fn place_in_equal<R: Source + Drop, B: Origin>(
 }
 
 /// The same of BASE.
+#[inline(never)]
 fn place_in_base<R: Source + Drop, B: Origin>(
     alloc: Global,
     optimize: bool,
@@ -199,6 +203,7 @@ fn place_in_base<R: Source + Drop, B: Origin>(
 }
 
 /// The same of STEP.
+#[inline(never)]
 fn place_in_step<R: Source + Drop, B: Origin>(
     alloc: Global,
     optimize: bool,
