@@ -1,7 +1,6 @@
 -- The lines of comments, as a text for each place in a list, and behind them the clauses.
-use Rattle.std.proofs.Common.{◌≡◌, ℕ, Bool, ◌+◌, ◌-◌, ◌<◌, ◌==◌, true, false, Some, List, [], ◌∷◌, ◌++◌, length, get_or, take, drop, refl, sym, ap, ◌∙◌, zero-add, arith}
+use Rattle.std.proofs.Common.{◌≡◌, ℕ, Bool, ◌+◌, ◌-◌, ◌<◌, ◌==◌, true, false, Some, List, [], ◌∷◌, ◌++◌, length, get_or, refl, sym, ap, ◌∙◌, zero-add}
 use Rattle.aig_base.proofs.Words.{codes, decimal, enumerate_from, flat_map, range_with_len, zip}
-use Rattle.std.proofs.lemmas.List.{length-drop, take_all}
 use Rattle.std.proofs.lemmas.Slice.Zip.{get_or-zip}
 use Rattle.std.proofs.lemmas.List.FromFn.{get_or-enumerate_from}
 use Rattle.aig_base.specs.declared.logic.literal.Lit.{Lit}
@@ -31,10 +30,6 @@ pub get_or-pair : {K X : Type 0} (ks : List K) (xs : List X) (i : ℕ) (k : K) (
     → get_or (zip ks xs) i (k, x) ≡ (k, x)
 get_or-pair ks xs i k x low down at is =
     get_or-zip ks xs i (k, x) low down ∙ ap (λ n. (n, get_or xs i x)) (sym at) ∙ ap (λ y. (k, y)) (sym is)
-
--- what follows the first m
-pub tail_is : {X : Type 0} (xs : List X) (m : ℕ) → take (length xs - m) (drop m xs) ≡ drop m xs
-tail_is xs m = take_all (length xs - m) (drop m xs) (omega (arith, length-drop m xs))
 
 -- ---- comments are passed over
 

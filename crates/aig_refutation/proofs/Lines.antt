@@ -145,10 +145,6 @@ comment_no_line b (inr e) f = omega arith
 pub no_comment_byte : (b : ℕ) → b ≢ 99 → b ≢ 112 → (b == 99 || b == 112) ≡ false
 no_comment_byte b n m = rw (ne_eqb b 99 n, ne_eqb b 112 m) refl
 
--- a byte that begins no comment
-pub other_byte : (b : ℕ) → ((b ≡ 99) ⊎ (b ≡ 112) → ⊥) → (b == 99 || b == 112) ≡ false
-other_byte b h = no_comment_byte b (λ e. h (inl e)) (λ e. h (inr e))
-
 first_word : (b : ℕ) (middle : List ℕ) → b ≢ 97 → first_in (b ∷ word_at middle) ≡ word_in (b ∷
     middle)
 unfolding first_in

@@ -1,5 +1,5 @@
 -- Words that are read byte by byte.
-use Rattle.aig_base.proofs.Words.{◌≡◌, ◌≢◌, ℕ, ◌+◌, ◌-◌, ◌*◌, ◌<◌, ◌≤◌, ◌^◌, Bool, true, false, List, [], ◌∷◌, ◌++◌, Option, Some, None, Result, Ok, Err, refl, sym, ap, subst, ◌∙◌, append_assoc, arith, ne_eqb, same_Some}
+use Rattle.aig_base.proofs.Words.{◌≡◌, ◌≢◌, ℕ, ◌+◌, ◌-◌, ◌*◌, ◌<◌, Bool, true, false, List, [], ◌∷◌, ◌++◌, Option, Some, None, Result, Ok, Err, refl, sym, ap, subst, ◌∙◌, append_assoc, arith, ne_eqb, same_Some}
 use Rattle.aig_lexer.specs.Digits.{TakesDigits, TakesTooMany, number_after}
 use Rattle.aig_lexer.specs.Takes.{Advances, Feed, Steps}
 use Rattle.aig_lexer.proofs.Digits.{number_after-nil, number_first}
@@ -10,7 +10,7 @@ use Rattle.aig_refutation.specs.declared.words.End.{End}
 use Rattle.aig_refutation.specs.declared.words.Word as code
 use Rattle.aig_refutation.specs.declared.words.Word.TheVariants as words
 use Rattle.aig_refutation.specs.Text as text
-use Rattle.aig_refutation.specs.Text.{◌>>=◌, digits_after, fault, is_blank, letter_before, lines_after, lines_of, number_in, signed, word_at, word_in, words_after, words_of}
+use Rattle.aig_refutation.specs.Text.{◌>>=◌, digits_after, fault, letter_before, number_in, signed, word_in}
 use Rattle.aig_refutation.specs.Words.{GivesWord, Leaves, Says, end_after, front, held_word, left_after, left_at}
 use Rattle.aig_refutation.proofs.Known.{at_end, consumed, leaves_on, leaves_same, says_now, says_on, step_leaves, tells, tells_on}
 use Rattle.aig_refutation.proofs.Texts.{digit_no_blank, digit_no_line, digit_on, digit_wrong, digits_end, digits_refused, first_digit, left_end, letter_end, letter_refused, no_digit, number_digit, number_none, word_goes, word_letter, word_minus, word_plain}

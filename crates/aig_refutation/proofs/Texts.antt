@@ -1,6 +1,5 @@
 -- Words and lines of bytes, byte by byte.
-use Rattle.aig_base.proofs.Words.{◌≡◌, ◌⊎◌, inl, inr, ℕ, ◌+◌, ◌-◌, ◌*◌, ◌<◌, ◌≤◌, ◌^◌, Bool, true, false, cond, ◌||◌, List, [], ◌∷◌, Option, Some, None, Result, Ok, Err, refl, sym, ap, subst, ◌∙◌, arith, ◌==◌, nat_lt, IfSome, nat_tests, false≢true, ne_eqb, eqb-true, cond-true, cond-false}
-use Rattle.std.specs.Char.{IsNotAsciiDigit}
+use Rattle.aig_base.proofs.Words.{◌≡◌, ◌⊎◌, inl, inr, ℕ, ◌+◌, ◌-◌, ◌*◌, ◌<◌, ◌≤◌, ◌^◌, Bool, true, false, cond, ◌||◌, List, [], ◌∷◌, Option, Some, None, Result, Ok, Err, refl, sym, ap, subst, ◌∙◌, arith, ◌==◌, nat_lt, IfSome, false≢true, ne_eqb, eqb-true, cond-true, cond-false}
 use Rattle.aig_format.specs.Parse.{is_digit}
 use Rattle.aig_refutation.specs.declared.error.RefutationError.{RefutationError}
 use Rattle.aig_refutation.specs.declared.error.RefutationError.TheVariants as errors
@@ -354,12 +353,6 @@ past_word word more lines is = cond-false (is_comment word) (lines_past lines) (
     lines) is
 
 -- ---- digits as std tests them
-
-pub is_a_digit : (b : ℕ) → 48 ≤ b → b ≤ 57 → is_digit b ≡ true
-is_a_digit b h k = grind (arith, nat_tests)
-
-pub is_no_digit : (b : ℕ) → IsNotAsciiDigit b → is_digit b ≡ false
-is_no_digit b h = grind (arith, nat_tests)
 
 -- ---- blanks as they are matched
 

@@ -1,6 +1,6 @@
 -- Serves private clauses alone.
 -- Bytes that are read before a word, and in one.
-use Rattle.std.specs.Prelude.{◌≡◌, ◌<◌, ◌≤◌, ℕ, Bool, true, false, IfSome, List, [], ◌∷◌, ◌++◌, length, take, Option, Some, None, Result, Ok, Err}
+use Rattle.std.specs.Prelude.{◌≡◌, ◌<◌, ◌≤◌, ℕ, Bool, true, false, IfSome, List, [], length, take, Option, None, Result, Ok, Err}
 use Rattle.aig_lexer.specs.declared.signed.Signed.{Signed}
 use Rattle.aig_lexer.specs.SignedNumbers.{IsSigned}
 use Rattle.aig_lexer.specs.Takes.{Feed}

@@ -1,11 +1,11 @@
 -- How the digits of a word are read.
-use Rattle.aig_base.proofs.Words.{◌≡◌, ℕ, ◌+◌, ◌-◌, ◌*◌, ◌^◌, ◌<◌, ◌≤◌, Bool, true, false, List, [], ◌∷◌, ◌++◌, Option, Some, None, Ok, Err, refl, sym, ap, subst, ◌∙◌, append_assoc, append-nil, arith, ne_eqb, false≢true, same_Some}
+use Rattle.aig_base.proofs.Words.{◌≡◌, ℕ, ◌+◌, ◌-◌, ◌*◌, ◌≤◌, true, false, List, [], ◌∷◌, ◌++◌, Option, Some, None, Ok, Err, refl, sym, ap, subst, ◌∙◌, append_assoc, append-nil, arith, ne_eqb, false≢true}
 use Rattle.std.specs.Prelude.{◌==◌}
 use Rattle.aig_format.specs.Parse.{is_digit}
 use Rattle.aig_format.proofs.NumberReaders.{digit_true}
 use Rattle.aig_lexer.specs.Digits.{TakesDigits, TakesTooMany, number_after}
 use Rattle.aig_lexer.specs.Takes.{Advances, Feed}
-use Rattle.aig_lexer.proofs.Digits.{number_after-append, number_after-digit, number_after-large, number_after-nil, number_after-other, number_first}
+use Rattle.aig_lexer.proofs.Digits.{number_after-append, number_after-digit, number_after-large, number_after-other, number_first}
 use Rattle.aig_solutions.specs.declared.error.SolutionError.TheVariants as errors
 use Rattle.aig_solutions.specs.declared.words.End.{End}
 use Rattle.aig_solutions.specs.declared.words.End.TheVariants.{Blank, Line, Stream}

@@ -1,4 +1,4 @@
-use Rattle.aig_base.proofs.Words.{◌≡◌, Bool, true, false, None, Ok, Err, refl, sym, ap, subst, ◌∙◌, err_from_is_err_and, false≢true}
+use Rattle.aig_base.proofs.Words.{◌≡◌, Bool, true, false, None, Ok, Err, sym, ap, subst, ◌∙◌, err_from_is_err_and, false≢true}
 use Rattle.aig_refutation.specs.declared.error.RefutationError.TheVariants as errors
 use Rattle.aig_refutation.specs.Checking.{are_in}
 use Rattle.aig_refutation.specs.Concluding.{Concludes, ConcludesPlain, ShowsPlain, ShowsText, left_outcome, plain_left, text_outcome}

@@ -1,4 +1,4 @@
-use Rattle.aig_base.proofs.Words.{◌<◌, ◌+◌, ◌^◌, ℕ, None, false, get_or, length, refl, sym, ap, subst, ◌∙◌, arith, err_from_is_err_and}
+use Rattle.aig_base.proofs.Words.{◌<◌, ◌+◌, ◌^◌, ℕ, false, length, refl, sym, ap, subst, ◌∙◌, arith, err_from_is_err_and}
 use Rattle.aig_circuit.specs.Node.{IfAnd}
 use Rattle.aig_lexer.proofs.Faults.{tells-weaker}
 use Rattle.aig_ordering.specs.Gates.{kind_of_operands, nodes_in}
