@@ -19,8 +19,6 @@ pub AreNoDeeper-then : (old mid new : List ℕ) → AreNoDeeper old mid → AreN
     → AreNoDeeper old new
 AreNoDeeper-then old mid new p q n = omega (arith, p n, q n)
 
-}
-
 -- something else holds of the old depths where P does
 pub Lowers-weaker : (P Q : List ℕ → Type 0) (old new : List ℕ) (lowered : Bool) → (P old → Q old)
     → Lowers P old new lowered → Lowers Q old new lowered
