@@ -203,6 +203,15 @@ def depth_takes_no_stack(room):
         room.check(out.count(b"\n") == 3 * DEEP + 2 + extra, f"{command}: lines")
 
 
+def a_query_of_many_clauses_is_answered(room):
+    """A constraint is a clause of each step: K + 1 of them, beside that of variable 0 and that of the bad literals."""
+    k = 1 << 20
+    room.write("held.aag", b"aag 1 1 0 0 0 1 1\n2\n3\n2\n")
+    status, out, _ = room.run("query", "held.aag", str(k))
+    room.check(status == 0 and out.startswith(b"p cnf %d %d\n-1 0\n2 0\n" % (k + 2, k + 3)), f"status {status}, {out[:80]}")
+    room.check(out.count(b"\n") == k + 4, "lines")
+
+
 def a_small_stack_is_enough(room):
     """Each command of both programs, wherever the system puts its stack."""
     room.write("old", b"old", 0o660)
