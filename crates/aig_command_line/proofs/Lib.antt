@@ -3,3 +3,6 @@ pub mod Giving
 pub mod Apart
 pub mod Kept
 pub mod Counting
+mod Fronts
+pub mod Limits
+pub mod Telling

@@ -4,6 +4,7 @@ use Rattle.std.specs.Prelude.{◌≡◌, ℕ, List, ◌++◌, Option, Some, None
 use Rattle.std.specs.Fmt.{◌++?◌}
 use Rattle.aig_command_line.specs.declared.fault.Fault.{Fault}
 use Rattle.aig_command_line.specs.declared.fault.Fault.TheVariants.{Alone, In}
+use Rattle.aig_command_line.specs.Shown.{shown_path}
 use Rattle.aig_command_line.specs.declared.tally.Place.{Place}
 use Rattle.aig_command_line.specs.declared.tally.Place.TheVariants as places
 
@@ -32,8 +33,8 @@ place_text places.Whole = codes ": "
 place_text (places.Line n) = codes ": line " ++ (decimal n ++ codes ": ")
 place_text (places.Byte n) = codes ": byte " ++ (decimal n ++ codes ": ")
 
--- what is told: the path, the place and why
+-- what is told: the path, with what isn't printable spelled out, the place and why
 abbrev pub fault_text : {E : Type 0} → (E → Option (List ℕ)) → Fault E → Option (List ℕ)
 fault_text text_of (Alone e) = text_of e
 fault_text text_of (In path place e) =
-    Some path.now ++? Some (place_text place) ++? text_of e
+    Some (shown_path path.now) ++? Some (place_text place) ++? text_of e

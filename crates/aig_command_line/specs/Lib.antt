@@ -6,3 +6,8 @@ pub mod Counts
 pub mod Came
 pub mod Faults
 pub mod Places
+pub mod Limits
+pub mod Shown
+pub mod Beginnings
+pub mod Watching
+pub mod Notices

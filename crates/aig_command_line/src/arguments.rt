@@ -115,7 +115,7 @@ fn settings(form: Form, words: &[String]) -> Option<(bool, bool)>
 }
 
 /// The number that the first word gives, and the words after it.
-fn number_first(words: &[String]) -> Option<(usize, &[String])>
+pub(crate) fn number_first(words: &[String]) -> Option<(usize, &[String])>
     ensures some { IfSome result (λ p. (word : List ℕ) × IsNumber p.0 word
         × (map string_bytes words.now ≡ word ∷ map string_bytes p.1.now)) }
     ensures none { IfNone result ((k : ℕ) (word : List ℕ) (rest : List (List ℕ))
@@ -125,15 +125,15 @@ fn number_first(words: &[String]) -> Option<(usize, &[String])>
     Some((steps(first.as_str())?, rest))
 }
 
-/// The words after the word `to`, where that is the first.
-fn after_to(words: &[String]) -> Option<&[String]>
+/// The words after a word, where that is the first.
+pub(crate) fn after_word<'a>(words: &'a [String], first: &str) -> Option<&'a [String]>
     ensures some { IfSome result
-        (λ rest. map string_bytes words.now ≡ codes "to" ∷ map string_bytes rest.now) }
+        (λ rest. map string_bytes words.now ≡ first.now ∷ map string_bytes rest.now) }
     ensures none { IfNone result ((rest : List (List ℕ))
-        → ¬ (map string_bytes words.now ≡ codes "to" ∷ rest)) }
+        → ¬ (map string_bytes words.now ≡ first.now ∷ rest)) }
 {
     match words {
-        [word, rest @ ..] if is_word(word, "to") => Some(rest),
+        [word, rest @ ..] if is_word(word, first) => Some(rest),
         _ => None,
     }
 }
@@ -148,7 +148,7 @@ fn step_first(form: Step, words: &[String]) -> Option<(usize, &[String])>
     match form {
         Step::Absent => Some((0, words)),
         Step::At => number_first(words),
-        Step::UpTo => number_first(after_to(words)?),
+        Step::UpTo => number_first(after_word(words, "to")?),
     }
 }
 

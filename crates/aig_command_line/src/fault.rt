@@ -2,6 +2,7 @@
 
 ghost use Rattle.aig_command_line.specs.Faults.{error_of, fault_text};
 
+use crate::path::ShownPath;
 use crate::status::HasStatus;
 use crate::tally::Place;
 use std::fmt::{self, Display};
@@ -28,11 +29,14 @@ impl<'a, E: Display> Display for Fault<'a, E> {
     fn fmt<W: fmt::Write>(&self, f: &mut fmt::Formatter<W>) -> fmt::Result {
         match self {
             Fault::Alone(error) => write!(f, "{error}"),
-            Fault::In { path, place, error } => match place {
-                Place::Whole => write!(f, "{path}: {error}"),
-                Place::Line(line) => write!(f, "{path}: line {line}: {error}"),
-                Place::Byte(byte) => write!(f, "{path}: byte {byte}: {error}"),
-            },
+            Fault::In { path, place, error } => {
+                let path = ShownPath { path };
+                match place {
+                    Place::Whole => write!(f, "{path}: {error}"),
+                    Place::Line(line) => write!(f, "{path}: line {line}: {error}"),
+                    Place::Byte(byte) => write!(f, "{path}: byte {byte}: {error}"),
+                }
+            }
         }
     }
 }

@@ -7,8 +7,8 @@ returns-in-At-clause-some c =
     IfSome_then c.number_first.result c.number_first.ensures.some
     (λ p first. number_at c.args.form p.0 (map string_bytes c.args.words.now) first.0 _ c.in-At.is first.1 first.2)
 
-pub returns-in_ok-after_to-in-UpTo-clause-some : goal.returns-in_ok-after_to-in-UpTo-clause-some
-returns-in_ok-after_to-in-UpTo-clause-some c =
-    let to = c.in_ok-after_to-in-UpTo.ensures.some in
+pub returns-in_ok-after_word-in-UpTo-clause-some : goal.returns-in_ok-after_word-in-UpTo-clause-some
+returns-in_ok-after_word-in-UpTo-clause-some c =
+    let to = c.in_ok-after_word-in-UpTo.ensures.some in
     IfSome_then c.number_first-in-UpTo.result c.number_first-in-UpTo.ensures.some
     (λ p first. number_up_to c.args.form p.0 (map string_bytes c.args.words.now) first.0 _ _ c.in-UpTo.is to first.1 first.2)
