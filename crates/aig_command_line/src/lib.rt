@@ -32,7 +32,7 @@ pub use fault::Fault;
 pub use files::{OpenError, Opens, Reopens, SystemFiles};
 pub use limit::limited;
 pub use line::write_text;
-pub use notice::{Regard, tell_notices};
+pub use notice::{Headers, Regard, tell_of_files};
 pub use number::steps;
 pub use output::{Flush, FlushedWriter};
 pub use path::ShownPath;

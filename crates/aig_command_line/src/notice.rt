@@ -1,9 +1,10 @@
 //! What is told of a file beside an answer about it.
 
-ghost use Rattle.std.specs.Prelude.{◌≡◌, Bool, Option, Some};
-ghost use Rattle.aig_command_line.specs.Notices.{compares_within, leaves_out, line_about, line_if, notices_of, tells_line};
+ghost use Rattle.std.specs.Prelude.{◌≡◌, Bool, Option, Some, map, slice_get, string_bytes};
+ghost use Rattle.aig_command_line.specs.Notices.{compares_within, leaves_out, line_about, line_if, lines_of, notices_at, notices_of, tells_line};
 ghost use Rattle.std.specs.List.{FoldsTo};
 
+use crate::arguments::path_at;
 use crate::path::ShownPath;
 use crate::status::Tells;
 use aig_lexer::Header;
@@ -15,6 +16,15 @@ pub struct Regard {
     pub leaves_out: bool,
     /// It compares files on runs that the constraints of both allow.
     pub compares: bool,
+}
+
+/// The headers of the first two files that were opened, where they were seen.
+#[derive(Clone, Copy)]
+pub struct Headers {
+    /// That of the first file.
+    pub first: Option<Header>,
+    /// That of the second one.
+    pub second: Option<Header>,
 }
 
 /// Whether a file has something that isn't looked at: a justice property or a fairness constraint.
@@ -44,7 +54,7 @@ fn tell_if<T: Tells>(is_so: bool, program: &str, path: &str, text: &str, errors:
 
 /// Tells of the file at a path, which has this header, what a program's answer isn't about: by a line, that its justice properties and
 /// fairness constraints were not looked at, and by another one, that files were compared only on runs that its constraints allow.
-pub fn tell_notices<T: Tells>(
+fn tell_notices<T: Tells>(
     program: &str,
     path: &str,
     regard: Regard,
@@ -67,4 +77,38 @@ pub fn tell_notices<T: Tells>(
         within,
         errors,
     );
+}
+
+/// Tells of the file at one of these paths, if there is one.
+fn tell_at<T: Tells>(
+    program: &str,
+    paths: &[String],
+    index: usize,
+    regard: Regard,
+    header: Option<Header>,
+    errors: &mut T,
+)
+    ensures { FoldsTo (tells_line T.tells) errors.old
+        (notices_at program.now (slice_get (map string_bytes paths.now) index) regard header)
+        errors.new }
+{
+    let Some(path) = path_at(paths, index) else {
+        return;
+    };
+    tell_notices(program, path, regard, header, errors);
+}
+
+/// Tells what a program's answer isn't about, of the files at its first two paths.
+pub fn tell_of_files<T: Tells>(
+    program: &str,
+    paths: &[String],
+    regard: Regard,
+    headers: Headers,
+    errors: &mut T,
+)
+    ensures { FoldsTo (tells_line T.tells) errors.old
+        (lines_of program.now (map string_bytes paths.now) regard headers) errors.new }
+{
+    tell_at(program, paths, 0, regard, headers.first, errors);
+    tell_at(program, paths, 1, regard, headers.second, errors);
 }

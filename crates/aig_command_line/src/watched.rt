@@ -5,8 +5,8 @@ ghost use Rattle.aig_command_line.specs.Watching.{OpensWatched, unwatched};
 
 use crate::beginning::Beginning;
 use crate::files::{OpenError, Opens, Reopens};
+use crate::notice::Headers;
 use aig_base::{Source, StreamFault};
-use aig_lexer::Header;
 use std::cell::Cell;
 
 /// The first bytes of the first two files that are opened. No contract says what a cell holds.
@@ -38,14 +38,12 @@ impl Watch {
         }
     }
 
-    /// The header of the first file, where its first bytes have one.
-    pub fn first(&self) -> Option<Header> {
-        self.first.get().header()
-    }
-
-    /// That of the second one.
-    pub fn second(&self) -> Option<Header> {
-        self.second.get().header()
+    /// The headers of these files, where their first bytes have one.
+    pub fn headers(&self) -> Headers {
+        Headers {
+            first: self.first.get().header(),
+            second: self.second.get().header(),
+        }
     }
 }
 

@@ -13,12 +13,11 @@ use Rattle.aig_edits.specs.Edits.{IsEditOwn, ReadsFile, edit_verdict}
 use Rattle.aig_edits.specs.Joints.{IsOwn, PrintsJoint, StopsJoint, WritesJoint, first_verdict, second_verdict}
 use Rattle.aig_edits.specs.Pairs.{ReadsPair}
 use Rattle.aig_edits.proofs.Reading.{reads_on}
-use Rattle.aig_edit_commands.specs.declared.acting.TheConstants.{LIMIT}
 use Rattle.aig_edit_commands.specs.declared.command.FileCommand.{FileCommand}
 use Rattle.aig_edit_commands.specs.declared.command.FileCommand.TheVariants as files
 use Rattle.aig_edit_commands.specs.Acting.{Prints, PrintsOpen, PrintsPair}
 
-module _ {R S W : Type 0} (left : R → Option (List ℕ)) (failed : R → Bool) (left_of : S → Option (List ℕ)) (failed_of : S → Bool) (held : W → Option (List ℕ)) (write_failed flushed : W → Bool) (pairing : Pairing) (r rest : R) (s other : S) (w made flat : W) (keeps : Keeps (held made) (held flat)) where
+module _ {R S W : Type 0} (left : R → Option (List ℕ)) (failed : R → Bool) (left_of : S → Option (List ℕ)) (failed_of : S → Bool) (held : W → Option (List ℕ)) (write_failed flushed : W → Bool) (limit : ℕ) (pairing : Pairing) (r rest : R) (s other : S) (w made flat : W) (keeps : Keeps (held made) (held flat)) where
   -- what was printed of these files is all there
   written : (f g : File) → write_failed flat ≡ false
       → WritesJoint held write_failed pairing w made f g
@@ -39,24 +38,24 @@ module _ {R S W : Type 0} (left : R → Option (List ℕ)) (failed : R → Bool)
   -- ---- of what was read
 
   pub pair_flushed : (u : Unit {0})
-      → ReadsPair left failed left_of failed_of LIMIT (PrintsJoint held write_failed pairing w made) first_verdict second_verdict IsOwn r s (Ok u) rest other
+      → ReadsPair left failed left_of failed_of limit (PrintsJoint held write_failed pairing w made) first_verdict second_verdict IsOwn r s (Ok u) rest other
       → write_failed flat ≡ false → IsTrue (flushed flat)
-      → PrintsPair left failed left_of failed_of held write_failed flushed pairing r s w (Ok u) rest other flat
+      → PrintsPair left failed left_of failed_of held write_failed flushed limit pairing r s w (Ok u) rest other flat
   pair_flushed u reads sound done = record {
     reads =
-        reads_on left failed left_of failed_of LIMIT r s rest other (PrintsJoint held write_failed pairing w flat) first_verdict second_verdict IsOwn (Ok u) reads refl refl tt
+        reads_on left failed left_of failed_of limit r s rest other (PrintsJoint held write_failed pairing w flat) first_verdict second_verdict IsOwn (Ok u) reads refl refl tt
         (λ f g bytes others fits also. written f g sound);
     kept = λ not. absurd not;
     done = done;
   }
 
   pub pair_unflushed : (u : Unit {0})
-      → ReadsPair left failed left_of failed_of LIMIT (PrintsJoint held write_failed pairing w made) first_verdict second_verdict IsOwn r s (Ok u) rest other
+      → ReadsPair left failed left_of failed_of limit (PrintsJoint held write_failed pairing w made) first_verdict second_verdict IsOwn r s (Ok u) rest other
       → IsTrue (write_failed flat)
-      → PrintsPair left failed left_of failed_of held write_failed flushed pairing r s w (Err errors.Write) rest other flat
+      → PrintsPair left failed left_of failed_of held write_failed flushed limit pairing r s w (Err errors.Write) rest other flat
   pair_unflushed u reads lost = record {
     reads =
-        reads_on left failed left_of failed_of LIMIT r s rest other (PrintsJoint held write_failed pairing w flat) first_verdict second_verdict IsOwn (Err errors.Write) reads refl refl tt
+        reads_on left failed left_of failed_of limit r s rest other (PrintsJoint held write_failed pairing w flat) first_verdict second_verdict IsOwn (Err errors.Write) reads refl refl tt
         (λ f g bytes others fits also. stopped f g lost);
     kept = λ not. absurd not;
     done = tt;
@@ -64,16 +63,16 @@ module _ {R S W : Type 0} (left : R → Option (List ℕ)) (failed : R → Bool)
 
 -- ---- of one file
 
-module _ {R W : Type 0} (left : R → Option (List ℕ)) (failed : R → Bool) (held : W → Option (List ℕ)) (write_failed flushed : W → Bool) (c : FileCommand) (r rest : R) (w made flat : W) (keeps : Keeps (held made) (held flat)) where
+module _ {R W : Type 0} (left : R → Option (List ℕ)) (failed : R → Bool) (held : W → Option (List ℕ)) (write_failed flushed : W → Bool) (limit : ℕ) (c : FileCommand) (r rest : R) (w made flat : W) (keeps : Keeps (held made) (held flat)) where
   -- a call goes on from what another told of the bytes
   read_on : (result also : Result (Unit {0}) EditError) → IfErr also IsEditOwn
-      → ReadsFile left failed LIMIT (Prints held write_failed c w made) edit_verdict IsEditOwn r result rest
+      → ReadsFile left failed limit (Prints held write_failed limit c w made) edit_verdict IsEditOwn r result rest
       → verdict_by edit_verdict result ≡ Accepted → verdict_by edit_verdict also ≡ Accepted
-      → ((f : File) → Prints held write_failed c w made f result
-      → Prints held write_failed c w flat f also)
-      → ReadsFile left failed LIMIT (Prints held write_failed c w flat) edit_verdict IsEditOwn r also rest
+      → ((f : File) → Prints held write_failed limit c w made f result
+      → Prints held write_failed limit c w flat f also)
+      → ReadsFile left failed limit (Prints held write_failed limit c w flat) edit_verdict IsEditOwn r also rest
   read_on result also own told taken again means = record {
-    verdict = subst (Judges (λ _. Accepted) LIMIT (left r) (left rest) (failed rest)) (taken ∙ sym again) told.verdict;
+    verdict = subst (Judges (λ _. Accepted) limit (left r) (left rest) (failed rest)) (taken ∙ sym again) told.verdict;
     answer = λ h.
         let f = told.answer taken in
         record { file = f.file; bytes = f.bytes; holds = f.holds; means = means f.file f.means; taken = f.taken };
@@ -86,7 +85,7 @@ module _ {R W : Type 0} (left : R → Option (List ℕ)) (failed : R → Bool) (
   stops text grows lost = stops_unflushed (held w) (held made) (held flat) (write_failed flat) text grows keeps lost
 
   print_flushed : (c : FileCommand) (f : File) (u : Unit {0}) → write_failed flat ≡ false
-      → Prints held write_failed c w made f (Ok u) → Prints held write_failed c w flat f (Ok u)
+      → Prints held write_failed limit c w made f (Ok u) → Prints held write_failed limit c w flat f (Ok u)
   print_flushed (files.Edit edit) f u sound (m, written, grows, was) =
       (m, written, appends_kept (held w) (held made) (held flat) _ grows keeps, sound)
   print_flushed files.Reduction f u sound (m, is, grows, was) =
@@ -97,8 +96,8 @@ module _ {R W : Type 0} (left : R → Option (List ℕ)) (failed : R → Bool) (
       (text, is, appends_kept (held w) (held made) (held flat) text grows keeps, sound)
 
   print_unflushed : (c : FileCommand) (f : File) (u : Unit {0}) → IsTrue (write_failed flat)
-      → Prints held write_failed c w made f (Ok u)
-      → Prints held write_failed c w flat f (Err edit_errors.Write)
+      → Prints held write_failed limit c w made f (Ok u)
+      → Prints held write_failed limit c w flat f (Err edit_errors.Write)
   print_unflushed (files.Edit edit) f u lost (m, written, grows, was) =
       (m, written.edit_of, stops _ grows lost)
   print_unflushed files.Reduction f u lost (m, is, grows, was) = (m, is, stops _ grows lost)
@@ -106,9 +105,9 @@ module _ {R W : Type 0} (left : R → Option (List ℕ)) (failed : R → Bool) (
   print_unflushed files.Info f u lost (text, is, grows, was) = (text, is, stops text grows lost)
 
   pub file_flushed : (u : Unit {0})
-      → ReadsFile left failed LIMIT (Prints held write_failed c w made) edit_verdict IsEditOwn r (Ok u) rest
+      → ReadsFile left failed limit (Prints held write_failed limit c w made) edit_verdict IsEditOwn r (Ok u) rest
       → write_failed flat ≡ false → IsTrue (flushed flat)
-      → PrintsOpen left failed held write_failed flushed c r w (Ok u) rest flat
+      → PrintsOpen left failed held write_failed flushed limit c r w (Ok u) rest flat
   file_flushed u reads sound done = record {
     reads = read_on (Ok u) (Ok u) tt reads refl refl (λ f. print_flushed c f u sound);
     kept = λ not. absurd not;
@@ -116,9 +115,9 @@ module _ {R W : Type 0} (left : R → Option (List ℕ)) (failed : R → Bool) (
   }
 
   pub file_unflushed : (u : Unit {0})
-      → ReadsFile left failed LIMIT (Prints held write_failed c w made) edit_verdict IsEditOwn r (Ok u) rest
+      → ReadsFile left failed limit (Prints held write_failed limit c w made) edit_verdict IsEditOwn r (Ok u) rest
       → IsTrue (write_failed flat)
-      → PrintsOpen left failed held write_failed flushed c r w (Err edit_errors.Write) rest flat
+      → PrintsOpen left failed held write_failed flushed limit c r w (Err edit_errors.Write) rest flat
   file_unflushed u reads lost = record {
     reads =
         read_on (Ok u) (Err edit_errors.Write) tt reads refl refl (λ f. print_unflushed c f u lost);

@@ -24,7 +24,6 @@ use Rattle.aig_edits.specs.Reductions.{PrintsReduction}
 use Rattle.aig_format.specs.File.{File}
 use Rattle.aig_reader.specs.declared.error.ReadError.{ReadError}
 use Rattle.aig_reader.specs.declared.error.ReadError.TheVariants as read
-use Rattle.aig_edit_commands.specs.declared.acting.TheConstants.{LIMIT}
 use Rattle.aig_edit_commands.specs.declared.acting.CommandError.{CommandError}
 use Rattle.aig_edit_commands.specs.declared.acting.CommandError.TheVariants as refusals
 use Rattle.aig_edit_commands.specs.declared.command.Command.{Command}
@@ -39,9 +38,9 @@ use Rattle.aig_edit_commands.specs.Words.{IsCall}
 -- prints it, and after Ok it is flushed.
 pub record PrintsPair {R S W : Type 0} (left : R → Option (List ℕ)) (failed : R → Bool)
     (left_of : S → Option (List ℕ)) (failed_of : S → Bool) (held : W → Option (List ℕ))
-    (write_failed flushed : W → Bool) (pairing : Pairing) (r : R) (s : S) (w : W)
+    (write_failed flushed : W → Bool) (limit : ℕ) (pairing : Pairing) (r : R) (s : S) (w : W)
     (result : Result Unit PairError) (rest : R) (other : S) (made : W) : Type 0 where
-  pub reads : ReadsPair left failed left_of failed_of LIMIT
+  pub reads : ReadsPair left failed left_of failed_of limit
       (PrintsJoint held write_failed pairing w made) first_verdict second_verdict IsOwn r s result
       rest other
   pub kept : IsUnwritten result → made ≡ w
@@ -55,13 +54,13 @@ unopened refused opening.Refused = refused read.Open
 -- written
 abbrev pub PrintsBoth : {R F W : Type 0} → (R → Option (List ℕ)) → (R → Bool)
     → (F → Option (List ℕ)) → (F → Bool) → (W → Option (List ℕ)) → (W → Bool) → (W → Bool)
-    → Pairing → R → Result F OpenError → W → Result Unit PairError → R → W → Type 0
-PrintsBoth {F = F} left failed left_of failed_of held write_failed flushed pairing r (Ok s) w result
+    → ℕ → Pairing → R → Result F OpenError → W → Result Unit PairError → R → W → Type 0
+PrintsBoth {F = F} left failed left_of failed_of held write_failed flushed limit pairing r (Ok s) w result
     rest made =
     (other : F)
-    × PrintsPair left failed left_of failed_of held write_failed flushed pairing r s w result rest
+    × PrintsPair left failed left_of failed_of held write_failed flushed limit pairing r s w result rest
     other made
-PrintsBoth left failed left_of failed_of held write_failed flushed pairing r (Err e) w result rest
+PrintsBoth left failed left_of failed_of held write_failed flushed limit pairing r (Err e) w result rest
     made =
     (result ≡ Err (unopened errors.Other e)) × (made ≡ w)
 
@@ -69,49 +68,49 @@ PrintsBoth left failed left_of failed_of held write_failed flushed pairing r (Er
 pub record PrintsBeside {R F W : Type 0} (opens : List ℕ → Result F OpenError → Type 0)
     (left : R → Option (List ℕ)) (failed : R → Bool) (left_of : F → Option (List ℕ))
     (failed_of : F → Bool) (held : W → Option (List ℕ)) (write_failed flushed : W → Bool)
-    (pairing : Pairing) (r : R) (other : List ℕ) (w : W) (result : Result Unit PairError) (rest : R)
+    (limit : ℕ) (pairing : Pairing) (r : R) (other : List ℕ) (w : W) (result : Result Unit PairError) (rest : R)
     (made : W) : Type 0 where
   pub second : Result F OpenError
   pub opened : opens other second
-  pub prints : PrintsBoth left failed left_of failed_of held write_failed flushed pairing r second w
+  pub prints : PrintsBoth left failed left_of failed_of held write_failed flushed limit pairing r second w
       result rest made
 
 -- the first file is open, or it is not, and nothing is written
 abbrev pub PrintsFrom : {F W : Type 0} → (List ℕ → Result F OpenError → Type 0)
     → (F → Option (List ℕ)) → (F → Bool) → (W → Option (List ℕ)) → (W → Bool) → (W → Bool)
-    → Pairing → Result F OpenError → List ℕ → W → Result Unit PairError → W → Type 0
-PrintsFrom {F} opens left failed held write_failed flushed pairing (Ok r) other w result made =
+    → ℕ → Pairing → Result F OpenError → List ℕ → W → Result Unit PairError → W → Type 0
+PrintsFrom {F} opens left failed held write_failed flushed limit pairing (Ok r) other w result made =
     (rest : F)
-    × PrintsBeside opens left failed left failed held write_failed flushed pairing r other w result
+    × PrintsBeside opens left failed left failed held write_failed flushed limit pairing r other w result
     rest made
-PrintsFrom opens left failed held write_failed flushed pairing (Err e) other w result made =
+PrintsFrom opens left failed held write_failed flushed limit pairing (Err e) other w result made =
     (result ≡ Err (unopened errors.Read e)) × (made ≡ w)
 
 -- the files at both paths are opened, the first one first, and their joint circuit printed
 pub record PrintsFiles {F W : Type 0} (opens : List ℕ → Result F OpenError → Type 0)
     (left : F → Option (List ℕ)) (failed : F → Bool) (held : W → Option (List ℕ))
-    (write_failed flushed : W → Bool) (pairing : Pairing) (file other : List ℕ) (w : W)
+    (write_failed flushed : W → Bool) (limit : ℕ) (pairing : Pairing) (file other : List ℕ) (w : W)
     (result : Result Unit PairError) (made : W) : Type 0 where
   pub first : Result F OpenError
   pub opened : opens file first
-  pub prints : PrintsFrom opens left failed held write_failed flushed pairing first other w result
+  pub prints : PrintsFrom opens left failed held write_failed flushed limit pairing first other w result
       made
 
 -- ---- one file
 
 -- what is printed of the file
-abbrev pub Prints : {W : Type 0} → (W → Option (List ℕ)) → (W → Bool) → FileCommand → W → W → File
+abbrev pub Prints : {W : Type 0} → (W → Option (List ℕ)) → (W → Bool) → ℕ → FileCommand → W → W → File
     → Result Unit EditError → Type 0
-Prints held failed (files.Edit edit) w made = PrintsEdit held failed edit LIMIT w made
-Prints held failed files.Reduction w made = PrintsReduction held failed w made
-Prints held failed (files.Question k) w made = PrintsQuestion held failed k LIMIT w made
-Prints held failed files.Info w made = PrintsInfo held failed w made
+Prints held failed limit (files.Edit edit) w made = PrintsEdit held failed edit limit w made
+Prints held failed limit files.Reduction w made = PrintsReduction held failed w made
+Prints held failed limit (files.Question k) w made = PrintsQuestion held failed k limit w made
+Prints held failed limit files.Info w made = PrintsInfo held failed w made
 
 -- What is printed of a file that is open, and after Ok it is flushed.
 pub record PrintsOpen {R W : Type 0} (left : R → Option (List ℕ)) (failed : R → Bool)
-    (held : W → Option (List ℕ)) (write_failed flushed : W → Bool) (c : FileCommand) (r : R) (w : W)
+    (held : W → Option (List ℕ)) (write_failed flushed : W → Bool) (limit : ℕ) (c : FileCommand) (r : R) (w : W)
     (result : Result Unit EditError) (rest : R) (made : W) : Type 0 where
-  pub reads : ReadsFile left failed LIMIT (Prints held write_failed c w made) edit_verdict IsEditOwn
+  pub reads : ReadsFile left failed limit (Prints held write_failed limit c w made) edit_verdict IsEditOwn
       r result rest
   pub kept : IsEditUnwritten result → made ≡ w
   pub done : OnOk result (IsTrue (flushed made))
@@ -122,21 +121,21 @@ edit_unopened opening.Refused = edit.Read read.Open
 
 -- the file is open, or it is not, and nothing is written
 abbrev pub PrintsOpened : {F W : Type 0} → (F → Option (List ℕ)) → (F → Bool)
-    → (W → Option (List ℕ)) → (W → Bool) → (W → Bool) → FileCommand → Result F OpenError → W
+    → (W → Option (List ℕ)) → (W → Bool) → (W → Bool) → ℕ → FileCommand → Result F OpenError → W
     → Result Unit EditError → W → Type 0
-PrintsOpened {F} left failed held write_failed flushed c (Ok r) w result made =
-    (rest : F) × PrintsOpen left failed held write_failed flushed c r w result rest made
-PrintsOpened left failed held write_failed flushed c (Err e) w result made =
+PrintsOpened {F} left failed held write_failed flushed limit c (Ok r) w result made =
+    (rest : F) × PrintsOpen left failed held write_failed flushed limit c r w result rest made
+PrintsOpened left failed held write_failed flushed limit c (Err e) w result made =
     (result ≡ Err (edit_unopened e)) × (made ≡ w)
 
 -- the file at the path is opened, and what the command says printed
 pub record PrintsFile {F W : Type 0} (opens : List ℕ → Result F OpenError → Type 0)
     (left : F → Option (List ℕ)) (failed : F → Bool) (held : W → Option (List ℕ))
-    (write_failed flushed : W → Bool) (c : FileCommand) (file : List ℕ) (w : W)
+    (write_failed flushed : W → Bool) (limit : ℕ) (c : FileCommand) (file : List ℕ) (w : W)
     (result : Result Unit EditError) (made : W) : Type 0 where
   pub opened : Result F OpenError
   pub opens_so : opens file opened
-  pub prints : PrintsOpened left failed held write_failed flushed c opened w result made
+  pub prints : PrintsOpened left failed held write_failed flushed limit c opened w result made
 
 -- ---- commands
 
@@ -148,15 +147,15 @@ told among (Err e) = Err (among e)
 -- the command was run on its files
 abbrev pub Acts : {F W : Type 0} → (List ℕ → Result F OpenError → Type 0)
     → (F → Option (List ℕ)) → (F → Bool) → (W → Option (List ℕ)) → (W → Bool) → (W → Bool)
-    → Command → List (List ℕ) → W → Result Unit CommandError → W → Type 0
-Acts opens left failed held write_failed flushed (commands.File c) paths w result made =
+    → ℕ → Command → List (List ℕ) → W → Result Unit CommandError → W → Type 0
+Acts opens left failed held write_failed flushed limit (commands.File c) paths w result made =
     (file : List ℕ) → paths ≡ file ∷ []
     → (done : Result Unit EditError) × (result ≡ told refusals.One done)
-    × PrintsFile opens left failed held write_failed flushed c file w done made
-Acts opens left failed held write_failed flushed (commands.Pair pairing) paths w result made =
+    × PrintsFile opens left failed held write_failed flushed limit c file w done made
+Acts opens left failed held write_failed flushed limit (commands.Pair pairing) paths w result made =
     (file other : List ℕ) → paths ≡ file ∷ other ∷ []
     → (done : Result Unit PairError) × (result ≡ told refusals.Two done)
-    × PrintsFiles opens left failed held write_failed flushed pairing file other w done made
+    × PrintsFiles opens left failed held write_failed flushed limit pairing file other w done made
 
 -- what the words ask for was done, and how the program ends by it
 pub record Obeys {F W : Type 0} (opens : List ℕ → Result F OpenError → Type 0)
@@ -169,10 +168,10 @@ pub record Obeys {F W : Type 0} (opens : List ℕ → Result F OpenError → Typ
       × Says held write_failed flushed refusals.Write (answer_of q ++ 10 ∷ []) w done made
   -- other words give no command exactly where it ends so
   pub none : (ending ≡ endings.NoCommand)
-      ↔ (((c : Command) (paths : List (List ℕ)) → ¬ IsCall words c paths)
+      ↔ (((limit : ℕ) (c : Command) (paths : List (List ℕ)) → ¬ IsCall words limit c paths)
       × ((q : Question) → ¬ (words ≡ word_of q ∷ [])))
   pub kept : ending ≡ endings.NoCommand → made ≡ w
   -- and else the command that they give was run on its files
-  pub acts : (c : Command) (paths : List (List ℕ)) → IsCall words c paths
+  pub acts : (limit : ℕ) (c : Command) (paths : List (List ℕ)) → IsCall words limit c paths
       → (done : Result Unit CommandError) × (ending ≡ ended done)
-      × Acts opens left failed held write_failed flushed c paths w done made
+      × Acts opens left failed held write_failed flushed limit c paths w done made

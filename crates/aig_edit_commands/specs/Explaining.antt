@@ -11,7 +11,6 @@ use Rattle.aig_command_line.specs.declared.tally.Place.TheVariants.{Whole}
 use Rattle.aig_reader.specs.declared.error.ReadError.{ReadError}
 use Rattle.aig_edit_commands.specs.declared.about.Subject.{Subject}
 use Rattle.aig_edit_commands.specs.declared.about.Subject.TheVariants as subjects
-use Rattle.aig_edit_commands.specs.declared.acting.TheConstants.{LIMIT}
 use Rattle.aig_edit_commands.specs.declared.acting.CommandError.{CommandError}
 use Rattle.aig_edit_commands.specs.declared.command.Command.{Command}
 use Rattle.aig_edit_commands.specs.About.{about_error}
@@ -25,23 +24,23 @@ word_of subjects.Other paths = slice_get paths 1
 
 -- the file as a whole, or the place where reading it stopped again
 abbrev pub IsPlaceOf : {F : Type 0} → (List ℕ → Result F OpenError → Type 0)
-    → (F → Option (List ℕ)) → List ℕ → Option ReadError → Place → Type 0
-IsPlaceOf opens left path None place = place ≡ Whole
-IsPlaceOf opens left path (Some error) place = IsPlaced opens left LIMIT path error place
+    → (F → Option (List ℕ)) → ℕ → List ℕ → Option ReadError → Place → Type 0
+IsPlaceOf opens left limit path None place = place ≡ Whole
+IsPlaceOf opens left limit path (Some error) place = IsPlaced opens left limit path error place
 
 -- the error is told with the path of what it is about, and the place there
 pub record Tells {F : Type 0} (opens : List ℕ → Result F OpenError → Type 0)
-    (left : F → Option (List ℕ)) (paths : List (List ℕ)) (e : CommandError)
+    (left : F → Option (List ℕ)) (limit : ℕ) (paths : List (List ℕ)) (e : CommandError)
     (fault : Fault CommandError) : Type 0 where
   pub error : error_of fault ≡ e
   pub path : path_of fault ≡ word_of (about_error e).subject paths
   pub place : IfSome (path_of fault)
-      (λ p. IsPlaceOf opens left p (about_error e).read (place_in fault))
+      (λ p. IsPlaceOf opens left limit p (about_error e).read (place_in fault))
 
 -- the error is told, of the words' command where there is one
 pub record TellsOf {F : Type 0} (opens : List ℕ → Result F OpenError → Type 0)
     (left : F → Option (List ℕ)) (words : List (List ℕ)) (e : CommandError)
     (fault : Fault CommandError) : Type 0 where
   pub error : error_of fault ≡ e
-  pub told : (c : Command) (paths : List (List ℕ)) → IsCall words c paths
-      → Tells opens left paths e fault
+  pub told : (limit : ℕ) (c : Command) (paths : List (List ℕ)) → IsCall words limit c paths
+      → Tells opens left limit paths e fault

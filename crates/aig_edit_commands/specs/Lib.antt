@@ -3,3 +3,4 @@ pub mod Acting
 pub mod Asked
 pub mod About
 pub mod Explaining
+pub mod Noticing

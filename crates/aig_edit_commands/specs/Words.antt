@@ -4,6 +4,7 @@ use Rattle.std.specs.Prelude.{◌≡◌, ℕ, List, codes}
 use Rattle.aig_command_line.specs.declared.arguments.Form.{Form}
 use Rattle.aig_command_line.specs.declared.arguments.Step.TheVariants.{At}
 use Rattle.aig_command_line.specs.Arguments.{Arguments, Gives, of_paths}
+use Rattle.aig_command_line.specs.Limits.{IsLimited}
 use Rattle.aig_edits.specs.declared.edit.Edit.{Edit}
 use Rattle.aig_edits.specs.declared.edit.Edit.TheVariants as edits
 use Rattle.aig_edits.specs.declared.pairing.Pairing.TheVariants as pairings
@@ -64,10 +65,13 @@ abbrev pub paths_of : Command → ℕ
 paths_of (commands.File command) = 1
 paths_of (commands.Pair pairing) = 2
 
--- the words give the command, with these paths
-pub record IsCall (words : List (List ℕ)) (c : Command) (paths : List (List ℕ)) : Type 0 where
-  pub action : Action
-  pub arguments : Arguments
-  pub gives : Gives (name_of action) (form_of action) words arguments
-  pub command : c ≡ command_of action arguments.step
-  pub on : paths ≡ arguments.paths
+-- the words give the limit, and then the command, with these paths
+pub record IsCall (words : List (List ℕ)) (limit : ℕ) (c : Command) (paths : List (List ℕ)) : Type 0
+  where
+    pub rest : List (List ℕ)
+    pub limited : IsLimited words limit rest
+    pub action : Action
+    pub arguments : Arguments
+    pub gives : Gives (name_of action) (form_of action) rest arguments
+    pub command : c ≡ command_of action arguments.step
+    pub on : paths ≡ arguments.paths

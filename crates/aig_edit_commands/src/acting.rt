@@ -3,6 +3,7 @@
 ghost use Rattle.std.specs.Prelude.{◌≡◌, ◌++◌, ◌∷◌, [], IfOk, IfSome, IsErr, IsNone, length, map, string_bytes};
 ghost use Rattle.aig_command_line.specs.declared.status.Ending.TheVariants as endings;
 ghost use Rattle.aig_command_line.specs.Ending.{Says};
+ghost use Rattle.aig_command_line.specs.Limits.{IsLimit};
 ghost use Rattle.aig_edits.specs.declared.error.PairError.TheVariants as errors;
 ghost use Rattle.aig_edits.specs.declared.edit_error.EditError.TheVariants as edit_errors;
 ghost use Rattle.aig_edit_commands.specs.declared.acting.CommandError.TheVariants as refusals;
@@ -11,7 +12,7 @@ ghost use Rattle.aig_edit_commands.specs.Asked.{answer_of};
 ghost use Rattle.aig_edits.specs.Edits.{IsEditOwn, IsEditUnwritten, ReadsFile, edit_verdict};
 ghost use Rattle.aig_edit_commands.specs.Words.{paths_of};
 
-use crate::command::{Command, FileCommand, call};
+use crate::command::{Command, FileCommand, call_of};
 use aig_base::{MemoryError, Sink, Source, StreamFault};
 use aig_command_line::{Ending, Flush, HasStatus, OpenError, Opens, Question, asked, write_text};
 use aig_edits::{
@@ -24,17 +25,12 @@ use thiserror::Error;
 
 /// How the program is used.
 pub const USAGE: &str =
-    "usage: aigedit refine FILE, reencode FILE, unroll FILE K, move FILE, compress FILE, bads FILE, \
+    "usage: aigedit [--limit N] refine FILE, reencode FILE, unroll FILE K, move FILE, compress FILE, bads FILE, \
     reduce FILE, cone FILE N, question FILE K, info FILE, miter FILE OTHER, join FILE CERT, \
     merge FILE OTHER";
 
 /// Its version.
 pub const VERSION: &str = "aigedit 0.1.0";
-
-/// The limit on the nodes of a circuit that the program reads.
-pub const LIMIT: usize = 1 << 24;
-
-const _: () = prove!(LIMIT == 16_777_216);
 
 /// Why the program ends with status 1.
 #[derive(Clone, Copy, Debug, PartialEq, Eq, Error)]
@@ -81,34 +77,38 @@ fn edit_unopened(error: OpenError) -> EditError
 /// Prints what a command prints of a file that is opened.
 fn print_read<R: Source, W: Sink>(
     alloc: Global,
+    limit: usize,
     command: &FileCommand,
     r: &mut R,
     w: &mut W,
 ) -> Result<(), EditError>
-    ensures reads { ReadsFile R.left R.failed LIMIT
-        (Prints W.held W.failed command.now w.old w.new) edit_verdict IsEditOwn r.old result
+    requires { IsLimit limit }
+    ensures reads { ReadsFile R.left R.failed limit
+        (Prints W.held W.failed limit command.now w.old w.new) edit_verdict IsEditOwn r.old result
         r.new }
     ensures kept { IsEditUnwritten result → w.new ≡ w.old }
 {
     match command {
-        FileCommand::Edit(edit) => print_edit(alloc, edit, r, LIMIT, w),
-        FileCommand::Reduction => print_reduction(alloc, r, LIMIT, w),
-        FileCommand::Question(k) => print_question(alloc, *k, r, LIMIT, w),
-        FileCommand::Info => print_info(alloc, r, LIMIT, w),
+        FileCommand::Edit(edit) => print_edit(alloc, edit, r, limit, w),
+        FileCommand::Reduction => print_reduction(alloc, r, limit, w),
+        FileCommand::Question(k) => print_question(alloc, *k, r, limit, w),
+        FileCommand::Info => print_info(alloc, r, limit, w),
     }
 }
 
 /// Prints what a command prints of a file that is opened, and flushes that.
 fn print_open<R: Source, W: Flush>(
     alloc: Global,
+    limit: usize,
     command: &FileCommand,
     r: &mut R,
     w: &mut W,
 ) -> Result<(), EditError>
-    ensures { PrintsOpen R.left R.failed W.held W.failed W.flushed command.now r.old w.old result
+    requires { IsLimit limit }
+    ensures { PrintsOpen R.left R.failed W.held W.failed W.flushed limit command.now r.old w.old result
         r.new w.new }
 {
-    print_read(alloc, command, r, w)?;
+    print_read(alloc, limit, command, r, w)?;
     Ok(w.flush()?)
 }
 
@@ -116,15 +116,17 @@ fn print_open<R: Source, W: Flush>(
 fn print_file<F: Opens, W: Flush>(
     alloc: Global,
     files: &F,
+    limit: usize,
     command: &FileCommand,
     path: &str,
     w: &mut W,
 ) -> Result<(), EditError>
-    ensures { PrintsFile (F.opens files.now) F.File.left F.File.failed W.held W.failed W.flushed
+    requires { IsLimit limit }
+    ensures { PrintsFile (F.opens files.now) F.File.left F.File.failed W.held W.failed W.flushed limit
         command.now path.now w.old result w.new }
 {
     match files.open(path) {
-        Ok(mut file) => print_open(alloc, command, &mut file, w),
+        Ok(mut file) => print_open(alloc, limit, command, &mut file, w),
         Err(error) => Err(edit_unopened(error)),
     }
 }
@@ -150,15 +152,17 @@ fn other_unopened(error: OpenError) -> PairError
 /// Prints the joint circuit of two files that are opened, and flushes that.
 fn print_pair<R: Source, S: Source, W: Flush>(
     alloc: Global,
+    limit: usize,
     pairing: Pairing,
     first: &mut R,
     second: &mut S,
     w: &mut W,
 ) -> Result<(), PairError>
-    ensures { PrintsPair R.left R.failed S.left S.failed W.held W.failed W.flushed pairing
+    requires { IsLimit limit }
+    ensures { PrintsPair R.left R.failed S.left S.failed W.held W.failed W.flushed limit pairing
         first.old second.old w.old result first.new second.new w.new }
 {
-    print_joint(alloc, pairing, first, second, LIMIT, w)?;
+    print_joint(alloc, pairing, first, second, limit, w)?;
     Ok(w.flush()?)
 }
 
@@ -166,17 +170,19 @@ fn print_pair<R: Source, S: Source, W: Flush>(
 fn print_beside<F: Opens, R: Source, W: Flush>(
     alloc: Global,
     files: &F,
+    limit: usize,
     pairing: Pairing,
     first: &mut R,
     other: &str,
     w: &mut W,
 ) -> Result<(), PairError>
+    requires { IsLimit limit }
     ensures { PrintsBeside (F.opens files.now) R.left R.failed F.File.left
-        F.File.failed W.held W.failed W.flushed pairing first.old other.now w.old result first.new
+        F.File.failed W.held W.failed W.flushed limit pairing first.old other.now w.old result first.new
         w.new }
 {
     match files.open(other) {
-        Ok(mut second) => print_pair(alloc, pairing, first, &mut second, w),
+        Ok(mut second) => print_pair(alloc, limit, pairing, first, &mut second, w),
         Err(error) => Err(other_unopened(error)),
     }
 }
@@ -185,16 +191,18 @@ fn print_beside<F: Opens, R: Source, W: Flush>(
 fn print<F: Opens, W: Flush>(
     alloc: Global,
     files: &F,
+    limit: usize,
     pairing: Pairing,
     file: &str,
     other: &str,
     w: &mut W,
 ) -> Result<(), PairError>
+    requires { IsLimit limit }
     ensures { PrintsFiles (F.opens files.now) F.File.left F.File.failed
-        W.held W.failed W.flushed pairing file.now other.now w.old result w.new }
+        W.held W.failed W.flushed limit pairing file.now other.now w.old result w.new }
 {
     match files.open(file) {
-        Ok(mut first) => print_beside(alloc, files, pairing, &mut first, other, w),
+        Ok(mut first) => print_beside(alloc, files, limit, pairing, &mut first, other, w),
         Err(error) => Err(unopened(error)),
     }
 }
@@ -203,15 +211,17 @@ fn print<F: Opens, W: Flush>(
 fn run_file<F: Opens, W: Flush>(
     alloc: Global,
     files: &F,
+    limit: usize,
     command: &FileCommand,
     paths: &[String],
     w: &mut W,
 ) -> Result<(), CommandError>
-    requires { length paths.now ≡ 1 }
-    ensures { Acts (F.opens files.now) F.File.left F.File.failed W.held W.failed W.flushed
+    requires limit { IsLimit limit }
+    requires paths { length paths.now ≡ 1 }
+    ensures { Acts (F.opens files.now) F.File.left F.File.failed W.held W.failed W.flushed limit
         (Command.File command.now) (map string_bytes paths.now) w.old result w.new }
 {
-    match print_file(alloc, files, command, paths[0].as_str(), w) {
+    match print_file(alloc, files, limit, command, paths[0].as_str(), w) {
         Ok(()) => Ok(()),
         Err(error) => Err(CommandError::One(error)),
     }
@@ -221,17 +231,20 @@ fn run_file<F: Opens, W: Flush>(
 fn pair_files<F: Opens, W: Flush>(
     alloc: Global,
     files: &F,
+    limit: usize,
     pairing: Pairing,
     paths: &[String],
     w: &mut W,
 ) -> Result<(), CommandError>
-    requires { length paths.now ≡ 2 }
-    ensures { Acts (F.opens files.now) F.File.left F.File.failed W.held W.failed W.flushed
+    requires limit { IsLimit limit }
+    requires paths { length paths.now ≡ 2 }
+    ensures { Acts (F.opens files.now) F.File.left F.File.failed W.held W.failed W.flushed limit
         (Command.Pair pairing) (map string_bytes paths.now) w.old result w.new }
 {
     match print(
         alloc,
         files,
+        limit,
         pairing,
         paths[0].as_str(),
         paths[1].as_str(),
@@ -246,17 +259,19 @@ fn pair_files<F: Opens, W: Flush>(
 fn perform<F: Opens, W: Flush>(
     alloc: Global,
     files: &F,
+    limit: usize,
     command: &Command,
     paths: &[String],
     w: &mut W,
 ) -> Result<(), CommandError>
-    requires { length paths.now ≡ paths_of command.now }
-    ensures { Acts (F.opens files.now) F.File.left F.File.failed W.held W.failed W.flushed
+    requires limit { IsLimit limit }
+    requires paths { length paths.now ≡ paths_of command.now }
+    ensures { Acts (F.opens files.now) F.File.left F.File.failed W.held W.failed W.flushed limit
         command.now (map string_bytes paths.now) w.old result w.new }
 {
     match command {
-        Command::File(command) => run_file(alloc, files, command, paths, w),
-        Command::Pair(pairing) => pair_files(alloc, files, *pairing, paths, w),
+        Command::File(command) => run_file(alloc, files, limit, command, paths, w),
+        Command::Pair(pairing) => pair_files(alloc, files, limit, *pairing, paths, w),
     }
 }
 
@@ -292,10 +307,10 @@ fn obey<F: Opens, W: Flush>(
     if let Some(question) = asked(words) {
         return Ending::of(say(answer(question), w));
     }
-    let Some((command, paths)) = call(words) else {
+    let Some(call) = call_of(words) else {
         return Ending::NoCommand;
     };
-    Ending::of(perform(alloc, files, &command, paths, w))
+    Ending::of(perform(alloc, files, call.limit, &call.command, call.paths, w))
 }
 
 /// Does what the words after the program's name ask for, as they were read: opens the files, prints

@@ -1,10 +1,11 @@
 //! The commands, and the words that give them.
 
 ghost use Rattle.std.specs.Prelude.{◌≡◌, List, ℕ, IfNone, IfSome, length, map, string_bytes};
+ghost use Rattle.aig_command_line.specs.Limits.{IsLimit};
 ghost use Rattle.aig_edit_commands.specs.Words.{IsCall, command_of, edit_by, form_of, name_of, paths_of};
 ghost use Rattle.aig_edit_commands.specs.declared.command.Command.{Command};
 
-use aig_command_line::{Form, HasForm, Step, find};
+use aig_command_line::{Form, HasForm, Step, find, limited};
 use aig_edits::{Edit, Pairing};
 
 /// What the program is asked to do with one file.
@@ -148,15 +149,32 @@ fn edit_by(edit: Edit) -> Command
     Command::File(FileCommand::Edit(edit))
 }
 
-/// The command that the words after the program's name give, and the paths of its files, or none where they are wrong. It takes no
-/// memory.
-pub fn call(words: &[String]) -> Option<(Command, &[String])>
-    ensures some { IfSome result
-        (λ p. IsCall (map string_bytes words.now) p.0 (map string_bytes p.1.now)) }
-    ensures none { IfNone result ((c : Command) (paths : List (List ℕ))
-        → ¬ IsCall (map string_bytes words.now) c paths) }
-    ensures paths { IfSome result (λ p. length p.1.now ≡ paths_of p.0) }
+/// What words give.
+#[derive(Drop)]
+pub struct Call<'a> {
+    /// The limit on the nodes of a circuit.
+    pub limit: usize,
+    /// The command.
+    pub command: Command,
+    /// The paths of its files.
+    pub paths: &'a [String],
+}
+
+/// What the words after the program's name give, or none where they are wrong: N of `--limit N`, or 2^24, and then the command and the
+/// paths of its files. It takes no memory.
+pub fn call_of(words: &[String]) -> Option<Call<'_>>
+    ensures some { IfSome result (λ c. IsCall (map string_bytes words.now) c.limit c.command
+        (map string_bytes c.paths.now)) }
+    ensures none { IfNone result ((limit : ℕ) (c : Command) (paths : List (List ℕ))
+        → ¬ IsCall (map string_bytes words.now) limit c paths) }
+    ensures limit { IfSome result (λ c. IsLimit c.limit) }
+    ensures paths { IfSome result (λ c. length c.paths.now ≡ paths_of c.command) }
 {
-    let (action, given) = find(&Action::ALL, words)?;
-    Some((action.command(given.step), given.paths))
+    let (limit, rest) = limited(words)?;
+    let (action, given) = find(&Action::ALL, rest)?;
+    Some(Call {
+        limit,
+        command: action.command(given.step),
+        paths: given.paths,
+    })
 }

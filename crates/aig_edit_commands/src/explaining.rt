@@ -3,11 +3,12 @@
 ghost use Rattle.std.specs.Prelude.{◌≡◌, IfNone, IfOk, IfSome, IsErr, IsNone, None, Some, map, string_bytes};
 ghost use Rattle.aig_command_line.specs.Ending.{IsMapped};
 ghost use Rattle.aig_command_line.specs.Faults.{IsAlone};
+ghost use Rattle.aig_command_line.specs.Limits.{IsLimit};
 ghost use Rattle.aig_edit_commands.specs.Explaining.{IsPlaceOf, Tells, TellsOf, word_of};
 
 use crate::about::{Subject, about_error};
-use crate::acting::{CommandError, LIMIT};
-use crate::command::call;
+use crate::acting::CommandError;
+use crate::command::call_of;
 use aig_base::MemoryError;
 use aig_command_line::{Ending, Fault, Place, Reopens, path_at, place_in_file};
 use aig_reader::ReadError;
@@ -27,11 +28,18 @@ fn path_of(paths: &[String], subject: Subject) -> Option<&str>
 }
 
 /// The place where reading the file at a path stopped, if it did.
-fn place_at<F: Reopens>(alloc: Global, files: &F, path: &str, read: Option<ReadError>) -> Place
-    ensures { IsPlaceOf (F.opens files.now) F.File.left path.now read result }
+fn place_at<F: Reopens>(
+    alloc: Global,
+    files: &F,
+    limit: usize,
+    path: &str,
+    read: Option<ReadError>,
+) -> Place
+    requires { IsLimit limit }
+    ensures { IsPlaceOf (F.opens files.now) F.File.left limit path.now read result }
 {
     match read {
-        Some(error) => place_in_file(alloc, files, path, error, LIMIT),
+        Some(error) => place_in_file(alloc, files, path, error, limit),
         None => Place::Whole,
     }
 }
@@ -40,16 +48,18 @@ fn place_at<F: Reopens>(alloc: Global, files: &F, path: &str, read: Option<ReadE
 fn fault_of<'a, F: Reopens>(
     alloc: Global,
     files: &F,
+    limit: usize,
     paths: &'a [String],
     error: CommandError,
 ) -> Fault<'a, CommandError>
-    ensures { Tells (F.opens files.now) F.File.left (map string_bytes paths.now) error result }
+    requires { IsLimit limit }
+    ensures { Tells (F.opens files.now) F.File.left limit (map string_bytes paths.now) error result }
 {
     let about = about_error(error);
     match path_of(paths, about.subject) {
         Some(path) => Fault::In {
             path,
-            place: place_at(alloc, files, path, about.read),
+            place: place_at(alloc, files, limit, path, about.read),
             error,
         },
         None => Fault::Alone(error),
@@ -65,8 +75,8 @@ fn fault_by<'a, F: Reopens>(
 ) -> Fault<'a, CommandError>
     ensures { TellsOf (F.opens files.now) F.File.left (map string_bytes words.now) error result }
 {
-    match call(words) {
-        Some((_, paths)) => fault_of(alloc, files, paths, error),
+    match call_of(words) {
+        Some(call) => fault_of(alloc, files, call.limit, call.paths, error),
         None => Fault::Alone(error),
     }
 }

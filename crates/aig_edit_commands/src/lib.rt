@@ -5,7 +5,9 @@ mod about;
 mod acting;
 mod command;
 mod explaining;
+mod noticing;
 
-pub use acting::{CommandError, LIMIT, USAGE, VERSION, act};
-pub use command::{Action, Command, FileCommand, call};
+pub use acting::{CommandError, USAGE, VERSION, act};
+pub use command::{Action, Call, Command, FileCommand, call_of};
 pub use explaining::explain;
+pub use noticing::notice;

@@ -17,29 +17,31 @@ returns-in-Some g c =
           (same_Some _ _ (sym c.in-Some.is ∙ (c.asked.ensures q).1 are)) (c.say.result, c.of.ensures, rw c.answer.ensures at c.say.ensures);
       none = (λ e. absurd (never_none c.say.result (sym c.of.ensures ∙ e)), λ no. absurd (no.1 c.in-Some.question is));
       kept = λ e. absurd (never_none c.say.result (sym c.of.ensures ∙ e));
-      acts = λ d paths h. elim (no_command words c.in-Some.question d paths is h) [ ];
+      acts = λ limit d paths h. elim (no_command words c.in-Some.question limit d paths is h) [ ];
     }
 
-pub returns-in_default-call : goal.returns-in_default-call
-returns-in_default-call g c =
-    let none = c.in_default-call.ensures.none in
+pub returns-in_default-call_of : goal.returns-in_default-call_of
+returns-in_default-call_of g c =
+    let none = c.in_default-call_of.ensures.none in
     record {
       tells = λ q are. elim (c.in_default.not-Some q ((c.asked.ensures q).1 are)) [ ];
       none =
           (λ is. (none, λ q are. c.in_default.not-Some q ((c.asked.ensures q).1 are)), λ no. refl);
       kept = λ is. refl;
-      acts = λ d paths h. elim (none d paths h) [ ];
+      acts = λ limit d paths h. elim (none limit d paths h) [ ];
     }
 
 pub returns : goal.returns
 returns g c =
     let words = map string_bytes c.args.words.now in
-    let paths = map string_bytes c.in-Some-call.paths.now in
-    let given = c.in-Some-call.ensures.some in
+    let call = c.in-Some-call_of.call in
+    let paths = map string_bytes call.paths.now in
+    let given = c.in-Some-call_of.ensures.some in
     record {
       tells = λ q are. elim (c.in_default.not-Some q ((c.asked.ensures q).1 are)) [ ];
-      none = (λ is. absurd (never_none c.perform.result (sym c.of-2.ensures ∙ is)), λ no. absurd (no.0 c.in-Some-call.command paths given));
+      none = (λ is. absurd (never_none c.perform.result (sym c.of-2.ensures ∙ is)), λ no. absurd (no.0 call.limit call.command paths given));
       kept = λ is. absurd (never_none c.perform.result (sym c.of-2.ensures ∙ is));
-      acts = λ d others h. let same = one_call words d c.in-Some-call.command others paths h given in
-          rw (same.0, same.1) (c.perform.result, c.of-2.ensures, c.perform.ensures);
+      acts = λ limit d others h.
+          let same = one_call words limit call.limit d call.command others paths h given in
+          rw (same.0, same.1, same.2) (c.perform.result, c.of-2.ensures, c.perform.ensures);
     }

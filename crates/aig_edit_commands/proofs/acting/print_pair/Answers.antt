@@ -6,9 +6,9 @@ pub returns-in_err-flush : goal.returns-in_err-flush
 returns-in_err-flush g c =
     let p = err_from_is_err_and c.from_residual-in_err-flush.result c.from_residual-in_err-flush.ensures.1 in
     let failed = rw c.in_err-flush.was at c.flush.ensures.tells in
-    rw (p.1, p.2) (pair_unflushed g.R.Source.left g.R.Source.failed g.S.Source.left g.S.Source.failed g.W.Sink.held g.W.Sink.failed g.W.Flush.flushed c.args.pairing c.args.first.now c.print_joint.new.first c.args.second.now c.print_joint.new.second c.args.w.now c.print_joint.new.w c.flush.new.self c.flush.ensures.kept tt c.in_ok-print_joint.ensures.reads failed)
+    rw (p.1, p.2) (pair_unflushed g.R.Source.left g.R.Source.failed g.S.Source.left g.S.Source.failed g.W.Sink.held g.W.Sink.failed g.W.Flush.flushed c.args.limit c.args.pairing c.args.first.now c.print_joint.new.first c.args.second.now c.print_joint.new.second c.args.w.now c.print_joint.new.w c.flush.new.self c.flush.ensures.kept tt c.in_ok-print_joint.ensures.reads failed)
 
 pub returns : goal.returns
 returns g c =
     let sound = rw c.in_ok-flush.was at c.flush.ensures.tells in
-    pair_flushed g.R.Source.left g.R.Source.failed g.S.Source.left g.S.Source.failed g.W.Sink.held g.W.Sink.failed g.W.Flush.flushed c.args.pairing c.args.first.now c.print_joint.new.first c.args.second.now c.print_joint.new.second c.args.w.now c.print_joint.new.w c.flush.new.self c.flush.ensures.kept tt c.in_ok-print_joint.ensures.reads sound c.in_ok-flush.ensures.done
+    pair_flushed g.R.Source.left g.R.Source.failed g.S.Source.left g.S.Source.failed g.W.Sink.held g.W.Sink.failed g.W.Flush.flushed c.args.limit c.args.pairing c.args.first.now c.print_joint.new.first c.args.second.now c.print_joint.new.second c.args.w.now c.print_joint.new.w c.flush.new.self c.flush.ensures.kept tt c.in_ok-print_joint.ensures.reads sound c.in_ok-flush.ensures.done

@@ -1,0 +1,57 @@
+//! What an answer isn't about.
+
+ghost use Rattle.std.specs.Prelude.{◌≡◌, IfOk, IfSome, IsErr, IsNone, map, string_bytes};
+ghost use Rattle.aig_edit_commands.specs.Noticing.{TellsBeside, regard_of};
+
+use crate::acting::CommandError;
+use crate::command::{Command, FileCommand, call_of};
+use aig_base::MemoryError;
+use aig_command_line::{Ending, Headers, Regard, Tells, tell_of_files};
+use aig_edits::{Edit, Pairing};
+
+/// What a command does with parts of its files that its answer isn't about: which leave out justice and fairness, and which compares.
+fn regard_of(command: &Command) -> Regard
+    ensures { result ≡ regard_of command.now }
+{
+    let leaves_out = match command {
+        Command::File(FileCommand::Edit(Edit::Cone(_))) => true,
+        Command::File(FileCommand::Reduction | FileCommand::Question(_)) => true,
+        Command::Pair(Pairing::Miter | Pairing::Certificate) => true,
+        _ => false,
+    };
+    let compares = match command {
+        Command::Pair(Pairing::Miter) => true,
+        _ => false,
+    };
+    Regard {
+        leaves_out,
+        compares,
+    }
+}
+
+/// Tells beside an answer what it isn't about, of each file with such a header.
+pub fn notice<T: Tells>(
+    words: &Result<Option<Vec<String>>, MemoryError>,
+    headers: Headers,
+    ending: Ending<CommandError>,
+    errors: &mut T,
+)
+    ensures words { IfOk words.now (λ read. IfSome read (λ given.
+        TellsBeside T.tells (map string_bytes given.items) headers ending errors.old errors.new)) }
+    ensures other { IfOk words.now (λ read. IsNone read → errors.new ≡ errors.old) }
+    ensures memory { IsErr words.now → errors.new ≡ errors.old }
+{
+    let (Ok(Some(words)), Ending::Done) = (words, ending) else {
+        return;
+    };
+    let Some(call) = call_of(words.as_slice()) else {
+        return;
+    };
+    tell_of_files(
+        "aigedit",
+        call.paths,
+        regard_of(&call.command),
+        headers,
+        errors,
+    );
+}
