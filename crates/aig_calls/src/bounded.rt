@@ -23,7 +23,7 @@ fn bounded_text(alloc: Global, file: &[u8], k: usize, optimize: bool) -> Result<
 {
     let mut source = FromRead::new(file);
     let mut sink = ToWrite::new(Vec::new(alloc));
-    match aig_checks::print_bounded(alloc, k, optimize, &mut source, &mut sink) {
+    match aig_checks::print_bounded(alloc, LIMIT, k, optimize, &mut source, &mut sink) {
         Ok(()) => Ok(sink.into_inner()),
         Err(error) => Err(of_check(error)),
     }
@@ -44,7 +44,15 @@ fn witness_text(
     let mut source = FromRead::new(file);
     let mut answer = FromRead::new(solution);
     let mut sink = ToWrite::new(Vec::new(alloc));
-    match aig_checks::print_witness_to(alloc, k, optimize, &mut source, &mut answer, &mut sink) {
+    match aig_checks::print_witness_to(
+        alloc,
+        LIMIT,
+        k,
+        optimize,
+        &mut source,
+        &mut answer,
+        &mut sink,
+    ) {
         Ok(()) => Ok(sink.into_inner()),
         Err(error) => Err(of_check(error)),
     }

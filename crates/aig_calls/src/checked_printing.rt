@@ -23,7 +23,7 @@ fn clauses_text(alloc: Global, file: &[u8], k: usize, optimize: bool) -> Result<
 {
     let mut source = FromRead::new(file);
     let mut sink = ToWrite::new(Vec::new(alloc));
-    match aig_checks::print_clauses(alloc, k, optimize, &mut source, &mut sink) {
+    match aig_checks::print_clauses(alloc, LIMIT, k, optimize, &mut source, &mut sink) {
         Ok(()) => Ok(sink.into_inner()),
         Err(error) => Err(of_check(error)),
     }
@@ -42,7 +42,7 @@ fn window_text(
 {
     let mut source = FromRead::new(file);
     let mut sink = ToWrite::new(Vec::new(alloc));
-    match aig_checks::print_window(alloc, k, form, optimize, &mut source, &mut sink) {
+    match aig_checks::print_window(alloc, LIMIT, k, form, optimize, &mut source, &mut sink) {
         Ok(()) => Ok(sink.into_inner()),
         Err(error) => Err(of_check(error)),
     }
@@ -63,7 +63,15 @@ fn witness_text(
     let mut source = FromRead::new(file);
     let mut answer = FromRead::new(solution);
     let mut sink = ToWrite::new(Vec::new(alloc));
-    match aig_checks::print_witness(alloc, k, optimize, &mut source, &mut answer, &mut sink) {
+    match aig_checks::print_witness(
+        alloc,
+        LIMIT,
+        k,
+        optimize,
+        &mut source,
+        &mut answer,
+        &mut sink,
+    ) {
         Ok(()) => Ok(sink.into_inner()),
         Err(error) => Err(of_check(error)),
     }

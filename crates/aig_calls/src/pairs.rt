@@ -55,7 +55,7 @@ fn obligations_text(
     let mut second = FromRead::new(certificate);
     let mut sink = ToWrite::new(Vec::new(alloc));
     let (r, s) = (&mut first, &mut second);
-    match aig_checks::print_obligations(alloc, optimize, r, s, &mut sink) {
+    match aig_checks::print_obligations(alloc, LIMIT, optimize, r, s, &mut sink) {
         Ok(()) => Ok(sink.into_inner()),
         Err(error) => Err(of_obligations(error)),
     }

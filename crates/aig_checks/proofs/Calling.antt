@@ -7,8 +7,10 @@ use Rattle.aig_command_line.specs.About.{word_of}
 use Rattle.aig_command_line.specs.declared.status.Ending.TheVariants as endings
 use Rattle.aig_command_line.specs.Ending.{ended}
 use Rattle.aig_runs.specs.declared.window.Window.{Window}
-use Rattle.aig_command_line.specs.Arguments.{Arguments}
+use Rattle.aig_command_line.specs.Arguments.{Arguments, Gives}
+use Rattle.aig_command_line.specs.Limits.{IsLimited}
 use Rattle.aig_command_line.proofs.Apart as apart
+use Rattle.aig_command_line.proofs.Limits.{asked_alone, one_limit}
 use Rattle.aig_checks.specs.declared.command.Action.{Action}
 use Rattle.aig_checks.specs.declared.command.Action.TheVariants as actions
 use Rattle.aig_checks.specs.declared.command.Command.{Command}
@@ -37,32 +39,49 @@ among actions.WitnessTo = (11, omega arith, refl)
 pub each : (P : Action → Type 0) → All P ALL → (a : Action) → P a
 each = apart.each name_of form_of ALL refl among
 
--- words give one command, with one list of paths and one of what is beside them
-pub one_call : (words : List (List ℕ)) (c d : Command) (p q r s : List (List ℕ)) → IsCall words c p r
-    → IsCall words d q s → (c ≡ d) × (p ≡ q) × (r ≡ s)
-one_call words c d p q r s g h =
-    let same = apart.one_fits name_of form_of ALL refl among words g.action h.action g.arguments h.arguments g.gives h.gives in (
+-- words give one command, with one limit, one list of paths and one of what is beside them
+pub one_call : (words : List (List ℕ)) (limit other : ℕ) (c d : Command) (p q r s : List (List ℕ))
+    → IsCall words limit c p r
+    → IsCall words other d q s → (limit ≡ other) × (c ≡ d) × (p ≡ q) × (r ≡ s)
+one_call words limit other c d p q r s g h =
+    let words_are = one_limit words limit other g.rest h.rest g.limited h.limited in
+    let same = apart.one_fits name_of form_of ALL refl among h.rest g.action h.action g.arguments h.arguments (rw words_are.1 at g.gives) h.gives in (
+      words_are.0,
       g.command ∙ ap (λ a. command_of a g.arguments.step g.arguments.distinct g.arguments.optimize) same.0
           ∙ ap (λ (x : Arguments). command_of h.action x.step x.distinct x.optimize) same.1 ∙ sym h.command,
       g.on ∙ ap (λ (x : Arguments). x.paths) same.1 ∙ sym h.on,
       g.beside ∙ ap (λ (x : Arguments). x.further) same.1 ∙ sym h.beside,
     )
 
+-- words after a limit that fit no command give none
+pub fits_none : (words rest : List (List ℕ)) (limit : ℕ) → IsLimited words limit rest
+    → All (λ a. (g : Arguments) → ¬ Gives (name_of a) (form_of a) rest g) ALL
+    → (other : ℕ) (c : Command) (paths further : List (List ℕ)) → ¬ IsCall words other c paths further
+fits_none words rest limit limited none other c paths further g =
+    let same = (one_limit words other limit g.rest rest g.limited limited).1 in
+    each (λ a. (x : Arguments) → ¬ Gives (name_of a) (form_of a) rest x) none g.action g.arguments (rw same at g.gives)
+
 -- so what they give is told exactly
-pub gives_exactly : (words : List (List ℕ)) (c : Command) (paths further : List (List ℕ)) → IsCall words c paths further
+pub gives_exactly : (words : List (List ℕ)) (limit : ℕ) (c : Command) (paths further : List (List ℕ))
+    → IsCall words limit c paths further
     → (d : Command) → (Some c ≡ Some d) ↔ Give words d
-gives_exactly words c paths further g d = (
-  λ is. let same : c ≡ d = same_Some _ _ is in (paths, further, record { action = g.action; arguments = g.arguments; gives = g.gives; command = sym same ∙ g.command; on = g.on; beside = g.beside }),
-  λ h. ap Some (one_call words c d paths h.0 further h.1 g h.2).0,
+gives_exactly words limit c paths further g d = (
+  λ is. let same : c ≡ d = same_Some _ _ is in (limit, paths, further, rw same at g),
+  λ h. ap Some (one_call words limit h.0 c d paths h.1 further h.2 g h.3).1,
 )
 
 -- a question is no command
-pub no_command : (words : List (List ℕ)) (q : Question) (c : Command) (paths further : List (List ℕ)) → words ≡ word_of q ∷ []
-    → ¬ IsCall words c paths further
-no_command words Usage c paths further are g =
-    apart.no_name name_of form_of ALL refl among (codes "--help") [] refl g.action g.arguments (rw are at g.gives)
-no_command words Version c paths further are g =
-    apart.no_name name_of form_of ALL refl among (codes "--version") [] refl g.action g.arguments (rw are at g.gives)
+pub no_command : (words : List (List ℕ)) (q : Question) (limit : ℕ) (c : Command)
+    (paths further : List (List ℕ)) → words ≡ word_of q ∷ []
+    → ¬ IsCall words limit c paths further
+no_command words q limit c paths further are g =
+    no_question q g.action g.arguments (rw (asked_alone words g.rest q limit are g.limited) at g.gives)
+  where
+    no_question : (q : Question) (a : Action) (x : Arguments)
+        → ¬ Gives (name_of a) (form_of a) (word_of q ∷ []) x
+    no_question Usage a x = apart.no_name name_of form_of ALL refl among (codes "--help") [] refl a x
+    no_question Version a x =
+        apart.no_name name_of form_of ALL refl among (codes "--version") [] refl a x
 
 -- a command that was run ends the program otherwise than words that give none
 pub never_none : {E : Type 0} (done : Result (Unit {0}) E) → ended done ≡ endings.NoCommand → ⊥

@@ -14,7 +14,6 @@ use Rattle.aig_checks.specs.declared.command.FileCommand.{FileCommand}
 use Rattle.aig_checks.specs.declared.command.PairCommand.{PairCommand}
 use Rattle.aig_checks.specs.declared.tool.CheckError.{CheckError}
 use Rattle.aig_checks.specs.declared.tool.CheckError.TheVariants as errors
-use Rattle.aig_checks.specs.declared.tool.TheConstants.{LIMIT}
 use Rattle.aig_checks.specs.Acting.{Acts, RunsFile, RunsProofs}
 use Rattle.aig_checks.specs.Opening.{OnOpening, Opening}
 use Rattle.aig_checks.specs.Pairs.{IsErrorOfPair, RunsPair, TellsOfPair, other_verdict_of}
@@ -66,10 +65,10 @@ module _ {W : Type 0} (held : W → Option (List ℕ)) (write_failed : W → Boo
   stops text grows lost = stops_unflushed (held w) (held made) (held flat) (write_failed flat) text grows keeps lost
 
   module _ (u : Unit {0}) where
-    runs_ended : {R P : Type 0} (left : R → Option (List ℕ)) (failed : R → Bool) (given : P → Option (List ℕ)) (given_failed : P → Bool) (c : FileCommand) (r rest : R) (p used : P) (done : Result Unit CheckError)
-        → Runs left failed given given_failed held write_failed c LIMIT r p w (Ok u) rest used made
-        → EndsBy (write_failed flat) done → Runs left failed given given_failed held write_failed c LIMIT r p w done rest used flat
-    runs_ended left failed given given_failed c r rest p used (Ok v) runs sound =
+    runs_ended : {R P : Type 0} (left : R → Option (List ℕ)) (failed : R → Bool) (given : P → Option (List ℕ)) (given_failed : P → Bool) (limit : ℕ) (c : FileCommand) (r rest : R) (p used : P) (done : Result Unit CheckError)
+        → Runs left failed given given_failed held write_failed c limit r p w (Ok u) rest used made
+        → EndsBy (write_failed flat) done → Runs left failed given given_failed held write_failed c limit r p w done rest used flat
+    runs_ended left failed given given_failed limit c r rest p used (Ok v) runs sound =
         let answer = runs.ok in
         record {
           verdict = runs.verdict;
@@ -81,7 +80,7 @@ module _ {W : Type 0} (held : W → Option (List ℕ)) (write_failed : W → Boo
           unread = tt;
           refusal = tt;
         }
-    runs_ended left failed given given_failed c r rest p used (Err errors.Write) runs lost =
+    runs_ended left failed given given_failed limit c r rest p used (Err errors.Write) runs lost =
         let answer = runs.ok in
         record {
           verdict = runs.verdict;
@@ -93,58 +92,58 @@ module _ {W : Type 0} (held : W → Option (List ℕ)) (write_failed : W → Boo
           unread = λ no. absurd no;
           refusal = tt;
         }
-    runs_ended left failed given given_failed c r rest p used (Err e) runs never = absurd never
+    runs_ended left failed given given_failed limit c r rest p used (Err e) runs never = absurd never
 
-    told_ended : (c : PairCommand) (f g : File) (done : Result Unit CheckError)
-        → TellsOfPair held write_failed c LIMIT w made f g (Ok u)
-        → EndsBy (write_failed flat) done → TellsOfPair held write_failed c LIMIT w flat f g done
-    told_ended c f g (Ok v) told sound = (told.0, told.1, appends_kept (held w) (held made) (held flat) told.0 told.2 keeps, sound)
-    told_ended c f g (Err errors.Write) told lost = (told.0, told.1, stops told.0 told.2 lost)
-    told_ended c f g (Err e) told never = absurd never
+    told_ended : (limit : ℕ) (c : PairCommand) (f g : File) (done : Result Unit CheckError)
+        → TellsOfPair held write_failed c limit w made f g (Ok u)
+        → EndsBy (write_failed flat) done → TellsOfPair held write_failed c limit w flat f g done
+    told_ended limit c f g (Ok v) told sound = (told.0, told.1, appends_kept (held w) (held made) (held flat) told.0 told.2 keeps, sound)
+    told_ended limit c f g (Err errors.Write) told lost = (told.0, told.1, stops told.0 told.2 lost)
+    told_ended limit c f g (Err e) told never = absurd never
 
-    pair_ended : {R S P Q : Type 0} (left : R → Option (List ℕ)) (failed : R → Bool) (left_of : S → Option (List ℕ)) (failed_of : S → Bool) (base_failed : P → Bool) (step_failed : Q → Bool) (c : PairCommand) (r rest : R) (s other : S) (p used : P) (q spent : Q) (done : Result Unit CheckError)
-        → RunsPair left failed left_of failed_of base_failed step_failed held write_failed c LIMIT r s p q w (Ok u) rest other used spent made
-        → EndsBy (write_failed flat) done → RunsPair left failed left_of failed_of base_failed step_failed held write_failed c LIMIT r s p q w done rest other used spent flat
-    pair_ended left failed left_of failed_of base_failed step_failed c r rest s other p used q spent done runs ends =
+    pair_ended : {R S P Q : Type 0} (left : R → Option (List ℕ)) (failed : R → Bool) (left_of : S → Option (List ℕ)) (failed_of : S → Bool) (base_failed : P → Bool) (step_failed : Q → Bool) (limit : ℕ) (c : PairCommand) (r rest : R) (s other : S) (p used : P) (q spent : Q) (done : Result Unit CheckError)
+        → RunsPair left failed left_of failed_of base_failed step_failed held write_failed c limit r s p q w (Ok u) rest other used spent made
+        → EndsBy (write_failed flat) done → RunsPair left failed left_of failed_of base_failed step_failed held write_failed c limit r s p q w done rest other used spent flat
+    pair_ended left failed left_of failed_of base_failed step_failed limit c r rest s other p used q spent done runs ends =
         let reads =
-        reads_on left failed left_of failed_of LIMIT r s rest other (TellsOfPair held write_failed c LIMIT w flat) verdict_of other_verdict_of (IsErrorOfPair c) done runs.reads (accepted_by _ done ends) (other_accepted_by _ done ends) (own_by c _ done ends)
-        (λ f g bytes others fits also told. told_ended c f g done told ends) in
+        reads_on left failed left_of failed_of limit r s rest other (TellsOfPair held write_failed c limit w flat) verdict_of other_verdict_of (IsErrorOfPair c) done runs.reads (accepted_by _ done ends) (other_accepted_by _ done ends) (own_by c _ done ends)
+        (λ f g bytes others fits also told. told_ended limit c f g done told ends) in
         end done ends reads
       where
         end : (x : Result Unit CheckError) → EndsBy (write_failed flat) x
-            → ReadsPair left failed left_of failed_of LIMIT (TellsOfPair held write_failed c LIMIT w flat) verdict_of other_verdict_of (IsErrorOfPair c) r s x rest other
-            → RunsPair left failed left_of failed_of base_failed step_failed held write_failed c LIMIT r s p q w x rest other used spent flat
+            → ReadsPair left failed left_of failed_of limit (TellsOfPair held write_failed c limit w flat) verdict_of other_verdict_of (IsErrorOfPair c) r s x rest other
+            → RunsPair left failed left_of failed_of base_failed step_failed held write_failed c limit r s p q w x rest other used spent flat
         end (Ok v) sound reads = record { reads = reads; kept = tt; base_unread = tt; step_unread = tt; base_stream = λ is. cc; step_stream = λ is. cc }
         end (Err errors.Write) lost reads = record { reads = reads; kept = λ not. absurd (not refl); base_unread = λ no. absurd no; step_unread = λ no. absurd no; base_stream = λ is. cc; step_stream = λ is. cc }
         end (Err e) never reads = absurd never
 
 module _ {F W : Type 0} (opens : List ℕ → Result F OpenError → Type 0) (left : F → Option (List ℕ)) (failed : F → Bool) (held : W → Option (List ℕ)) (write_failed : W → Bool) (w made flat : W) (keeps : Keeps (held made) (held flat)) (u : Unit {0}) (done : Result Unit CheckError) (ends : EndsBy (write_failed flat) done) where
-  file_ended : (c : FileCommand) (further : List (List ℕ)) (r rest : F)
-      → RunsFile opens left failed left failed held write_failed c further r w (Ok u) rest made
-      → RunsFile opens left failed left failed held write_failed c further r w done rest flat
-  file_ended c [] r rest runs = runs_ended held write_failed w made flat keeps u left failed nothing_given nothing_fails c r rest tt tt done runs ends
-  file_ended c (path ∷ more) r rest runs =
-      opening_on _ _ _ _ (λ p so. (so.0, runs_ended held write_failed w made flat keeps u left failed left failed c r rest p so.0 done so.1 ends)) (λ e no. let is = no.0 in cc) opens path runs
+  file_ended : (limit : ℕ) (c : FileCommand) (further : List (List ℕ)) (r rest : F)
+      → RunsFile opens left failed left failed held write_failed limit c further r w (Ok u) rest made
+      → RunsFile opens left failed left failed held write_failed limit c further r w done rest flat
+  file_ended limit c [] r rest runs = runs_ended held write_failed w made flat keeps u left failed nothing_given nothing_fails limit c r rest tt tt done runs ends
+  file_ended limit c (path ∷ more) r rest runs =
+      opening_on _ _ _ _ (λ p so. (so.0, runs_ended held write_failed w made flat keeps u left failed left failed limit c r rest p so.0 done so.1 ends)) (λ e no. let is = no.0 in cc) opens path runs
 
-  proofs_ended : (c : PairCommand) (further : List (List ℕ)) (r rest s other : F)
-      → RunsProofs opens left failed left failed failed held write_failed c further r s w (Ok u) rest other made
-      → RunsProofs opens left failed left failed failed held write_failed c further r s w done rest other flat
-  proofs_ended c [] r rest s other runs = pair_ended held write_failed w made flat keeps u left failed left failed nothing_fails nothing_fails c r rest s other tt tt tt tt done runs ends
-  proofs_ended c (proof ∷ []) r rest s other runs =
-      opening_on _ _ _ _ (λ p so. (so.0, pair_ended held write_failed w made flat keeps u left failed left failed failed nothing_fails c r rest s other p so.0 tt tt done so.1 ends)) (λ e no. let is = no.0 in cc) opens proof runs
-  proofs_ended c (base ∷ step ∷ more) r rest s other runs =
+  proofs_ended : (limit : ℕ) (c : PairCommand) (further : List (List ℕ)) (r rest s other : F)
+      → RunsProofs opens left failed left failed failed held write_failed limit c further r s w (Ok u) rest other made
+      → RunsProofs opens left failed left failed failed held write_failed limit c further r s w done rest other flat
+  proofs_ended limit c [] r rest s other runs = pair_ended held write_failed w made flat keeps u left failed left failed nothing_fails nothing_fails limit c r rest s other tt tt tt tt done runs ends
+  proofs_ended limit c (proof ∷ []) r rest s other runs =
+      opening_on _ _ _ _ (λ p so. (so.0, pair_ended held write_failed w made flat keeps u left failed left failed failed nothing_fails limit c r rest s other p so.0 tt tt done so.1 ends)) (λ e no. let is = no.0 in cc) opens proof runs
+  proofs_ended limit c (base ∷ step ∷ more) r rest s other runs =
       opening_on _ _ _ _
-      (λ p. opening_on _ _ _ _ (λ q so. (so.0, so.1, pair_ended held write_failed w made flat keeps u left failed left failed failed failed c r rest s other p so.0 q so.1 done so.2 ends)) (λ e no. let is = no.0 in cc) opens step)
+      (λ p. opening_on _ _ _ _ (λ q so. (so.0, so.1, pair_ended held write_failed w made flat keeps u left failed left failed failed failed limit c r rest s other p so.0 q so.1 done so.2 ends)) (λ e no. let is = no.0 in cc) opens step)
       (λ e no. let is = no.0 in cc) opens base runs
 
   -- a command that was run, and what it printed flushed
-  pub acts_ended : (c : Command) (paths further : List (List ℕ))
-      → Acts opens left failed held write_failed c paths further w (Ok u) made
-      → Acts opens left failed held write_failed c paths further w done flat
-  acts_ended (commands.File c) (path ∷ []) further acts =
-      opening_on _ _ _ _ (λ r so. (so.0, file_ended c further r so.0 so.1)) (λ e no. let is = no.0 in cc) opens path acts
-  acts_ended (commands.Pair c) (path ∷ beside ∷ []) further acts =
+  pub acts_ended : (limit : ℕ) (c : Command) (paths further : List (List ℕ))
+      → Acts opens left failed held write_failed limit c paths further w (Ok u) made
+      → Acts opens left failed held write_failed limit c paths further w done flat
+  acts_ended limit (commands.File c) (path ∷ []) further acts =
+      opening_on _ _ _ _ (λ r so. (so.0, file_ended limit c further r so.0 so.1)) (λ e no. let is = no.0 in cc) opens path acts
+  acts_ended limit (commands.Pair c) (path ∷ beside ∷ []) further acts =
       opening_on _ _ _ _
-      (λ r. opening_on _ _ _ _ (λ s so. (so.0, so.1, proofs_ended c further r so.0 s so.1 so.2)) (λ e no. let is = no.0 in cc) opens beside)
+      (λ r. opening_on _ _ _ _ (λ s so. (so.0, so.1, proofs_ended limit c further r so.0 s so.1 so.2)) (λ e no. let is = no.0 in cc) opens beside)
       (λ e no. let is = no.0 in cc) opens path acts
-  acts_ended c paths further acts = absurd acts
+  acts_ended limit c paths further acts = absurd acts

@@ -13,7 +13,6 @@ use Rattle.aig_checks.specs.declared.command.Command.{Command}
 use Rattle.aig_checks.specs.declared.command.Command.TheVariants as commands
 use Rattle.aig_checks.specs.declared.command.FileCommand.{FileCommand}
 use Rattle.aig_checks.specs.declared.command.PairCommand.{PairCommand}
-use Rattle.aig_checks.specs.declared.tool.TheConstants.{LIMIT}
 use Rattle.aig_checks.specs.declared.tool.CheckError.{CheckError}
 use Rattle.aig_checks.specs.declared.tool.CheckError.TheVariants as errors
 use Rattle.aig_checks.specs.Opening.{Opening}
@@ -24,41 +23,41 @@ use Rattle.aig_checks.specs.Words.{Give, IsCall}
 -- the command was run on the open file, and on what is at the path beside it
 abbrev pub RunsFile : {R P W : Type 0} → (List ℕ → Result P OpenError → Type 0)
     → (R → Option (List ℕ)) → (R → Bool) → (P → Option (List ℕ)) → (P → Bool)
-    → (W → Option (List ℕ)) → (W → Bool) → FileCommand → List (List ℕ) → R → W
+    → (W → Option (List ℕ)) → (W → Bool) → ℕ → FileCommand → List (List ℕ) → R → W
     → Result Unit CheckError → R → W → Type 0
-RunsFile opens left failed given given_failed held write_failed c [] r w result rest made =
-    Runs left failed nothing_given nothing_fails held write_failed c LIMIT r tt w result rest tt
+RunsFile opens left failed given given_failed held write_failed limit c [] r w result rest made =
+    Runs left failed nothing_given nothing_fails held write_failed c limit r tt w result rest tt
     made
-RunsFile {P = P} opens left failed given given_failed held write_failed c (path ∷ more) r w result
+RunsFile {P = P} opens left failed given given_failed held write_failed limit c (path ∷ more) r w result
     rest made =
     Opening opens path
     (λ p. (used : P)
-    × Runs left failed given given_failed held write_failed c LIMIT r p w result rest used made)
+    × Runs left failed given given_failed held write_failed c limit r p w result rest used made)
     (λ e. (result ≡ Err e) × (rest ≡ r) × (made ≡ w))
 
 -- the command was run on the open files, and on the proofs at the paths beside them, which were
 -- opened first, in order
 abbrev pub RunsProofs : {R S P W : Type 0} → (List ℕ → Result P OpenError → Type 0)
     → (R → Option (List ℕ)) → (R → Bool) → (S → Option (List ℕ)) → (S → Bool) → (P → Bool)
-    → (W → Option (List ℕ)) → (W → Bool) → PairCommand → List (List ℕ) → R → S → W
+    → (W → Option (List ℕ)) → (W → Bool) → ℕ → PairCommand → List (List ℕ) → R → S → W
     → Result Unit CheckError → R → S → W → Type 0
-RunsProofs opens left failed left_of failed_of proof_failed held write_failed c [] r s w result rest
+RunsProofs opens left failed left_of failed_of proof_failed held write_failed limit c [] r s w result rest
     other made =
-    RunsPair left failed left_of failed_of nothing_fails nothing_fails held write_failed c LIMIT r s
+    RunsPair left failed left_of failed_of nothing_fails nothing_fails held write_failed c limit r s
     tt tt w result rest other tt tt made
-RunsProofs {P = P} opens left failed left_of failed_of proof_failed held write_failed c
+RunsProofs {P = P} opens left failed left_of failed_of proof_failed held write_failed limit c
     (proof ∷ []) r s w result rest other made =
     Opening opens proof
     (λ p. (used : P)
-    × RunsPair left failed left_of failed_of proof_failed nothing_fails held write_failed c LIMIT r
+    × RunsPair left failed left_of failed_of proof_failed nothing_fails held write_failed c limit r
     s p tt w result rest other used tt made)
     (λ e. (result ≡ Err e) × (made ≡ w))
-RunsProofs {P = P} opens left failed left_of failed_of proof_failed held write_failed c
+RunsProofs {P = P} opens left failed left_of failed_of proof_failed held write_failed limit c
     (base ∷ step ∷ more) r s w result rest other made =
     Opening opens base
     (λ p. Opening opens step
     (λ q. (used : P) × (spent : P)
-    × RunsPair left failed left_of failed_of proof_failed proof_failed held write_failed c LIMIT r s
+    × RunsPair left failed left_of failed_of proof_failed proof_failed held write_failed c limit r s
     p q w result rest other used spent made)
     (λ e. (result ≡ Err e) × (made ≡ w)))
     (λ e. (result ≡ Err e) × (made ≡ w))
@@ -66,23 +65,23 @@ RunsProofs {P = P} opens left failed left_of failed_of proof_failed held write_f
 -- What a command does with the files at its paths, which are opened first, in order: FILE, the file
 -- beside it, and what the words name beside these. Where one isn't opened, nothing is written.
 abbrev pub Acts : {F W : Type 0} → (List ℕ → Result F OpenError → Type 0)
-    → (F → Option (List ℕ)) → (F → Bool) → (W → Option (List ℕ)) → (W → Bool) → Command
+    → (F → Option (List ℕ)) → (F → Bool) → (W → Option (List ℕ)) → (W → Bool) → ℕ → Command
     → List (List ℕ) → List (List ℕ) → W → Result Unit CheckError → W → Type 0
-Acts {F} opens left failed held write_failed (commands.File c) (path ∷ []) further w result made =
+Acts {F} opens left failed held write_failed limit (commands.File c) (path ∷ []) further w result made =
     Opening opens path
     (λ r. (rest : F)
-    × RunsFile opens left failed left failed held write_failed c further r w result rest made)
+    × RunsFile opens left failed left failed held write_failed limit c further r w result rest made)
     (λ e. (result ≡ Err e) × (made ≡ w))
-Acts {F} opens left failed held write_failed (commands.Pair c) (path ∷ beside ∷ []) further w result
+Acts {F} opens left failed held write_failed limit (commands.Pair c) (path ∷ beside ∷ []) further w result
     made =
     Opening opens path
     (λ r. Opening opens beside
     (λ s. (rest : F) × (other : F)
-    × RunsProofs opens left failed left failed failed held write_failed c further r s w result rest
+    × RunsProofs opens left failed left failed failed held write_failed limit c further r s w result rest
     other made)
     (λ e. (result ≡ Err e) × (made ≡ w)))
     (λ e. (result ≡ Err e) × (made ≡ w))
-Acts opens left failed held write_failed c paths further w result made = ⊥
+Acts opens left failed held write_failed limit c paths further w result made = ⊥
 
 -- what the words ask for was done, and how the program ends by it
 pub record Obeys {F W : Type 0} (opens : List ℕ → Result F OpenError → Type 0)
@@ -99,7 +98,8 @@ pub record Obeys {F W : Type 0} (opens : List ℕ → Result F OpenError → Typ
   pub kept : ending ≡ endings.NoCommand → made ≡ w
   -- and else the command that they give was run on its files, and after Ok what was printed is
   -- flushed
-  pub acts : (c : Command) (paths further : List (List ℕ)) → IsCall words c paths further
+  pub acts : (limit : ℕ) (c : Command) (paths further : List (List ℕ))
+      → IsCall words limit c paths further
       → (done : Result Unit CheckError) × (ending ≡ ended done)
-      × Acts opens left failed held write_failed c paths further w done made
+      × Acts opens left failed held write_failed limit c paths further w done made
       × OnOk done (IsTrue (flushed made))

@@ -22,7 +22,6 @@ use Rattle.aig_checks.specs.declared.command.Command.{Command}
 use Rattle.aig_checks.specs.declared.command.Command.TheVariants as commands
 use Rattle.aig_checks.specs.declared.command.FileCommand.{FileCommand}
 use Rattle.aig_checks.specs.declared.command.PairCommand.{PairCommand}
-use Rattle.aig_checks.specs.declared.tool.TheConstants.{LIMIT}
 use Rattle.aig_checks.specs.declared.tool.CheckError.{CheckError}
 use Rattle.aig_checks.specs.declared.tool.CheckError.TheVariants as errors
 use Rattle.aig_checks.specs.About.{about_error}
@@ -50,52 +49,52 @@ IsPathOf opens subject paths further path = path ≡ word_of subject paths furth
 -- ---- places
 
 -- what is given beside a file was read up to this place, and refused so by the command
-pub record IsRefusedBeside (c : FileCommand) (file known : Option (List ℕ)) (e : CheckError)
+pub record IsRefusedBeside (limit : ℕ) (c : FileCommand) (file known : Option (List ℕ)) (e : CheckError)
     (measure : Measure) (place : Place) : Type 0 where
   pub at : IsPlaceIn known measure place
   pub rest : Option (List ℕ)
   pub failed : Bool
-  pub refused : TellsOfGiven c LIMIT file rest known failed e
+  pub refused : TellsOfGiven c limit file rest known failed e
 
 -- why a command shows nothing of two files
-abbrev pub RefusesFor : PairCommand → File → File → CheckError → Type 0
-RefusesFor c f g (errors.Certificate e) = RefusesPair c LIMIT f g e
-RefusesFor c f g e = Unit {0}
+abbrev pub RefusesFor : ℕ → PairCommand → File → File → CheckError → Type 0
+RefusesFor limit c f g (errors.Certificate e) = RefusesPair c limit f g e
+RefusesFor limit c f g e = Unit {0}
 
 -- a proof about two files was read up to this place, and refused so by the command
-pub record IsRefusedOnPair (c : PairCommand) (file other known : Option (List ℕ)) (e : CheckError)
+pub record IsRefusedOnPair (limit : ℕ) (c : PairCommand) (file other known : Option (List ℕ)) (e : CheckError)
     (measure : Measure) (place : Place) : Type 0 where
   pub at : IsPlaceIn known measure place
   pub rest : Option (List ℕ)
   pub other_rest : Option (List ℕ)
   pub refused : verdict_of e ≡ Accepted → other_verdict_of e ≡ Accepted
-      → AreReadAs LIMIT (RefusesFor c) file rest other other_rest e
+      → AreReadAs limit (RefusesFor limit c) file rest other other_rest e
 
 -- the same of bytes that are given to a command on the files at its paths
 abbrev pub IsRefusedBy : {F : Type 0} → (List ℕ → Result F OpenError → Type 0)
-    → (F → Option (List ℕ)) → Command → List (List ℕ) → Option (List ℕ) → CheckError → Measure
+    → (F → Option (List ℕ)) → ℕ → Command → List (List ℕ) → Option (List ℕ) → CheckError → Measure
     → Place → Type 0
-IsRefusedBy {F} opens left (commands.File c) (path ∷ []) known e measure place =
-    (file : F) × opens path (Ok file) × IsRefusedBeside c (left file) known e measure place
-IsRefusedBy {F} opens left (commands.Pair c) (path ∷ beside ∷ []) known e measure place =
+IsRefusedBy {F} opens left limit (commands.File c) (path ∷ []) known e measure place =
+    (file : F) × opens path (Ok file) × IsRefusedBeside limit c (left file) known e measure place
+IsRefusedBy {F} opens left limit (commands.Pair c) (path ∷ beside ∷ []) known e measure place =
     (file : F) × (other : F) × opens path (Ok file) × opens beside (Ok other)
-    × IsRefusedOnPair c (left file) (left other) known e measure place
-IsRefusedBy opens left c paths known e measure place = ⊥
+    × IsRefusedOnPair limit c (left file) (left other) known e measure place
+IsRefusedBy opens left limit c paths known e measure place = ⊥
 
 -- the file at the path was opened again, read up to this place, and refused so
 pub record IsRunAgain {F : Type 0} (opens : List ℕ → Result F OpenError → Type 0)
-    (left : F → Option (List ℕ)) (c : Command) (paths : List (List ℕ)) (path : List ℕ)
+    (left : F → Option (List ℕ)) (limit : ℕ) (c : Command) (paths : List (List ℕ)) (path : List ℕ)
     (e : CheckError) (measure : Measure) (place : Place) : Type 0 where
   pub source : F
   pub opened : opens path (Ok source)
-  pub refused : IsRefusedBy opens left c paths (left source) e measure place
+  pub refused : IsRefusedBy opens left limit c paths (left source) e measure place
 
 -- the file as a whole, or the place where the command refused it again
 abbrev pub IsRunPlace : {F : Type 0} → (List ℕ → Result F OpenError → Type 0)
-    → (F → Option (List ℕ)) → Command → List (List ℕ) → List ℕ → CheckError → Measure → Place
+    → (F → Option (List ℕ)) → ℕ → Command → List (List ℕ) → List ℕ → CheckError → Measure → Place
     → Type 0
-IsRunPlace opens left c paths path e measure place =
-    (place ≡ Whole) ⊎ IsRunAgain opens left c paths path e measure place
+IsRunPlace opens left limit c paths path e measure place =
+    (place ≡ Whole) ⊎ IsRunAgain opens left limit c paths path e measure place
 
 -- it is found by running the command again
 abbrev pub IsRun : Search → Type 0
@@ -104,29 +103,30 @@ IsRun search = ⊥
 
 -- the place, as it is looked for
 abbrev pub IsPlaceOf : {F : Type 0} → (List ℕ → Result F OpenError → Type 0)
-    → (F → Option (List ℕ)) → Command → List (List ℕ) → List ℕ → CheckError → Search → Place
+    → (F → Option (List ℕ)) → ℕ → Command → List (List ℕ) → List ℕ → CheckError → Search → Place
     → Type 0
-IsPlaceOf opens left c paths path e searches.Nowhere place = place ≡ Whole
-IsPlaceOf opens left c paths path e (searches.Read error) place =
-    IsPlaced opens left LIMIT path error place
-IsPlaceOf opens left c paths path e (searches.Run measure) place =
-    IsRunPlace opens left c paths path e measure place
+IsPlaceOf opens left limit c paths path e searches.Nowhere place = place ≡ Whole
+IsPlaceOf opens left limit c paths path e (searches.Read error) place =
+    IsPlaced opens left limit path error place
+IsPlaceOf opens left limit c paths path e (searches.Run measure) place =
+    IsRunPlace opens left limit c paths path e measure place
 
 -- ---- endings
 
 -- the error is told with the path of what it is about, and the place there
 pub record Tells {F : Type 0} (opens : List ℕ → Result F OpenError → Type 0)
-    (left : F → Option (List ℕ)) (c : Command) (paths further : List (List ℕ)) (e : CheckError)
+    (left : F → Option (List ℕ)) (limit : ℕ) (c : Command) (paths further : List (List ℕ)) (e : CheckError)
     (fault : Fault CheckError) : Type 0 where
   pub error : error_of fault ≡ e
   pub path : IsPathOf opens (about_error e).subject paths further (path_of fault)
   pub place : IfSome (path_of fault)
-      (λ p. IsPlaceOf opens left c paths p e (about_error e).search (place_in fault))
+      (λ p. IsPlaceOf opens left limit c paths p e (about_error e).search (place_in fault))
 
 -- the error is told, of the words' command where there is one
 pub record TellsOf {F : Type 0} (opens : List ℕ → Result F OpenError → Type 0)
     (left : F → Option (List ℕ)) (words : List (List ℕ)) (e : CheckError)
     (fault : Fault CheckError) : Type 0 where
   pub error : error_of fault ≡ e
-  pub told : (c : Command) (paths further : List (List ℕ)) → IsCall words c paths further
-      → Tells opens left c paths further e fault
+  pub told : (limit : ℕ) (c : Command) (paths further : List (List ℕ))
+      → IsCall words limit c paths further
+      → Tells opens left limit c paths further e fault

@@ -9,3 +9,4 @@ pub mod Opening
 pub mod Acting
 pub mod About
 pub mod Explaining
+pub mod Noticing

@@ -7,6 +7,7 @@ use Rattle.aig_command_line.specs.declared.arguments.Form.{Form}
 use Rattle.aig_command_line.specs.declared.arguments.Step.{Step}
 use Rattle.aig_command_line.specs.declared.arguments.Step.TheVariants.{Absent, At, UpTo}
 use Rattle.aig_command_line.specs.Arguments.{Arguments, Gives}
+use Rattle.aig_command_line.specs.Limits.{IsLimited}
 use Rattle.aig_checks.specs.declared.command.Action.{Action}
 use Rattle.aig_checks.specs.declared.command.Action.TheVariants as actions
 use Rattle.aig_checks.specs.declared.command.Command.{Command}
@@ -79,20 +80,22 @@ command_of actions.Bounded k distinct optimize = commands.File (on_file.Bounded 
 command_of actions.RefutedTo k distinct optimize = commands.File (on_file.RefutedTo k optimize)
 command_of actions.WitnessTo k distinct optimize = commands.File (on_file.WitnessTo k optimize)
 
--- the words give the command, with its files and what is given beside them
-pub record IsCall (words : List (List ℕ)) (c : Command) (paths further : List (List ℕ)) : Type 0
-  where
-    pub action : Action
-    pub arguments : Arguments
-    pub gives : Gives (name_of action) (form_of action) words arguments
-    pub command : c
-        ≡ command_of action arguments.step arguments.distinct arguments.optimize
-    pub on : paths ≡ arguments.paths
-    pub beside : further ≡ arguments.further
+-- the words give the limit, and then the command, with its files and what is given beside them
+pub record IsCall (words : List (List ℕ)) (limit : ℕ) (c : Command) (paths further : List (List ℕ))
+    : Type 0 where
+  pub rest : List (List ℕ)
+  pub limited : IsLimited words limit rest
+  pub action : Action
+  pub arguments : Arguments
+  pub gives : Gives (name_of action) (form_of action) rest arguments
+  pub command : c ≡ command_of action arguments.step arguments.distinct arguments.optimize
+  pub on : paths ≡ arguments.paths
+  pub beside : further ≡ arguments.further
 
 -- the words give the command
 abbrev pub Give : List (List ℕ) → Command → Type 0
-Give words c = (paths further : List (List ℕ)) × IsCall words c paths further
+Give words c = (limit : ℕ) × (paths : List (List ℕ)) × (further : List (List ℕ))
+    × IsCall words limit c paths further
 
 -- ---- commands alone
 

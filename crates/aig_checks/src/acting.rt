@@ -3,6 +3,7 @@
 ghost use Rattle.std.specs.Prelude.{◌≡◌, ◌<◌, ◌^◌, ◌++◌, ◌∷◌, [], IfOk, IfSome, IsErr, IsNone, IsTrue, OnOk, length, map, string_bytes};
 ghost use Rattle.aig_command_line.specs.declared.status.Ending.TheVariants as endings;
 ghost use Rattle.aig_command_line.specs.Ending.{Says};
+ghost use Rattle.aig_command_line.specs.Limits.{IsLimit};
 ghost use Rattle.aig_checks.specs.Acting.{Acts, Obeys, RunsFile, RunsProofs};
 ghost use Rattle.aig_checks.specs.Asked.{answer_of};
 ghost use Rattle.aig_checks.specs.Opening.{unopened};
@@ -13,7 +14,7 @@ use crate::bounded::{print_bounded, print_refuted_to, print_witness_to};
 use crate::command::{Call, Command, FileCommand, PairCommand, call_of};
 use crate::pairs::{print_certified, print_equal, print_obligations};
 use crate::tool::{
-    CheckError, LIMIT, print_clauses, print_inductive, print_refuted, print_run, print_window,
+    CheckError, print_clauses, print_inductive, print_refuted, print_run, print_window,
     print_witness,
 };
 use aig_base::{MemoryError, Sink, Source};
@@ -22,7 +23,7 @@ use std::alloc::Global;
 
 /// How the program is used.
 pub const USAGE: &str =
-    "usage: aigcheck clauses FILE K [raw], window FILE K [distinct] [raw], refuted FILE K PROOF [raw], \
+    "usage: aigcheck [--limit N] clauses FILE K [raw], window FILE K [distinct] [raw], refuted FILE K PROOF [raw], \
     inductive FILE K PROOF [distinct] [raw], witness FILE K SOLUTION [raw], run FILE WITNESS, \
     certified FILE CERT BASE STEP [raw], equal FILE OTHER K PROOF [raw], obligations FILE CERT [raw], \
     bounded FILE K [raw], refuted FILE to K PROOF [raw], witness FILE to K SOLUTION [raw]";
@@ -44,28 +45,34 @@ impl From<OpenError> for CheckError {
 /// Runs a command on a file and on what is given beside it.
 pub(crate) fn run_given<R: Source, P: Source, W: Sink>(
     alloc: Global,
+    limit: usize,
     command: FileCommand,
     r: &mut R,
     given: &mut P,
     w: &mut W,
 ) -> Result<(), CheckError>
+    requires limit { IsLimit limit }
     requires beside { beside_of (Command.File command) ≡ 1 }
     requires small { step_of (Command.File command) < 2 ^ 32 }
-    ensures { Runs R.left R.failed P.left P.failed W.held W.failed command LIMIT r.old given.old
+    ensures { Runs R.left R.failed P.left P.failed W.held W.failed command limit r.old given.old
         w.old result r.new given.new w.new }
 {
     match command {
-        FileCommand::Refuted { k, optimize } => print_refuted(alloc, k, optimize, r, given, w),
+        FileCommand::Refuted { k, optimize } => print_refuted(
+            alloc, limit, k, optimize, r, given, w,
+        ),
         FileCommand::Inductive { k, form, optimize } => {
-            print_inductive(alloc, k, form, optimize, r, given, w)
+            print_inductive(alloc, limit, k, form, optimize, r, given, w)
         }
-        FileCommand::Witness { k, optimize } => print_witness(alloc, k, optimize, r, given, w),
-        FileCommand::Run => print_run(alloc, r, given, w),
+        FileCommand::Witness { k, optimize } => print_witness(
+            alloc, limit, k, optimize, r, given, w,
+        ),
+        FileCommand::Run => print_run(alloc, limit, r, given, w),
         FileCommand::RefutedTo { k, optimize } => {
-            print_refuted_to(alloc, k, optimize, r, given, w)
+            print_refuted_to(alloc, limit, k, optimize, r, given, w)
         }
         FileCommand::WitnessTo { k, optimize } => {
-            print_witness_to(alloc, k, optimize, r, given, w)
+            print_witness_to(alloc, limit, k, optimize, r, given, w)
         }
         FileCommand::Clauses { .. } | FileCommand::Window { .. } | FileCommand::Bounded { .. } => {
             unreachable!()
@@ -76,46 +83,53 @@ pub(crate) fn run_given<R: Source, P: Source, W: Sink>(
 /// Runs a command on a file and on the one at a path beside it.
 fn run_beside<F: Opens, R: Source, W: Sink>(
     alloc: Global,
+    limit: usize,
     files: &F,
     command: FileCommand,
     path: &str,
     r: &mut R,
     w: &mut W,
 ) -> Result<(), CheckError>
+    requires limit { IsLimit limit }
     requires beside { beside_of (Command.File command) ≡ 1 }
     requires small { step_of (Command.File command) < 2 ^ 32 }
     ensures { RunsFile (F.opens files.now) R.left R.failed F.File.left F.File.failed W.held
-        W.failed command (path.now ∷ []) r.old w.old result r.new w.new }
+        W.failed limit command (path.now ∷ []) r.old w.old result r.new w.new }
 {
     let mut given = files.open(path)?;
-    run_given(alloc, command, r, &mut given, w)
+    run_given(alloc, limit, command, r, &mut given, w)
 }
 
 /// Runs a command on a file, and on what the words name beside it.
 fn run_on<F: Opens, R: Source, W: Sink>(
     alloc: Global,
+    limit: usize,
     files: &F,
     command: FileCommand,
     further: &[String],
     r: &mut R,
     w: &mut W,
 ) -> Result<(), CheckError>
+    requires limit { IsLimit limit }
     requires further { length further.now ≡ beside_of (Command.File command) }
     requires small { step_of (Command.File command) < 2 ^ 32 }
     ensures { RunsFile (F.opens files.now) R.left R.failed F.File.left F.File.failed W.held
-        W.failed command (map string_bytes further.now) r.old w.old result r.new w.new }
+        W.failed limit command (map string_bytes further.now) r.old w.old result r.new w.new }
 {
     match command {
-        FileCommand::Clauses { k, optimize } => print_clauses(alloc, k, optimize, r, w),
-        FileCommand::Window { k, form, optimize } => print_window(alloc, k, form, optimize, r, w),
-        FileCommand::Bounded { k, optimize } => print_bounded(alloc, k, optimize, r, w),
-        _ => run_beside(alloc, files, command, further[0].as_str(), r, w),
+        FileCommand::Clauses { k, optimize } => print_clauses(alloc, limit, k, optimize, r, w),
+        FileCommand::Window { k, form, optimize } => print_window(
+            alloc, limit, k, form, optimize, r, w,
+        ),
+        FileCommand::Bounded { k, optimize } => print_bounded(alloc, limit, k, optimize, r, w),
+        _ => run_beside(alloc, limit, files, command, further[0].as_str(), r, w),
     }
 }
 
 /// Checks the proofs at two paths that a certificate shows that a file's machine is safe.
 fn run_certified<F: Opens, R: Source, S: Source, W: Sink>(
     alloc: Global,
+    limit: usize,
     files: &F,
     optimize: bool,
     base: &str,
@@ -124,18 +138,20 @@ fn run_certified<F: Opens, R: Source, S: Source, W: Sink>(
     s: &mut S,
     w: &mut W,
 ) -> Result<(), CheckError>
+    requires { IsLimit limit }
     ensures { RunsProofs (F.opens files.now) R.left R.failed S.left S.failed F.File.failed W.held
-        W.failed (PairCommand.Certified optimize) (base.now ∷ step.now ∷ []) r.old s.old w.old
+        W.failed limit (PairCommand.Certified optimize) (base.now ∷ step.now ∷ []) r.old s.old w.old
         result r.new s.new w.new }
 {
     let mut base = files.open(base)?;
     let mut step = files.open(step)?;
-    print_certified(alloc, optimize, r, s, &mut base, &mut step, w)
+    print_certified(alloc, limit, optimize, r, s, &mut base, &mut step, w)
 }
 
 /// Checks the proof at a path that two files' machines are equal at step `k`.
 fn run_equal<F: Opens, R: Source, S: Source, W: Sink>(
     alloc: Global,
+    limit: usize,
     files: &F,
     k: usize,
     optimize: bool,
@@ -144,17 +160,19 @@ fn run_equal<F: Opens, R: Source, S: Source, W: Sink>(
     s: &mut S,
     w: &mut W,
 ) -> Result<(), CheckError>
+    requires { IsLimit limit }
     ensures { RunsProofs (F.opens files.now) R.left R.failed S.left S.failed F.File.failed W.held
-        W.failed (PairCommand.Equal k optimize) (proof.now ∷ []) r.old s.old w.old
+        W.failed limit (PairCommand.Equal k optimize) (proof.now ∷ []) r.old s.old w.old
         result r.new s.new w.new }
 {
     let mut proof = files.open(proof)?;
-    print_equal(alloc, k, optimize, r, s, &mut proof, w)
+    print_equal(alloc, limit, k, optimize, r, s, &mut proof, w)
 }
 
 /// Runs a command on two files, and on the proofs that the words name beside them.
 fn run_on_pair<F: Opens, R: Source, S: Source, W: Sink>(
     alloc: Global,
+    limit: usize,
     files: &F,
     command: PairCommand,
     further: &[String],
@@ -162,44 +180,58 @@ fn run_on_pair<F: Opens, R: Source, S: Source, W: Sink>(
     s: &mut S,
     w: &mut W,
 ) -> Result<(), CheckError>
-    requires { length further.now ≡ beside_of (Command.Pair command) }
+    requires limit { IsLimit limit }
+    requires further { length further.now ≡ beside_of (Command.Pair command) }
     ensures { RunsProofs (F.opens files.now) R.left R.failed S.left S.failed F.File.failed W.held
-        W.failed command (map string_bytes further.now) r.old s.old w.old
+        W.failed limit command (map string_bytes further.now) r.old s.old w.old
         result r.new s.new w.new }
 {
     match command {
         PairCommand::Certified { optimize } => {
             let (base, step) = (further[0].as_str(), further[1].as_str());
-            run_certified(alloc, files, optimize, base, step, r, s, w)
+            run_certified(alloc, limit, files, optimize, base, step, r, s, w)
         }
         PairCommand::Equal { k, optimize } => {
-            run_equal(alloc, files, k, optimize, further[0].as_str(), r, s, w)
+            run_equal(
+                alloc,
+                limit,
+                files,
+                k,
+                optimize,
+                further[0].as_str(),
+                r,
+                s,
+                w,
+            )
         }
-        PairCommand::Obligations { optimize } => print_obligations(alloc, optimize, r, s, w),
+        PairCommand::Obligations { optimize } => print_obligations(alloc, limit, optimize, r, s, w),
     }
 }
 
 /// Runs a command on the file at a path.
 fn run_file<F: Opens, W: Sink>(
     alloc: Global,
+    limit: usize,
     files: &F,
     command: FileCommand,
     path: &str,
     further: &[String],
     w: &mut W,
 ) -> Result<(), CheckError>
+    requires limit { IsLimit limit }
     requires further { length further.now ≡ beside_of (Command.File command) }
     requires small { step_of (Command.File command) < 2 ^ 32 }
-    ensures { Acts (F.opens files.now) F.File.left F.File.failed W.held W.failed
+    ensures { Acts (F.opens files.now) F.File.left F.File.failed W.held W.failed limit
         (Command.File command) (path.now ∷ []) (map string_bytes further.now) w.old result w.new }
 {
     let mut file = files.open(path)?;
-    run_on(alloc, files, command, further, &mut file, w)
+    run_on(alloc, limit, files, command, further, &mut file, w)
 }
 
 /// Runs a command on the files at two paths.
 fn run_pair<F: Opens, W: Sink>(
     alloc: Global,
+    limit: usize,
     files: &F,
     command: PairCommand,
     path: &str,
@@ -207,14 +239,17 @@ fn run_pair<F: Opens, W: Sink>(
     further: &[String],
     w: &mut W,
 ) -> Result<(), CheckError>
-    requires { length further.now ≡ beside_of (Command.Pair command) }
-    ensures { Acts (F.opens files.now) F.File.left F.File.failed W.held W.failed
+    requires limit { IsLimit limit }
+    requires further { length further.now ≡ beside_of (Command.Pair command) }
+    ensures { Acts (F.opens files.now) F.File.left F.File.failed W.held W.failed limit
         (Command.Pair command) (path.now ∷ beside.now ∷ []) (map string_bytes further.now) w.old
         result w.new }
 {
     let mut file = files.open(path)?;
     let mut other = files.open(beside)?;
-    run_on_pair(alloc, files, command, further, &mut file, &mut other, w)
+    run_on_pair(
+        alloc, limit, files, command, further, &mut file, &mut other, w,
+    )
 }
 
 /// Runs the command that words give on the files at its paths.
@@ -224,19 +259,20 @@ fn run<F: Opens, W: Sink>(
     call: &Call<'_>,
     w: &mut W,
 ) -> Result<(), CheckError>
+    requires limit { IsLimit call.now.limit }
     requires paths { length call.now.paths.now ≡ paths_of call.now.command }
     requires further { length call.now.further.now ≡ beside_of call.now.command }
     requires small { step_of call.now.command < 2 ^ 32 }
-    ensures { Acts (F.opens files.now) F.File.left F.File.failed W.held W.failed
+    ensures { Acts (F.opens files.now) F.File.left F.File.failed W.held W.failed call.now.limit
         call.now.command (map string_bytes call.now.paths.now)
         (map string_bytes call.now.further.now) w.old result w.new }
 {
-    let path = call.paths[0].as_str();
+    let (limit, path) = (call.limit, call.paths[0].as_str());
     match call.command {
-        Command::File(command) => run_file(alloc, files, command, path, call.further, w),
+        Command::File(command) => run_file(alloc, limit, files, command, path, call.further, w),
         Command::Pair(command) => {
             let beside = call.paths[1].as_str();
-            run_pair(alloc, files, command, path, beside, call.further, w)
+            run_pair(alloc, limit, files, command, path, beside, call.further, w)
         }
     }
 }
@@ -248,10 +284,11 @@ fn print<F: Opens, W: Flush>(
     call: &Call<'_>,
     w: &mut W,
 ) -> Result<(), CheckError>
+    requires limit { IsLimit call.now.limit }
     requires paths { length call.now.paths.now ≡ paths_of call.now.command }
     requires further { length call.now.further.now ≡ beside_of call.now.command }
     requires small { step_of call.now.command < 2 ^ 32 }
-    ensures acts { Acts (F.opens files.now) F.File.left F.File.failed W.held W.failed
+    ensures acts { Acts (F.opens files.now) F.File.left F.File.failed W.held W.failed call.now.limit
         call.now.command (map string_bytes call.now.paths.now)
         (map string_bytes call.now.further.now) w.old result w.new }
     ensures done { OnOk result (IsTrue (W.flushed w.new)) }

@@ -3,6 +3,7 @@
 ghost use Rattle.std.specs.Prelude.{◌≡◌, ◌<◌, ◌^◌, ◌⊎◌, ◌∷◌, [], IfSome, Ok, length, map, string_bytes, true};
 ghost use Rattle.aig_command_line.specs.declared.tally.Place.TheVariants as places;
 ghost use Rattle.aig_command_line.specs.Came.{IsPlaceIn};
+ghost use Rattle.aig_command_line.specs.Limits.{IsLimit};
 ghost use Rattle.aig_checks.specs.Explaining.{IsRefusedBeside, IsRefusedOnPair, IsRunPlace, word_of};
 ghost use Rattle.aig_checks.specs.Words.{beside_of, paths_of, step_of};
 ghost use Rattle.aig_checks.specs.declared.about.Subject.TheVariants as subjects;
@@ -12,94 +13,16 @@ use crate::acting::run_given;
 use crate::command::{Call, Command, FileCommand, PairCommand};
 use crate::pairs::{print_certified, print_equal};
 use crate::tool::CheckError;
-use aig_answers::AnswerError;
 use aig_base::Source;
-use aig_bounded_answers::BoundedAnswerError;
-use aig_certificates::CertificateError;
 use aig_command_line::{Counted, Discarded, Measure, Origin, Place, Reopens};
-use aig_refutation::RefutationError;
-use aig_solutions::SolutionError;
-use aig_witness::{ShowError, WitnessError};
 use std::alloc::Global;
 use std::marker::Brand;
 
-/// Whether two errors of a proof are the same.
-fn is_same_refutation(first: RefutationError, second: RefutationError) -> bool
-    ensures { result ≡ true → first ≡ second }
-{
-    first == second
-}
-
-/// Whether two errors of a solver's answer are the same.
-fn is_same_solution(first: SolutionError, second: SolutionError) -> bool
-    ensures { result ≡ true → first ≡ second }
-{
-    first == second
-}
-
-/// Whether two errors of a witness are the same.
-fn is_same_witness(first: WitnessError, second: WitnessError) -> bool
-    ensures { result ≡ true → first ≡ second }
-{
-    first == second
-}
-
-/// Whether two errors about two files are the same, and of a proof.
-fn is_same_certificate(first: CertificateError, second: CertificateError) -> bool
-    ensures { result ≡ true → first ≡ second }
-{
-    match (first, second) {
-        (
-            CertificateError::Query(AnswerError::Refutation(first)),
-            CertificateError::Query(AnswerError::Refutation(second)),
-        ) => is_same_refutation(first, second),
-        (
-            CertificateError::Window(AnswerError::Refutation(first)),
-            CertificateError::Window(AnswerError::Refutation(second)),
-        ) => is_same_refutation(first, second),
-        _ => false,
-    }
-}
-
-/// Whether two errors of a bounded check are the same, and of what is given beside the file.
-fn is_same_bounded(first: BoundedAnswerError, second: BoundedAnswerError) -> bool
-    ensures { result ≡ true → first ≡ second }
-{
-    match (first, second) {
-        (BoundedAnswerError::Refutation(first), BoundedAnswerError::Refutation(second)) => {
-            is_same_refutation(first, second)
-        }
-        (BoundedAnswerError::Solution(first), BoundedAnswerError::Solution(second)) => {
-            is_same_solution(first, second)
-        }
-        _ => false,
-    }
-}
-
-/// Whether two errors are the same, and of what is given beside a file.
+/// Whether two errors are the same.
 fn is_same(first: CheckError, second: CheckError) -> bool
     ensures { result ≡ true → first ≡ second }
 {
-    match (first, second) {
-        (
-            CheckError::Answer(AnswerError::Refutation(first)),
-            CheckError::Answer(AnswerError::Refutation(second)),
-        ) => is_same_refutation(first, second),
-        (CheckError::Solution(first), CheckError::Solution(second)) => {
-            is_same_solution(first, second)
-        }
-        (
-            CheckError::Show(ShowError::Witness(first)),
-            CheckError::Show(ShowError::Witness(second)),
-        ) => is_same_witness(first, second),
-        (CheckError::Certificate(first), CheckError::Certificate(second)) => {
-            is_same_certificate(first, second)
-        }
-        (CheckError::Bounded(first), CheckError::Bounded(second)) => {
-            is_same_bounded(first, second)
-        }
-        _ => false,
-    }
+    first == second
 }
 
 /// How many bytes of a proof are read before the first step is.
@@ -121,20 +44,29 @@ fn place_told<R: Source, B: Origin>(counted: &Counted<R, B>, measure: Measure) -
 #[inline(never)]
 fn place_beside<R: Source + Drop, B: Origin>(
     alloc: Global,
+    limit: usize,
     command: FileCommand,
     mut file: R,
     given: R,
     error: CheckError,
     measure: Measure,
 ) -> Place
+    requires limit { IsLimit limit }
     requires origin { R.left given ≡ B.bytes }
     requires beside { beside_of (Command.File command) ≡ 1 }
     requires small { step_of (Command.File command) < 2 ^ 32 }
     ensures { (result ≡ places.Whole)
-        ⊎ IsRefusedBeside command (R.left file) B.bytes error measure result }
+        ⊎ IsRefusedBeside limit command (R.left file) B.bytes error measure result }
 {
     let mut counted = Counted::<R, B>::new(given);
-    match run_given(alloc, command, &mut file, &mut counted, &mut Discarded) {
+    match run_given(
+        alloc,
+        limit,
+        command,
+        &mut file,
+        &mut counted,
+        &mut Discarded,
+    ) {
         Err(again) if is_same(again, error) => place_told(&counted, measure),
         _ => Place::Whole,
     }
@@ -144,6 +76,7 @@ fn place_beside<R: Source + Drop, B: Origin>(
 #[inline(never)]
 fn place_in_equal<R: Source + Drop, B: Origin>(
     alloc: Global,
+    limit: usize,
     k: usize,
     optimize: bool,
     mut file: R,
@@ -152,13 +85,15 @@ fn place_in_equal<R: Source + Drop, B: Origin>(
     error: CheckError,
     measure: Measure,
 ) -> Place
-    requires { R.left proof ≡ B.bytes }
+    requires limit { IsLimit limit }
+    requires origin { R.left proof ≡ B.bytes }
     ensures { let command = PairCommand.Equal k optimize in (result ≡ places.Whole)
-        ⊎ IsRefusedOnPair command (R.left file) (R.left other) B.bytes error measure result }
+        ⊎ IsRefusedOnPair limit command (R.left file) (R.left other) B.bytes error measure result }
 {
     let mut counted = Counted::<R, B>::new(proof);
     match print_equal(
         alloc,
+        limit,
         k,
         optimize,
         &mut file,
@@ -175,6 +110,7 @@ fn place_in_equal<R: Source + Drop, B: Origin>(
 #[inline(never)]
 fn place_in_base<R: Source + Drop, B: Origin>(
     alloc: Global,
+    limit: usize,
     optimize: bool,
     mut file: R,
     mut certificate: R,
@@ -183,13 +119,15 @@ fn place_in_base<R: Source + Drop, B: Origin>(
     error: CheckError,
     measure: Measure,
 ) -> Place
-    requires { R.left base ≡ B.bytes }
+    requires limit { IsLimit limit }
+    requires origin { R.left base ≡ B.bytes }
     ensures { let command = PairCommand.Certified optimize in (result ≡ places.Whole)
-        ⊎ IsRefusedOnPair command (R.left file) (R.left certificate) B.bytes error measure result }
+        ⊎ IsRefusedOnPair limit command (R.left file) (R.left certificate) B.bytes error measure result }
 {
     let mut counted = Counted::<R, B>::new(base);
     match print_certified(
         alloc,
+        limit,
         optimize,
         &mut file,
         &mut certificate,
@@ -206,6 +144,7 @@ fn place_in_base<R: Source + Drop, B: Origin>(
 #[inline(never)]
 fn place_in_step<R: Source + Drop, B: Origin>(
     alloc: Global,
+    limit: usize,
     optimize: bool,
     mut file: R,
     mut certificate: R,
@@ -214,13 +153,15 @@ fn place_in_step<R: Source + Drop, B: Origin>(
     error: CheckError,
     measure: Measure,
 ) -> Place
-    requires { R.left step ≡ B.bytes }
+    requires limit { IsLimit limit }
+    requires origin { R.left step ≡ B.bytes }
     ensures { let command = PairCommand.Certified optimize in (result ≡ places.Whole)
-        ⊎ IsRefusedOnPair command (R.left file) (R.left certificate) B.bytes error measure result }
+        ⊎ IsRefusedOnPair limit command (R.left file) (R.left certificate) B.bytes error measure result }
 {
     let mut counted = Counted::<R, B>::new(step);
     match print_certified(
         alloc,
+        limit,
         optimize,
         &mut file,
         &mut certificate,
@@ -250,6 +191,7 @@ fn open_both<F: Reopens>(files: &F, first: &str, second: &str) -> Option<(F::Fil
 /// The place where a command on a file refuses so what is given beside it.
 fn place_of_beside<F: Reopens>(
     alloc: Global,
+    limit: usize,
     files: &F,
     command: FileCommand,
     path: &str,
@@ -257,20 +199,22 @@ fn place_of_beside<F: Reopens>(
     error: CheckError,
     measure: Measure,
 ) -> Place
+    requires limit { IsLimit limit }
     requires beside { beside_of (Command.File command) ≡ 1 }
     requires small { step_of (Command.File command) < 2 ^ 32 }
-    ensures { IsRunPlace (F.opens files.now) F.File.left (Command.File command) (path.now ∷ [])
+    ensures { IsRunPlace (F.opens files.now) F.File.left limit (Command.File command) (path.now ∷ [])
         given.now error measure result }
 {
     let Some((file, given)) = open_both(files, path, given) else {
         return Place::Whole;
     };
-    place_beside::<F::File, Brand>(alloc, command, file, given, error, measure)
+    place_beside::<F::File, Brand>(alloc, limit, command, file, given, error, measure)
 }
 
 /// The place where `equal` refuses so its proof.
 fn place_of_equal<F: Reopens>(
     alloc: Global,
+    limit: usize,
     files: &F,
     k: usize,
     optimize: bool,
@@ -279,8 +223,9 @@ fn place_of_equal<F: Reopens>(
     error: CheckError,
     measure: Measure,
 ) -> Place
-    requires { length paths.now ≡ 2 }
-    ensures { IsRunPlace (F.opens files.now) F.File.left
+    requires limit { IsLimit limit }
+    requires paths { length paths.now ≡ 2 }
+    ensures { IsRunPlace (F.opens files.now) F.File.left limit
         (Command.Pair (PairCommand.Equal k optimize)) (map string_bytes paths.now) proof.now error
         measure result }
 {
@@ -290,12 +235,15 @@ fn place_of_equal<F: Reopens>(
     let Some(Ok(proof)) = files.reopen(proof) else {
         return Place::Whole;
     };
-    place_in_equal::<F::File, Brand>(alloc, k, optimize, file, other, proof, error, measure)
+    place_in_equal::<F::File, Brand>(
+        alloc, limit, k, optimize, file, other, proof, error, measure,
+    )
 }
 
 /// The place where `certified` refuses BASE so.
 fn place_of_base<F: Reopens>(
     alloc: Global,
+    limit: usize,
     files: &F,
     optimize: bool,
     paths: &[String],
@@ -304,8 +252,9 @@ fn place_of_base<F: Reopens>(
     error: CheckError,
     measure: Measure,
 ) -> Place
-    requires { length paths.now ≡ 2 }
-    ensures { IsRunPlace (F.opens files.now) F.File.left
+    requires limit { IsLimit limit }
+    requires paths { length paths.now ≡ 2 }
+    ensures { IsRunPlace (F.opens files.now) F.File.left limit
         (Command.Pair (PairCommand.Certified optimize)) (map string_bytes paths.now) base.now error
         measure result }
 {
@@ -317,6 +266,7 @@ fn place_of_base<F: Reopens>(
     };
     place_in_base::<F::File, Brand>(
         alloc,
+        limit,
         optimize,
         file,
         certificate,
@@ -330,6 +280,7 @@ fn place_of_base<F: Reopens>(
 /// The place where `certified` refuses STEP so.
 fn place_of_step<F: Reopens>(
     alloc: Global,
+    limit: usize,
     files: &F,
     optimize: bool,
     paths: &[String],
@@ -338,8 +289,9 @@ fn place_of_step<F: Reopens>(
     error: CheckError,
     measure: Measure,
 ) -> Place
-    requires { length paths.now ≡ 2 }
-    ensures { IsRunPlace (F.opens files.now) F.File.left
+    requires limit { IsLimit limit }
+    requires paths { length paths.now ≡ 2 }
+    ensures { IsRunPlace (F.opens files.now) F.File.left limit
         (Command.Pair (PairCommand.Certified optimize)) (map string_bytes paths.now) step.now error
         measure result }
 {
@@ -351,6 +303,7 @@ fn place_of_step<F: Reopens>(
     };
     place_in_step::<F::File, Brand>(
         alloc,
+        limit,
         optimize,
         file,
         certificate,
@@ -369,21 +322,32 @@ fn place_in_first<F: Reopens>(
     error: CheckError,
     measure: Measure,
 ) -> Place
+    requires limit { IsLimit call.now.limit }
     requires paths { length call.now.paths.now ≡ paths_of call.now.command }
     requires further { length call.now.further.now ≡ beside_of call.now.command }
     requires small { step_of call.now.command < 2 ^ 32 }
     ensures { IfSome (word_of subjects.Given (map string_bytes call.now.paths.now)
         (map string_bytes call.now.further.now)) (λ path. IsRunPlace (F.opens files.now) F.File.left
-        call.now.command (map string_bytes call.now.paths.now) path error measure result) }
+        call.now.limit call.now.command (map string_bytes call.now.paths.now) path error measure result) }
 {
     match (call.command, call.further) {
         (Command::File(command), [given]) => {
             let path = call.paths[0].as_str();
-            place_of_beside(alloc, files, command, path, given.as_str(), error, measure)
+            place_of_beside(
+                alloc,
+                call.limit,
+                files,
+                command,
+                path,
+                given.as_str(),
+                error,
+                measure,
+            )
         }
         (Command::Pair(PairCommand::Equal { k, optimize }), [proof]) => {
             place_of_equal(
                 alloc,
+                call.limit,
                 files,
                 k,
                 optimize,
@@ -396,7 +360,7 @@ fn place_in_first<F: Reopens>(
         (Command::Pair(PairCommand::Certified { optimize }), [base, step]) => {
             let (base, step) = (base.as_str(), step.as_str());
             place_of_base(
-                alloc, files, optimize, call.paths, base, step, error, measure,
+                alloc, call.limit, files, optimize, call.paths, base, step, error, measure,
             )
         }
         _ => Place::Whole,
@@ -411,16 +375,17 @@ fn place_in_second<F: Reopens>(
     error: CheckError,
     measure: Measure,
 ) -> Place
-    requires { length call.now.paths.now ≡ paths_of call.now.command }
+    requires limit { IsLimit call.now.limit }
+    requires paths { length call.now.paths.now ≡ paths_of call.now.command }
     ensures { IfSome (word_of subjects.Step (map string_bytes call.now.paths.now)
         (map string_bytes call.now.further.now)) (λ path. IsRunPlace (F.opens files.now) F.File.left
-        call.now.command (map string_bytes call.now.paths.now) path error measure result) }
+        call.now.limit call.now.command (map string_bytes call.now.paths.now) path error measure result) }
 {
     match (call.command, call.further) {
         (Command::Pair(PairCommand::Certified { optimize }), [base, step]) => {
             let (base, step) = (base.as_str(), step.as_str());
             place_of_step(
-                alloc, files, optimize, call.paths, base, step, error, measure,
+                alloc, call.limit, files, optimize, call.paths, base, step, error, measure,
             )
         }
         _ => Place::Whole,
@@ -436,12 +401,13 @@ pub(crate) fn place_by_run<F: Reopens>(
     error: CheckError,
     measure: Measure,
 ) -> Place
+    requires limit { IsLimit call.now.limit }
     requires paths { length call.now.paths.now ≡ paths_of call.now.command }
     requires further { length call.now.further.now ≡ beside_of call.now.command }
     requires small { step_of call.now.command < 2 ^ 32 }
     ensures { IfSome (word_of subject (map string_bytes call.now.paths.now)
         (map string_bytes call.now.further.now)) (λ path. IsRunPlace (F.opens files.now) F.File.left
-        call.now.command (map string_bytes call.now.paths.now) path error measure result) }
+        call.now.limit call.now.command (map string_bytes call.now.paths.now) path error measure result) }
 {
     match subject {
         Subject::Given => place_in_first(alloc, files, call, error, measure),

@@ -4,6 +4,7 @@ ghost use Rattle.std.specs.Prelude.{◌≡◌, ◌<◌, ◌≤◌, ◌^◌, ◌+
 ghost use Rattle.std.specs.List.{flat_map, zip};
 ghost use Rattle.aig_base.specs.Clauses.{AreBelow};
 ghost use Rattle.aig_base.specs.Formula.{clauses_in};
+ghost use Rattle.aig_command_line.specs.Limits.{IsLimit};
 ghost use Rattle.aig_dimacs.specs.Text.{dimacs_of};
 ghost use Rattle.aig_output.specs.Sinks.{BuffersOrStops, WritesOrStops};
 ghost use Rattle.aig_checks.specs.Bounded.{bounded_comments, letter_of, place_line};
@@ -11,7 +12,7 @@ ghost use Rattle.aig_checks.specs.Running.{Runs, nothing_fails, nothing_given};
 
 use crate::command::FileCommand;
 use crate::comments::buffer_literal;
-use crate::tool::{CheckError, LIMIT, tell_formula, write_line};
+use crate::tool::{CheckError, tell_formula, write_line};
 use aig_base::{Sink, Source, StreamFault, Var};
 use aig_bounded_answers::{
     BoundedClauses, Named, bounded, bounded_witness, check_bounded, refuted_questions_are_safe,
@@ -76,17 +77,19 @@ fn write_bounded<W: Sink>(w: &mut W, made: &BoundedClauses) -> Result<(), Stream
 /// bad state is reached, and nothing is printed: `Settled`.
 pub fn print_bounded<R: Source, W: Sink>(
     alloc: Global,
+    limit: usize,
     k: usize,
     optimize: bool,
     r: &mut R,
     w: &mut W,
 ) -> Result<(), CheckError>
+    requires { IsLimit limit }
     ensures { let command = FileCommand.Bounded k optimize in
         Runs R.left R.failed nothing_given nothing_fails W.held W.failed
-        command LIMIT r.old tt w.old result r.new tt w.new }
+        command limit r.old tt w.old result r.new tt w.new }
 {
     refuted_questions_are_safe();
-    let made = bounded(alloc, r, LIMIT, k, optimize)?;
+    let made = bounded(alloc, r, limit, k, optimize)?;
     tell_formula(&made.clauses, &made.further);
     if made.is_settled() {
         return Err(CheckError::Settled(k));
@@ -97,17 +100,19 @@ pub fn print_bounded<R: Source, W: Sink>(
 /// Checks a proof that no bad state is reached up to step `k`, and prints so.
 pub fn print_refuted_to<R: Source, P: Source, W: Sink>(
     alloc: Global,
+    limit: usize,
     k: usize,
     optimize: bool,
     r: &mut R,
     proof: &mut P,
     w: &mut W,
 ) -> Result<(), CheckError>
+    requires { IsLimit limit }
     ensures { let command = FileCommand.RefutedTo k optimize in
         Runs R.left R.failed P.left P.failed W.held W.failed
-        command LIMIT r.old proof.old w.old result r.new proof.new w.new }
+        command limit r.old proof.old w.old result r.new proof.new w.new }
 {
-    check_bounded(alloc, r, LIMIT, k, optimize, proof)?;
+    check_bounded(alloc, r, limit, k, optimize, proof)?;
     Ok(write_line(w, b"no bad state up to step ", k)?)
 }
 
@@ -115,16 +120,18 @@ pub fn print_refuted_to<R: Source, P: Source, W: Sink>(
 /// step with a bad state.
 pub fn print_witness_to<R: Source, P: Source, W: Sink>(
     alloc: Global,
+    limit: usize,
     k: usize,
     optimize: bool,
     r: &mut R,
     solution: &mut P,
     w: &mut W,
 ) -> Result<(), CheckError>
+    requires { IsLimit limit }
     ensures { let command = FileCommand.WitnessTo k optimize in
         Runs R.left R.failed P.left P.failed W.held W.failed
-        command LIMIT r.old solution.old w.old result r.new solution.new w.new }
+        command limit r.old solution.old w.old result r.new solution.new w.new }
 {
-    let witness = bounded_witness(alloc, r, LIMIT, k, optimize, solution)?;
+    let witness = bounded_witness(alloc, r, limit, k, optimize, solution)?;
     Ok(write_witness(w, &witness)?)
 }

@@ -1,11 +1,12 @@
 //! The commands, and the words that give them.
 
 ghost use Rattle.std.specs.Prelude.{◌≡◌, ◌↔◌, ◌<◌, ◌^◌, IfNone, IfSome, List, Some, ℕ, length, map, string_bytes};
+ghost use Rattle.aig_command_line.specs.Limits.{IsLimit};
 ghost use Rattle.aig_checks.specs.Words.{Give, IsCall, beside_of, command_of, form_of, name_of, on_certificate, on_step, paths_of, step_of, window_of};
 ghost use Rattle.aig_checks.specs.declared.command.Command.{Command};
 
 use aig_answers::Window;
-use aig_command_line::{Form, HasForm, Step, find};
+use aig_command_line::{Form, HasForm, Step, find, limited};
 
 /// What the program is asked to do with a file.
 #[derive(Clone, Copy)]
@@ -256,6 +257,8 @@ impl Action {
 /// What words give.
 #[derive(Clone, Copy)]
 pub struct Call<'a> {
+    /// The limit on the nodes of a circuit.
+    pub limit: usize,
     /// The command.
     pub command: Command,
     /// FILE, and CERT or OTHER, where the command wants one.
@@ -264,18 +267,22 @@ pub struct Call<'a> {
     pub further: &'a [String],
 }
 
-/// What the words after the program's name give, or none where they are wrong. It takes no memory.
+/// What the words after the program's name give, or none where they are wrong: N of `--limit N`, or 2^24, and then the command and what
+/// it takes. It takes no memory.
 pub fn call_of(words: &[String]) -> Option<Call<'_>>
-    ensures some { IfSome result (λ c. IsCall (map string_bytes words.now) c.command
+    ensures some { IfSome result (λ c. IsCall (map string_bytes words.now) c.limit c.command
         (map string_bytes c.paths.now) (map string_bytes c.further.now)) }
-    ensures none { IfNone result ((c : Command) (paths further : List (List ℕ))
-        → ¬ IsCall (map string_bytes words.now) c paths further) }
+    ensures none { IfNone result ((limit : ℕ) (c : Command) (paths further : List (List ℕ))
+        → ¬ IsCall (map string_bytes words.now) limit c paths further) }
+    ensures limit { IfSome result (λ c. IsLimit c.limit) }
     ensures paths { IfSome result (λ c. length c.paths.now ≡ paths_of c.command) }
     ensures further { IfSome result (λ c. length c.further.now ≡ beside_of c.command) }
     ensures small { IfSome result (λ c. step_of c.command < 2 ^ 32) }
 {
-    let (action, given) = find(&Action::ALL, words)?;
+    let (limit, rest) = limited(words)?;
+    let (action, given) = find(&Action::ALL, rest)?;
     Some(Call {
+        limit,
         command: action.command(given.step, given.distinct, given.optimize),
         paths: given.paths,
         further: given.further,
@@ -284,7 +291,7 @@ pub fn call_of(words: &[String]) -> Option<Call<'_>>
 
 /// The command that the words after the program's name give, or none where they are wrong.
 ///
-/// The word after the command's name is FILE. The next is WITNESS of `run`, CERT of `certified` and `obligations`, and OTHER of `equal`. Then comes
+/// The words `--limit` and N may come first. The word after the command's name is FILE. The next is WITNESS of `run`, CERT of `certified` and `obligations`, and OTHER of `equal`. Then comes
 /// K, where the command has one, after the word `to` where it is on the steps up to K, and the words after that are PROOF of `refuted`,
 /// `inductive` and `equal`, SOLUTION of `witness`, and BASE and STEP of `certified`. It takes no memory.
 pub fn parse(words: &[String]) -> Option<Command>

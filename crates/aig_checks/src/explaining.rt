@@ -4,13 +4,14 @@ ghost use Rattle.std.specs.Prelude.{◌≡◌, ◌<◌, ◌^◌, ◌++◌, Conta
 ghost use Rattle.aig_command_line.specs.Ending.{IsMapped};
 ghost use Rattle.aig_command_line.specs.Faults.{IsAlone};
 ghost use Rattle.aig_command_line.specs.declared.files.OpenError.TheVariants as opening;
+ghost use Rattle.aig_command_line.specs.Limits.{IsLimit};
 ghost use Rattle.aig_checks.specs.Explaining.{IsPathOf, IsPlaceOf, IsRun, Tells, TellsOf, word_of};
 ghost use Rattle.aig_checks.specs.Words.{beside_of, paths_of, step_of};
 
 use crate::about::{About, Search, Subject, about_error};
 use crate::again::place_by_run;
 use crate::command::{Call, call_of};
-use crate::tool::{CheckError, LIMIT};
+use crate::tool::CheckError;
 use aig_base::MemoryError;
 use aig_command_line::{Ending, Fault, Place, Reopens, path_at, place_in_file};
 use std::alloc::Global;
@@ -68,17 +69,18 @@ fn place_at<F: Reopens>(
     path: &str,
     error: CheckError,
 ) -> Place
+    requires limit { IsLimit call.now.limit }
     requires paths { length call.now.paths.now ≡ paths_of call.now.command }
     requires further { length call.now.further.now ≡ beside_of call.now.command }
     requires small { step_of call.now.command < 2 ^ 32 }
     requires path { IsRun about.search → word_of about.subject (map string_bytes call.now.paths.now)
         (map string_bytes call.now.further.now) ≡ Some path.now }
-    ensures { IsPlaceOf (F.opens files.now) F.File.left call.now.command
+    ensures { IsPlaceOf (F.opens files.now) F.File.left call.now.limit call.now.command
         (map string_bytes call.now.paths.now) path.now error about.search result }
 {
     match about.search {
         Search::Nowhere => Place::Whole,
-        Search::Read(error) => place_in_file(alloc, files, path, error, LIMIT),
+        Search::Read(error) => place_in_file(alloc, files, path, error, call.limit),
         Search::Run(measure) => place_by_run(alloc, files, call, about.subject, error, measure),
     }
 }
@@ -90,10 +92,11 @@ fn fault_of<'a, F: Reopens>(
     call: &Call<'a>,
     error: CheckError,
 ) -> Fault<'a, CheckError>
+    requires limit { IsLimit call.now.limit }
     requires paths { length call.now.paths.now ≡ paths_of call.now.command }
     requires further { length call.now.further.now ≡ beside_of call.now.command }
     requires small { step_of call.now.command < 2 ^ 32 }
-    ensures { Tells (F.opens files.now) F.File.left call.now.command
+    ensures { Tells (F.opens files.now) F.File.left call.now.limit call.now.command
         (map string_bytes call.now.paths.now) (map string_bytes call.now.further.now) error result }
 {
     let about = about_error(error);

@@ -9,6 +9,7 @@ mod command;
 mod comments;
 mod explaining;
 mod line;
+mod noticing;
 mod pairs;
 mod tool;
 
@@ -16,6 +17,7 @@ pub use acting::{USAGE, act};
 pub use bounded::{print_bounded, print_refuted_to, print_witness_to};
 pub use command::{Command, FileCommand, PairCommand, parse};
 pub use explaining::explain;
+pub use noticing::notice;
 pub use pairs::{print_certified, print_equal, print_obligations};
 pub use tool::{
     CheckError, print_clauses, print_inductive, print_refuted, print_run, print_window,

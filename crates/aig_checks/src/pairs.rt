@@ -2,12 +2,13 @@
 
 ghost use Rattle.std.specs.Prelude.{◌++◌, codes, length};
 ghost use Rattle.aig_base.specs.Clauses.{AreBelow};
+ghost use Rattle.aig_command_line.specs.Limits.{IsLimit};
 ghost use Rattle.aig_output.specs.Sinks.{WritesOrStops};
 ghost use Rattle.aig_checks.specs.Pairs.{RunsPair, part_text};
 ghost use Rattle.aig_checks.specs.Running.{nothing_fails};
 
 use crate::command::PairCommand;
-use crate::tool::{CheckError, LIMIT, tell_formula, write_line};
+use crate::tool::{CheckError, tell_formula, write_line};
 use aig_base::{DagCnf, LitVvec, Sink, Source, StreamFault};
 use aig_certificates::{Obligations, check_certified, check_equal, obligations_of};
 use aig_command_line::write_text;
@@ -17,6 +18,7 @@ use std::alloc::Global;
 /// Checks proofs that a certificate shows that a file's machine reaches no bad state at any step, and prints so.
 pub fn print_certified<R: Source, S: Source, P: Source, Q: Source, W: Sink>(
     alloc: Global,
+    limit: usize,
     optimize: bool,
     file: &mut R,
     certificate: &mut S,
@@ -24,18 +26,20 @@ pub fn print_certified<R: Source, S: Source, P: Source, Q: Source, W: Sink>(
     step: &mut Q,
     w: &mut W,
 ) -> Result<(), CheckError>
+    requires { IsLimit limit }
     ensures { let command = PairCommand.Certified optimize in
-        RunsPair R.left R.failed S.left S.failed P.failed Q.failed W.held W.failed command LIMIT
+        RunsPair R.left R.failed S.left S.failed P.failed Q.failed W.held W.failed command limit
         file.old certificate.old base.old step.old w.old result
         file.new certificate.new base.new step.new w.new }
 {
-    check_certified(alloc, file, certificate, LIMIT, optimize, base, step)?;
+    check_certified(alloc, file, certificate, limit, optimize, base, step)?;
     Ok(write_text(w, b"no bad state at any step")?)
 }
 
 /// Checks a proof that two files' machines are equal at step `k`, and prints so.
 pub fn print_equal<R: Source, S: Source, P: Source, W: Sink>(
     alloc: Global,
+    limit: usize,
     k: usize,
     optimize: bool,
     file: &mut R,
@@ -43,12 +47,13 @@ pub fn print_equal<R: Source, S: Source, P: Source, W: Sink>(
     proof: &mut P,
     w: &mut W,
 ) -> Result<(), CheckError>
+    requires { IsLimit limit }
     ensures { let command = PairCommand.Equal k optimize in
         RunsPair R.left R.failed S.left S.failed P.failed nothing_fails W.held W.failed command
-        LIMIT file.old other.old proof.old tt w.old result
+        limit file.old other.old proof.old tt w.old result
         file.new other.new proof.new tt w.new }
 {
-    check_equal(alloc, file, other, LIMIT, k, optimize, proof)?;
+    check_equal(alloc, file, other, limit, k, optimize, proof)?;
     Ok(write_line(w, b"equal at step ", k)?)
 }
 
@@ -83,17 +88,19 @@ fn write_obligations<W: Sink>(w: &mut W, asked: &Obligations) -> Result<(), Stre
 /// the line `c step` those of which STEP is one.
 pub fn print_obligations<R: Source, S: Source, W: Sink>(
     alloc: Global,
+    limit: usize,
     optimize: bool,
     file: &mut R,
     certificate: &mut S,
     w: &mut W,
 ) -> Result<(), CheckError>
+    requires { IsLimit limit }
     ensures { let command = PairCommand.Obligations optimize in
         RunsPair R.left R.failed S.left S.failed nothing_fails nothing_fails W.held W.failed
-        command LIMIT file.old certificate.old tt tt w.old result
+        command limit file.old certificate.old tt tt w.old result
         file.new certificate.new tt tt w.new }
 {
-    let asked = obligations_of(alloc, file, certificate, LIMIT, optimize)?;
+    let asked = obligations_of(alloc, file, certificate, limit, optimize)?;
     tell_formula(&asked.base.encoded.clauses, &asked.base.extra);
     tell_formula(&asked.step.clauses, &asked.step.further);
     Ok(write_obligations(w, &asked)?)

@@ -5,6 +5,7 @@ ghost use Rattle.aig_base.specs.declared.logic.literal.Lit.{Lit};
 ghost use Rattle.aig_base.specs.Clauses.{AreBelow};
 ghost use Rattle.aig_base.specs.Formula.{clauses_in};
 ghost use Rattle.aig_cnf.specs.Cnf.{AreNeeded, HasClauses};
+ghost use Rattle.aig_command_line.specs.Limits.{IsLimit};
 ghost use Rattle.aig_dimacs.specs.Text.{IsFormula};
 ghost use Rattle.aig_output.specs.Sinks.{BuffersOrStops, WritesOrStops};
 ghost use Rattle.aig_unroll.specs.Unroll.{UnrollsTo};
@@ -32,14 +33,6 @@ use aig_solutions::{Places, SolutionError, checked_witness};
 use aig_witness::{ShowError, Shown, check_witness, known_witnesses_show, write_witness};
 use std::alloc::Global;
 use thiserror::Error;
-
-/// The limit on the nodes of a circuit that the program reads, and of one that it unrolls.
-pub const LIMIT: usize = 1 << 24;
-
-/// Law: the limit is 2^24 nodes.
-pub fn limit_is_given()
-    ensures { LIMIT ≡ 2 ^ 24 }
-{}
 
 /// Why the program doesn't do what was asked.
 #[derive(Clone, Copy, Debug, PartialEq, Eq, Error)]
@@ -189,35 +182,39 @@ fn write_shown<W: Sink>(w: &mut W, shown: Shown) -> Result<(), StreamFault>
 /// Prints the clauses that ask for a window of a file's machine. Requires that `k` is below 2^32.
 pub fn print_window<R: Source, W: Sink>(
     alloc: Global,
+    limit: usize,
     k: usize,
     form: Window,
     optimize: bool,
     r: &mut R,
     w: &mut W,
 ) -> Result<(), CheckError>
-    requires { k < 2 ^ 32 }
+    requires limit { IsLimit limit }
+    requires small { k < 2 ^ 32 }
     ensures { let command = FileCommand.Window k form optimize in
         Runs R.left R.failed nothing_given nothing_fails W.held W.failed
-        command LIMIT r.old tt w.old result r.new tt w.new }
+        command limit r.old tt w.old result r.new tt w.new }
 {
-    let asked = window(alloc, r, LIMIT, k, optimize, form)?;
+    let asked = window(alloc, r, limit, k, optimize, form)?;
     Ok(write_dimacs(w, &asked.clauses, &asked.further)?)
 }
 
 /// Checks a proof that no bad state is reached at step `k`, and prints so.
 pub fn print_refuted<R: Source, P: Source, W: Sink>(
     alloc: Global,
+    limit: usize,
     k: usize,
     optimize: bool,
     r: &mut R,
     proof: &mut P,
     w: &mut W,
 ) -> Result<(), CheckError>
+    requires { IsLimit limit }
     ensures { let command = FileCommand.Refuted k optimize in
         Runs R.left R.failed P.left P.failed W.held W.failed
-        command LIMIT r.old proof.old w.old result r.new proof.new w.new }
+        command limit r.old proof.old w.old result r.new proof.new w.new }
 {
-    check_step(alloc, r, LIMIT, k, optimize, proof)?;
+    check_step(alloc, r, limit, k, optimize, proof)?;
     Ok(write_line(w, b"no bad state at step ", k)?)
 }
 
@@ -225,6 +222,7 @@ pub fn print_refuted<R: Source, P: Source, W: Sink>(
 /// `k` is below 2^32.
 pub fn print_inductive<R: Source, P: Source, W: Sink>(
     alloc: Global,
+    limit: usize,
     k: usize,
     form: Window,
     optimize: bool,
@@ -232,13 +230,14 @@ pub fn print_inductive<R: Source, P: Source, W: Sink>(
     proof: &mut P,
     w: &mut W,
 ) -> Result<(), CheckError>
-    requires { k < 2 ^ 32 }
+    requires limit { IsLimit limit }
+    requires small { k < 2 ^ 32 }
     ensures { let command = FileCommand.Inductive k form optimize in
         Runs R.left R.failed P.left P.failed W.held W.failed
-        command LIMIT r.old proof.old w.old result r.new proof.new w.new }
+        command limit r.old proof.old w.old result r.new proof.new w.new }
 {
     inductive_windows_are_safe();
-    check_window(alloc, r, LIMIT, k, optimize, form, proof)?;
+    check_window(alloc, r, limit, k, optimize, form, proof)?;
     Ok(write_line(w, b"no bad state at any step, if none up to step ", k)?)
 }
 
@@ -315,17 +314,19 @@ fn print_query<W: Sink>(
 /// is below 2^32.
 pub fn print_clauses<R: Source, W: Sink>(
     alloc: Global,
+    limit: usize,
     k: usize,
     optimize: bool,
     r: &mut R,
     w: &mut W,
 ) -> Result<(), CheckError>
-    requires { k < 2 ^ 32 }
+    requires limit { IsLimit limit }
+    requires small { k < 2 ^ 32 }
     ensures { let command = FileCommand.Clauses k optimize in
         Runs R.left R.failed nothing_given nothing_fails W.held W.failed
-        command LIMIT r.old tt w.old result r.new tt w.new }
+        command limit r.old tt w.old result r.new tt w.new }
 {
-    let asked = asked_circuit(alloc, r, LIMIT, k)?;
+    let asked = asked_circuit(alloc, r, limit, k)?;
     print_query(alloc, &asked, optimize, w)
 }
 
@@ -353,19 +354,21 @@ fn print_solution<P: Source, W: Sink>(
 /// that `k` is below 2^32.
 pub fn print_witness<R: Source, P: Source, W: Sink>(
     alloc: Global,
+    limit: usize,
     k: usize,
     optimize: bool,
     r: &mut R,
     solution: &mut P,
     w: &mut W,
 ) -> Result<(), CheckError>
-    requires { k < 2 ^ 32 }
+    requires limit { IsLimit limit }
+    requires small { k < 2 ^ 32 }
     ensures { let command = FileCommand.Witness k optimize in
         Runs R.left R.failed P.left P.failed W.held W.failed
-        command LIMIT r.old solution.old w.old result r.new solution.new w.new }
+        command limit r.old solution.old w.old result r.new solution.new w.new }
 {
     known_witnesses_show();
-    let asked = asked_query(alloc, r, LIMIT, k, optimize)?;
+    let asked = asked_query(alloc, r, limit, k, optimize)?;
     print_solution(alloc, &asked, k, solution, w)
 }
 
@@ -373,14 +376,16 @@ pub fn print_witness<R: Source, P: Source, W: Sink>(
 /// step.
 pub fn print_run<R: Source, P: Source, W: Sink>(
     alloc: Global,
+    limit: usize,
     r: &mut R,
     witness: &mut P,
     w: &mut W,
 ) -> Result<(), CheckError>
+    requires { IsLimit limit }
     ensures { let command = FileCommand.Run in
         Runs R.left R.failed P.left P.failed W.held W.failed
-        command LIMIT r.old witness.old w.old result r.new witness.new w.new }
+        command limit r.old witness.old w.old result r.new witness.new w.new }
 {
-    let shown = check_witness(alloc, r, LIMIT, witness)?;
+    let shown = check_witness(alloc, r, limit, witness)?;
     Ok(write_shown(w, shown)?)
 }

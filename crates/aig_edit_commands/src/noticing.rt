@@ -29,6 +29,30 @@ fn regard_of(command: &Command) -> Regard
     }
 }
 
+/// Tells beside an answer to these words what it isn't about.
+fn tell_beside<T: Tells>(
+    words: &[String],
+    headers: Headers,
+    ending: Ending<CommandError>,
+    errors: &mut T,
+)
+    ensures { TellsBeside T.tells (map string_bytes words.now) headers ending errors.old errors.new }
+{
+    let Ending::Done = ending else {
+        return;
+    };
+    let Some(call) = call_of(words) else {
+        return;
+    };
+    tell_of_files(
+        "aigedit",
+        call.paths,
+        regard_of(&call.command),
+        headers,
+        errors,
+    );
+}
+
 /// Tells beside an answer what it isn't about, of each file with such a header.
 pub fn notice<T: Tells>(
     words: &Result<Option<Vec<String>>, MemoryError>,
@@ -41,17 +65,8 @@ pub fn notice<T: Tells>(
     ensures other { IfOk words.now (λ read. IsNone read → errors.new ≡ errors.old) }
     ensures memory { IsErr words.now → errors.new ≡ errors.old }
 {
-    let (Ok(Some(words)), Ending::Done) = (words, ending) else {
-        return;
-    };
-    let Some(call) = call_of(words.as_slice()) else {
-        return;
-    };
-    tell_of_files(
-        "aigedit",
-        call.paths,
-        regard_of(&call.command),
-        headers,
-        errors,
-    );
+    match words {
+        Ok(Some(words)) => tell_beside(words.as_slice(), headers, ending, errors),
+        _ => {}
+    }
 }

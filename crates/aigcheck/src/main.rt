@@ -1,21 +1,27 @@
 //! `aigcheck` checks proofs and witnesses about the machines of AIGER files, and prints the clauses that such proofs are of.
 #![tactic(auto)]
 
-use aig_checks::{USAGE, act, explain};
+use aig_checks::{USAGE, act, explain, notice};
 pub use aig_checks::{
     CheckError, Command, FileCommand, PairCommand, parse, print_bounded, print_certified,
     print_clauses, print_equal, print_inductive, print_obligations, print_refuted,
     print_refuted_to, print_run, print_window, print_witness, print_witness_to,
 };
-use aig_command_line::{FlushedWriter, StandardError, SystemFiles, end, words};
+use aig_command_line::{
+    FlushedWriter, StandardError, SystemFiles, Watch, WatchedFiles, end, words,
+};
 use std::io;
 use std::process::ExitCode;
 
 fn main(rt: HostRuntime) -> ExitCode {
     let words = words(&rt);
-    let files = SystemFiles::new(&rt);
+    let watch = Watch::new();
+    let files = WatchedFiles::new(SystemFiles::new(&rt), &watch);
     let mut out = FlushedWriter::new(io::writer(&rt));
+    let mut errors = StandardError::new(&rt);
     let ending = act(rt.alloc(), &words, &files, &mut out);
     let told = explain(rt.alloc(), &words, &files, ending);
-    ExitCode::from(end("aigcheck", USAGE, &told, &mut StandardError::new(&rt)))
+    let status = end("aigcheck", USAGE, &told, &mut errors);
+    notice(&words, watch.headers(), ending, &mut errors);
+    ExitCode::from(status)
 }

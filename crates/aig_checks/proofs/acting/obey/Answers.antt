@@ -17,7 +17,7 @@ returns-in-Some g c =
           (same_Some _ _ (sym c.in-Some.is ∙ (c.asked.ensures q).1 are)) (c.say.result, c.of.ensures, rw c.answer.ensures at c.say.ensures);
       none = (λ e. absurd (never_none c.say.result (sym c.of.ensures ∙ e)), λ no. absurd (no.1 c.in-Some.question is));
       kept = λ e. absurd (never_none c.say.result (sym c.of.ensures ∙ e));
-      acts = λ d paths further h. elim (no_command words c.in-Some.question d paths further is h) [ ];
+      acts = λ limit d paths further h. elim (no_command words c.in-Some.question limit d paths further is h) [ ];
     }
 
 pub returns-in_default-call_of : goal.returns-in_default-call_of
@@ -25,9 +25,9 @@ returns-in_default-call_of g c =
     let none = c.in_default-call_of.ensures.none in
     record {
       tells = λ q are. elim (c.in_default.not-Some q ((c.asked.ensures q).1 are)) [ ];
-      none = (λ e. (λ d h. none d h.0 h.1 h.2, λ q are. c.in_default.not-Some q ((c.asked.ensures q).1 are)), λ no. refl);
+      none = (λ e. (λ d h. none h.0 d h.1 h.2 h.3, λ q are. c.in_default.not-Some q ((c.asked.ensures q).1 are)), λ no. refl);
       kept = λ e. refl;
-      acts = λ d paths further h. elim (none d paths further h) [ ];
+      acts = λ limit d paths further h. elim (none limit d paths further h) [ ];
     }
 
 pub returns : goal.returns
@@ -39,9 +39,9 @@ returns g c =
     let some = c.in-Some-call_of.ensures.some in
     record {
       tells = λ q are. elim (c.in_default.not-Some q ((c.asked.ensures q).1 are)) [ ];
-      none = (λ e. absurd (never_none c.print.result (sym c.of-2.ensures ∙ e)), λ no. absurd (no.0 call.command (paths, beside, some)));
+      none = (λ e. absurd (never_none c.print.result (sym c.of-2.ensures ∙ e)), λ no. absurd (no.0 call.command (call.limit, paths, beside, some)));
       kept = λ e. absurd (never_none c.print.result (sym c.of-2.ensures ∙ e));
-      acts = λ d names further h.
-          let same = one_call words d call.command names paths further beside h some in
-          rw (same.0, same.1, same.2) (c.print.result, c.of-2.ensures, c.print.ensures.acts, c.print.ensures.done);
+      acts = λ limit d names further h.
+          let same = one_call words limit call.limit d call.command names paths further beside h some in
+          rw (same.0, same.1, same.2, same.3) (c.print.result, c.of-2.ensures, c.print.ensures.acts, c.print.ensures.done);
     }

@@ -5,7 +5,7 @@ use Rattle.aig_checks.proofs.again.place_of_step.Goals as goal
 
 pub returns : goal.returns
 returns g c =
-    let names = two_names c.args.paths.now c.index-paths-0.result c.index-paths-1.result c.requires
+    let names = two_names c.args.paths.now c.index-paths-0.result c.index-paths-1.result c.requires.paths
     c.index-paths-0.is c.index-paths-1.is in
     let path = c.as_str.ensures.value in
     let beside = c.as_str-2.ensures.value in

@@ -1,7 +1,6 @@
 use Rattle.aig_base.proofs.Words.{◌++◌, length, refl, err_from_is_err_and}
 use Rattle.aig_base.specs.Formula.{clauses_in}
 use Rattle.aig_dimacs.specs.Text.{dimacs_of}
-use Rattle.aig_checks.specs.declared.tool.TheConstants.{LIMIT}
 use Rattle.aig_checks.specs.declared.tool.CheckError.TheVariants as errors
 use Rattle.aig_checks.specs.Bounded.{bounded_comments}
 use Rattle.aig_checks.proofs.Commenting.{bounded_again}
@@ -27,7 +26,7 @@ returns-then-is_settled g c =
     let made = c.in_ok-made.made in
     let settled = c.is_settled.ensures.0 c.if-is_settled.true in
     refused (errors.Settled c.args.k) told.verdict refl (λ is. cc) refl (λ alone. refl)
-    (read_again told.answer (λ bytes f holds asks. record { made = made; asks = asks; settled = settled; safe = c.refuted_questions_are_safe.ensures.folded f LIMIT c.args.k c.args.optimize made holds.0.1 asks settled }))
+    (read_again told.answer (λ bytes f holds asks. record { made = made; asks = asks; settled = settled; safe = c.refuted_questions_are_safe.ensures.folded f c.args.limit c.args.k c.args.optimize made holds.0.1 asks settled }))
 
 pub returns-in_err-write_bounded : goal.returns-in_err-write_bounded
 returns-in_err-write_bounded g c =

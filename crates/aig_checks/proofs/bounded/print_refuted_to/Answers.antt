@@ -1,7 +1,6 @@
 use Rattle.aig_base.proofs.Words.{refl, err_from_is_err_and}
 use Rattle.aig_bounded_answers.specs.declared.error.BoundedAnswerError.TheVariants as bounded
 use Rattle.aig_refutation.specs.declared.error.RefutationError.TheVariants as refutation
-use Rattle.aig_checks.specs.declared.tool.TheConstants.{LIMIT}
 use Rattle.aig_checks.specs.declared.tool.CheckError.TheVariants as errors
 use Rattle.aig_checks.specs.Bounded.{safe_to_line}
 use Rattle.aig_checks.proofs.Outcomes.{answered, err_of, proof_told, read_again, refused, refuses_bounded, stopped, tells_of_bounded}
@@ -13,7 +12,7 @@ returns-in_err-check_bounded g c =
     let told = c.in_err-check_bounded.ensures in
     let e = c.in_err-check_bounded.field-0.0 in
     rw (p.1, p.2) (refused (errors.Bounded e) told.verdict told.own (λ is. cc) refl (λ alone. told.unread (refuses_bounded e alone))
-    (tells_of_bounded c.args.k LIMIT c.args.optimize _ _ _ _ e told.own
+    (tells_of_bounded c.args.k c.args.limit c.args.optimize _ _ _ _ e told.own
     (λ taken. proof_told (told.shown taken))
     (λ is. told.stream (err_of e (bounded.Refutation refutation.Stream) is)) told.large))
 

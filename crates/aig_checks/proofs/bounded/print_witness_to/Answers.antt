@@ -1,6 +1,5 @@
 use Rattle.aig_base.proofs.Words.{refl, err_from_is_err_and}
 use Rattle.aig_witness.specs.Witness.{said_by, witness_text}
-use Rattle.aig_checks.specs.declared.tool.TheConstants.{LIMIT}
 use Rattle.aig_checks.specs.declared.tool.CheckError.TheVariants as errors
 use Rattle.aig_checks.proofs.Outcomes.{answered, read_again, refused, refuses_bounded, stopped, tells_of_answer}
 use Rattle.aig_checks.proofs.bounded.print_witness_to.Goals as goal
@@ -11,7 +10,7 @@ returns-in_err-witness g c =
     let told = c.in_err-witness.ensures in
     let e = c.in_err-witness.field-0.0 in
     rw (p.1, p.2) (refused (errors.Bounded e) told.verdict told.own (λ is. cc) refl (λ alone. told.unread (refuses_bounded e alone))
-    (tells_of_answer c.args.k LIMIT c.args.optimize _ _ _ _ e told.own told.refusal told.large))
+    (tells_of_answer c.args.k c.args.limit c.args.optimize _ _ _ _ e told.own told.refusal told.large))
 
 pub returns-in_err-write_witness : goal.returns-in_err-write_witness
 returns-in_err-write_witness g c =

@@ -1,10 +1,25 @@
-use Rattle.aig_base.proofs.Words.{map, string_bytes}
-use Rattle.aig_command_line.specs.Arguments.{Arguments, Gives}
-use Rattle.aig_checks.specs.Words.{form_of, name_of}
-use Rattle.aig_checks.proofs.Calling.{each}
+use Rattle.std.proofs.Common.{refl}
+use Rattle.aig_checks.proofs.Calling.{fits_none}
 use Rattle.aig_checks.proofs.command.call_of.Goals as goal
+
+pub returns-in_err-limit-clause-none : goal.returns-in_err-limit-clause-none
+returns-in_err-limit-clause-none c =
+    let none = c.in_err-limit.ensures.none in
+    rw c.from_residual.ensures (λ limit d paths further g. none limit g.rest g.limited)
 
 pub returns-in_err-action-clause-none : goal.returns-in_err-action-clause-none
 returns-in_err-action-clause-none c =
-    let none = c.in_err-action.ensures.none in
-    rw c.from_residual.ensures (λ d paths further g. each (λ a. (x : Arguments) → ¬ Gives (name_of a) (form_of a) (map string_bytes c.args.words.now) x) none g.action g.arguments g.gives)
+    rw c.from_residual-in_err-action.ensures
+    (fits_none _ _ c.in_ok-limit.limit c.in_ok-limit.ensures.some c.in_err-action.ensures.none)
+
+pub returns-clause-some : goal.returns-clause-some
+returns-clause-some c = record {
+  rest = _;
+  limited = c.in_ok-limit.ensures.some;
+  action = c.in_ok-action.action;
+  arguments = _;
+  gives = c.in_ok-action.ensures.some;
+  command = c.command.ensures;
+  on = refl;
+  beside = refl;
+}

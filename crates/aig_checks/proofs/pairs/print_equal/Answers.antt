@@ -3,7 +3,6 @@ use Rattle.aig_answers.specs.declared.error.AnswerError.TheVariants as answers
 use Rattle.aig_certificates.specs.Certificates.{Equals}
 use Rattle.aig_certificates.specs.declared.error.CertificateError.TheVariants as certificate
 use Rattle.aig_refutation.specs.declared.error.RefutationError.TheVariants as refutation
-use Rattle.aig_checks.specs.declared.tool.TheConstants.{LIMIT}
 use Rattle.aig_checks.specs.Pairs.{equal_line}
 use Rattle.aig_checks.proofs.Outcomes.{err_of}
 use Rattle.aig_checks.proofs.Pairing.{no_window, pair_answered, pair_refused, pair_stopped}
@@ -14,14 +13,14 @@ returns-in_err-check_equal g c =
     let p = err_from_is_err_and c.from_residual.result c.from_residual.ensures.1 in
     let told = c.in_err-check_equal.ensures in
     let e = c.in_err-check_equal.field-0.0 in
-    rw (p.1, p.2) (pair_refused (Equals LIMIT c.args.k) e told.reads (λ own. own) (λ f h refuses. refuses) refl told.unread (λ leaves. refl) (λ is. told.stream (err_of e (certificate.Query (answers.Refutation refutation.Stream)) is)) (λ is. absurd (no_window e (answers.Refutation refutation.Stream) told.reads is)))
+    rw (p.1, p.2) (pair_refused (Equals c.args.limit c.args.k) e told.reads (λ own. own) (λ f h refuses. refuses) refl told.unread (λ leaves. refl) (λ is. told.stream (err_of e (certificate.Query (answers.Refutation refutation.Stream)) is)) (λ is. absurd (no_window e (answers.Refutation refutation.Stream) told.reads is)))
 
 pub returns-in_err-write_line : goal.returns-in_err-write_line
 returns-in_err-write_line g c =
     let p = err_from_is_err_and c.from_residual-in_err-write_line.result c.from_residual-in_err-write_line.ensures.1 in
-    rw (p.1, p.2) (pair_stopped (Equals LIMIT c.args.k) tt (equal_line c.args.k) c.in_ok-check_equal.ensures.reads (λ f h equal. (refl, equal.0, equal.1)) c.in_err-write_line.ensures.err)
+    rw (p.1, p.2) (pair_stopped (Equals c.args.limit c.args.k) tt (equal_line c.args.k) c.in_ok-check_equal.ensures.reads (λ f h equal. (refl, equal.0, equal.1)) c.in_err-write_line.ensures.err)
 
 pub returns : goal.returns
 returns g c =
     let told = c.in_ok-write_line.ensures in
-    pair_answered (Equals LIMIT c.args.k) tt tt (equal_line c.args.k) c.in_ok-check_equal.ensures.reads (λ f h equal. (refl, equal.0, equal.1)) told.ok told.sound
+    pair_answered (Equals c.args.limit c.args.k) tt tt (equal_line c.args.k) c.in_ok-check_equal.ensures.reads (λ f h equal. (refl, equal.0, equal.1)) told.ok told.sound

@@ -1,5 +1,4 @@
 use Rattle.aig_base.proofs.Words.{refl, arith, err_from_is_err_and}
-use Rattle.aig_checks.specs.declared.tool.TheConstants.{LIMIT}
 use Rattle.aig_checks.proofs.Commenting.{clauses_text}
 use Rattle.aig_checks.proofs.Outcomes.{query_refused, read_again, text_ends}
 use Rattle.aig_checks.proofs.tool.print_clauses.Goals as goal
@@ -9,7 +8,7 @@ print_query-requires-clause-few g c = omega (arith, c.in_ok-asked.ensures.answer
 
 pub print_query-requires-clause-small : goal.print_query-requires-clause-small
 print_query-requires-clause-small g c =
-    omega (arith, c.requires, c.in_ok-asked.ensures.answer.means.unrolls.steps)
+    omega (arith, c.requires.small, c.in_ok-asked.ensures.answer.means.unrolls.steps)
 
 pub returns-in_err-asked : goal.returns-in_err-asked
 returns-in_err-asked g c =
@@ -23,4 +22,4 @@ returns g c =
     let read = c.in_ok-asked.ensures in
     let u = c.in_ok-asked.asked in
     let told = c.print_query.ensures in
-    text_ends c.print_query.result _ tt read.verdict (λ text is. read_again read.answer (λ bytes f holds of. clauses_text f LIMIT c.args.k c.args.optimize u text of is)) told.prints told.own tt
+    text_ends c.print_query.result _ tt read.verdict (λ text is. read_again read.answer (λ bytes f holds of. clauses_text f c.args.limit c.args.k c.args.optimize u text of is)) told.prints told.own tt

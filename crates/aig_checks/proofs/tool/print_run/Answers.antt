@@ -2,7 +2,6 @@ use Rattle.aig_base.proofs.Words.{refl, err_from_is_err_and}
 use Rattle.aig_reader.specs.declared.error.ReadError.TheVariants as read
 use Rattle.aig_witness.specs.declared.file.ShowError.TheVariants as shows
 use Rattle.aig_checks.specs.declared.tool.CheckError.TheVariants as errors
-use Rattle.aig_checks.specs.declared.tool.TheConstants.{LIMIT}
 use Rattle.aig_checks.specs.Running.{shown_line}
 use Rattle.aig_checks.proofs.Outcomes.{answered, err_of, refused, refuses_shown, stopped}
 use Rattle.aig_checks.proofs.Shown.{shown_answers}
@@ -20,11 +19,11 @@ returns-in_err-write_shown g c =
     let p = err_from_is_err_and c.from_residual-in_err-write_shown.result c.from_residual-in_err-write_shown.ensures.1 in
     let shown = c.in_ok-shown.shown in
     let read = c.in_ok-shown.ensures in
-    rw (p.1, p.2) (stopped (shown_line shown.bad shown.step) tt read.verdict (shown_answers LIMIT _ _ _ shown read.answer) c.in_err-write_shown.ensures.err)
+    rw (p.1, p.2) (stopped (shown_line shown.bad shown.step) tt read.verdict (shown_answers c.args.limit _ _ _ shown read.answer) c.in_err-write_shown.ensures.err)
 
 pub returns : goal.returns
 returns g c =
     let shown = c.in_ok-shown.shown in
     let read = c.in_ok-shown.ensures in
     let told = c.in_ok-write_shown.ensures in
-    answered tt (shown_line shown.bad shown.step) tt read.verdict (shown_answers LIMIT _ _ _ shown read.answer) told.ok told.sound
+    answered tt (shown_line shown.bad shown.step) tt read.verdict (shown_answers c.args.limit _ _ _ shown read.answer) told.ok told.sound

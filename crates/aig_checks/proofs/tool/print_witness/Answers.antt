@@ -1,7 +1,6 @@
 use Rattle.aig_base.proofs.Words.{refl, subst, err_from_is_err_and}
 use Rattle.aig_circuit.specs.Circuit.{Circuit}
 use Rattle.aig_witness.specs.Shown.{IsKnownWitness}
-use Rattle.aig_checks.specs.declared.tool.TheConstants.{LIMIT}
 use Rattle.aig_checks.proofs.Outcomes.{query_refused, read_again, solution_ends}
 use Rattle.aig_checks.proofs.tool.print_witness.Goals as goal
 
@@ -23,5 +22,5 @@ returns g c =
     solution_ends c.print_solution.result _ tt read.verdict
     (λ text is. read_again read.answer (λ bytes f holds asks.
     let known = subst (λ (d : Circuit). IsKnownWitness d is.witness) asks.0.of_file is.known in
-    record { witness = is.witness; steps = is.steps; shows = c.known_witnesses_show.ensures f LIMIT is.witness holds.0.0.1 known; exact = is.exact; query = q; asks = asks; said = is.said })) told.prints q.encoded c.args.k told.own (λ e. tt)
+    record { witness = is.witness; steps = is.steps; shows = c.known_witnesses_show.ensures f c.args.limit is.witness holds.0.0.1 known; exact = is.exact; query = q; asks = asks; said = is.said })) told.prints q.encoded c.args.k told.own (λ e. tt)
     (λ e refuses. read_again read.answer (λ bytes f holds asks. record { query = q; asks = asks; refusal = refuses }))
