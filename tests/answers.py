@@ -4,12 +4,14 @@
 Rows stand in the tables below, and were worked by hand. A row is the words of a command, which is run in the table's folder, with the
 bytes of the second cell as its file GIVEN; what is printed; and what the row is about, where that has to be said. `usage` ends with
 status 2, a line that begins with the program's name with status 1, or 20 where a question is settled, both to standard error, and all
-else goes to standard output with status 0. The file that such a line names, and the place there, are left out but in places.tsv. In these
-cells `\\n` is a line feed, `\\x` a byte in hexadecimal, and `{PIECE}*N` the piece N times.
+else goes to standard output with status 0, but for lines at its end that begin so, which are told beside it. The file that such a line
+names, and the place there, are left out but in places.tsv. In these cells `\\n` is a line feed, `\\x` a byte in hexadecimal, and
+`{PIECE}*N` the piece N times.
 
 What aigtool and aigedit print is cut at each length, too, by a limit on the size of files: then a beginning of it is there, and the
 last write is told to have failed. And rows that are made here have long clauses, limits on time and memory, and full devices.
 """
+import itertools
 import resource
 import shlex
 import subprocess
@@ -73,7 +75,10 @@ def wanted_of(program, printed):
         return 2, b"", harness.USAGE[program]
     if printed.startswith(SETTLED):
         return 20, b"", printed
-    return (1, b"", printed) if printed.startswith(program.encode() + b": ") else (0, printed, b"")
+    lines = printed.splitlines(keepends=True)
+    said = b"".join(itertools.dropwhile(lambda line: not line.startswith(program.encode() + b": "), lines))
+    out = printed.removesuffix(said)
+    return int(not out and bool(said)), out, said
 
 
 class Answers:

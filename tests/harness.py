@@ -20,9 +20,9 @@ sys.dont_write_bytecode = True
 # What each program says of wrong words.
 USAGE = {
     "aigtool": b"usage: aigtool text FILE, binary FILE OUT, strash FILE, cnf FILE K [raw], query FILE K [raw]\n",
-    "aigedit": b"usage: aigedit refine FILE, reencode FILE, unroll FILE K, move FILE, compress FILE, bads FILE, "
+    "aigedit": b"usage: aigedit [--limit N] refine FILE, reencode FILE, unroll FILE K, move FILE, compress FILE, bads FILE, "
     b"reduce FILE, cone FILE N, question FILE K, info FILE, miter FILE OTHER, join FILE CERT, merge FILE OTHER\n",
-    "aigcheck": b"usage: aigcheck clauses FILE K [raw], window FILE K [distinct] [raw], refuted FILE K PROOF [raw], "
+    "aigcheck": b"usage: aigcheck [--limit N] clauses FILE K [raw], window FILE K [distinct] [raw], refuted FILE K PROOF [raw], "
     b"inductive FILE K PROOF [distinct] [raw], witness FILE K SOLUTION [raw], run FILE WITNESS, "
     b"certified FILE CERT BASE STEP [raw], equal FILE OTHER K PROOF [raw], obligations FILE CERT [raw], "
     b"bounded FILE K [raw], refuted FILE to K PROOF [raw], witness FILE to K SOLUTION [raw]\n",
@@ -33,8 +33,8 @@ PROVE = str(TOP / "bin" / "aigprove")
 SECONDS = 100
 REPEATED = re.compile(r"\{([^{}]*)\}\*(\d+)")
 SPELLED = re.compile(r"\\n|\\x([0-9a-f]{2})")
-# The file that a program names behind its own name, and the place there.
-NAMED = re.compile(rb"^(aigcheck|aigedit): (?!query: |window: )[^ :]+: (?:(?:line|byte) \d+: )?")
+# The file that a program names behind its own name in a line, and the place there.
+NAMED = re.compile(rb"^(aigcheck|aigedit): (?!query: |window: )[^ :]+: (?:(?:line|byte) \d+: )?", re.MULTILINE)
 
 
 def parser(doc, *programs):
@@ -79,7 +79,7 @@ def run(words, **how):
 
 
 def unnamed(said):
-    """What a program says, without the file that it names and the place there."""
+    """What a program says, without the files that it names and the places there."""
     return NAMED.sub(rb"\1: ", said)
 
 

@@ -1,8 +1,8 @@
 #!/usr/bin/env python3
-"""Runs aigtool as a process where files, streams and memory fail, and compares status, output and files.
+"""Runs the programs as processes where files, streams and memory fail, and compares status, output and files.
 
-Paths that aren't there, folders and closed streams; words that are no command; limits on memory and on the stack, of aigcheck too;
-and, in outs.py, what becomes of OUT.
+Paths that aren't there, folders and closed streams; words that are no command; limits on memory and on the stack, of aigcheck too; in
+outs.py, what becomes of OUT; and in told.py, `--limit` and the lines of aigedit and aigcheck.
 """
 import contextlib
 import inspect
@@ -14,6 +14,7 @@ import sys
 import harness
 import memory
 import outs
+import told
 from aiger import AND, BINARY_AND
 from harness import limit, limit_files
 from outs import chain
@@ -36,8 +37,9 @@ REFUSED = [
 class Room:
     """A folder that the program runs in, with files, and the checks of what it does there."""
 
-    def __init__(self, tool, checker, faults, folder, tally):
-        self.tool, self.checker, self.shim, self.folder, self.tally = tool, checker, faults, folder, tally
+    def __init__(self, tool, editor, checker, faults, folder, tally):
+        self.tool, self.editor, self.checker = tool, editor, checker
+        self.shim, self.folder, self.tally = faults, folder, tally
         self.env = None
         folder.mkdir()
         folder.chmod(0o755)
@@ -250,13 +252,13 @@ def program(path, folder):
 
 
 def tests():
-    """The functions of a room alone, those of outs.py behind the others."""
-    found = [it for module in (sys.modules[__name__], outs) for it in vars(module).values() if inspect.isfunction(it)]
+    """The functions of a room alone, those of outs.py and told.py behind the others."""
+    found = [it for module in (sys.modules[__name__], outs, told) for it in vars(module).values() if inspect.isfunction(it)]
     return [it for it in found if [*inspect.signature(it).parameters] == ["room"]]
 
 
 def main():
-    parser = harness.parser(__doc__, "aigtool", "aigcheck")
+    parser = harness.parser(__doc__, "aigtool", "aigedit", "aigcheck")
     parser.add_argument("names", nargs="*", help="the tests to run (all)")
     given, tally = parser.parse_args(), harness.Tally()
     with harness.new_folder() as folder:
@@ -265,7 +267,7 @@ def main():
         for test in tests():
             if not given.names or test.__name__ in given.names:
                 try:
-                    test(Room(tool, given.aigcheck, faults, folder / test.__name__, tally))
+                    test(Room(tool, given.aigedit, given.aigcheck, faults, folder / test.__name__, tally))
                 except OSError as error:
                     tally.check(False, f"{test.__name__}: {error}")
     return tally.end()
