@@ -26,6 +26,8 @@ TEXTS = {
     *("out of memory", "bad header line", "too many variables", "bad difference", "bad name line"),
     *(f"bad {what} in {section}" for what in ("line", "literal") for section in SECTIONS),
 }
+# What is told beside an answer.
+LEFT_OUT = re.compile(rb"aig(edit|check): .*: justice and fairness were not looked at\n")
 TOO_LARGE = "unrolled circuit may pass the limit"
 # The bytes of memory that each run may take, those for each byte of its file, and those that a variable of a header may take.
 MEMORY = 64 << 20
@@ -171,9 +173,11 @@ class Tool:
 
     def check_beside(self, data, is_accepted):
         """What aigedit and aigcheck say of the same file: reductions and counts of what is accepted, questions where it has bad literals
-        too, and else one line."""
+        too, and else one line. Beside an answer they tell of justice and fairness, if the header counts such."""
         for program, command, *further in BESIDE:
             status, out, error = self.ended(data, program, command, *further)
+            error, told = LEFT_OUT.sub(b"", error), bool(LEFT_OUT.search(error))
+            wants(told == (status in (0, 20) and command != "info" and is_live(data)), f"{command}: of justice it tells {told}")
             done = (status, error) == (0, b"")
             refused = out == b"" and re.fullmatch(rb"aig(edit|check): .*\n", error)
             wants(done or (refused and status in (1, 20)), f"{command}: status {status}, {error}")
@@ -181,6 +185,11 @@ class Tool:
                 wants(status == 1, f"{command} takes it")
             elif not further or b"no bad state property" not in error:
                 wants(done or status == 20, f"{command} refuses it: {error}")
+
+
+def is_live(data):
+    """Whether a file's header counts justice properties or fairness constraints."""
+    return any(map(int, data.partition(b"\n")[0].split()[8:]))
 
 
 def check_clauses(printed, what):

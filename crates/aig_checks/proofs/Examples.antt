@@ -1,6 +1,6 @@
 -- The comments of a small query, computed; and wrong words and lines, of which the definitions are
 -- false.
-use Rattle.aig_base.proofs.Words.{◌≡◌, ◌≢◌, ℕ, Bool, true, false, None, Option, List, [], ◌∷◌, ◌++◌, length, refl, ap, subst, arith, length-append, ◌∙◌}
+use Rattle.aig_base.proofs.Words.{◌≡◌, ◌≢◌, ℕ, Bool, true, false, None, Option, List, [], ◌∷◌, ◌++◌, length, refl, ap, subst, arith, length-append, ◌∙◌, inl, inr}
 use Rattle.std.specs.Prelude.{IsTrue, codes, not, slice_get, slice_index, slice_index_or}
 use Rattle.std.specs.Fmt.{digits}
 use Rattle.aig_base.specs.Clauses.{lit_to}
@@ -17,6 +17,7 @@ use Rattle.aig_checks.specs.declared.command.FileCommand.{FileCommand}
 use Rattle.aig_checks.specs.declared.tool.CheckError.TheVariants as errors
 use Rattle.aig_checks.specs.Running.{Answers, IsErrorOf, TellsOfGiven, error_status, file_verdict, shown_line, step_line, window_line}
 use Rattle.aig_command_line.specs.Arguments.{Gives, setting_words}
+use Rattle.aig_command_line.specs.Limits.{IsLimited}
 use Rattle.aig_checks.specs.declared.command.Action.{Action}
 use Rattle.aig_checks.specs.declared.command.Action.TheVariants as actions
 use Rattle.aig_checks.specs.declared.command.Command.TheVariants as asked
@@ -37,14 +38,22 @@ is_witness : (a : Action) (k m : ℕ) (d o p : Bool) → asked.File (commands.Wi
 is_witness actions.Witness k m d o p is = refl
 is_witness a k m d o p is = cc
 
+-- words that do not begin with `--limit` stand alone
+no_limit : (words : List (List ℕ)) (limit : ℕ) (rest : List (List ℕ))
+    → ((more : List (List ℕ)) → ¬ (words ≡ codes "--limit" ∷ more)) → IsLimited words limit rest
+    → rest ≡ words
+no_limit words limit rest other (inl g) = absurd (other _ g.spelled)
+no_limit words limit rest other (inr g) = g.all
+
 -- a witness, and a word more
 no_more_words : (file witness more : List ℕ)
     → ¬ Give (codes "run" ∷ file ∷ witness ∷ more ∷ []) (asked.File commands.Run)
 no_more_words file witness more give =
-    let call = give.2 in
+    let call = give.3 in
     let x = call.arguments in
     let run = is_run call.action x.step x.distinct x.optimize call.command in
-    let gives = subst (λ a. Gives (name_of a) (form_of a) (codes "run" ∷ file ∷ witness ∷ more ∷ []) x) run call.gives in
+    let all = no_limit (codes "run" ∷ file ∷ witness ∷ more ∷ []) give.0 call.rest (λ further is. let letter = ap (λ (words : List (List ℕ)). slice_index (slice_index_or words 0 []) 0) is in omega (arith, letter)) call.limited in
+    let gives = subst (λ a. Gives (name_of a) (form_of a) (codes "run" ∷ file ∷ witness ∷ more ∷ []) x) run (rw all at call.gives) in
     let settings = setting_words x.distinct x.optimize in
     let count = ap length gives.spelled in
     let parts = length-append x.paths (gives.steps ++ (x.further ++ settings)) in
@@ -63,10 +72,12 @@ no_more_words file witness more give =
 no_other_name : (file steps proof : List ℕ) (k : ℕ) (optimize : Bool)
     → ¬ Give (codes "refuted" ∷ file ∷ steps ∷ proof ∷ []) (asked.File (commands.Witness k optimize))
 no_other_name file steps proof k optimize give =
-    let call = give.2 in
+    let call = give.3 in
     let x = call.arguments in
+    let all = no_limit (codes "refuted" ∷ file ∷ steps ∷ proof ∷ []) give.0 call.rest (λ further is. let letter = ap (λ (words : List (List ℕ)). slice_index (slice_index_or words 0 []) 0) is in omega (arith, letter)) call.limited in
+    let gives = rw all at call.gives in
     let is = is_witness call.action x.step k x.distinct x.optimize optimize call.command in
-    let letter = ap (λ (words : List (List ℕ)). slice_index (slice_index_or words 0 []) 0) call.gives.spelled in
+    let letter = ap (λ (words : List (List ℕ)). slice_index (slice_index_or words 0 []) 0) gives.spelled in
     let first = ap (λ a. slice_index (name_of a) 0) is in
     omega (arith, letter, first)
 

@@ -13,16 +13,94 @@ use crate::acting::run_given;
 use crate::command::{Call, Command, FileCommand, PairCommand};
 use crate::pairs::{print_certified, print_equal};
 use crate::tool::CheckError;
+use aig_answers::AnswerError;
 use aig_base::Source;
+use aig_bounded_answers::BoundedAnswerError;
+use aig_certificates::CertificateError;
 use aig_command_line::{Counted, Discarded, Measure, Origin, Place, Reopens};
+use aig_refutation::RefutationError;
+use aig_solutions::SolutionError;
+use aig_witness::{ShowError, WitnessError};
 use std::alloc::Global;
 use std::marker::Brand;
 
-/// Whether two errors are the same.
-fn is_same(first: CheckError, second: CheckError) -> bool
+/// Whether two errors of a proof are the same.
+fn is_same_refutation(first: RefutationError, second: RefutationError) -> bool
     ensures { result ≡ true → first ≡ second }
 {
     first == second
+}
+
+/// Whether two errors of a solver's answer are the same.
+fn is_same_solution(first: SolutionError, second: SolutionError) -> bool
+    ensures { result ≡ true → first ≡ second }
+{
+    first == second
+}
+
+/// Whether two errors of a witness are the same.
+fn is_same_witness(first: WitnessError, second: WitnessError) -> bool
+    ensures { result ≡ true → first ≡ second }
+{
+    first == second
+}
+
+/// Whether two errors about two files are the same, and of a proof.
+fn is_same_certificate(first: CertificateError, second: CertificateError) -> bool
+    ensures { result ≡ true → first ≡ second }
+{
+    match (first, second) {
+        (
+            CertificateError::Query(AnswerError::Refutation(first)),
+            CertificateError::Query(AnswerError::Refutation(second)),
+        ) => is_same_refutation(first, second),
+        (
+            CertificateError::Window(AnswerError::Refutation(first)),
+            CertificateError::Window(AnswerError::Refutation(second)),
+        ) => is_same_refutation(first, second),
+        _ => false,
+    }
+}
+
+/// Whether two errors of a bounded check are the same, and of what is given beside the file.
+fn is_same_bounded(first: BoundedAnswerError, second: BoundedAnswerError) -> bool
+    ensures { result ≡ true → first ≡ second }
+{
+    match (first, second) {
+        (BoundedAnswerError::Refutation(first), BoundedAnswerError::Refutation(second)) => {
+            is_same_refutation(first, second)
+        }
+        (BoundedAnswerError::Solution(first), BoundedAnswerError::Solution(second)) => {
+            is_same_solution(first, second)
+        }
+        _ => false,
+    }
+}
+
+/// Whether two errors are the same, and of what is given beside a file.
+fn is_same(first: CheckError, second: CheckError) -> bool
+    ensures { result ≡ true → first ≡ second }
+{
+    match (first, second) {
+        (
+            CheckError::Answer(AnswerError::Refutation(first)),
+            CheckError::Answer(AnswerError::Refutation(second)),
+        ) => is_same_refutation(first, second),
+        (CheckError::Solution(first), CheckError::Solution(second)) => {
+            is_same_solution(first, second)
+        }
+        (
+            CheckError::Show(ShowError::Witness(first)),
+            CheckError::Show(ShowError::Witness(second)),
+        ) => is_same_witness(first, second),
+        (CheckError::Certificate(first), CheckError::Certificate(second)) => {
+            is_same_certificate(first, second)
+        }
+        (CheckError::Bounded(first), CheckError::Bounded(second)) => {
+            is_same_bounded(first, second)
+        }
+        _ => false,
+    }
 }
 
 /// How many bytes of a proof are read before the first step is.

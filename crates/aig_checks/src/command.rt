@@ -291,9 +291,10 @@ pub fn call_of(words: &[String]) -> Option<Call<'_>>
 
 /// The command that the words after the program's name give, or none where they are wrong.
 ///
-/// The words `--limit` and N may come first. The word after the command's name is FILE. The next is WITNESS of `run`, CERT of `certified` and `obligations`, and OTHER of `equal`. Then comes
-/// K, where the command has one, after the word `to` where it is on the steps up to K, and the words after that are PROOF of `refuted`,
-/// `inductive` and `equal`, SOLUTION of `witness`, and BASE and STEP of `certified`. It takes no memory.
+/// The words `--limit` and N may come first. The word after the command's name is FILE. The next is WITNESS of `run`, CERT of `certified`
+/// and `obligations`, and OTHER of `equal`. Then comes K, where the command has one, after the word `to` where it is on the steps up to K,
+/// and the words after that are PROOF of `refuted`, `inductive` and `equal`, SOLUTION of `witness`, and BASE and STEP of `certified`. It
+/// takes no memory.
 pub fn parse(words: &[String]) -> Option<Command>
     ensures exact { (c : Command) → (result ≡ Some c) ↔ Give (map string_bytes words.now) c }
     ensures small { IfSome result (λ c. step_of c < 2 ^ 32) }

@@ -46,7 +46,13 @@ fn tell_beside<T: Tells>(
     let Some(call) = call_of(words) else {
         return;
     };
-    tell_of_files("aigcheck", call.paths, regard_of(call.command), headers, errors);
+    tell_of_files(
+        "aigcheck",
+        call.paths,
+        regard_of(call.command),
+        headers,
+        errors,
+    );
 }
 
 /// Tells beside an answer what it isn't about, of each file with such a header.

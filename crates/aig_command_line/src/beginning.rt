@@ -53,6 +53,8 @@ impl Beginning {
     }
 
     /// The header of an AIGER file that begins so, where these bytes have all of it.
+    // It is never inlined: else its buffer is on the stack of whoever calls it from the start.
+    #[inline(never)]
     pub fn header(&self) -> Option<Header>
         ensures { IfSome result (HasHeader (beginning_of self.now)) }
     {

@@ -26,9 +26,9 @@ fn limit_first(words: &[String]) -> Option<(usize, &[String])>
     Some((limit, rest))
 }
 
-/// The limit on the nodes of a circuit that the words after the program's name give, and the words after those that give it: N of `--limit N`,
-/// from 1 to 2^31, if the first word is `--limit`, and else 2^24. None if that is the first word, and no such N comes after it. It
-/// takes no memory.
+/// The limit on the nodes of a circuit that the words after the program's name give, and the words after those that give it: N of
+/// `--limit N`, from 1 to 2^31, if the first word is `--limit`, and else 2^24. None if that is the first word, and no such N comes
+/// after it. It takes no memory.
 pub fn limited(words: &[String]) -> Option<(usize, &[String])>
     ensures some { IfSome result
         (λ p. IsLimited (map string_bytes words.now) p.0 (map string_bytes p.1.now)) }

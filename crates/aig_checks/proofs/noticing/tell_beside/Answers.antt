@@ -1,4 +1,4 @@
-use Rattle.aig_base.proofs.Words.{map, refl, string_bytes}
+use Rattle.aig_base.proofs.Words.{map, refl, rules, string_bytes}
 use Rattle.aig_checks.proofs.Calling.{one_call}
 use Rattle.aig_checks.proofs.noticing.tell_beside.Goals as goal
 
@@ -9,10 +9,10 @@ returns-then-not-is_answer g c = record {
   nothing = λ none. refl;
 }
 
-pub returns-in_default-call_of : goal.returns-in_default-call_of
-returns-in_default-call_of g c = record {
+pub returns-in_default : goal.returns-in_default
+returns-in_default g c = record {
   answered = λ is limit d paths further h.
-      elim (c.in_default-call_of.ensures.none limit d paths further h) [ ];
+      elim (c.in_default.ensures.none limit d paths further h) [ ];
   otherwise = λ not. refl;
   nothing = λ none. refl;
 }
