@@ -80,9 +80,10 @@ module _ (fixes : FixesValues) (old new : Circuit) (is : IsCircuit old) (folds :
               let held = (at_first e f es fs at to).0 first in
               (ap rest held.0, held.1))
           | inr other ↦ (
-              let old_other = sym (others_same e f es fs at to) ∙ other in
-              (ap (λ v. edge_value old.nodes (z k) e || v) old_other ∙ or-true (edge_value old.nodes (z k) e),
-              others_held joined e es at old_other))
+              let old_other = sym (others_same e f es fs at to) ∙ other in (
+                ap (λ v. edge_value old.nodes (z k) e || v) old_other ∙ or-true (edge_value old.nodes (z k) e),
+                others_held joined e es at old_other,
+              ))
         ]
 
     shows : (es fs : List AigEdge) → es ≡ old.properties.bads → fs ≡ new.properties.bads
