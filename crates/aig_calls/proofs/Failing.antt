@@ -23,7 +23,7 @@ use Rattle.aig_witness.specs.declared.error.WitnessError.TheVariants as witness
 use Rattle.aig_witness.specs.declared.fault.WitnessFault.TheVariants as shown
 use Rattle.aig_witness.specs.declared.file.ShowError.{ShowError}
 use Rattle.aig_witness.specs.declared.file.ShowError.TheVariants as shows
-use Rattle.aig_calls.specs.Statuses.{SaysFault, SaysSolution, is_solution_fault, is_witness_fault, solution_status}
+use Rattle.aig_calls.specs.Statuses.{SaysFault, SaysSolution, is_solution_fault, is_witness_fault, many_steps, solution_status}
 use Rattle.aig_calls.specs.Calls.{FailsBounded, FailsStep, IsFileWith, TellsFault, TellsSolution}
 use Rattle.aig_calls.specs.Parts.{SaysAnswer}
 use Rattle.aig_calls.proofs.Making.{whole}
@@ -97,63 +97,67 @@ bounded_unfailed text failed bads made solution.Stream high refuses = absurd
     (omega (arith, high))
 bounded_unfailed text failed bads made e high refuses = refuses
 
-module _ (k : ℕ) (optimize : Bool) (limit : ℕ) (bytes text : List ℕ) (status : ℕ) where
+module _ (Fails : File → SolutionError → Type 0) (limit : ℕ) (bytes : List ℕ) (status : ℕ) where
   -- a status below 60 says nothing of one
-  pub no_solution : (Fails : File → SolutionError → Type 0) → status < 60
-      → TellsSolution Fails limit bytes status
-  no_solution Fails low is = absurd (omega (arith, low, solution_high status is))
+  pub no_solution : status < 60 → TellsSolution Fails limit bytes status
+  no_solution low is = absurd (omega (arith, low, solution_high status is))
 
-  module _ (rest : Option (List ℕ)) (failed text_failed : Bool) where
-    -- that of the file's query
-    pub step_told : (e : CheckError) → IsErrorOf (Witness k optimize) e
-        → Judges (asked_verdict limit k) limit (Some bytes) rest failed (verdict_of e)
-        → TellsOfGiven (Witness k optimize) limit (Some bytes) rest (Some text) text_failed e
-        → SaysAnswer status e → TellsSolution (FailsStep k optimize text) limit bytes status
-    step_told (errors.Solution e) own judges tells says is =
-        let f = whole (asked_verdict limit k) limit bytes rest failed (IsAsked limit k)
-        (λ bs f asked. asked.0.0) (RefusesAnswer (Some text) text_failed k optimize) e judges
-        tells in
-        let high : 60 ≤ solution_status e = omega (arith, says, solution_high status is) in (
-          e,
-          says,
-          (
-            f.0,
-            f.1,
-            record {
-              query = f.2.query;
-              asks = f.2.asks;
-              refusal = step_unfailed (Some text) f.2.query.encoded k text_failed e high
-                  f.2.refusal;
-            },
-          ),
-        )
-    step_told (errors.Answer e) own judges tells says = no_solution _ says
-    step_told errors.Write own judges tells says = no_solution _ says
-    step_told e own judges tells says = absurd own
+  -- nor that of a K of 2^32 or more
+  pub none_solution : status ≡ many_steps → TellsSolution Fails limit bytes status
+  none_solution is = no_solution (omega (arith, is))
 
-    -- or of its question
-    pub bounded_told : (e : CheckError) → IsErrorOf (WitnessTo k optimize) e
-        → Judges bounded_verdict limit (Some bytes) rest failed (verdict_of e)
-        → TellsOfGiven (WitnessTo k optimize) limit (Some bytes) rest (Some text) text_failed e
-        → SaysAnswer status e → TellsSolution (FailsBounded k optimize text) limit bytes status
-    bounded_told (errors.Bounded (bounded.Solution e)) own judges tells says is =
-        let f = whole bounded_verdict limit bytes rest failed (IsAskedWithin limit)
-        (λ bs f asked. asked.0) (bounding.RefusesSolution (Some text) text_failed k optimize) e
-        judges tells in
-        let made = f.2 in
-        let high : 60 ≤ solution_status e = omega (arith, says, solution_high status is) in (
-          e,
-          says,
+module _ (k : ℕ) (optimize : Bool) (limit : ℕ) (bytes text : List ℕ) (status : ℕ)
+    (rest : Option (List ℕ)) (failed text_failed : Bool) where
+  -- that of the file's query
+  pub step_told : (e : CheckError) → IsErrorOf (Witness k optimize) e
+      → Judges (asked_verdict limit k) limit (Some bytes) rest failed (verdict_of e)
+      → TellsOfGiven (Witness k optimize) limit (Some bytes) rest (Some text) text_failed e
+      → SaysAnswer status e → TellsSolution (FailsStep k optimize text) limit bytes status
+  step_told (errors.Solution e) own judges tells says = λ is.
+      let f = whole (asked_verdict limit k) limit bytes rest failed (IsAsked limit k)
+      (λ bs f asked. asked.0.0) (RefusesAnswer (Some text) text_failed k optimize) e judges
+      tells in
+      let high : 60 ≤ solution_status e = omega (arith, says, solution_high status is) in (
+        e,
+        says,
+        (
+          f.0,
+          f.1,
+          record {
+            query = f.2.query;
+            asks = f.2.asks;
+            refusal = step_unfailed (Some text) f.2.query.encoded k text_failed e high
+                f.2.refusal;
+          },
+        ),
+      )
+  step_told (errors.Answer e) own judges tells says = no_solution (FailsStep k optimize text) limit bytes status says
+  step_told errors.Write own judges tells says = no_solution (FailsStep k optimize text) limit bytes status says
+  step_told e own judges tells says = absurd own
+
+  -- or of its question
+  pub bounded_told : (e : CheckError) → IsErrorOf (WitnessTo k optimize) e
+      → Judges bounded_verdict limit (Some bytes) rest failed (verdict_of e)
+      → TellsOfGiven (WitnessTo k optimize) limit (Some bytes) rest (Some text) text_failed e
+      → SaysAnswer status e → TellsSolution (FailsBounded k optimize text) limit bytes status
+  bounded_told (errors.Bounded (bounded.Solution e)) own judges tells says = λ is.
+      let f = whole bounded_verdict limit bytes rest failed (IsAskedWithin limit)
+      (λ bs f asked. asked.0) (bounding.RefusesSolution (Some text) text_failed k optimize) e
+      judges tells in
+      let made = f.2 in
+      let high : 60 ≤ solution_status e = omega (arith, says, solution_high status is) in (
+        e,
+        says,
+        (
+          f.0,
+          f.1,
           (
-            f.0,
-            f.1,
-            (
-              made.0,
-              made.1,
-              bounded_unfailed (Some text) text_failed _ made.0 e high made.2,
-            ),
+            made.0,
+            made.1,
+            bounded_unfailed (Some text) text_failed _ made.0 e high made.2,
           ),
-        )
-    bounded_told (errors.Bounded e) own judges tells says = no_solution _ says
-    bounded_told errors.Write own judges tells says = no_solution _ says
-    bounded_told e own judges tells says = absurd own
+        ),
+      )
+  bounded_told (errors.Bounded e) own judges tells says = no_solution (FailsBounded k optimize text) limit bytes status says
+  bounded_told errors.Write own judges tells says = no_solution (FailsBounded k optimize text) limit bytes status says
+  bounded_told e own judges tells says = absurd own

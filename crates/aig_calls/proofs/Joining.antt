@@ -17,7 +17,7 @@ use Rattle.aig_edits.specs.declared.pairing.Pairing.TheVariants.{Certificate}
 use Rattle.aig_runs.specs.declared.window.Window.TheVariants.{Plain}
 use Rattle.aig_format.specs.File.{File}
 use Rattle.aig_reader.specs.Verdicts.{Accepted, Verdict}
-use Rattle.aig_calls.specs.Statuses.{said_of_query, said_of_window}
+use Rattle.aig_calls.specs.Statuses.{many_steps, said_of_query, said_of_window}
 use Rattle.aig_calls.specs.Calls.{TellsJoint}
 use Rattle.aig_calls.specs.Parts.{SaysJoint, SaysObliged, SaysOnly}
 use Rattle.aig_calls.proofs.Pairing.{both_whole}
@@ -28,6 +28,13 @@ pub none_joint : (pairing : Pairing) (of : File → Verdict) (limit : ℕ) (byte
     (said : Option Verdict) → said ≡ None → TellsJoint pairing of limit bytes others said
 none_joint pairing of limit bytes others said is =
     subst (TellsJoint pairing of limit bytes others) (sym is) tt
+
+-- nor where K isn't below 2^32
+pub none_query : (pairing : Pairing) (of : File → Verdict) (limit : ℕ) (bytes others : List ℕ)
+    (status : ℕ) → status ≡ many_steps
+    → TellsJoint pairing of limit bytes others (said_of_query status)
+none_query pairing of limit bytes others status is =
+    none_joint pairing of limit bytes others _ (no_query status (omega (arith, is)))
 
 -- an error of a call whose errors have those about two files among them
 module _ {R S T E : Type 0} (wrap : CertificateError → E) (pairing : Pairing) (of : File → Verdict)

@@ -5,7 +5,7 @@ use Rattle.aig_commands.specs.declared.tool.TheConstants.{LIMIT}
 use Rattle.aig_format.specs.File.{File}
 use Rattle.aig_calls.specs.Statuses.{IsOfBoundedSolution}
 use Rattle.aig_calls.specs.Calls.{FailsBounded, TellsSolution}
-use Rattle.aig_calls.proofs.Failing.{no_solution}
+use Rattle.aig_calls.proofs.Failing.{no_solution, none_solution}
 use Rattle.aig_calls.proofs.Giving.{gives, gives_at, put_told}
 use Rattle.aig_calls.proofs.Shown.{none_large, put_large}
 use Rattle.aig_calls.proofs.bounded.print_witness_to.Goals as goal
@@ -36,12 +36,11 @@ returns-in-Ok-clause-refusal c =
     let text = c.args.solution.now in
     let Fails = FailsBounded k c.args.optimize text in
     put_told (TellsSolution Fails LIMIT bytes)
-    (λ n few. no_solution k c.args.optimize LIMIT bytes text n Fails (omega (arith, few)))
+    (λ n few. no_solution Fails LIMIT bytes n (omega (arith, few)))
     c.witness_text.result _ _ _ _ _ (rw c.in-Ok.ensures.ok.0 at c.witness_text.ensures.refusal)
     c.put.ensures
 
 pub returns-in-Err-clause-refusal : goal.returns-in-Err-clause-refusal
 returns-in-Err-clause-refusal c =
-    let k = c.args.k in
-    no_solution k c.args.optimize LIMIT c.args.file.now c.args.solution.now _
-    (FailsBounded k c.args.optimize c.args.solution.now) (omega (arith, c.in-Err.ensures.err.0))
+    none_solution (FailsBounded c.args.k c.args.optimize c.args.solution.now) LIMIT c.args.file.now _
+    c.in-Err.ensures.err.0

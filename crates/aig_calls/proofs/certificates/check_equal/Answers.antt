@@ -1,11 +1,9 @@
-use Rattle.std.proofs.Common.{arith}
 use Rattle.aig_commands.specs.declared.tool.TheConstants.{LIMIT}
 use Rattle.aig_edits.specs.declared.pairing.Pairing.TheVariants.{Miter}
 use Rattle.aig_join.specs.Files.{AreEqualMachinesAt, HaveSameFileCounts}
 use Rattle.aig_calls.specs.Statuses.{IsOfPairProof}
 use Rattle.aig_answers.specs.Answers.{asked_verdict}
-use Rattle.aig_calls.proofs.Joining.{none_joint}
-use Rattle.aig_calls.proofs.Saying.{no_query}
+use Rattle.aig_calls.proofs.Joining.{none_query}
 use Rattle.aig_calls.proofs.Pairing.{pair_at, pair_none}
 use Rattle.aig_calls.proofs.certificates.check_equal.Goals as goal
 
@@ -28,5 +26,5 @@ returns-in-Ok-clause-query c = rw c.in-Ok.ensures.ok.0 at c.refute_miter.ensures
 
 pub returns-in-Err-clause-query : goal.returns-in-Err-clause-query
 returns-in-Err-clause-query c =
-    none_joint Miter (asked_verdict LIMIT c.args.k) LIMIT c.args.file.now c.args.other.now _
-    (no_query _ (omega (arith, c.in-Err.ensures.err.0)))
+    none_query Miter (asked_verdict LIMIT c.args.k) LIMIT c.args.file.now c.args.other.now _
+    c.in-Err.ensures.err.0

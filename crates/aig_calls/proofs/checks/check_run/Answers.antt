@@ -4,7 +4,7 @@ use Rattle.aig_format.proofs.Words.{File, Accepts}
 use Rattle.aig_reader.specs.Verdicts.{Accepted}
 use Rattle.aig_witness.specs.Files.{ShowsNext, verdict_of}
 use Rattle.aig_calls.specs.Calls.{shown_at}
-use Rattle.aig_calls.specs.Statuses.{IsOfWitness}
+use Rattle.aig_calls.specs.Statuses.{IsOfWitness, done}
 use Rattle.aig_calls.proofs.Failing.{fault_told, no_fault}
 use Rattle.aig_calls.proofs.Making.{checked, not_checked}
 use Rattle.aig_calls.proofs.checks.check_run.Goals as goal
@@ -29,7 +29,7 @@ returns-in-Err-clause-shows c =
 
 pub returns-in-Ok-clause-refusal : goal.returns-in-Ok-clause-refusal
 returns-in-Ok-clause-refusal c =
-    no_fault LIMIT c.args.file.now c.args.witness.now _ (omega arith)
+    no_fault LIMIT c.args.file.now c.args.witness.now done (omega arith)
 
 pub returns-in-Err-clause-refusal : goal.returns-in-Err-clause-refusal
 returns-in-Err-clause-refusal c =
