@@ -3,13 +3,12 @@ use Rattle.aig_base.proofs.Words.{◌≡◌, ℕ, ◌<◌, Bool, List, Option, N
 use Rattle.aig_answers.specs.Answers as answering
 use Rattle.aig_answers.specs.Answers.{asked_verdict, window_verdict}
 use Rattle.aig_answers.specs.declared.error.AnswerError.{AnswerError}
-use Rattle.aig_certificates.specs.Certificates.{Equals, IsOwn, IsTold, first_verdict, second_verdict}
+use Rattle.aig_certificates.specs.Certificates.{Equals, IsOwn, IsTold, Obliges, first_verdict, second_verdict}
 use Rattle.aig_certificates.specs.declared.error.CertificateError.{CertificateError}
 use Rattle.aig_certificates.specs.declared.error.CertificateError.TheVariants as errors
 use Rattle.aig_edits.specs.Pairs.{ReadsPair}
-use Rattle.aig_checks.specs.Pairs.{IsErrorOfPair, TellsOfPair, other_verdict_of}
+use Rattle.aig_checks.specs.Pairs.{other_verdict_of}
 use Rattle.aig_checks.specs.Running.{verdict_of}
-use Rattle.aig_checks.specs.declared.command.PairCommand.TheVariants.{Obligations}
 use Rattle.aig_checks.specs.declared.tool.CheckError.{CheckError}
 use Rattle.aig_checks.specs.declared.tool.CheckError.TheVariants as checks
 use Rattle.aig_edits.specs.declared.pairing.Pairing.{Pairing}
@@ -36,6 +35,13 @@ pub none_query : (pairing : Pairing) (of : File → Verdict) (limit : ℕ) (byte
 none_query pairing of limit bytes others status is =
     none_joint pairing of limit bytes others _ (no_query status (omega (arith, is)))
 
+-- the error is of files that are taken, and the text of their circuit has this one
+abbrev IsOfJoint : {T E : Type 0} → Pairing → (File → Verdict) → ℕ
+    → (File → File → Result T E → Type 0) → (E → Verdict) → (E → Verdict) → E → AnswerError → Type 0
+IsOfJoint pairing of limit Means first second x e =
+    (first x ≡ Accepted) × (second x ≡ Accepted)
+    × ((f g : File) → Means f g (Err x) → IsTold pairing of limit f g e)
+
 -- an error of a call whose errors have those about two files among them
 module _ {R S T E : Type 0} (wrap : CertificateError → E) (pairing : Pairing) (of : File → Verdict)
     {left : R → Option (List ℕ)} {failed : R → Bool} {left_of : S → Option (List ℕ)}
@@ -43,18 +49,11 @@ module _ {R S T E : Type 0} (wrap : CertificateError → E) (pairing : Pairing) 
     {first second : E → Verdict} {Own : E → Type 0} {r rest : R} {s other : S}
     (bytes others : List ℕ) (is : left r ≡ Some bytes) (also : left_of s ≡ Some others)
     (status : ℕ) where
-  -- the call has this error
-  abbrev Told : CertificateError → Type 0
-  Told e = ReadsPair left failed left_of failed_of limit Means first second Own r s (Err (wrap e))
-      rest other
-
-  -- it is of files that are taken, and the text of their circuit has it
-  abbrev IsOfJoint : CertificateError → AnswerError → Type 0
-  IsOfJoint e asked = (first (wrap e) ≡ Accepted) × (second (wrap e) ≡ Accepted)
-      × ((f g : File) → Means f g (Err (wrap e)) → IsTold pairing of limit f g asked)
-
   verdict_told : (e : CertificateError) (asked : AnswerError) (said : Option Verdict)
-      → IsOfJoint e asked → Told e → SaysOnly said (answering.verdict_of asked)
+      → IsOfJoint pairing of limit Means first second (wrap e) asked
+      → ReadsPair left failed left_of failed_of limit Means first second Own r s (Err (wrap e)) rest
+      other
+      → SaysOnly said (answering.verdict_of asked)
       → TellsJoint pairing of limit bytes others said
   verdict_told e asked None joint told says = tt
   verdict_told e asked (Some v) joint told says =
@@ -70,8 +69,12 @@ module _ {R S T E : Type 0} (wrap : CertificateError → E) (pairing : Pairing) 
       )
 
   -- what is said of its query
-  pub joint_query : ((e : AnswerError) → IsOfJoint (errors.Query e) e) → (e : CertificateError)
-      → Told e → SaysJoint status e
+  pub joint_query : ((e : AnswerError)
+      → IsOfJoint pairing of limit Means first second (wrap (errors.Query e)) e)
+      → (e : CertificateError)
+      → ReadsPair left failed left_of failed_of limit Means first second Own r s (Err (wrap e)) rest
+      other
+      → SaysJoint status e
       → TellsJoint pairing of limit bytes others (said_of_query status)
   joint_query joint (errors.Pair e) told says =
       none_joint pairing of limit bytes others _ (no_query status says)
@@ -83,8 +86,12 @@ module _ {R S T E : Type 0} (wrap : CertificateError → E) (pairing : Pairing) 
       none_joint pairing of limit bytes others _ (window_no_query status high)
 
   -- and of its window
-  pub joint_window : ((e : AnswerError) → IsOfJoint (errors.Window e) e) → (e : CertificateError)
-      → Told e → SaysJoint status e
+  pub joint_window : ((e : AnswerError)
+      → IsOfJoint pairing of limit Means first second (wrap (errors.Window e)) e)
+      → (e : CertificateError)
+      → ReadsPair left failed left_of failed_of limit Means first second Own r s (Err (wrap e)) rest
+      other
+      → SaysJoint status e
       → TellsJoint pairing of limit bytes others (said_of_window status)
   joint_window joint (errors.Pair e) told says =
       none_joint pairing of limit bytes others _ (no_window status (omega (arith, says)))
@@ -108,31 +115,33 @@ module _ {R S : Type 0} {left : R → Option (List ℕ)} {failed : R → Bool}
       (both_whole told bytes others is also refl refl).2.2
 
 -- clauses about the circuit of two files, or an error of them
-module _ {R S W : Type 0} {left : R → Option (List ℕ)} {failed : R → Bool}
-    {left_of : S → Option (List ℕ)} {failed_of : S → Bool} {held : W → Option (List ℕ)}
-    {write_failed : W → Bool} {optimize : Bool} {limit : ℕ} {r rest : R} {s other : S} {w made : W}
-    (bytes others : List ℕ) (is : left r ≡ Some bytes) (also : left_of s ≡ Some others)
-    (status : ℕ) where
-  -- the call that prints them has this error
-  abbrev Refused : CheckError → Type 0
-  Refused e = ReadsPair left failed left_of failed_of limit
-      (TellsOfPair held write_failed (Obligations optimize) limit w made) verdict_of
-      other_verdict_of (IsErrorOfPair (Obligations optimize)) r s (Err e) rest other
-
-  pub obliged_query : (e : CheckError) → Refused e → SaysObliged status e
+module _ {R S : Type 0} {left : R → Option (List ℕ)} {failed : R → Bool}
+    {left_of : S → Option (List ℕ)} {failed_of : S → Bool} {limit : ℕ}
+    {Means : File → File → Result (Unit {0}) CheckError → Type 0} {Own : CheckError → Type 0}
+    {r rest : R} {s other : S} (optimize : Bool) (bytes others : List ℕ)
+    (is : left r ≡ Some bytes) (also : left_of s ≡ Some others) (status : ℕ)
+    (means : (x : CertificateError) (f g : File) → Means f g (Err (checks.Certificate x))
+    → Obliges limit optimize f g (Err x)) where
+  pub obliged_query : (e : CheckError)
+      → ReadsPair left failed left_of failed_of limit Means verdict_of other_verdict_of Own r s
+      (Err e) rest other
+      → SaysObliged status e
       → TellsJoint Certificate (asked_verdict limit 0) limit bytes others (said_of_query status)
   obliged_query (checks.Certificate e) told says =
       joint_query checks.Certificate Certificate (asked_verdict limit 0) bytes others is also status
-      (λ x. (refl, refl, λ f g tells. tells)) e told says
+      (λ x. (refl, refl, means (errors.Query x))) e told says
   obliged_query e told says =
       none_joint Certificate (asked_verdict limit 0) limit bytes others _ (no_query status says)
 
-  pub obliged_window : (e : CheckError) → Refused e → SaysObliged status e
+  pub obliged_window : (e : CheckError)
+      → ReadsPair left failed left_of failed_of limit Means verdict_of other_verdict_of Own r s
+      (Err e) rest other
+      → SaysObliged status e
       → TellsJoint Certificate (window_verdict Plain limit 0) limit bytes others
       (said_of_window status)
   obliged_window (checks.Certificate e) told says =
       joint_window checks.Certificate Certificate (window_verdict Plain limit 0) bytes others is
-      also status (λ x. (refl, refl, λ f g tells. tells)) e told says
+      also status (λ x. (refl, refl, means (errors.Window x))) e told says
   obliged_window e told says =
       none_joint Certificate (window_verdict Plain limit 0) limit bytes others _
       (no_window status (omega (arith, says)))

@@ -1,7 +1,7 @@
 -- Part of what is promised.
 -- What a call does, by the bytes that it is given: what it leaves in its caller's memory, and what
 -- its status says.
-use Rattle.std.specs.Prelude.{◌≡◌, ℕ, ◌<◌, ◌≤◌, ◌++◌, if◌then◌else◌, Bool, false, IsTrue, List, length, drop, Some, IfSome, Result, Ok, Err}
+use Rattle.std.specs.Prelude.{◌≡◌, ℕ, ◌<◌, ◌≤◌, ◌++◌, if◌then◌else◌, Bool, false, IsTrue, List, length, drop, Option, Some, IfSome, Result, Ok, Err}
 use Rattle.aig_runs.specs.declared.window.Window.{Window}
 use Rattle.aig_runs.specs.declared.window.Window.TheVariants.{Distinct, Plain}
 use Rattle.aig_circuit.specs.Circuit.{Circuit}

@@ -55,12 +55,12 @@ returns-in-Err-clause-makes c =
 
 pub returns-in-Err-clause-query : goal.returns-in-Err-clause-query
 returns-in-Err-clause-query c =
-    obliged_query c.args.file.now c.args.certificate.now (rw c.new-first.ensures.reader)
-    (rw c.new-second.ensures.reader) c.of_obligations.result c.in-Err.error c.in-Err.ensures.reads
-    c.of_obligations.ensures.joint
+    obliged_query c.args.optimize c.args.file.now c.args.certificate.now
+    (rw c.new-first.ensures.reader) (rw c.new-second.ensures.reader) c.of_obligations.result
+    (λ x f g told. told) c.in-Err.error c.in-Err.ensures.reads c.of_obligations.ensures.joint
 
 pub returns-in-Err-clause-window : goal.returns-in-Err-clause-window
 returns-in-Err-clause-window c =
-    obliged_window c.args.file.now c.args.certificate.now (rw c.new-first.ensures.reader)
-    (rw c.new-second.ensures.reader) c.of_obligations.result c.in-Err.error c.in-Err.ensures.reads
-    c.of_obligations.ensures.joint
+    obliged_window c.args.optimize c.args.file.now c.args.certificate.now
+    (rw c.new-first.ensures.reader) (rw c.new-second.ensures.reader) c.of_obligations.result
+    (λ x f g told. told) c.in-Err.error c.in-Err.ensures.reads c.of_obligations.ensures.joint

@@ -12,5 +12,6 @@ returns-in-Query-clause-joint c =
 
 pub returns-in-Window-clause-joint : goal.returns-in-Window-clause-joint
 returns-in-Window-clause-joint c =
-    rw (c.in-Window.is, c.flagged.ensures) (window_status c.in-Window.error c.of_answer.result
-    c.of_answer.ensures.said c.of_answer.ensures.few)
+    rw (c.in-Window.is, c.flagged-in-Window.ensures) (window_status c.in-Window.error
+    c.of_answer-in-Window.result c.of_answer-in-Window.ensures.said
+    c.of_answer-in-Window.ensures.few)
