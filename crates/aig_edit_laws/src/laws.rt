@@ -1,6 +1,6 @@
 //! Laws of what an edited circuit's runs show.
 
-ghost use Rattle.std.specs.Prelude.{ℕ, ◌≤◌, ◌↔◌, ◌⊎◌, length};
+ghost use Rattle.std.specs.Prelude.{◌≡◌, ℕ, ◌≤◌, ◌↔◌, ◌⊎◌, [], length};
 ghost use Rattle.aig_circuit.specs.Circuit.{Circuit, IsCircuit};
 ghost use Rattle.aig_change.specs.Changes.{CompressesBads, FoldsConstraints};
 ghost use Rattle.aig_change.specs.Merge.{merged};
@@ -20,12 +20,13 @@ use aig_format_laws::{files_are_circuits, joins_runs};
 use aig_runs::circuit_witnesses_are_file_witnesses;
 
 /// Law: a circuit whose bad edges became one has a witness at each step exactly where it had one before; and so has a circuit
-/// with at most one bad edge whose constraints were joined to that.
+/// whose constraints were joined to its first bad edge, where it had no constraint, or at most one bad edge.
 pub fn changed_circuits_keep_witnesses()
     ensures compressed { (old new : Circuit) → IsCircuit old → CompressesBads old new
         → HaveSameWitnesses old new }
     ensures folded { (old new : Circuit) → IsCircuit old → FoldsConstraints old new
-        → length old.properties.bads ≤ 1 → HaveSameWitnesses old new }
+        → (old.properties.constraints ≡ []) ⊎ (length old.properties.bads ≤ 1)
+        → HaveSameWitnesses old new }
 {
     leaves_fix_values();
 }

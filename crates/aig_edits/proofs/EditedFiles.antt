@@ -1,5 +1,5 @@
 -- What is printed of the circuit of a file is printed of the file.
-use Rattle.aig_base.proofs.Words.{◌≡◌, ℕ, ◌<◌, Bool, List, [], ◌∷◌, Option, Result, Ok, Err, map, refl, sym, ap, subst, IfErr, length-map}
+use Rattle.aig_base.proofs.Words.{◌≡◌, ℕ, ◌<◌, ◌≤◌, Bool, List, [], ◌∷◌, Option, Result, Ok, Err, map, refl, sym, ap, subst, inl, inr, IfErr, length-map}
 use Rattle.aig_circuit.specs.Circuit.{Circuit}
 use Rattle.aig_format.proofs.Words.{IsReadAgain, circuit_of, edge_of, file_of, File, Accepts, Fits}
 use Rattle.aig_format.specs.declared.FileKind.TheVariants.{Text}
@@ -20,12 +20,18 @@ none_back f (e ∷ es) is = cc
 
 -- the edit can be made of the file where it can of its circuit
 can_back : (edit : Edit) (f : File) → CanEditCircuit edit (circuit_of f) → CanEdit edit f
+can_back edits.Move f (inl none) = inl (none_back f f.properties.constraints none)
+can_back edits.Move f (inr few) = inr (subst (λ count. count ≤ 1) (length-map f.properties.bads
+    (edge_of f)) few)
 can_back edits.Bads f can = none_back f f.properties.bads can
 can_back (edits.Cone n) f can = subst (λ count. n < count) (length-map f.properties.outputs (edge_of
     f)) can
 can_back edit f can = can
 
-can_forth : (edit : Edit) (f : File) → CanEdit edit f → CanEditCircuit edit (circuit_of f)
+pub can_forth : (edit : Edit) (f : File) → CanEdit edit f → CanEditCircuit edit (circuit_of f)
+can_forth edits.Move f (inl none) = inl (ap (map (edge_of f)) none)
+can_forth edits.Move f (inr few) = inr (subst (λ count. count ≤ 1) (sym (length-map
+    f.properties.bads (edge_of f))) few)
 can_forth edits.Bads f can = ap (map (edge_of f)) can
 can_forth (edits.Cone n) f can = subst (λ count. n < count) (sym (length-map f.properties.outputs
     (edge_of f))) can
@@ -33,7 +39,7 @@ can_forth edit f can = can
 
 module _ {W : Type 0} (held : W → Option (List ℕ)) (failed : W → Bool) (edit : Edit) (limit : ℕ) (w
     made : W) where
-  module _ (f : File) (shows : (m : Circuit) → IsEdited edit (circuit_of f) m → IsReadAgain m
+  module _ (f : File) (shows : (m : Circuit) → CanEdit edit f → IsEdited edit (circuit_of f) m → IsReadAgain m
       (file_of Text m) → EditShows edit f (file_of Text m)) where
     of_circuit : (r : Result (Unit {0}) EditError) → PrintsCircuit held failed edit limit
         (circuit_of f) w r made
@@ -48,7 +54,7 @@ module _ {W : Type 0} (held : W → Option (List ℕ)) (failed : W → Bool) (ed
           small = told.0;
         };
         again = told.1;
-        shows = shows m edited.2 told.1;
+        shows = shows m (can_back edit f edited.0) edited.2 told.1;
       },
       told.2,
       told.3,
@@ -73,6 +79,7 @@ module _ {W : Type 0} (held : W → Option (List ℕ)) (failed : W → Bool) (ed
         told.0,
       ),
     )
+    of_circuit (Err errors.ManyBads) ((is, not), same) = (is, λ can. not (can_forth edit f can))
     of_circuit (Err errors.HasBads) ((is, not), same) = (is, λ can. not (can_forth edit f can))
     of_circuit (Err errors.NoOutput) ((n, is, not), same) = (
       n,
@@ -120,7 +127,7 @@ module _ {R W : Type 0} (left : R → Option (List ℕ)) (read_failed : R → Bo
     (List ℕ)) (failed : W → Bool) (edit : Edit) (limit : ℕ) (r rest : R) where
   -- it is taken, and the edit of its circuit is printed
   pub reads_edit : (w made : W) (c : Circuit) (result : Result (Unit {0}) EditError)
-      → ((edit : Edit) (f : File) (limit : ℕ) (m : Circuit) → Fits f limit → IsEdited edit
+      → ((edit : Edit) (f : File) (limit : ℕ) (m : Circuit) → Fits f limit → CanEdit edit f → IsEdited edit
       (circuit_of f) m → IsReadAgain m (file_of Text m) → EditShows edit f (file_of Text m))
       → Judges (λ _. Accepted) limit (left r) (left rest) (read_failed rest) Accepted
       → IsReadAs (λ bytes. Accepts bytes limit) IsFileCircuit (left r) (left rest) c

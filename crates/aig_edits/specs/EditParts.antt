@@ -1,6 +1,6 @@
 -- Serves private clauses alone.
 -- What the parts of an edit do.
-use Rattle.std.specs.Prelude.{◌≡◌, ℕ, ◌<◌, Bool, false, List, [], length, Option, Result, Ok, Err, IfErr, IfOk}
+use Rattle.std.specs.Prelude.{◌≡◌, ℕ, ◌<◌, ◌≤◌, ◌⊎◌, Bool, false, List, [], length, Option, Result, Ok, Err, IfErr, IfOk}
 use Rattle.std.specs.Io.KnownBytes.{Appends}
 use Rattle.aig_circuit.specs.Circuit.{Circuit}
 use Rattle.aig_edit_laws.specs.Plain.{IsPlain}
@@ -16,8 +16,10 @@ use Rattle.aig_edits.specs.Edits.{AreStepsWithin, IsEdited}
 
 -- ---- the circuit
 
--- outputs become bad edges only where there are none, and a cone is that of an output
+-- Constraints are joined where there are none, or at most one bad edge; outputs become bad edges
+-- only where there are none; and a cone is that of an output.
 abbrev pub CanEditCircuit : Edit → Circuit → Type 0
+CanEditCircuit edits.Move c = (c.properties.constraints ≡ []) ⊎ (length c.properties.bads ≤ 1)
 CanEditCircuit edits.Bads c = c.properties.bads ≡ []
 CanEditCircuit (edits.Cone n) c = n < length c.properties.outputs
 CanEditCircuit edit c = Unit {0}
@@ -31,6 +33,7 @@ pub record Yields (edit : Edit) (c : Circuit) (result : Result Circuit EditError
 abbrev pub Edits : Edit → ℕ → Circuit → Result Circuit EditError → Type 0
 Edits edit limit c (Ok m) =
     CanEditCircuit edit c × AreStepsWithin edit limit c × IsEdited edit c m × IsPlain m
+Edits edit limit c (Err errors.ManyBads) = (edit ≡ edits.Move) × (¬ CanEditCircuit edit c)
 Edits edit limit c (Err errors.HasBads) = (edit ≡ edits.Bads) × (¬ CanEditCircuit edit c)
 Edits edit limit c (Err errors.NoOutput) =
     (n : ℕ) × (edit ≡ edits.Cone n) × (¬ CanEditCircuit edit c)

@@ -1,6 +1,6 @@
 -- Part of what is promised.
 -- What is made of one file: the circuit that an edit makes of its circuit, and that circuit's text.
-use Rattle.std.specs.Prelude.{◌≡◌, ◌≢◌, ℕ, ◌<◌, ◌≤◌, ◌↔◌, Bool, false, List, [], length, Option, Result, Ok, Err, IfErr}
+use Rattle.std.specs.Prelude.{◌≡◌, ◌≢◌, ℕ, ◌<◌, ◌≤◌, ◌↔◌, ◌⊎◌, Bool, false, List, [], length, Option, Result, Ok, Err, IfErr}
 use Rattle.std.specs.Io.KnownBytes.{Appends}
 use Rattle.aig.specs.declared.aiger.WriteError.{WriteError}
 use Rattle.aig.specs.declared.aiger.WriteError.TheVariants as write
@@ -29,8 +29,10 @@ use Rattle.aig_edits.specs.declared.edit_error.EditError.TheVariants as errors
 
 -- ---- the circuit
 
--- outputs become bad literals only where there are none, and a cone is that of an output
+-- Constraints are joined where there are none, or at most one bad literal; outputs become bad
+-- literals only where there are none; and a cone is that of an output.
 abbrev pub CanEdit : Edit → File → Type 0
+CanEdit edits.Move f = (f.properties.constraints ≡ []) ⊎ (length f.properties.bads ≤ 1)
 CanEdit edits.Bads f = f.properties.bads ≡ []
 CanEdit (edits.Cone n) f = n < length f.properties.outputs
 CanEdit edit f = Unit {0}
@@ -60,7 +62,7 @@ abbrev pub EditShows : Edit → File → File → Type 0
 EditShows edits.Refine f h = AreAsSafe f h
 EditShows edits.Reencode f h = AreAsSafe f h
 EditShows (edits.Unroll k) f h = HasWitness h 0 ↔ HasBadBy f k
-EditShows edits.Move f h = length f.properties.bads ≤ 1 → AreAsSafe f h
+EditShows edits.Move f h = AreAsSafe f h
 EditShows edits.Compress f h = AreAsSafe f h
 EditShows edits.Bads f h = (k : ℕ) → HasWitness h k ↔ HasOutput f k
 EditShows (edits.Cone n) f h = (k : ℕ) → HasOutput h k ↔ HasOutputAt f n k
@@ -97,6 +99,7 @@ IsEditOwn e = Unit {0}
 
 -- why the edit isn't written
 abbrev pub IsEditRefusal : Edit → ℕ → File → EditError → Type 0
+IsEditRefusal edit limit f errors.ManyBads = (edit ≡ edits.Move) × (¬ CanEdit edit f)
 IsEditRefusal edit limit f errors.HasBads = (edit ≡ edits.Bads) × (¬ CanEdit edit f)
 IsEditRefusal edit limit f errors.NoOutput = (n : ℕ) × (edit ≡ edits.Cone n) × (¬ CanEdit edit f)
 IsEditRefusal edit limit f errors.PassesLimit =

@@ -9,7 +9,8 @@ pub enum Edit {
     Reencode,
     /// The circuit with so many further steps (`Aig::unroll_to`).
     Unroll(usize),
-    /// The circuit with its constraints joined to the first bad edge and the first output (`Aig::aig_move`).
+    /// The circuit with its constraints joined to its bad edge and the first output (`Aig::aig_move`). Further outputs stay
+    /// without them.
     Move,
     /// The circuit with its bad edges as one (`Aig::compress_property`).
     Compress,

@@ -17,6 +17,9 @@ pub enum EditError {
     /// The file is refused.
     #[error("{0}")]
     Read(ReadError),
+    /// The file has constraints and more than one bad literal, where the constraints would be joined to the first one alone.
+    #[error("constraints and several bad state properties (aigedit compress makes these one)")]
+    ManyBads,
     /// The file has bad literals, where its outputs would become them.
     #[error("has bad states already")]
     HasBads,

@@ -10,7 +10,7 @@ ghost use Rattle.aig_format.specs.Fits.{Fits};
 ghost use Rattle.aig_format.specs.Writable.{IsWritable};
 ghost use Rattle.aig_edits.specs.declared.edit.Edit.{Edit};
 ghost use Rattle.aig_edit_laws.specs.Reduction.{HaveSameWitnesses};
-ghost use Rattle.aig_edits.specs.Edits.{AreAsSafe, EditShows, IsEditOwn, IsEditUnwritten, IsEdited, PrintsEdit, ReadsFile, edit_verdict};
+ghost use Rattle.aig_edits.specs.Edits.{AreAsSafe, CanEdit, EditShows, IsEditOwn, IsEditUnwritten, IsEdited, PrintsEdit, ReadsFile, edit_verdict};
 ghost use Rattle.aig_edits.specs.EditParts.{PrintsCircuit, WritesText};
 
 use crate::edit::Edit;
@@ -41,7 +41,7 @@ pub(crate) fn same_witnesses_are_as_safe()
 /// Law: the machine of a file that is read again as an edited circuit shows what the edit says.
 fn edited_files_show()
     ensures { (edit : Edit) (f : File) (limit : ℕ) (m : Circuit) → Fits f limit
-        → IsEdited edit (circuit_of f) m → IsReadAgain m (file_of Text m)
+        → CanEdit edit f → IsEdited edit (circuit_of f) m → IsReadAgain m (file_of Text m)
         → EditShows edit f (file_of Text m) }
 {
     files_are_circuits();
@@ -93,6 +93,7 @@ fn print_edited<W: Sink>(
 /// After `Write` a beginning of the text was written. Every other refusal leaves the writer as it was.
 ///
 /// - `Read`: the file is refused.
+/// - `ManyBads`: constraints would be joined to the first bad literal, and the file has a constraint and more than one bad literal.
 /// - `HasBads`: outputs would become bad literals, and the file has some.
 /// - `NoOutput`: the file has no output of the number whose cone is asked for.
 /// - `PassesLimit`: `n + k * (n - 1 - l)` passes `limit`, for `k` further steps of the `n` nodes and `l` latches of the circuit.

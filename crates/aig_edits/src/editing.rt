@@ -5,7 +5,7 @@ ghost use Rattle.aig_circuit.specs.Circuit.{Circuit};
 ghost use Rattle.aig_edit_laws.specs.Plain.{IsPlain};
 ghost use Rattle.aig_format.specs.Writable.{IsWritable};
 ghost use Rattle.aig_unroll.specs.Places.{unrolled_size};
-ghost use Rattle.aig_edits.specs.EditParts.{Edits, Yields};
+ghost use Rattle.aig_edits.specs.EditParts.{CanEditCircuit, Edits, Yields};
 ghost use Rattle.aig_edits.specs.declared.edit.Edit.TheVariants as edits;
 
 use crate::edit::Edit;
@@ -101,6 +101,14 @@ fn is_within(circuit: &Aig, k: usize, limit: usize) -> bool
     aig_unroll::is_size_within(circuit.num_nodes(), circuit.latchs().len(), k, limit)
 }
 
+/// Whether no bad edge is left without the constraints that are joined to the first one: there is none of these, or at most one
+/// bad edge.
+fn is_joined(circuit: &Aig) -> bool
+    ensures { IsTrue result ↔ CanEditCircuit edits.Move circuit.now }
+{
+    circuit.constraints().is_empty() || circuit.bads().len() <= 1
+}
+
 /// What an edit makes of a circuit.
 pub(crate) fn edited(edit: &Edit, circuit: Aig, limit: usize) -> Result<Aig, EditError>
     requires { IsWritable circuit }
@@ -111,6 +119,7 @@ pub(crate) fn edited(edit: &Edit, circuit: Aig, limit: usize) -> Result<Aig, Edi
         Edit::Reencode => reencoded(&circuit),
         Edit::Unroll(k) if !is_within(&circuit, *k, limit) => Err(EditError::PassesLimit),
         Edit::Unroll(k) => unrolled(&circuit, *k),
+        Edit::Move if !is_joined(&circuit) => Err(EditError::ManyBads),
         Edit::Move => moved(&circuit),
         Edit::Compress => compressed(circuit),
         Edit::Bads if !circuit.bads().is_empty() => Err(EditError::HasBads),
