@@ -74,7 +74,8 @@ class Design:
         bits = {(name, i): "x" for name, width in self.signals(part).items() for i in reversed(range(width))}
         for name, place, bit, digits in VALUE.findall(printed):
             value, low = int(bit or digits, 16), int(place or 0)
-            bits.update({(name, i): str(value >> i - low & 1) for i in range(low, len(bits)) if (name, i) in bits and (i == low or not place)})
+            places = range(low, low + 1 if place else len(bits))
+            bits.update({(name, i): str(value >> i - low & 1) for i in places if (name, i) in bits})
         return "".join(bits.values())
 
     def first_bad(self, folder, held=None):
@@ -98,7 +99,7 @@ class Design:
         status, printed, said = harness.run([PROVE, *words], cwd=folder)
         said, lines = said.decode(), printed.decode().splitlines()
         if "refused" in self.parts:
-            return [] if status == 1 and "Traceback" not in said else [f"it isn't refused: {status} {lines} {said}"]
+            return [] if status == 1 and said.startswith("aigprove: ") else [f"it isn't refused: {status} {lines} {said}"]
         wanted, given = self.first_bad(folder), answered(status, lines) or f"status {status}: {said}"
         if wanted != given:
             return [f"Icarus: {wanted}; aigprove: {given}"]
