@@ -32,9 +32,11 @@ NETS = [
     ),
 ]
 READ = ("B", 1, "wire # = m[{}];", "wire # = m[{}];")
-PARTS = """module differ(input a, input b, output y); assign y = a ^ b; endmodule
-module both(input a, input b, output y); assign y = a & b; endmodule
-"""
+# Modules that stand in a design where it has instances of them.
+PARTS = {
+    "differ": "module differ(input a, input b, output y); assign y = a ^ b; endmodule\n",
+    "both": "module both(input a, input b, output y); assign y = a & b; endmodule\n",
+}
 # What initial values say of the first state, by the width of a register, and for a memory.
 INITIAL = {
     1: {"": "1", " = 1'b0": "!#", " = 1'b1": "#", " = 1'bx": "1"},
@@ -155,4 +157,5 @@ def random_design(rng):
     made = Maker(rng)
     text = "\n  ".join(made.lines) + "\nendmodule\n"
     text = re.sub(r"\by\d+\b", "2'bxx", re.sub(r"\bx\d+\b", "1'bx", text))
-    return PARTS + text, {part: JOINED[part].join(lines) for part, lines in made.parts.items()}
+    used = "".join(part for name, part in PARTS.items() if f" {name} " in text)
+    return used + text, {part: JOINED[part].join(lines) for part, lines in made.parts.items()}

@@ -95,12 +95,12 @@ class Design:
     def faults(self, folder):
         """What is wrong of aigprove's answer about the design."""
         (folder / "design.v").write_text(self.text)
-        words = ["--engine", "steps,windows", "--jobs", "1", "--timeout", "60", "--witness", "witness", "design.v"]
-        status, printed, said = harness.run([PROVE, *words], cwd=folder)
-        said, lines = said.decode(), printed.decode().splitlines()
-        if "refused" in self.parts:
-            return [] if status == 1 and said.startswith("aigprove: ") else [f"it isn't refused: {status} {lines} {said}"]
-        wanted, given = self.first_bad(folder), answered(status, lines) or f"status {status}: {said}"
+        wanted = "refused" if "refused" in self.parts else self.first_bad(folder)
+        # Where there is no bad step to be the first, there are engines that find that out sooner.
+        words = ["--engine", "steps,windows,pdr" if wanted == "never" else "steps,windows", "--jobs", "1", "--timeout", "60"]
+        status, printed, said = harness.run([PROVE, *words, "--witness", "witness", "design.v"], cwd=folder)
+        lines, said = printed.decode().splitlines(), said.decode()
+        given = answered(status, lines, said)
         if wanted != given:
             return [f"Icarus: {wanted}; aigprove: {given}"]
         return list(self.run_faults(folder, wanted, lines)) if status == 10 else []
@@ -115,12 +115,14 @@ class Design:
             yield f"{held} is no run of the twin to {wanted}, where Icarus says {found}"
 
 
-def answered(status, lines):
-    """The first bad step that aigprove prints, or that there is none; None where it answers neither."""
+def answered(status, lines, said):
+    """The first bad step that aigprove prints, that there is none, or that it refuses a design; else all that it says."""
     found = [line.removeprefix("a bad state at ").split(":")[0] for line in lines if line.startswith("a bad state at ")]
     if status == 10 and len(found) == 1:
         return found[0]
-    return "never" if status == 20 and lines[-1] == "no bad state at any step" else None
+    if status == 20 and lines[-1] == "no bad state at any step":
+        return "never"
+    return "refused" if status == 1 and not lines and said.startswith("aigprove: ") else f"status {status}: {lines} {said}"
 
 
 def table():
