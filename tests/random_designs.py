@@ -1,5 +1,5 @@
 """Random designs in Verilog, each written with its twin from one tree: see twins.py. What the design leaves open has a name in the twin,
-and so have in the tree the x of one bit (x1), those of two (y1), and the nets that nobody drives (u1)."""
+and so have in the tree the x of one bit (o1), those of two (p1), and the nets that nobody drives (u1)."""
 import collections
 import re
 
@@ -91,7 +91,7 @@ class Maker:
         if letter == "D":
             return str(self.rng.randrange(4))
         if letter in "XYU":
-            name = self.new(letter.lower())
+            name = self.new({"X": "o", "Y": "p", "U": "u"}[letter])
             self.parts["free"].append(f"{name}[{int(letter == 'Y')}:0]")
             return name
         if depth == 0 or self.rng.random() < 0.2:
@@ -156,6 +156,6 @@ def random_design(rng):
     """A random design, and the parts of its twin."""
     made = Maker(rng)
     text = "\n  ".join(made.lines) + "\nendmodule\n"
-    text = re.sub(r"\by\d+\b", "2'bxx", re.sub(r"\bx\d+\b", "1'bx", text))
+    text = re.sub(r"\bp\d+\b", "2'bxx", re.sub(r"\bo\d+\b", "1'bx", text))
     used = "".join(part for name, part in PARTS.items() if f" {name} " in text)
     return used + text, {part: JOINED[part].join(lines) for part, lines in made.parts.items()}

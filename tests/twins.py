@@ -5,7 +5,7 @@ In the twin of a design all that the design leaves open is a first state or a fr
 that its runs come to, with all free values, which says what the first bad step is, or that there is none. aigprove has to say the same
 of the design, by engines that find the first step, and the run that it prints has to be one of the twin's, as far as the names of its
 values are the twin's too. The designs are those of twins/table.txt, whose twins were written by hand, and COUNT (200) random ones, by
-SEED (1), each written with its twin from one tree. The tools are yosys, cadical and Icarus Verilog (iverilog, vvp)."""
+SEED (1), each written with its twin from one tree. The tools are yosys, cadical, ABC and Icarus Verilog (iverilog, vvp)."""
 import concurrent.futures
 import dataclasses
 import functools
