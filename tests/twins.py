@@ -102,7 +102,7 @@ class Design:
         lines, said = printed.decode().splitlines(), said.decode()
         given = answered(status, lines, said)
         if wanted != given:
-            return [f"Icarus: {wanted}; aigprove: {given}"]
+            return [f"Icarus: {wanted}; aigprove: {given}, and it says {said!r}"]
         return list(self.run_faults(folder, wanted, lines)) if status == 10 else []
 
     def run_faults(self, folder, wanted, lines):
@@ -122,7 +122,7 @@ def answered(status, lines, said):
         return found[0]
     if status == 20 and lines[-1] == "no bad state at any step":
         return "never"
-    return "refused" if status == 1 and not lines and said.startswith("aigprove: ") else f"status {status}: {lines} {said}"
+    return "refused" if status == 1 and not lines and said.startswith("aigprove: ") else f"status {status}: {lines}"
 
 
 def table():
