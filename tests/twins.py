@@ -1,0 +1,166 @@
+#!/usr/bin/env python3
+"""Asks bin/aigprove about designs in Verilog, and a simulator about a twin of each: twins.py [COUNT [SEED]]
+
+In the twin of a design all that the design leaves open is a first state or a free value of each step. Icarus runs the twin in all states
+that its runs come to, with all free values, which says what the first bad step is, or that there is none. aigprove has to say the same
+of the design, by engines that find the first step, and the run that it prints has to be one of the twin's, as far as the names of its
+values are the twin's too. The designs are those of twins/table.txt, whose twins were written by hand, and COUNT (200) random ones, by
+SEED (1), each written with its twin from one tree. The tools are yosys, cadical, ABC and Icarus Verilog (iverilog, vvp)."""
+import concurrent.futures
+import dataclasses
+import functools
+import random
+import re
+import sys
+
+import harness
+from harness import PROVE, TESTS, numbers
+from random_designs import random_design
+
+TABLE, SEARCH = TESTS / "twins" / "table.txt", TESTS / "twins" / "search.v"
+# How far a search goes: no twin has as many states.
+STEPS = 4095
+PART = re.compile(r"(state|free|first|next|also|ok|bad|refused): (.*)")
+SIGNAL = re.compile(r"(\w+)(?:\[(\d+):0\])?")
+# A value in a printed run: of a bit, or of a word in hexadecimal.
+VALUE = re.compile(r"(?<!\S)(\w+)(?:\[(\d+)\])?=(?:([01])|\d+'h([0-9a-f]+))(?!\S)")
+TWIN = """module twin(input clk, input [{free_end}:0] free);
+  {registers}
+  {wires}
+  assign {{{free_names}}} = free;
+  {also}
+  always @(posedge clk) begin
+    {next}
+  end
+  wire bad = {bad};
+  wire ok = {ok};
+  wire first = {first};
+  wire [{state_end}:0] now = {{{state_names}}};
+  task load(input [{state_end}:0] value); {{{state_names}}} = value; endtask
+endmodule
+"""
+# How many of the random designs are taken, by their first bad step: most random claims fail at once.
+TAKEN = {"step 0": 0.1, "step 1": 0.3, "never": 0.7}
+MOST_BITS = 14
+
+
+@dataclasses.dataclass
+class Design:
+    """A design, and the parts of its twin."""
+
+    name: str
+    text: str
+    parts: dict
+
+    def signals(self, part):
+        """The widths of the registers ("state") or of the free values by their names: one that nothing reads, where there are none."""
+        found = SIGNAL.findall(self.parts.get(part, f"no_{part}"))
+        return {name: int(end or 0) + 1 for name, end in found}
+
+    def bits(self, part):
+        return sum(self.signals(part).values())
+
+    def twin(self):
+        """The twin as a module."""
+        words = {"first": "1", "next": "", "also": "", "ok": "1", **self.parts}
+        for part, kind, declared in [("state", "reg", "registers"), ("free", "wire", "wires")]:
+            signals = self.signals(part)
+            words[declared] = " ".join(f"{kind} [{width - 1}:0] {name};" for name, width in signals.items())
+            words[f"{part}_names"], words[f"{part}_end"] = ", ".join(signals), self.bits(part) - 1
+        return TWIN.format(**words)
+
+    def pattern(self, part, printed):
+        """The bits of all registers or free values, the highest of the first signal first, as printed values have them; else x."""
+        bits = {(name, i): "x" for name, width in self.signals(part).items() for i in reversed(range(width))}
+        for name, place, bit, digits in VALUE.findall(printed):
+            value, low = int(bit or digits, 16), int(place or 0)
+            places = range(low, low + 1 if place else len(bits))
+            bits.update({(name, i): str(value >> i - low & 1) for i in places if (name, i) in bits})
+        return "".join(bits.values())
+
+    def first_bad(self, folder, held=None):
+        """What Icarus says of the twin: its first bad step, or that there is none; of runs that are held to printed lines, if any."""
+        steps = len(held) - 2 if held else STEPS
+        if held:
+            (folder / "first").write_text(self.pattern("state", held[0]))
+            (folder / "steps").write_text("\n".join(self.pattern("free", line) for line in held[1:]))
+        (folder / "twin.v").write_text(self.twin())
+        macros = {"STATE": self.bits("state"), "FREE": self.bits("free"), "STEPS": steps, "HELD": int(bool(held))}
+        defined = [f"-D{name}={value}" for name, value in macros.items()]
+        status, _, said = harness.run(["iverilog", "-g2012", *defined, "-o", "search", SEARCH, "twin.v"], cwd=folder)
+        if status == 0:
+            status, said, _ = harness.run(["vvp", "-n", "search"], cwd=folder)
+        return said.decode().split("\n")[0]
+
+    def faults(self, folder):
+        """What is wrong of aigprove's answer about the design."""
+        (folder / "design.v").write_text(self.text)
+        wanted = "refused" if "refused" in self.parts else self.first_bad(folder)
+        # Where there is no bad step to be the first, there are engines that find that out sooner.
+        words = ["--engine", "steps,windows,pdr" if wanted == "never" else "steps,windows", "--jobs", "1", "--timeout", "60"]
+        status, printed, said = harness.run([PROVE, *words, "--witness", "witness", "design.v"], cwd=folder)
+        lines, said = printed.decode().splitlines(), said.decode()
+        given = answered(status, lines, said)
+        if wanted != given:
+            return [f"Icarus: {wanted}; aigprove: {given}, and it says {said!r}"]
+        return list(self.run_faults(folder, wanted, lines)) if status == 10 else []
+
+    def run_faults(self, folder, wanted, lines):
+        """What is wrong of a printed run to the wanted step, and of the witness that was written of it."""
+        held = [line for line in lines if line.startswith(("start:", "step "))]
+        steps = (folder / "witness").read_text().split("\n")[3:-2]
+        if len(steps) != len(held) - 1 or f"step {len(held) - 2}" != wanted:
+            yield f"{wanted} is reached by {held}, and a witness of {len(steps)} steps"
+        elif (found := self.first_bad(folder, held)) != wanted:
+            yield f"{held} is no run of the twin to {wanted}, where Icarus says {found}"
+
+
+def answered(status, lines, said):
+    """The first bad step that aigprove prints, that there is none, or that it refuses a design; else all that it says."""
+    found = [line.removeprefix("a bad state at ").split(":")[0] for line in lines if line.startswith("a bad state at ")]
+    if status == 10 and len(found) == 1:
+        return found[0]
+    if status == 20 and lines[-1] == "no bad state at any step":
+        return "never"
+    return "refused" if status == 1 and not lines and said.startswith("aigprove: ") else f"status {status}: {lines}"
+
+
+def table():
+    """The designs of the table."""
+    for text in TABLE.read_text(encoding="utf-8").split("\n== ")[1:]:
+        name, *lines = text.split("\n")
+        parts = {}
+        for part, words in (found.groups() for found in map(PART.fullmatch, lines) if found):
+            parts[part] = f"{parts[part]}\n    {words}" if part in parts else words
+        yield Design(name, "\n".join(line for line in lines if not PART.fullmatch(line)), parts)
+
+
+def drawn(seed, i, folder):
+    """A random design that isn't too large, and whose answer is taken."""
+    rng = random.Random(f"{seed} {i}")
+    while True:
+        text, parts = random_design(rng)
+        design = Design(f"random {i}\n{text}", text, parts)
+        if design.bits("state") + design.bits("free") <= MOST_BITS and rng.random() < TAKEN.get(design.first_bad(folder), 1):
+            return design
+
+
+def judged(make, folder):
+    """A design that is made in a folder, and what is wrong of aigprove's answer about it."""
+    folder.mkdir()
+    design = make(folder)
+    return design, design.faults(folder)
+
+
+def main():
+    count, seed = numbers(200, 1)
+    tally = harness.Tally()
+    makers = [*(lambda _, it=it: it for it in table()), *(functools.partial(drawn, seed, i) for i in range(count))]
+    with harness.new_folder() as folder, concurrent.futures.ThreadPoolExecutor(4) as pool:
+        for design, faults in pool.map(judged, makers, [folder / str(i) for i in range(len(makers))]):
+            tally.wants(design.name, [], faults)
+    return tally.end()
+
+
+if __name__ == "__main__":
+    sys.exit(main())
