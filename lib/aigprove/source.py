@@ -1,12 +1,12 @@
 """What is asked about: the bytes that were named, read once into memory that nobody can write, and what can be shown of them."""
-import gzip
 import tempfile
-import zlib
 
 from aigprove import aiger
-from aigprove.aiger import Circuit, Lines
+from aigprove.aiger import Header, Lines
+from aigprove.files import sealed
 from aigprove.judge import Claim
-from aigprove.programs import Fault, Sealed
+from aigprove.misfit import misfit
+from aigprove.programs import Fault
 from aigprove.shown import Shown, word
 from aigprove.verilog import Design
 
@@ -24,26 +24,36 @@ CLAIMS = {
 class Given:
     """A file in AIGER form as it was given, and its name among what is kept; a design in Verilog is made one first."""
 
-    def __init__(self, path, top, above, name="file"):
-        self.path, self.design = path, None
+    def __init__(self, path, top, above, judge, name="file"):
+        self.path, self.design, self.judge = path, None, judge
         if path.endswith(VERILOG):
             self.design = Design(path, top, tempfile.mkdtemp(prefix="design-", dir=above))
         elif top:
             raise Fault(f"{path} is no design in Verilog, so it has no module {top}")
-        self.file = Sealed(read(self.design.place("design.aig") if self.design else path))
-        with open(self.file.path, "rb") as file:
-            self.line = file.readline(200)
+        self.file = sealed(self.design.place("design.aig") if self.design else path, judge.limit)
+        self.line = self.file.line()
         self.suffix = "aag" if self.line.startswith(b"aag") else "aig"
         self.name = f"{name}.{self.suffix}"
 
+    def header(self):
+        return Header(Lines(self.line, "FILE"))
+
     def circuit(self):
         """The circuit that was given, with all its names."""
-        return Circuit(Lines(self.file.bytes(), "FILE"))
+        return self.judge.circuit(self.file, "FILE")
+
+    def warnings(self):
+        """A line of what the file has that nothing is asked about."""
+        header = self.header()
+        unseen = [*counted(header.justice, "justice property", "justice properties"), *counted(header.fairness, "fairness constraint")]
+        if unseen:
+            verb = "was" if header.justice + header.fairness == 1 else "were"
+            yield f"{self.path}: {' and '.join(unseen)} {verb} not looked at"
 
     def keep(self, evidence):
         evidence.put(self.name, self.file)
         if self.design:
-            evidence.put(self.name[:-3] + self.path.rpartition(".")[2], Sealed(read(self.path)))
+            evidence.put(self.name[:-3] + self.path.rpartition(".")[2], sealed(self.path))
 
 
 class Asked:
@@ -84,13 +94,13 @@ class Source(Asked):
     """One file, whose bad states are asked about."""
 
     def __init__(self, path, top, above, judge):
-        self.given, self.path = Given(path, top, above), path
+        self.given, self.path = Given(path, top, above, judge), path
         self.name, self.asked, self.is_old = self.given.name, self.given.file, is_old(self.given.line)
         if self.given.design and self.is_old:
             raise Fault(f"{path}: {self.given.design.top} has no assertion")
         if self.is_old:
             self.name, self.asked = "bads.aag", judge.made("bads", self.asked)
-        self.circuit = self.given.circuit
+        self.circuit, self.warnings = self.given.circuit, self.given.warnings
 
     def about(self):
         """Lines of what the file is, where that isn't seen."""
@@ -121,8 +131,13 @@ class Pair(Asked):
 
     def __init__(self, path, top, above, judge, other):
         self.path = f"{path} and {other}"
-        self.first, self.other = Given(path, top, above), Given(other, None, above, "other")
-        self.asked = judge.made("miter", self.first.file, self.other.file)
+        self.judge, self.first, self.other = judge, Given(path, top, above, judge), Given(other, None, above, judge, "other")
+        try:
+            self.asked = judge.made("miter", self.first.file, self.other.file)
+        except Fault as why:
+            if str(why) != "aigedit: files do not fit":
+                raise
+            raise Fault(misfit([path, other], [self.first.circuit(), self.other.circuit()])) from None
 
     def unsolvable(self, question, proof):
         """That a question has no solution: of a step, that both are equal there."""
@@ -133,14 +148,22 @@ class Pair(Asked):
 
     def compared(self):
         """The letter and the position of what each bad state property of the miter compares: outputs, and then bad state properties."""
-        header = self.first.circuit().header
+        header = self.first.header()
         return [("o", i) for i in range(header.outputs)] + [("b", i) for i in range(header.bads)]
 
     def circuit(self):
         """The circuit of the miter, whose bad state properties have the names of what they compare."""
-        circuit, first = Circuit(Lines(self.asked.bytes(), "MITER")), self.first.circuit()
+        circuit, first = self.judge.circuit(self.asked, "MITER"), self.first.circuit()
         circuit.names.update((("b", i), first.name(*place)) for i, place in enumerate(self.compared()))
         return circuit
+
+    def warnings(self):
+        """Lines of what isn't compared."""
+        yield from self.first.warnings()
+        yield from self.other.warnings()
+        first, other = (it.header().constraints for it in [self.first, self.other])
+        if first or other:
+            yield f"{self.path} have {first} and {other} constraints: only runs that both files allow are compared"
 
     def about(self):
         """Lines of what isn't seen: the names of an input in both files."""
@@ -168,16 +191,9 @@ class Pair(Asked):
         evidence.makes(self.name, self.asked, "miter", self.first.name, self.other.name)
 
 
-def read(path):
-    """The bytes of a file, which may be packed by gzip."""
-    with open(path, "rb") as file:
-        data = file.read()
-    if not data.startswith(b"\x1f\x8b"):
-        return data
-    try:
-        return gzip.decompress(data)
-    except (OSError, EOFError, zlib.error) as why:
-        raise Fault(f"{path}: {why}") from None
+def counted(number, one, many=None):
+    """How many there are of something, unless there is none."""
+    return [f"{number} {one if number == 1 else many or one + 's'}"] if number else []
 
 
 def is_old(line):
