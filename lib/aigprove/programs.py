@@ -127,12 +127,15 @@ class Keeper:
     def __init__(self):
         told, self.telling = os.pipe()
         if os.fork() == 0:
-            os.close(self.telling)
-            os.setsid()
-            for stream in range(3):
-                os.dup2(os.open(os.devnull, os.O_RDWR), stream)
-            end_left(told)
-            os._exit(0)
+            # Whatever fails here, the other process goes on alone.
+            try:
+                os.close(self.telling)
+                os.setsid()
+                for stream in range(3):
+                    os.dup2(os.open(os.devnull, os.O_RDWR), stream)
+                end_left(told)
+            finally:
+                os._exit(0)
         os.close(told)
 
     def tell(self, number):
