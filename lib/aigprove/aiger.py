@@ -12,8 +12,11 @@ class Fault(Exception):
 
 
 def decimal(digits):
-    """The number that digits spell, however many zeros stand before it."""
-    return int(digits.lstrip(b"0") or b"0")
+    """The number that digits spell, however many zeros stand before it; ten digits are enough for any that a file has."""
+    spelled = digits.lstrip(b"0")
+    if len(spelled) > 10:
+        raise Fault("a number has more than ten digits")
+    return int(spelled or b"0")
 
 
 class Lines:
