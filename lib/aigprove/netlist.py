@@ -5,13 +5,16 @@ import re
 from aigprove.programs import Fault
 
 CLOCKS = {"CLK", "RD_CLK", "WR_CLK"}
-# What an assertion, an assumption or a write that isn't enabled says; a case whose items nobody has compared; a condition that is x; an
-# item that is; and modules, cells and places.
+# What an assertion, an assumption or a write that isn't enabled says; a case whose items nobody has compared; and one item that is x.
 UNREACHED = re.compile(r"^( *assign \$[0-9]+\$(?:formal|memwr)\$\S+ )([0-9]+)'x+$(?=\n(?:.*\n)?.*_EN\S* [0-9]+'0+$)", re.MULTILINE)
 PARALLEL = re.compile(r"^ *attribute \\parallel_case .*\n", re.MULTILINE)
-CONDITION = re.compile(r"^( *switch )([0-9]+)'[01x]*x[01x]*$", re.MULTILINE)
 SWITCH = re.compile(r'attribute \\src "([^"]*)"\n *switch ')
 ITEM = re.compile(r"^ *case .*[0-9]'[01-]*[xz]", re.MULTILINE)
+# What has values, but memories and what is compared with x; its lines that may have constants; and one with bits that are x.
+VALUED = re.compile(r"^  (?:cell (?!\$(?:mem|eqx |nex ))|process ).*?^  end$|^  connect .*$", re.MULTILINE | re.DOTALL)
+INITIAL = re.compile(r"^    sync init$", re.MULTILINE)
+VALUES = re.compile(r"^ *(?:connect|assign|switch|update) .*$", re.MULTILINE)
+X = re.compile(r"(?<= )([1-9][0-9]*)'([01x-]*x[01x-]*)(?= |$)")
 LINE = re.compile(r'^(module|  cell) (\S+)(?: (\S+))?$|^ *attribute \\src "([^"]*)"$', re.MULTILINE)
 PART = re.compile(r"(.+)\$\[([0-9]+):([0-9]+)\]")
 
@@ -45,21 +48,30 @@ def item_of_x(text):
 
 
 def opened(text):
-    """A design with a free value for each condition that is x: yosys would decide it. What isn't reached has the value 0, and not x, and the
-    first of several items that fit counts, though the design says that only one does."""
+    """A design in which each x is a wire that nothing drives: yosys would choose its value, or another for each reader. What isn't enabled
+    has the value 0, and not x; and the first of several items that fit counts, though the design says that only one does."""
     text = PARALLEL.sub("", UNREACHED.sub(r"\1\2'0", text))
     return "".join(map(freed, re.split(r"^(?=module )", text, flags=re.MULTILINE)))
 
 
 def freed(module):
-    """A module with a wire that nothing drives for each condition that is x."""
+    """A module with a wire that nothing drives for each run of bits that are x."""
     widths = []
 
-    def wire(found):
-        widths.append(found[2])
-        return f"{found[1]}$free${len(widths)}"
+    def wire(bits):
+        widths.append(len(bits))
+        return f"$free${len(widths)}"
 
-    head, end, body = CONDITION.sub(wire, module).partition("\n")
+    def spelled(found):
+        bits = found[2].rjust(int(found[1]), found[2][0])
+        parts = [wire(part) if "x" in part else f"{len(part)}'{part}" for part in re.findall("x+|[^x]+", bits)]
+        return f"{{ {' '.join(parts)} }}"
+
+    def valued(found):
+        is_initial = INITIAL.search(found[0])
+        return found[0] if is_initial else VALUES.sub(lambda line: X.sub(spelled, line[0]), found[0])
+
+    head, end, body = VALUED.sub(valued, module).partition("\n")
     return head + end + "".join(f"  wire width {width} $free${i}\n" for i, width in enumerate(widths, 1)) + body
 
 
@@ -82,17 +94,22 @@ def constants(module):
     return {names.get(bit) for cell in cells_like(module, "$anyconst") for bit in cell["connections"]["Y"]}
 
 
-def tristate(module):
-    """The name of a net that is z at times, and the place, if there is one."""
-    names = names_of(module)
-    for name, net in module["netnames"].items():
-        if "z" in net["bits"]:
-            return name, net["attributes"].get("src", "")
-    for cell in module["cells"].values():
-        if any("z" in bits for bits in cell["connections"].values()):
-            driven = [names.get(bits[0]) for port, bits in cell["connections"].items() if cell["port_directions"].get(port) == "output"]
-            return (driven or [cell["type"]])[0], cell["attributes"].get("src", "")
-    return None
+def outputs(cell):
+    return [bit for port, bits in cell["connections"].items() if cell["port_directions"].get(port) == "output" for bit in bits]
+
+
+def check_drivers(top, module):
+    """Refuses nets that are z at times or have several drivers, of which one may be a constant."""
+    names, driven = names_of(module), set()
+    valued = [cell for cell in module["cells"].values() if cell["type"] not in ("$eqx", "$nex")]
+    open_bits = [names.get((outputs(cell) or [None])[0]) for cell in valued if any("z" in bits for bits in cell["connections"].values())]
+    for name in open_bits + [name for name, net in module["netnames"].items() if "z" in net["bits"]]:
+        raise Fault(f"{top}: {name} is z at times, and tristate is not taken")
+    inputs = [(name, bit) for name, port in module["ports"].items() if port["direction"] == "input" for bit in port["bits"]]
+    for name, bit in inputs + [(names.get(bit), bit) for cell in valued for bit in outputs(cell)]:
+        if bit in driven or isinstance(bit, str):
+            raise Fault(f"{top}: {name} has several drivers")
+        driven.add(bit)
 
 
 def clock_of(top, module):

@@ -5,7 +5,7 @@ net or a bit without a driver and each x. So each gets a free value, an input of
 import os
 import re
 
-from aigprove.netlist import cells_like, cells_of, clock_of, constants, free_names, item_of_x, opened, stored, tristate
+from aigprove.netlist import cells_like, cells_of, check_drivers, clock_of, constants, free_names, item_of_x, opened, stored
 from aigprove.programs import Fault
 from aigprove.yosys import Yosys
 
@@ -13,6 +13,9 @@ READ = """read_verilog -formal -sv -I {beside} {source}
 write_rtlil {made}/all.il
 hierarchy -check {top}
 write_rtlil {made}/below.il
+proc -noopt -norom
+flatten
+write_json {made}/drawn.json
 """
 # Up to setundef no pass folds constants: an x is no constant of the design. Hierarchy, memories and asynchronous resets become flat
 # registers of one clock, whose every step is one of it. What is x, and what nothing drives, becomes an input.
@@ -30,7 +33,6 @@ techmap -map free.v -D ADDRESSES t:$nex
 memory_map -formal
 async2sync
 opt_clean
-check
 setundef -undriven -anyseq
 opt -noff -keepdc
 opt_clean -purge
@@ -79,7 +81,6 @@ SPARE = "aigprove_clock"
 ASKED = ("$assert", "$assume")
 KINDS = {"$assert": "assertion", "$assume": "assumption", "$cover": "cover", "$live": "liveness assertion", "$fair": "fairness assumption"}
 WORD = re.compile(r"[A-Za-z_][A-Za-z0-9_$]*")
-DRIVERS = re.compile(r"^Warning: multiple conflicting drivers for (.*):$", re.MULTILINE)
 FAILED = re.compile(r"^Warning: Assert (\S+ \(.*\)) failed\.$", re.MULTILINE)
 
 
@@ -121,15 +122,16 @@ class Design:
         """Makes inputs of what is free, and gives the name of the top module and what it has."""
         with open(os.path.join(os.path.dirname(__file__), "free.v"), encoding="utf-8") as file:
             self.yosys.put("free.v", file.read())
-        printed = self.yosys.run(FREE)
-        top, module = next((name, it) for name, it in self.yosys.modules("free.json").items() if "top" in it["attributes"])
+        self.yosys.run(FREE)
+        check_drivers(*self.top_of("drawn.json"))
+        top, module = self.top_of("free.json")
         if not WORD.fullmatch(top):
             raise Fault(f"{top} is no name of a module")
-        if found := tristate(module):
-            raise Fault(f"{top}.{found[0]} is z at times, and tristate is not taken ({self.yosys.told(found[1])})")
-        if several := DRIVERS.search(printed):
-            raise Fault(f"{several[1]} has several drivers".replace("\\", ""))
         return top, module
+
+    def top_of(self, name):
+        """The name of the top module and what it has, in a file in JSON."""
+        return next((name, it) for name, it in self.yosys.modules(name).items() if "top" in it["attributes"])
 
     def write(self, module):
         """Writes the file, and gives the name, the place and whether the design has that name for each bad state property's assertion."""
