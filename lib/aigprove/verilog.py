@@ -34,7 +34,7 @@ memory_map -formal
 async2sync
 opt_clean
 setundef -undriven -anyseq
-opt -noff -keepdc
+opt -fine -noff -keepdc
 opt_clean -purge
 delete t:$anyseq
 setundef -undriven -expose
