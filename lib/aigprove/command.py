@@ -1,5 +1,7 @@
 """The command line of aigprove."""
 import argparse
+import collections
+import math
 import os
 import re
 import shlex
@@ -7,14 +9,16 @@ import shutil
 import signal
 import sys
 import tempfile
+import time
 
 from aigprove import VERSION, programs
 from aigprove.aiger import Fault
 from aigprove.files import sealed
 from aigprove.judge import Judge
 from aigprove.questions import cadical
-from aigprove.race import FAILED, Race
+from aigprove.race import FAILED, OPEN, Race
 from aigprove.source import Pair, Source
+from aigprove.yosys import Late
 
 TOP = os.path.dirname(os.path.dirname(os.path.dirname(os.path.realpath(__file__))))
 # Engines that are asked where none is named, and all.
@@ -85,6 +89,21 @@ def nonempty(word):
     return word
 
 
+class Reset(collections.namedtuple("Reset", "signal value steps")):
+    """A reset in the first steps."""
+
+    def __str__(self):
+        return f"{self.signal}={self.value} in the first {self.steps} step{'s' * (self.steps != 1)}"
+
+
+def reset(word):
+    """A reset that is spelled SIGNAL, SIGNAL=V, or either with :N."""
+    found = re.fullmatch(r"([A-Za-z_][A-Za-z0-9_$]*)(?:=([01]))?(?::([1-9][0-9]{0,3}))?", word)
+    if not found:
+        raise argparse.ArgumentTypeError(f"{word} is no signal with a value 0 or 1 and a number of steps, as rst_n=0:2")
+    return Reset(found[1], int(found[2] or 1), int(found[3] or 1))
+
+
 def engines(word):
     names = word.replace("abc", "bmc3,pdr").split(",")
     if not set(names) <= set(ALL):
@@ -96,6 +115,8 @@ def parser():
     """The words of the command line."""
     it = Parser("aigprove", description=ABOUT, epilog=ENDS, formatter_class=argparse.RawDescriptionHelpFormatter)
     file = "a file in AIGER form, text or binary, which may be packed by gzip, or a design in Verilog (.v, .sv)"
+    held = "hold this input of a design at V (1) in the first N steps (1), in which assertions don't count; later it is free, and where " \
+        "it is to stay released the design has to assume so"
     bound = "ask about the steps 0 to N; once they were shown, other engines have as long again, and a second (no bound)"
     running, processors = "run so many programs at once, and others by turns (one for each processor)", len(os.sched_getaffinity(0))
     limit = "take circuits of so many nodes, up to 2^31 (2^24)"
@@ -103,9 +124,10 @@ def parser():
     it.add_argument("file", metavar="FILE", type=nonempty, help=file)
     it.add_argument("top", metavar="TOP", nargs="?", help="the top module of a design (the one that no other has)")
     it.add_argument("--version", action="version", version=f"aigprove {VERSION}")
+    it.add_argument("--reset", metavar="SIGNAL[=V][:N]", type=reset, help=held)
     it.add_argument("--bound", metavar="N", type=count("[0-9]{1,10}", "steps"), help=bound)
     seconds = count(r"[0-9]{1,9}(\.[0-9]{1,9})?", "seconds", float)
-    it.add_argument("--timeout", metavar="S", type=seconds, help="end after so many seconds (never)")
+    it.add_argument("--timeout", metavar="S", type=seconds, help="end after so many seconds, with those of yosys (never)")
     it.add_argument("--limit", metavar="N", type=count("[1-9][0-9]{0,9}", "nodes", most=1 << 31), help=limit)
     it.add_argument("--jobs", metavar="N", type=count("[1-9][0-9]{0,4}", "programs"), default=processors, help=running)
     it.add_argument("--engine", metavar="NAMES", type=engines, help="ask these engines alone, with commas between; abc is bmc3 and pdr")
@@ -144,6 +166,7 @@ def marked(line):
 def parse(line):
     """What the words of a command line say, with paths that hold in any folder."""
     words = parser().parse_intermixed_args(marked(line))
+    words.deadline = math.inf if words.timeout is None else time.monotonic() + words.timeout
     given = words.certificate or words.run
     words.engines = words.engine or ([] if given else ENGINES)
     words.certificate, words.run = (path and sealed(path, words.limit) for path in [words.certificate, words.run])
@@ -177,9 +200,12 @@ def answer(line):
     programs.adopt()
     above = tempfile.mkdtemp(prefix="aigprove-")
     try:
-        given = words.file, words.top, above, judge
-        source = Pair(*given, words.equal) if words.equal else Source(*given)
+        source = (Pair if words.equal else Source)(words, above, judge)
         return Race(words, running, judge, above, source).run()
+    except Late as why:
+        programs.say(why)
+        print("nothing was shown")
+        return OPEN
     finally:
         running.stop()
         programs.bury()

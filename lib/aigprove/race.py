@@ -1,6 +1,5 @@
 """Engines side by side: the first checked answer wins."""
 import functools
-import math
 import queue
 import re
 import sys
@@ -28,7 +27,7 @@ class Race:
         self.events, self.begun = queue.Queue(), time.monotonic()
         # Steps that were shown, from 0 on, a window that was, and engines that failed.
         self.steps, self.shown_window, self.faults = 0, None, []
-        self.deadline = math.inf if words.timeout is None else self.begun + words.timeout
+        self.deadline = words.deadline
         # What the progress line says, and the last line that was printed.
         self.doing, self.last = {}, None
         self.evidence = words.keep and Evidence(words.keep, words.limit)
