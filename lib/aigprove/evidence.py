@@ -9,7 +9,7 @@ HEAD = """#!/bin/sh
 check=${AIGCHECK:-aigcheck}
 edit=${AIGEDIT:-aigedit}
 limit=
-# A path that doesn't begin at the root is from where we stand.
+# A relative path is from where we stand.
 case $check in /*) ;; */*) check=$PWD/$check ;; esac
 case $edit in /*) ;; */*) edit=$PWD/$edit ;; esac
 case $0 in */*) CDPATH= cd -- "${0%/*}/" || exit 1 ;; esac
