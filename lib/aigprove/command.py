@@ -93,7 +93,7 @@ class Reset(collections.namedtuple("Reset", "signal value steps")):
     """A reset in the first steps."""
 
     def __str__(self):
-        return f"{self.signal}={self.value} in the first {self.steps} step{'s' * (self.steps != 1)}"
+        return f"{self.signal}={self.value} " + (f"in the first {self.steps} steps" if self.steps > 1 else "in step 0")
 
 
 def reset(word):

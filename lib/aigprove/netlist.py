@@ -41,6 +41,21 @@ def cells_of(text):
             yield Cell(module, first, second, place)
 
 
+def roots_of(cells):
+    """The names of the modules that no other has, in order."""
+    types = {cell.type for cell in cells}
+    return [cell.module[1:] for cell in cells if cell.type is None and cell.module not in types]
+
+
+def reached(cells, root):
+    """The names of a module and of all below it."""
+    found, left = set(), [root]
+    while left:
+        found.add(left.pop())
+        left += [cell.type[1:] for cell in cells if cell.type and cell.module[1:] in found and cell.type[1:] not in found]
+    return found
+
+
 def item_of_x(text):
     """The place of a case with an item that is x or z, if there is one."""
     item = ITEM.search(text)

@@ -134,9 +134,9 @@ class Source(Asked):
     def open_registers(self, design):
         """The line of the registers of a design that have any value at first, if there are any."""
         circuit = self.circuit()
-        bits = [circuit.name("l", i).decode("utf-8", "surrogateescape") for i, reset in enumerate(circuit.resets) if reset > 1]
-        names = list(dict.fromkeys(re.sub(r"\[[0-9]+\]$", "", bit) for bit in bits if bit not in design.constants))
-        names = [name for name in names if name not in design.constants]
+        bits = [circuit.names.get(("l", i), b"").decode("utf-8", "surrogateescape") for i, reset in enumerate(circuit.resets) if reset > 1]
+        words = dict.fromkeys(re.sub(r"\[[0-9]+\]$", "", bit) for bit in bits)
+        names = [name for name in words if name and name not in design.constants]
         if names:
             others = f" and {len(names) - NAMED_OPEN} others" if len(names) > NAMED_OPEN else ""
             hint = "" if design.reset else " (--reset SIGNAL begins with a reset)"

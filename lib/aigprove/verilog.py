@@ -5,7 +5,7 @@ net or a bit without a driver and each x. So each gets a free value, an input of
 import os
 import re
 
-from aigprove.netlist import cells_like, cells_of, check_drivers, clock_of, constants, free_names, item_of_x, opened, stored
+from aigprove.netlist import cells_like, cells_of, check_drivers, clock_of, constants, free_names, item_of_x, opened, reached, roots_of, stored
 from aigprove.programs import Fault
 from aigprove.yosys import Yosys
 
@@ -18,7 +18,8 @@ flatten
 write_json {made}/drawn.json
 """
 # Up to setundef no pass folds constants: an x is no constant of the design. Hierarchy, memories and asynchronous resets become flat
-# registers of one clock, whose every step is one of it. What is x, and what nothing drives, becomes an input.
+# registers of one clock, whose every step is one of it. What is x, and what nothing drives, becomes an input. Of several names of a net
+# the one with most attributes stays.
 FREE = """read_rtlil below.il
 proc -noopt -norom
 flatten
@@ -35,6 +36,8 @@ async2sync
 opt_clean
 setundef -undriven -anyseq
 opt -fine -noff -keepdc
+setattr -unset hdlname w:*
+setattr -set outer 1 w:* w:*.* %d
 opt_clean -purge
 delete t:$anyseq
 setundef -undriven -expose
@@ -61,13 +64,15 @@ aigmap
 json -o asserted.json t:$assert
 write_aiger -symbols -map design.aim design.aig
 """
-# The first steps: the signal is held, and no assertion is asked about.
-RESET = """select -set meant t:$assume
+# The first steps: the signal is held, and no assertion is asked about. One at an edge of the clock is about the step before.
+RESET = """select -set held t:$assume
 add -assume {signal}
-techmap -max_iter 1 -map reset.v t:$assert t:$assume @meant %d"""
-COUNTING = """
-(* techmap_celltype = "{kind}" *)
-module {name} (input A, input EN);
+techmap -autoproc -max_iter 1 -map held.v t:$assume @held %d
+select -set late t:$dff %co1:+[Q] w:$* %i %co1:+[EN] t:$assert %i
+techmap -autoproc -max_iter 1 -map asked.v t:$assert @late %d
+techmap -autoproc -max_iter 1 -map late.v @late"""
+COUNTING = """(* techmap_celltype = "{kind}" *)
+module counting (input A, input EN);
   reg [{high}:0] left = {steps};
   always @($global_clock) left <= left - (left != 0);
   \\{kind} _TECHMAP_REPLACE_ (.A({value}), .EN({enabled}));
@@ -82,6 +87,11 @@ ASKED = ("$assert", "$assume")
 KINDS = {"$assert": "assertion", "$assume": "assumption", "$cover": "cover", "$live": "liveness assertion", "$fair": "fairness assumption"}
 WORD = re.compile(r"[A-Za-z_][A-Za-z0-9_$]*")
 FAILED = re.compile(r"^Warning: Assert (\S+ \(.*\)) failed\.$", re.MULTILINE)
+
+
+def asked_below(cells, modules):
+    """How many assertions these modules have."""
+    return sum(cell.type == "$assert" and cell.module[1:] in modules for cell in cells)
 
 
 class Design:
@@ -100,17 +110,27 @@ class Design:
 
     def read(self, top):
         """Reads the design as far as its top module has it, and gives lines of what isn't asked about."""
-        self.yosys.read(READ, top=f"-top {top}" if top else "-auto-top")
-        text, every = self.yosys.text("below.il"), list(cells_of(self.yosys.text("all.il")))
+        every, below = self.read_below(top and f"-top {top}" or "-auto-top")
+        others = [] if top else [name for name in roots_of(every) if name not in below]
+        if others and not asked_below(every, below):
+            # The one below which most assertions are, or the last of these.
+            better = max(reversed(roots_of(every)), key=lambda name: asked_below(every, reached(every, name)))
+            others = [name for name in roots_of(every) if name != better]
+            every, below = self.read_below(f"-top {better}")
+        lines = [f"{name} is a top module too, and not asked about" for name in others]
+        return lines + [line for cell in every for line in self.passed_over(cell, cell.module[1:] in below)]
+
+    def read_below(self, top):
+        """Reads the design as far as a top module has it, and gives all its cells, and the names of the top module and those below."""
+        self.yosys.read(READ, top=top)
+        text = self.yosys.text("below.il")
         if place := item_of_x(text):
             raise Fault(f"{self.yosys.told(place)}: an item of this case is x or z")
         below = {cell.module.split("\\")[1] for cell in cells_of(text)}
         if not below:
             raise Fault(f"{self.yosys.path} has no module")
         self.yosys.put("below.il", opened(text))
-        others = [] if top else sorted({cell.module for cell in every} - {cell.type for cell in every} - {f"\\{name}" for name in below})
-        lines = [f"{name[1:]} is a top module too, and not asked about" for name in others]
-        return lines + [line for cell in every for line in self.passed_over(cell, cell.module[1:] in below)]
+        return list(cells_of(self.yosys.text("all.il"))), below
 
     def passed_over(self, cell, is_below):
         """A line of an assertion, or another such cell, that isn't asked about: in no module below the top, or of a kind that no bad state
@@ -135,23 +155,25 @@ class Design:
 
     def write(self, module):
         """Writes the file, and gives the name, the place and whether the design has that name for each bad state property's assertion."""
-        reset = RESET.format(signal=self.reset.signal) if self.reset else ""
-        if self.reset:
-            self.yosys.put("reset.v", self.reset_cells(module))
+        reset = self.put_reset(module) if self.reset else ""
         clock = f"delete w:{self.clock[0]}\nopt_clean -purge" if self.clock else ""
         renames = "\n".join(f"rename {old} {new}" for old, new in [*stored(module), *free_names(module)])
         self.yosys.run(WRITE, top=self.top, renames=renames, clock=clock, reset=reset)
         cells = self.yosys.modules("asserted.json").get(self.top, {"cells": {}})["cells"]
-        return [(name, cell["attributes"].get("src", ""), not cell["hide_name"]) for name, cell in cells.items()]
+        return [(name, cell["attributes"].get("src", "").partition("|")[0], not cell["hide_name"]) for name, cell in cells.items()]
 
-    def reset_cells(self, module):
-        """Cells for assertions, and for the assumption that the reset is held, which count its steps."""
-        port = module["ports"].get(self.reset.signal)
-        if port is None or port["direction"] != "input" or len(port["bits"]) > 1 or self.reset.signal in (self.clock or []):
-            raise Fault(f"{self.top} has no input {self.reset.signal} of one bit that could be a reset")
-        words = {"steps": self.reset.steps, "high": self.reset.steps.bit_length() - 1}
-        asserted = COUNTING.format(kind="$assert", name="asked", value="A", enabled="EN & left == 0", **words)
-        return asserted + COUNTING.format(kind="$assume", name="held", value=f"A == {self.reset.value}", enabled="left != 0", **words)
+    def put_reset(self, module):
+        """Puts cells into the folder for assertions, and for the assumption that the reset is held, which count its steps, and gives the
+        lines that use them."""
+        signal, value, steps = self.reset
+        port = module["ports"].get(signal)
+        if port is None or port["direction"] != "input" or len(port["bits"]) > 1 or signal in (self.clock or []):
+            raise Fault(f"{self.top} has no input {signal} of one bit that could be a reset")
+        asked = {"kind": "$assert", "value": "A", "enabled": "EN & left == 0"}
+        held = {"kind": "$assume", "value": f"A == {value}", "enabled": "left != 0"}
+        for name, count, words in [("held.v", steps, held), ("asked.v", steps, asked), ("late.v", steps + 1, asked)]:
+            self.yosys.put(name, COUNTING.format(steps=count, high=count.bit_length() - 1, **words))
+        return RESET.format(signal=signal)
 
     def about(self):
         """The line of what is asked about."""
