@@ -6,6 +6,7 @@ is wanted: the exit status, the lines of standard output and standard error (its
 left in the temporary folder, and no program that was started by an engine runs."""
 import contextlib
 import gzip
+import itertools
 import os
 import pty
 import re
@@ -29,7 +30,9 @@ def filled(text):
     return PIECE.sub(lambda found: filled(PIECES[found[1]]), text)
 
 
-TOGGLE, REACHED = (spelled(PIECES[name]).decode() for name in ["TOGGLE", "REACHED"])
+# Kilobytes of memory in which aigprove runs on small files.
+MEMORY = 400_000
+TOGGLE, STUCK, OLD, REACHED, SAFE = (spelled(PIECES[name]).decode() for name in ["TOGGLE", "STUCK", "OLD", "REACHED", "SAFE_LINE"])
 FILES, REFUTES, SOLVES, ANYTHING, RUN = (filled(PIECES[name]) for name in ["FILES", "REFUTES", "SOLVES", "ANYTHING", "RUN"])
 
 
@@ -125,12 +128,118 @@ def answers():
 
 def files():
     """A file that is refused and one that is packed, whose names would drive a terminal."""
-    with running("", files={"\x1b[2J.aag": ""}) as run:
+    with running("", files={"\x1b[2J.aag": "aag\n"}) as run:
         yield "a path", (1, "", "aigprove: \\x1b[2J.aag: bad header line\n", []), run.result(["\x1b[2J.aag"], run.words[:-1])
     named = TOGGLE + "l0 a\x1b[2J\nb0 \x1b]0;t\x07\n"
     shown = 'a bad state at step 1: b0 "\\u001b]0;t\\u0007"\nstart: "a\\u001b[2J"=0\nstep 0:\nstep 1:\n'
     for data in [named.encode(), gzip.compress(named.encode())]:
         yield compared(data, (10, shown, ""), asked(["--engine", "bmc3"], data, "exit 3", RUN))
+
+
+def fed():
+    """Files from pipes, and such as have no end: devices, and one that is packed and would fill the memory."""
+    with running(TOGGLE, abc=RUN) as run:
+        words = [*run.words[:-1], "--engine", "bmc3"]
+        line = shlex.join([*words, "/dev/stdin"])
+        for script in [f"cat t.aag | {line}", f"gzip -c t.aag | {line}", f"{line} < t.aag"]:
+            yield script, (10, REACHED, "", []), run.result([], ["sh", "-c", script])
+        for device in ["/dev/zero", "/dev/null"]:
+            yield device, (1, "", f"aigprove: {device} is a device\n", []), run.result([device], words)
+        (run.folder / "bomb").write_bytes(gzip.compress(f"{TOGGLE}c\n".encode()) + gzip.compress(bytes(1 << 20)) * 1024)
+        said = f"aigprove: bomb has more than {1 << 30} bytes\n"
+        yield "a bomb", (1, "", said, []), run.result([], within(MEMORY, [*words, "bomb"]))
+        with open(run.folder / "given", "wb") as given:
+            given.truncate(MEMORY << 10)
+        said = "aigprove: run: out of memory\n"
+        yield "a long run", (1, "", said, []), run.result([], within(MEMORY, [*words[:-2], "t.aag", "--run", "given"]))
+
+
+def within(kilobytes, words):
+    """Words that run a program with so much memory."""
+    return ["sh", "-c", f"ulimit -v {kilobytes}; exec {shlex.join(words)}"]
+
+
+def worded():
+    """Words behind --, which are no options, and words that are refused, which can't drive a terminal."""
+    with running(TOGGLE, abc=RUN, files={"-x.aag": TOGGLE}) as run:
+        words = [*run.words[:-1], "--engine", "bmc3"]
+        yield "--", (10, REACHED, "", []), run.result(["--", "-x.aag"], words)
+        equal = run.result(["--engine", "steps", "--bound", "0", "--equal=-x.aag", "--", "-x.aag"], words)
+        yield "--equal=-x.aag --", (0, "equal at step 0\nequal up to step 0\n", "", []), equal
+        for wrong, why in [
+            ["--equal -- -x.aag t.aag", "argument --equal: expected one argument"],
+            ["t.aag top \x1b[2J", "unrecognized arguments: \\x1b[2J"],
+            ["--limit 2147483649 t.aag", "argument --limit: 2147483649 is no number of nodes"],
+            ["--limit 0 t.aag", "argument --limit: 0 is no number of nodes"],
+        ]:
+            status, out, said, left = run.result(wrong.split(" "), words)
+            yield wrong, (2, "", [f"aigprove: error: {why}"], []), (status, out, said.splitlines()[-1:], left)
+        for option in ["--keep", "--equal", "--run", "--certificate", "--witness", "--vcd"]:
+            status, _, said, _ = run.result([option, ""])
+            yield option, (2, [f"aigprove: error: argument {option}: an empty name is no file's"]), (status, said.splitlines()[-1:])
+
+
+def faulty():
+    """What can't be read or written: one line, which names it."""
+    with running(TOGGLE, abc=RUN) as run:
+        (run.folder / "locked").mkdir(mode=0)
+        words = [*run.words[:-1], "--engine", "bmc3"]
+        for given, why in [
+            ["missing", "missing: No such file or directory"],
+            [".", ".: Is a directory"],
+            ["t.aag/t", "t.aag/t: Not a directory"],
+            ["\udcff\n", "\\udcff\\n: No such file or directory"],
+            ["a" * 300, f"{'a' * 300}: File name too long"],
+            ["t.aag --keep locked", "locked: File exists"],
+            ["t.aag --keep a/b", "a/b: No such file or directory"],
+            ["t.aag --run missing", "missing: No such file or directory"],
+            ["t.aag --solver ./none", "./none is not there"],
+            ["t.aag --aigcheck t.aag", "t.aag is not there; tests/run builds it, and so does `rt run` in crates/aigcheck"],
+        ]:
+            yield given, (1, "", f"aigprove: {why}\n", []), run.result(given.split(" "), words)
+        for option, path, why in [
+            ["--witness", "/dev/full", "No space left on device"],
+            ["--vcd", "/dev/full", "No space left on device"],
+            ["--vcd", ".", "Is a directory"],
+        ]:
+            yield [option, path], (1, REACHED, f"aigprove: {path}: {why}\n", []), run.result([option, path, "t.aag"], words)
+
+
+def kept():
+    """What is kept in a folder whose name begins with a dash and ends with a line feed, shown again by a program that is named by its
+    place from where one stands, though CDPATH names another folder of that name."""
+    with running(STUCK, REFUTES, ANYTHING) as run:
+        folder = "-x\n"
+        (run.folder / "decoy" / folder).mkdir(parents=True)
+        yield "kept", (20, SAFE, "", []), run.result(["--engine", "pdr", f"--keep={folder}"])
+        run.environment |= {"AIGCHECK": os.path.relpath(GIVEN["aigcheck"], run.folder), "CDPATH": "decoy"}
+        yield "shown again", (0, SAFE, "", []), run.result(["--", f"{folder}/check.sh"], ["sh"])
+
+
+# A program in the place of aigcheck or aigedit, which wants a limit of nodes as its first words.
+LIMITED = '#!/bin/sh\n[ "$1 $2" = "--limit 9" ] || exit 9\nshift 2\nexec {} "$@"\n'
+
+
+def limited():
+    """A limit of nodes: each program that is asked gets it, and so by check.sh. Aigtool takes none, and isn't asked."""
+    programs = {name: f"./{name}-9" for name in ["aigedit", "aigcheck"]}
+    files = {f"{name}-9": LIMITED.format(GIVEN[name]) for name in programs} | {"other.aag": STUCK}
+    for options, *run in [
+        ["--engine steps,windows --bound 0", STUCK, REFUTES],
+        ["--engine bounded --bound 0", STUCK, REFUTES],
+        ["--engine pdr", STUCK, REFUTES, ANYTHING],
+        ["--engine steps", OLD, SOLVES],
+        ["--engine steps,windows --bound 0 --equal other.aag", STUCK, REFUTES],
+    ]:
+        with running(*run, files=files) as run:
+            for name in programs.values():
+                (run.folder / name).chmod(0o755)
+            words = [*run.words, *options.split()]
+            given = ["--limit", "9", "--aigtool", "./solver", *(f"--{name}={path}" for name, path in programs.items()), "--keep", "kept"]
+            yield options, run.result([], words), run.result(given, words)
+            run.environment |= {"AIGEDIT": programs["aigedit"], "AIGCHECK": programs["aigcheck"]}
+            status, _, said, left = run.result(["kept/check.sh"], ["sh"])
+            yield options, (0, "", []), (status, said, left)
 
 
 def hung():
@@ -157,11 +266,14 @@ def together():
 
 
 def closed():
-    """Standard output that is closed, or takes nothing: one line, and no traceback."""
-    for redirection in [">&-", "> /dev/full"]:
-        with running(TOGGLE, REFUTES) as run:
-            status, _, said, left = run.result([], ["sh", "-c", f"{shlex.join(run.words)} --engine steps {redirection}"], stdout=None)
-            yield redirection, (1, 1, "aigprove:", []), (status, said.count("\n"), said[:9], left)
+    """Standard output that is closed, or takes nothing: one line, and no traceback. Standard error that is so changes nothing."""
+    with running(TOGGLE, "exit 3", RUN) as run:
+        line = shlex.join(run.words)
+        for words in [f"{option} {redirection}" for option in ["--engine steps", "--help"] for redirection in [">&-", "> /dev/full"]]:
+            status, _, said, left = run.result([], ["sh", "-c", f"{line} {words}"], stdout=None)
+            yield words, (1, 1, "aigprove:", []), (status, said.count("\n"), said[:9], left)
+        for redirection in ["2>&-", "2> /dev/full"]:
+            yield redirection, (10, REACHED, "", []), run.result([], ["sh", "-c", f"{line} --engine windows,bmc3 {redirection}"])
 
 
 def ended():
@@ -213,7 +325,8 @@ def main():
     # Where this is run in the background, what it starts has to end by SIGINT still.
     signal.signal(signal.SIGINT, signal.default_int_handler)
     tally = harness.Tally()
-    for what, wanted, given in [*answers(), *files(), *hung(), *together(), *closed(), *ended(), *killed(), *missing(), *installed()]:
+    parts = [answers, files, fed, worded, faulty, kept, limited, hung, together, closed, ended, killed, missing, installed]
+    for what, wanted, given in itertools.chain.from_iterable(part() for part in parts):
         tally.wants(what, wanted, given)
     return tally.end()
 

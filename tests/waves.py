@@ -19,8 +19,27 @@ def run(words):
     return harness.run([sys.executable, TOP / "examples" / "waves.py", *words], cwd=FOLDER)
 
 
+def deep(count):
+    """A file whose input has a name of so many scopes, and its dump, whose scopes are written by hand."""
+    scopes = ["$scope module a $end\n" * count, "$upscope $end\n" * count]
+    head = "$comment a time unit is a step $end\n$timescale 1 s $end\n$scope module inputs $end\n"
+    rest = "$upscope $end\n$scope module bads $end\n$var wire 1 \" b0 $end\n$upscope $end\n$enddefinitions $end\n"
+    values = '#0\n$dumpvars\n1!\n1"\n$end\n#1\n'
+    file = f"aag 1 1 0 0 0 1\n2\n2\ni0 {'a.' * count}d\n"
+    return file, head + scopes[0] + "$var wire 1 ! d $end\n" + scopes[1] + rest + values
+
+
+def deep_scopes():
+    """What is printed for a name of 5,000 scopes, and what is wanted."""
+    file, dump = deep(5000)
+    with harness.new_folder() as folder:
+        harness.write_files(folder, {"file": file.encode(), "witness": b"1\nb0\n\n1\n.\n"})
+        return (0, dump.encode(), b""), run([folder / "file", folder / "witness"])
+
+
 def main():
     tally = harness.Tally()
+    tally.wants("a name of 5,000 scopes", *deep_scopes())
     for words, printed in harness.rows(FOLDER / "rows.tsv"):
         if printed.startswith("waves: "):
             tally.wants(words, (1, b"", printed.encode() + b"\n"), run(words.split()))

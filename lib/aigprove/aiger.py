@@ -11,6 +11,14 @@ class Fault(Exception):
     """Why a file isn't taken, or there is no answer."""
 
 
+def decimal(digits):
+    """The number that digits spell, however many zeros stand before it; ten digits are enough for any that a file has."""
+    spelled = digits.lstrip(b"0")
+    if len(spelled) > 10:
+        raise Fault("a number has more than ten digits")
+    return int(spelled or b"0")
+
+
 class Lines:
     """A stream of bytes that is read from the front, and what it is called in faults."""
 
@@ -35,7 +43,7 @@ class Lines:
         words = self.line().split(b" ")
         if not least <= len(words) <= most or not all(word.isdigit() for word in words):
             raise Fault(f"{self.what} has a bad line of numbers")
-        return [int(word) for word in words]
+        return [decimal(word) for word in words]
 
     def number(self):
         """A line of one number."""
@@ -62,23 +70,22 @@ class Header:
         form, *words = lines.line().split(b" ")
         if form not in (b"aag", b"aig") or not 5 <= len(words) <= 9 or not all(word.isdigit() for word in words):
             raise Fault(f"bad header line in {lines.what}")
-        counts = [int(word) for word in words]
-        if max(counts) >= LIMIT:
-            raise Fault(f"{lines.what} is too large")
         self.is_text = form == b"aag"
         # Before version 1.9 a file had no bad state properties, and its outputs were taken for them.
-        self.is_old = len(counts) == 5
-        counts += [0] * 4
-        self.inputs, self.latches, self.outputs, self.gates = counts[1:5]
-        self.bads, self.constraints, self.justice, self.fairness = counts[5:9]
+        self.is_old = len(words) == 5
+        self.counts = [*map(decimal, words), *[0] * 4][:9]
+        self.inputs, self.latches, self.outputs, self.gates = self.counts[1:5]
+        self.bads, self.constraints, self.justice, self.fairness = self.counts[5:9]
 
 
 class Circuit:
     """What a file says: its lists of literals, its gates in order, and its names."""
 
-    def __init__(self, lines):
+    def __init__(self, lines, limit=LIMIT):
         self.what = lines.what
         header = self.header = Header(lines)
+        if max(header.counts) >= limit:
+            raise Fault(f"{lines.what} is too large")
         first_latch = 2 * (header.inputs + 1)
         first_gate = first_latch + 2 * header.latches
         if header.is_text:
@@ -177,7 +184,7 @@ def names(lines):
         symbol = re.fullmatch(rb"([ilobcjf])([0-9]+) (.*)", lines.line(), re.DOTALL)
         if symbol is None:
             raise Fault(f"bad line of a name in {lines.what}")
-        found[symbol[1].decode(), int(symbol[2])] = symbol[3]
+        found[symbol[1].decode(), decimal(symbol[2])] = symbol[3]
     return found
 
 

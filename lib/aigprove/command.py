@@ -1,5 +1,7 @@
 """The command line of aigprove."""
 import argparse
+import collections
+import math
 import os
 import re
 import shlex
@@ -7,19 +9,36 @@ import shutil
 import signal
 import sys
 import tempfile
+import time
 
 from aigprove import VERSION, programs
 from aigprove.aiger import Fault
+from aigprove.files import sealed
 from aigprove.judge import Judge
 from aigprove.questions import cadical
-from aigprove.race import FAILED, Race
-from aigprove.source import Pair, Source, read
+from aigprove.race import FAILED, OPEN, Race
+from aigprove.source import Pair, Source
+from aigprove.yosys import Late
 
 TOP = os.path.dirname(os.path.dirname(os.path.dirname(os.path.realpath(__file__))))
 # Engines that are asked where none is named, and all.
 ENGINES = ["steps", "windows", "bmc3", "pdr"]
 ALL = [*ENGINES, "bounded"]
 BELIEVED = ["aigtool", "aigedit", "aigcheck"]
+# What can go wrong: a thread that can't be started is a RuntimeError.
+FAULTS = (Fault, OSError, MemoryError, RuntimeError, UnicodeError)
+# Stands in the place of --, and is nothing that a command line can have.
+END = "--\0"
+# Options that name files, folders and programs.
+NAMED = [
+    ("equal", "OTHER", "compare FILE with this file"),
+    ("certificate", "CERT", "check an inductive machine in AIGER form that somebody else made"),
+    ("run", "WITNESS", "check a witness that somebody else made, or what ABC's write_cex wrote"),
+    ("keep", "FOLDER", "make FOLDER, with what shows each line, and check.sh, which shows it again"),
+    ("witness", "OUT", "write the witness of a bad state to OUT, in the form of the AIGER report"),
+    ("vcd", "OUT", "write the run to a bad state to OUT, as a value change dump for wave viewers"),
+    *((program, "PROGRAM", f"another program {program} than the one that is found") for program in ["abc", *BELIEVED]),
+]
 ABOUT = """\
 Asks whether the machine of an AIGER file can reach a bad state, and believes no engine: what is printed was checked by aigcheck.
 
@@ -30,8 +49,9 @@ Engines look for an answer side by side, and the first that is checked is printe
   bmc3, pdr commands of ABC, whose counterexamples become witnesses and whose invariant becomes a certificate
 An engine that isn't installed, lies or breaks is told of on standard error, and changes nothing else.
 
-With --equal outputs and bad states of FILE and OTHER are compared, on all runs of both that have the same inputs: each step by aigcheck
-equal, and all at once by an answer about their miter, which aigedit makes.
+With --equal outputs and bad states of FILE and OTHER are compared, on all runs of both that have the same inputs, and that the
+constraints of both allow: each step by aigcheck equal, and all at once by an answer about their miter, which aigedit makes.
+Justice and fairness are not looked at.
 """
 ENDS = """\
 Exit status 20: no bad state at any step, or no difference. 10: a bad state is reached, or a difference. 0: neither was shown.
@@ -39,15 +59,49 @@ Exit status 20: no bad state at any step, or no difference. 10: a bad state is r
 """
 
 
-def count(pattern, what, kind=int):
-    """The type of words that are spelled so, which are numbers below 2^32 of something."""
+class Parser(argparse.ArgumentParser):
+    """A parser of a command line, whose refused words can't drive a terminal; where standard output fails, that is a fault."""
+
+    def error(self, message):
+        super().error(programs.escaped(message))
+
+    def _print_message(self, message, file=None):
+        if file is sys.stdout:
+            file.write(message)
+        else:
+            programs.tell(message, end="")
+
+
+def count(pattern, what, kind=int, most=(1 << 32) - 1):
+    """The type of words that are spelled so, which are numbers of something, up to the greatest."""
 
     def taken(word):
-        if not re.fullmatch(pattern, word) or kind(word) >= 1 << 32:
+        if not re.fullmatch(pattern, word) or kind(word) > most:
             raise argparse.ArgumentTypeError(f"{word} is no number of {what}")
         return kind(word)
 
     return taken
+
+
+def nonempty(word):
+    if not word:
+        raise argparse.ArgumentTypeError("an empty name is no file's")
+    return word
+
+
+class Reset(collections.namedtuple("Reset", "signal value steps")):
+    """A reset in the first steps."""
+
+    def __str__(self):
+        return f"{self.signal}={self.value} " + (f"in the first {self.steps} steps" if self.steps > 1 else "in step 0")
+
+
+def reset(word):
+    """A reset that is spelled SIGNAL, SIGNAL=V, or either with :N."""
+    found = re.fullmatch(r"([A-Za-z_][A-Za-z0-9_$]*)(?:=([01]))?(?::([1-9][0-9]{0,3}))?", word)
+    if not found:
+        raise argparse.ArgumentTypeError(f"{word} is no signal with a value 0 or 1 and a number of steps, as rst_n=0:2")
+    return Reset(found[1], int(found[2] or 1), int(found[3] or 1))
 
 
 def engines(word):
@@ -59,28 +113,28 @@ def engines(word):
 
 def parser():
     """The words of the command line."""
-    it = argparse.ArgumentParser("aigprove", description=ABOUT, epilog=ENDS, formatter_class=argparse.RawDescriptionHelpFormatter)
+    it = Parser("aigprove", description=ABOUT, epilog=ENDS, formatter_class=argparse.RawDescriptionHelpFormatter)
     file = "a file in AIGER form, text or binary, which may be packed by gzip, or a design in Verilog (.v, .sv)"
+    held = "hold this input of a design at V (1) in the first N steps (1), in which assertions don't count; later it is free, and where " \
+        "it is to stay released the design has to assume so"
     bound = "ask about the steps 0 to N; once they were shown, other engines have as long again, and a second (no bound)"
     running, processors = "run so many programs at once, and others by turns (one for each processor)", len(os.sched_getaffinity(0))
+    limit = "take circuits of so many nodes, up to 2^31 (2^24)"
     solver = "a SAT solver that writes a proof in text: it is given a DIMACS file and the proof's name (cadical)"
-    it.add_argument("file", metavar="FILE", help=file)
+    it.add_argument("file", metavar="FILE", type=nonempty, help=file)
     it.add_argument("top", metavar="TOP", nargs="?", help="the top module of a design (the one that no other has)")
     it.add_argument("--version", action="version", version=f"aigprove {VERSION}")
-    it.add_argument("--equal", metavar="OTHER", help="compare FILE with this file")
+    it.add_argument("--reset", metavar="SIGNAL[=V][:N]", type=reset, help=held)
     it.add_argument("--bound", metavar="N", type=count("[0-9]{1,10}", "steps"), help=bound)
     seconds = count(r"[0-9]{1,9}(\.[0-9]{1,9})?", "seconds", float)
-    it.add_argument("--timeout", metavar="S", type=seconds, help="end after so many seconds (never)")
+    it.add_argument("--timeout", metavar="S", type=seconds, help="end after so many seconds, with those of yosys (never)")
+    it.add_argument("--limit", metavar="N", type=count("[1-9][0-9]{0,9}", "nodes", most=1 << 31), help=limit)
     it.add_argument("--jobs", metavar="N", type=count("[1-9][0-9]{0,4}", "programs"), default=processors, help=running)
     it.add_argument("--engine", metavar="NAMES", type=engines, help="ask these engines alone, with commas between; abc is bmc3 and pdr")
-    it.add_argument("--certificate", metavar="CERT", help="check an inductive machine in AIGER form that somebody else made")
-    it.add_argument("--run", metavar="WITNESS", help="check a witness that somebody else made, or what ABC's write_cex wrote")
-    it.add_argument("--keep", metavar="FOLDER", help="make FOLDER, with what shows each line, and check.sh, which shows it again")
-    it.add_argument("--witness", metavar="OUT", help="write the witness of a bad state to OUT, in the form of the AIGER report")
-    it.add_argument("--vcd", metavar="OUT", help="write the run to a bad state to OUT, as a value change dump for wave viewers")
+    for option, metavar, what in NAMED:
+        it.add_argument(f"--{option}", metavar=metavar, type=nonempty, help=what)
     it.add_argument("--solver", metavar="WORDS", type=shlex.split, help=solver)
-    for name in ["abc", *BELIEVED]:
-        it.add_argument(f"--{name}", metavar="PROGRAM", help=f"another program {name} than the one that is found")
+    it.add_argument(END, action="store_true", dest="end", help=argparse.SUPPRESS)
     return it
 
 
@@ -102,12 +156,20 @@ def engine(name):
     return program([name], f"{name} is not there")
 
 
+def marked(line):
+    """A command line whose words behind -- are no options, as paths from here where they begin with a dash."""
+    end = line.index("--") if "--" in line else len(line)
+    behind = [f"./{word}" if word.startswith("-") else word for word in line[end + 1:]]
+    return [*line[:end], *[END] * (end < len(line)), *behind]
+
+
 def parse(line):
     """What the words of a command line say, with paths that hold in any folder."""
-    words = parser().parse_intermixed_args(line)
+    words = parser().parse_intermixed_args(marked(line))
+    words.deadline = math.inf if words.timeout is None else time.monotonic() + words.timeout
     given = words.certificate or words.run
     words.engines = words.engine or ([] if given else ENGINES)
-    words.certificate, words.run = (path and read(path) for path in [words.certificate, words.run])
+    words.certificate, words.run = (path and sealed(path, words.limit) for path in [words.certificate, words.run])
     words.believed = [believed(name, vars(words)[name]) for name in BELIEVED]
     words.solver = words.solver or cadical()
     words.solver[:1] = map(engine, words.solver[:1])
@@ -122,7 +184,7 @@ def open_streams():
         pass
     os.close(opened)
     sys.stdout = sys.stdout or open(1, "w", encoding="ascii")
-    sys.stderr = sys.stderr or open(os.devnull, "w", encoding="ascii")
+    sys.stderr = sys.stderr or open(os.devnull, "w", encoding="ascii", errors="backslashreplace")
 
 
 def end(number, _):
@@ -130,26 +192,42 @@ def end(number, _):
     sys.exit(128 + number)
 
 
-def hush():
-    """Has what standard output didn't take not be written again at the end."""
-    os.dup2(os.open(os.devnull, os.O_WRONLY), sys.stdout.fileno())
-
-
 def answer(line):
     """Answers what a command line asks, and gives the exit status."""
     words = parse(line)
     running = programs.Programs(words.jobs)
-    judge = Judge(running, *words.believed)
+    judge = Judge(running, *words.believed, words.limit)
     programs.adopt()
     above = tempfile.mkdtemp(prefix="aigprove-")
     try:
-        given = words.file, words.top, above, judge
-        source = Pair(*given, words.equal) if words.equal else Source(*given)
+        source = (Pair if words.equal else Source)(words, above, judge)
         return Race(words, running, judge, above, source).run()
+    except Late as why:
+        programs.say(why)
+        print("nothing was shown")
+        return OPEN
     finally:
         running.stop()
         programs.bury()
         programs.remove(above)
+
+
+def hush(stream, number):
+    """Has what a stream didn't take not be written again at the end."""
+    try:
+        stream.flush()
+    except OSError:
+        os.dup2(os.open(os.devnull, os.O_WRONLY), number)
+
+
+def ended(line):
+    """The exit status of a command line's answer, once all was printed."""
+    try:
+        return answer(line)
+    except SystemExit as early:
+        return early.code
+    finally:
+        sys.stdout.flush()
 
 
 def main():
@@ -157,15 +235,14 @@ def main():
     for number in [signal.SIGTERM, signal.SIGHUP]:
         signal.signal(number, end)
     try:
-        status = answer(sys.argv[1:])
-        sys.stdout.flush()
+        status = ended(sys.argv[1:])
     except KeyboardInterrupt:
         status = 128 + signal.SIGINT
     except BrokenPipeError:
         status = 128 + signal.SIGPIPE
-        hush()
-    except (Fault, OSError) as error:
-        programs.say(error)
+    except FAULTS as error:
+        programs.say(programs.reason(error))
         status = FAILED
-        hush()
+    hush(sys.stdout, 1)
+    hush(sys.stderr, 2)
     sys.exit(status)

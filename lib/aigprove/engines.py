@@ -194,15 +194,15 @@ class Abc:
         made = self.plain.certificate(invariant)
         if made is None:
             raise Fault("its invariant isn't one of the machine")
-        Certificate(self.race, made).run()
+        Certificate(self.race, Sealed(made)).run()
 
 
 class Certificate(Asking):
-    """A certificate, as bytes."""
+    """A certificate, sealed."""
 
-    def __init__(self, race, data):
+    def __init__(self, race, certificate):
         super().__init__(race)
-        self.certificate = Sealed(data)
+        self.certificate = certificate
 
     def run(self):
         """Has the certificate checked, by proofs about the file beside it, and hands it in."""
@@ -214,16 +214,17 @@ class Certificate(Asking):
 
 
 class Run:
-    """A run to a bad state that somebody else found, as bytes: a witness, or a counterexample of ABC's."""
+    """A run to a bad state that somebody else found, sealed: a witness, or a counterexample of ABC's."""
 
-    def __init__(self, race, data):
-        self.race, self.data = race, data
+    def __init__(self, race, given):
+        self.race, self.given = race, given
 
     def run(self):
-        if self.data.startswith((b"1\nb", b"c")):
-            self.race.hand_in_run(self.data)
+        data = self.given.bytes()
+        if data.startswith((b"1\nb", b"c")):
+            self.race.hand_in_run(data)
             return
-        told = witness.of_abc(self.data.decode("utf-8", "replace"), self.race.circuit)
+        told = witness.of_abc(data.decode("utf-8", "replace"), self.race.circuit)
         if told is None:
             raise Fault("WITNESS is neither a witness nor a counterexample of ABC that reaches a bad state")
         self.race.hand_in_run(told.text().encode())

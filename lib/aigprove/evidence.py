@@ -2,11 +2,17 @@
 import os
 import shlex
 
+from aigprove import files
+
 HEAD = """#!/bin/sh
 # Shows again what aigprove printed, by the aigcheck and aigedit that AIGCHECK and AIGEDIT name, or that are found.
-cd "$(dirname "$0")" || exit 1
 check=${AIGCHECK:-aigcheck}
 edit=${AIGEDIT:-aigedit}
+limit=
+# A relative path is from where we stand.
+case $check in /*) ;; */*) check=$PWD/$check ;; esac
+case $edit in /*) ;; */*) edit=$PWD/$edit ;; esac
+case $0 in */*) CDPATH= cd -- "${0%/*}/" || exit 1 ;; esac
 
 fail() {
   echo "not shown: $1" >&2
@@ -17,7 +23,7 @@ fail() {
 shows() {
   line=$1
   shift
-  [ "$("$check" "$@")" = "$line" ] || fail "$line"
+  [ "$("$check" $limit "$@")" = "$line" ] || fail "$line"
   echo "$line"
 }
 
@@ -25,25 +31,27 @@ shows() {
 makes() {
   file=$1
   shift
-  "$edit" "$@" | cmp -s - "$file" || fail "$file"
+  "$edit" $limit "$@" | cmp -s - "$file" || fail "$file"
 }
 
 """
 
 
 class Evidence:
-    """A folder that is filled, and the lines of its script."""
+    """A folder that is filled, and the lines of its script, whose programs take so many nodes, where a number is given."""
 
-    def __init__(self, folder):
+    def __init__(self, folder, limit=None):
         self.folder, self.lines, self.names = folder, [HEAD], set()
+        if limit is not None:
+            self.lines.append(f"limit='--limit {limit}'\n")
         os.mkdir(folder)
 
     def put(self, name, file):
         """Puts a sealed file into the folder, once."""
         if name not in self.names:
             self.names.add(name)
-            with open(os.path.join(self.folder, name), "xb") as out:
-                out.write(file.bytes())
+            with open(file.path, "rb") as given:
+                files.write(os.path.join(self.folder, name), iter(lambda: given.read(1 << 20), b""), "xb")
 
     def add(self, *words):
         self.lines.append(shlex.join(words) + "\n")
@@ -61,6 +69,5 @@ class Evidence:
 
     def end(self):
         path = os.path.join(self.folder, "check.sh")
-        with open(path, "x", encoding="utf-8") as out:
-            out.writelines(self.lines)
+        files.write(path, (line.encode() for line in self.lines), "xb")
         os.chmod(path, 0o755)

@@ -1,6 +1,8 @@
 """What is believed: lines that aigcheck prints of sealed files. Nothing else in the package says what a machine does."""
 import collections
+import tempfile
 
+from aigprove.aiger import LIMIT, Circuit, Lines
 from aigprove.programs import Fault, Sealed, ending
 
 # The status of `aigcheck bounded` where no bad state is reached, as is seen without a solver.
@@ -16,8 +18,12 @@ class Claim(collections.namedtuple("Claim", "line words files")):
 class Judge:
     """The programs that are believed, and what they say of files and of what engines answer."""
 
-    def __init__(self, programs, aigtool, aigedit, aigcheck):
-        self.programs, self.aigtool, self.aigedit, self.aigcheck = programs, aigtool, aigedit, aigcheck
+    def __init__(self, programs, aigtool, aigedit, aigcheck, limit=None):
+        words = [] if limit is None else ["--limit", str(limit)]
+        self.programs, self.limit, self.aigedit, self.aigcheck = programs, limit or LIMIT, [aigedit, *words], [aigcheck, *words]
+        # What prints a file's text form and the clauses of its queries: aigtool, which takes no limit, or another in its place.
+        self.texts = [*self.aigedit, "reencode"] if words else [aigtool, "text"]
+        self.queries = [*self.aigcheck, "clauses"] if words else [aigtool, "query"]
         # The proof that is the empty clause alone, and the one without a step.
         self.empty_clause, self.nothing = Sealed(b"0\n"), Sealed(b"")
 
@@ -28,28 +34,35 @@ class Judge:
             raise Fault(said.partition("\n")[0] or f"{words[0]} {ending(status)}")
         return status, printed
 
-    def output(self, *words):
-        """What a program prints, which has to end with status 0."""
-        return self.ended(words, [0])[1]
+    def printed(self, *words):
+        """What a program prints, sealed; it has to end with status 0."""
+        with tempfile.TemporaryFile() as out:
+            self.ended(words, [0], stdout=out)
+            out.seek(0)
+            return Sealed(out)
 
     def text(self, file):
-        """The text form of a file, as bytes."""
-        return self.output(self.aigtool, "text", file).encode("ascii", "surrogateescape")
+        """The text form of a file."""
+        return self.printed(*self.texts, file)
 
     def made(self, command, *files):
-        return Sealed(self.output(self.aigedit, command, *files).encode("ascii", "surrogateescape"))
+        return self.printed(*self.aigedit, command, *files)
+
+    def circuit(self, file, what):
+        """What a file says that a program took, and what it is called in faults."""
+        return Circuit(Lines(file.bytes(), what), self.limit)
 
     def print_question(self, question, file, out):
         """Prints the clauses of a question, if it has any: whether it does."""
-        program = self.aigtool if question.command == "query" else self.aigcheck
+        words = self.queries if question.command == "query" else [*self.aigcheck, question.command]
         statuses = [0, SETTLED] if question.command == "bounded" else [0]
-        return self.ended([program, question.command, file, question.k, *question.form], statuses, stdout=out)[0] == 0
+        return self.ended([*words, file, question.k, *question.form], statuses, stdout=out)[0] == 0
 
     def refusal(self, claim):
         """Why aigcheck doesn't print the line of a claim, where a proof doesn't follow; else None, and other faults are raised."""
-        status, printed, said = self.programs.output([self.aigcheck, *(claim.files.get(word, word) for word in claim.words)])
+        status, printed, said = self.programs.output([*self.aigcheck, *(claim.files.get(word, word) for word in claim.words)])
         if status != 0 and not said.endswith(STEP):
-            raise Fault(said.partition("\n")[0] or f"{self.aigcheck} {ending(status)}")
+            raise Fault(said.partition("\n")[0] or f"{self.aigcheck[0]} {ending(status)}")
         if status == 0 and printed != claim.line + "\n":
             raise Fault(f"aigcheck printed {printed!r}")
         return said if status else None
@@ -65,4 +78,4 @@ class Judge:
     def witness(self, file, question, solution):
         """The witness that a solution of a question says, as bytes."""
         to = ["to"] if question.command == "bounded" else []
-        return self.output(self.aigcheck, "witness", file, *to, question.k, solution).encode()
+        return self.printed(*self.aigcheck, "witness", file, *to, question.k, solution).bytes()

@@ -50,14 +50,33 @@ def unnamed(said, files):
     return said
 
 
+def escaped(text):
+    """A text as one line that can't drive a terminal."""
+    return "".join(sign if sign.isprintable() else ascii(sign)[1:-1] for sign in text)
+
+
+def tell(text, end="\n"):
+    """Writes to standard error, whether that takes it or not."""
+    with contextlib.suppress(OSError):
+        print(text, end=end, file=sys.stderr, flush=True)
+
+
 def say(what):
-    """Says a line on standard error, so that it can't drive a terminal."""
-    text = "".join(sign if sign.isprintable() else ascii(sign)[1:-1] for sign in str(what))
-    print(f"aigprove: {text}", file=sys.stderr)
+    """Says a line on standard error."""
+    tell(f"aigprove: {escaped(str(what))}")
+
+
+def reason(error):
+    """What went wrong, in words."""
+    if isinstance(error, OSError) and error.strerror:
+        return ": ".join(str(part) for part in [error.filename, error.strerror] if part is not None)
+    return str(error) or ("out of memory" if isinstance(error, MemoryError) else type(error).__name__)
 
 
 class Sealed:
     """Bytes in memory, which nobody can write from now on, and the path that a program of ours reads them by."""
+
+    descriptor = None
 
     def __init__(self, data):
         self.descriptor = os.memfd_create("sealed", os.MFD_ALLOW_SEALING)
@@ -67,11 +86,17 @@ class Sealed:
         self.path = f"/dev/fd/{self.descriptor}"
 
     def __del__(self):
-        os.close(self.descriptor)
+        if self.descriptor is not None:
+            os.close(self.descriptor)
 
     def bytes(self):
         with open(self.path, "rb") as file:
             return file.read()
+
+    def line(self, most=1 << 16):
+        """The first line, of which so many bytes are read at most."""
+        with open(self.path, "rb") as file:
+            return file.readline(most)
 
     def __str__(self):
         return self.path
@@ -102,12 +127,15 @@ class Keeper:
     def __init__(self):
         told, self.telling = os.pipe()
         if os.fork() == 0:
-            os.close(self.telling)
-            os.setsid()
-            for stream in range(3):
-                os.dup2(os.open(os.devnull, os.O_RDWR), stream)
-            end_left(told)
-            os._exit(0)
+            # Whatever fails here, the other process goes on alone.
+            try:
+                os.close(self.telling)
+                os.setsid()
+                for stream in range(3):
+                    os.dup2(os.open(os.devnull, os.O_RDWR), stream)
+                end_left(told)
+            finally:
+                os._exit(0)
         os.close(told)
 
     def tell(self, number):

@@ -2,9 +2,8 @@
 import collections
 import os
 import subprocess
-import sys
 
-from aigprove.programs import Fault, Folder, ending, plain
+from aigprove.programs import Fault, Folder, ending, plain, tell
 
 # How many bytes of what a solver says on standard error are passed on.
 SAID = 4096
@@ -67,4 +66,4 @@ def pass_on(folder):
     except Fault:
         return
     if text:
-        print(text.rstrip("\n"), file=sys.stderr)
+        tell(text.rstrip("\n"))

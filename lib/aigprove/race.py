@@ -1,15 +1,15 @@
 """Engines side by side: the first checked answer wins."""
 import functools
-import math
 import queue
+import re
 import sys
 import threading
 import time
 
-from aigprove import aiger, plain, waves, witness
+from aigprove import aiger, files, plain, waves, witness
 from aigprove.engines import COMMANDS, Abc, Bounded, Certificate, Missing, Run, Steps, Windows
 from aigprove.evidence import Evidence
-from aigprove.programs import Fault, Sealed, Stopped, say
+from aigprove.programs import Fault, Sealed, Stopped, reason, say, tell
 from aigprove.questions import Solver
 from aigprove.shown import Shown
 
@@ -27,26 +27,26 @@ class Race:
         self.events, self.begun = queue.Queue(), time.monotonic()
         # Steps that were shown, from 0 on, a window that was, and engines that failed.
         self.steps, self.shown_window, self.faults = 0, None, []
-        self.deadline = math.inf if words.timeout is None else self.begun + words.timeout
+        self.deadline = words.deadline
         # What the progress line says, and the last line that was printed.
         self.doing, self.last = {}, None
-        self.evidence = words.keep and Evidence(words.keep)
+        self.evidence = words.keep and Evidence(words.keep, words.limit)
         if self.evidence:
             source.keep(self.evidence)
 
     def read_text(self):
-        """The text form of the file, which has to have a bad state property."""
+        """The text form of the file, sealed; the file has to have a bad state property."""
         try:
             text = self.judge.text(self.source.asked)
         except Fault as why:
-            raise Fault(f"{self.source.path}: {str(why).removeprefix('aigtool: ')}") from None
-        if aiger.Header(aiger.Lines(text, "FILE")).bads == 0:
+            raise Fault(f"{self.source.path}: {re.sub('^aig(tool|edit): ', '', str(why))}") from None
+        if aiger.Header(aiger.Lines(text.line(), "FILE")).bads == 0:
             raise Fault(f"{self.source.path}: {self.source.empty}")
         return text
 
     @functools.cached_property
     def circuit(self):
-        return aiger.Circuit(aiger.Lines(self.text, "FILE"))
+        return self.judge.circuit(self.text, "FILE")
 
     @functools.cached_property
     def plain(self):
@@ -134,11 +134,9 @@ class Race:
         if self.evidence:
             self.evidence.shows(claim)
         if self.words.witness:
-            with open(self.words.witness, "wb") as out:
-                out.write(data)
+            files.write(self.words.witness, [data])
         if self.words.vcd:
-            with open(self.words.vcd, "w", encoding="ascii") as out:
-                out.writelines(line + "\n" for line in waves.dump(circuit, told.start, told.steps))
+            files.write(self.words.vcd, (f"{line}\n".encode() for line in waves.dump(circuit, told.start, told.steps)))
         return UNSAFE
 
     def print_open(self):
@@ -179,7 +177,7 @@ class Race:
             pass
         # Whatever an engine's program leaves, the other engines go on.
         except Exception as why:
-            self.events.put(functools.partial(self.end, name, str(why) or type(why).__name__))
+            self.events.put(functools.partial(self.end, name, reason(why)))
 
     def end(self, name, why=None):
         """Takes that an engine ended without an answer."""
@@ -203,6 +201,8 @@ class Race:
 
     def run(self):
         """Runs the engines until there is an answer, or none can come any more, and gives the exit status."""
+        for line in self.source.warnings():
+            say(line)
         for line in self.source.about():
             self.print_line(line)
         engines = self.engines()
@@ -226,4 +226,4 @@ class Race:
         """Shows what is being done, on a terminal."""
         if sys.stderr.isatty():
             doing = ", ".join(list(self.doing.values())) + f": {time.monotonic() - self.begun:.0f} s"
-            print("\r\x1b[K" + (doing if text is None else text), end="", file=sys.stderr, flush=True)
+            tell("\r\x1b[K" + (doing if text is None else text), end="")

@@ -1,18 +1,22 @@
 """What is asked about: the bytes that were named, read once into memory that nobody can write, and what can be shown of them."""
-import gzip
+import argparse
+import re
 import tempfile
-import zlib
 
 from aigprove import aiger
-from aigprove.aiger import Circuit, Lines
+from aigprove.aiger import Header, Lines
+from aigprove.files import sealed
 from aigprove.judge import Claim
-from aigprove.programs import Fault, Sealed
+from aigprove.misfit import misfit
+from aigprove.programs import Fault, say
 from aigprove.shown import Shown, word
 from aigprove.verilog import Design
 
 VERILOG = (".v", ".sv")
 # How many outputs that differ are named.
 NAMED = 100
+# How many registers that are open at first are named.
+NAMED_OPEN = 8
 # By the command of a question: what aigcheck prints where that has no solution, and by which words.
 CLAIMS = {
     "query": ["no bad state at step {}", "refuted"],
@@ -24,26 +28,46 @@ CLAIMS = {
 class Given:
     """A file in AIGER form as it was given, and its name among what is kept; a design in Verilog is made one first."""
 
-    def __init__(self, path, top, above, name="file"):
-        self.path, self.design = path, None
+    def __init__(self, path, words, above, judge, name="file"):
+        self.path, self.design, self.judge, self.given = path, None, judge, sealed(path, judge.limit)
         if path.endswith(VERILOG):
-            self.design = Design(path, top, tempfile.mkdtemp(prefix="design-", dir=above))
-        elif top:
-            raise Fault(f"{path} is no design in Verilog, so it has no module {top}")
-        self.file = Sealed(read(self.design.place("design.aig") if self.design else path))
-        with open(self.file.path, "rb") as file:
-            self.line = file.readline(200)
+            folder = tempfile.mkdtemp(prefix="design-", dir=above)
+            self.design = Design(path, self.given.bytes(), words, folder, judge.programs)
+        elif words.top:
+            raise Fault(f"{path} is no design in Verilog, so it has no module {words.top}")
+        elif words.reset:
+            raise Fault(f"{path} is no design in Verilog, and --reset is for these")
+        for line in self.design.left_out if self.design else []:
+            say(line)
+        self.file = sealed(self.design.file, judge.limit) if self.design else self.given
+        self.line = self.file.line()
         self.suffix = "aag" if self.line.startswith(b"aag") else "aig"
         self.name = f"{name}.{self.suffix}"
 
+    def header(self):
+        return Header(Lines(self.line, "FILE"))
+
     def circuit(self):
         """The circuit that was given, with all its names."""
-        return Circuit(Lines(self.file.bytes(), "FILE"))
+        return self.judge.circuit(self.file, "FILE")
+
+    def warnings(self):
+        """A line of what the file has that nothing is asked about."""
+        header = self.header()
+        unseen = [*counted(header.justice, "justice property", "justice properties"), *counted(header.fairness, "fairness constraint")]
+        if unseen:
+            verb = "was" if header.justice + header.fairness == 1 else "were"
+            yield f"{self.path}: {' and '.join(unseen)} {verb} not looked at"
+
+    def about(self):
+        """The line of what is asked about a design."""
+        if self.design:
+            yield self.design.about()
 
     def keep(self, evidence):
         evidence.put(self.name, self.file)
         if self.design:
-            evidence.put(self.name[:-3] + self.path.rpartition(".")[2], Sealed(read(self.path)))
+            evidence.put(self.name[:-3] + self.path.rpartition(".")[2], self.given)
 
 
 class Asked:
@@ -83,17 +107,18 @@ class Asked:
 class Source(Asked):
     """One file, whose bad states are asked about."""
 
-    def __init__(self, path, top, above, judge):
-        self.given, self.path = Given(path, top, above), path
+    def __init__(self, words, above, judge):
+        self.given, self.path = Given(words.file, words, above, judge), words.file
         self.name, self.asked, self.is_old = self.given.name, self.given.file, is_old(self.given.line)
-        if self.given.design and self.is_old:
-            raise Fault(f"{path}: {self.given.design.top} has no assertion")
+        if self.given.design and not self.given.design.assertions:
+            raise Fault(f"{self.path}: {self.given.design.top} has no assertion")
         if self.is_old:
             self.name, self.asked = "bads.aag", judge.made("bads", self.asked)
-        self.circuit = self.given.circuit
+        self.circuit, self.warnings = self.given.circuit, self.given.warnings
 
     def about(self):
         """Lines of what the file is, where that isn't seen."""
+        yield from self.given.about()
         if self.is_old:
             yield "the outputs are taken for bad state properties: the file is of a time before these"
 
@@ -102,11 +127,20 @@ class Source(Asked):
         return f"a bad state at step {len(tolds[0].steps) - 1}: {shown.place('b', tolds[0].bad)}"
 
     def failing(self, data, bad):
-        """Lines of which assertions fail in a run, as yosys finds."""
-        try:
-            return [f"assertion {it} fails, as yosys runs it" for it in self.given.design.failing(data, bad)] if self.given.design else []
-        except Fault as why:
-            return [f"yosys doesn't run it: {why}"]
+        """Lines of the registers that are open at first, and of the assertion that fails in a run."""
+        design = self.given.design
+        return [*self.open_registers(design), *design.failing(data, bad)] if design else []
+
+    def open_registers(self, design):
+        """The line of the registers of a design that have any value at first, if there are any."""
+        circuit = self.circuit()
+        bits = [circuit.names.get(("l", i), b"").decode("utf-8", "surrogateescape") for i, reset in enumerate(circuit.resets) if reset > 1]
+        words = dict.fromkeys(re.sub(r"\[[0-9]+\]$", "", bit) for bit in bits)
+        names = [name for name in words if name and name not in design.constants]
+        if names:
+            others = f" and {len(names) - NAMED_OPEN} others" if len(names) > NAMED_OPEN else ""
+            hint = "" if design.reset else " (--reset SIGNAL begins with a reset)"
+            yield f"open at the start: {' '.join(map(word, names[:NAMED_OPEN]))}{others}{hint}"
 
     def keep(self, evidence):
         self.given.keep(evidence)
@@ -119,10 +153,16 @@ class Pair(Asked):
 
     name, prefix, safe, so_far, empty = "miter.aag", "miter: ", "equal at every step", "equal", "no output and no bad state property"
 
-    def __init__(self, path, top, above, judge, other):
-        self.path = f"{path} and {other}"
-        self.first, self.other = Given(path, top, above), Given(other, None, above, "other")
-        self.asked = judge.made("miter", self.first.file, self.other.file)
+    def __init__(self, words, above, judge):
+        self.judge, self.path = judge, f"{words.file} and {words.equal}"
+        self.first = Given(words.file, words, above, judge)
+        self.other = Given(words.equal, argparse.Namespace(**{**vars(words), "top": None}), above, judge, "other")
+        try:
+            self.asked = judge.made("miter", self.first.file, self.other.file)
+        except Fault as why:
+            if str(why) != "aigedit: files do not fit":
+                raise
+            raise Fault(misfit([words.file, words.equal], [self.first.circuit(), self.other.circuit()])) from None
 
     def unsolvable(self, question, proof):
         """That a question has no solution: of a step, that both are equal there."""
@@ -133,17 +173,27 @@ class Pair(Asked):
 
     def compared(self):
         """The letter and the position of what each bad state property of the miter compares: outputs, and then bad state properties."""
-        header = self.first.circuit().header
+        header = self.first.header()
         return [("o", i) for i in range(header.outputs)] + [("b", i) for i in range(header.bads)]
 
     def circuit(self):
         """The circuit of the miter, whose bad state properties have the names of what they compare."""
-        circuit, first = Circuit(Lines(self.asked.bytes(), "MITER")), self.first.circuit()
+        circuit, first = self.judge.circuit(self.asked, "MITER"), self.first.circuit()
         circuit.names.update((("b", i), first.name(*place)) for i, place in enumerate(self.compared()))
         return circuit
 
+    def warnings(self):
+        """Lines of what isn't compared."""
+        yield from self.first.warnings()
+        yield from self.other.warnings()
+        first, other = (it.header().constraints for it in [self.first, self.other])
+        if first or other:
+            yield f"{self.path} have {first} and {other} constraints: only runs that both files allow are compared"
+
     def about(self):
-        """Lines of what isn't seen: the names of an input in both files."""
+        """Lines of what isn't seen: what is asked about designs, and the names of an input in both files."""
+        yield from self.first.about()
+        yield from self.other.about()
         first, other = self.first.circuit().names, self.other.circuit().names
         for place in sorted(first.keys() & other.keys()):
             if place[0] == "i" and first[place] != other[place]:
@@ -168,16 +218,9 @@ class Pair(Asked):
         evidence.makes(self.name, self.asked, "miter", self.first.name, self.other.name)
 
 
-def read(path):
-    """The bytes of a file, which may be packed by gzip."""
-    with open(path, "rb") as file:
-        data = file.read()
-    if not data.startswith(b"\x1f\x8b"):
-        return data
-    try:
-        return gzip.decompress(data)
-    except (OSError, EOFError, zlib.error) as why:
-        raise Fault(f"{path}: {why}") from None
+def counted(number, one, many=None):
+    """How many there are of something, unless there is none."""
+    return [f"{number} {one if number == 1 else many or one + 's'}"] if number else []
 
 
 def is_old(line):

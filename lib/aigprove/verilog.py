@@ -1,134 +1,203 @@
-"""Designs in Verilog, made files in AIGER form by yosys: assertions become bad state properties, and assumptions constraints."""
-import json
+"""Designs in Verilog, made files in AIGER form by yosys: assertions become bad state properties, and assumptions constraints.
+
+The machine is the design that was meant. What nothing says is open: a register without an initial value at first, and in each step a
+net or a bit without a driver and each x. So each gets a free value, an input of the file, before a pass of yosys may choose one."""
 import os
 import re
-import shutil
-import subprocess
 
-from aigprove.programs import Fault, ending, plain
+from aigprove.netlist import cells_like, cells_of, check_drivers, clock_of, constants, free_names, item_of_x, opened, reached, roots_of, stored
+from aigprove.programs import Fault
+from aigprove.yosys import Yosys
 
-# Hierarchy, memories and asynchronous resets become flat registers of one clock, whose every step is one of it.
-READ = """read_verilog -formal -sv -I "{beside}" "{design}"
-prep -flatten {top}
-memory_map
+READ = """read_verilog -formal -sv -I {beside} {source}
+write_rtlil {made}/all.il
+hierarchy -check {top}
+write_rtlil {made}/below.il
+proc -noopt -norom
+flatten
+write_json {made}/drawn.json
+"""
+# Up to setundef no pass folds constants: an x is no constant of the design. Hierarchy, memories and asynchronous resets become flat
+# registers of one clock, whose every step is one of it. What is x, and what nothing drives, becomes an input. Of several names of a net
+# the one with most attributes stays.
+FREE = """read_rtlil below.il
+proc -noopt -norom
+flatten
+chformal -cover -live -fair -remove
+opt_clean
+techmap -max_iter 1 -map free.v
+chtype -set $eq t:$eqx
+chtype -set $ne t:$nex
+memory_collect
+memory_memx
+techmap -map free.v -D ADDRESSES t:$nex
+memory_map -formal
 async2sync
 opt_clean
-write_rtlil "{made}/design.il"
-write_json "{made}/design.json"
+setundef -undriven -anyseq
+opt -fine -noff -keepdc
+setattr -unset hdlname w:*
+setattr -set outer 1 w:* w:*.* %d
+opt_clean -purge
+delete t:$anyseq
+setundef -undriven -expose
+write_rtlil free.il
+write_json free.json
 """
-# Registers without an initial value are open at first.
-WRITE = """read_rtlil design.il
+# While there are gates to be found, a register that is open at first is a cell that no pass looks into.
+WRITE = """read_rtlil free.il
 cd {top}
 {renames}
 cd ..
 write_rtlil named.il
+{reset}
+formalff -clk2ff -ff2anyinit
 {clock}
+opt -noff -keepdc
 techmap
-opt
-dffunmap
+setundef -undriven -anyseq
+opt -noff -keepdc
 abc -g AND
-clean
+opt_clean
+formalff -anyinit2ff -fine
 aigmap
-write_json design.json
+json -o asserted.json t:$assert
 write_aiger -symbols -map design.aim design.aig
 """
+# The first steps: the signal is held, and no assertion is asked about. One at an edge of the clock is about the step before.
+RESET = """select -set held t:$assume
+add -assume {signal}
+techmap -autoproc -max_iter 1 -map held.v t:$assume @held %d
+select -set late t:$dff %co1:+[Q] w:$* %i %co1:+[EN] t:$assert %i
+techmap -autoproc -max_iter 1 -map asked.v t:$assert @late %d
+techmap -autoproc -max_iter 1 -map late.v @late"""
+COUNTING = """(* techmap_celltype = "{kind}" *)
+module counting (input A, input EN);
+  reg [{high}:0] left = {steps};
+  always @($global_clock) left <= left - (left != 0);
+  \\{kind} _TECHMAP_REPLACE_ (.A({value}), .EN({enabled}));
+endmodule
+"""
 REPLAY = """read_rtlil named.il
+{spare}
 sim {clock} -r witness.aiw -map design.aim {top}
 """
-CLOCKS = {"CLK", "RD_CLK", "WR_CLK"}
+SPARE = "aigprove_clock"
+ASKED = ("$assert", "$assume")
+KINDS = {"$assert": "assertion", "$assume": "assumption", "$cover": "cover", "$live": "liveness assertion", "$fair": "fairness assumption"}
 WORD = re.compile(r"[A-Za-z_][A-Za-z0-9_$]*")
 FAILED = re.compile(r"^Warning: Assert (\S+ \(.*\)) failed\.$", re.MULTILINE)
 
 
+def asked_below(cells, modules):
+    """How many assertions these modules have."""
+    return sum(cell.type == "$assert" and cell.module[1:] in modules for cell in cells)
+
+
 class Design:
-    """A design whose file is made in a folder."""
+    """A design whose file is made in a folder, and what is asked about it."""
 
-    def __init__(self, path, top, folder):
-        self.folder = folder
-        if shutil.which("yosys") is None:
-            raise Fault("yosys is not installed, which makes a file of a design in Verilog")
-        if '"' in path or (top and not WORD.fullmatch(top)):
-            raise Fault(f"{path} {top or ''}: yosys takes no such name")
-        beside = os.path.dirname(path) or "."
-        # Paths in the design are from where we are.
-        self.yosys(READ, ".", made=folder, beside=beside, design=path, top=f"-top {top}" if top else "-auto-top")
-        self.top, module = self.module()
-        self.clock = clock_of(self.top, module)
-        delete = f"delete -input w:{self.clock[0]}" if self.clock else ""
-        renames = "\n".join(f"rename {old} {new}" for old, new in stored(module))
-        self.yosys(WRITE, folder, top=self.top, renames=renames, clock=delete)
-        # Bad state properties stand in the order of the assertions.
-        self.assertions = [name for name, cell in self.module()[1]["cells"].items() if cell["type"] == "$assert"]
+    def __init__(self, path, data, words, folder, programs):
+        if words.top and not WORD.fullmatch(words.top):
+            raise Fault(f"{words.top} is no name of a module")
+        self.yosys, self.reset = Yosys(path, data, folder, programs, words.deadline), words.reset
+        self.left_out = self.read(words.top)
+        self.top, module = self.free()
+        self.clock, self.constants = clock_of(self.top, module), constants(module)
+        self.counts = [len(cells_like(module, kind)) for kind in ("$assert", "$assume")]
+        self.assertions = self.write(module)
+        self.file = self.yosys.place("design.aig")
 
-    def module(self):
-        """The name of the top module and what it has, as yosys wrote it last."""
-        with open(self.place("design.json"), encoding="utf-8") as file:
-            modules = json.load(file)["modules"]
-        return next((name, it) for name, it in modules.items() if "top" in it["attributes"])
+    def read(self, top):
+        """Reads the design as far as its top module has it, and gives lines of what isn't asked about."""
+        every, below = self.read_below(top and f"-top {top}" or "-auto-top")
+        others = [] if top else [name for name in roots_of(every) if name not in below]
+        if others and not asked_below(every, below):
+            # The one below which most assertions are, or the last of these.
+            better = max(reversed(roots_of(every)), key=lambda name: asked_below(every, reached(every, name)))
+            others = [name for name in roots_of(every) if name != better]
+            every, below = self.read_below(f"-top {better}")
+        lines = [f"{name} is a top module too, and not asked about" for name in others]
+        return lines + [line for cell in every for line in self.passed_over(cell, cell.module[1:] in below)]
 
-    def place(self, name):
-        return os.path.join(self.folder, name)
+    def read_below(self, top):
+        """Reads the design as far as a top module has it, and gives all its cells, and the names of the top module and those below."""
+        self.yosys.read(READ, top=top)
+        text = self.yosys.text("below.il")
+        if place := item_of_x(text):
+            raise Fault(f"{self.yosys.told(place)}: an item of this case is x or z")
+        below = {cell.module.split("\\")[1] for cell in cells_of(text)}
+        if not below:
+            raise Fault(f"{self.yosys.path} has no module")
+        self.yosys.put("below.il", opened(text))
+        return list(cells_of(self.yosys.text("all.il"))), below
 
-    def yosys(self, script, folder, **words):
-        """Runs a script of yosys in a folder, and gives what it prints."""
-        with open(self.place("script.ys"), "w", encoding="utf-8") as out:
-            out.write(script.format(**words))
-        streams = {"stdin": subprocess.DEVNULL, "stdout": subprocess.PIPE, "stderr": subprocess.STDOUT}
-        done = subprocess.run(["yosys", self.place("script.ys")], cwd=folder, **streams)
-        printed = plain(done.stdout)
-        if done.returncode != 0:
-            why = [line for line in printed.splitlines() if "ERROR: " in line]
-            raise Fault(why[0] if why else f"yosys {ending(done.returncode)}")
-        return printed
+    def passed_over(self, cell, is_below):
+        """A line of an assertion, or another such cell, that isn't asked about: in no module below the top, or of a kind that no bad state
+        or constraint says."""
+        if cell.type in KINDS and not (is_below and cell.type in ASKED):
+            yield f"{KINDS[cell.type]} {cell.label} ({self.yosys.told(cell.place)}) is not asked about"
+
+    def free(self):
+        """Makes inputs of what is free, and gives the name of the top module and what it has."""
+        with open(os.path.join(os.path.dirname(__file__), "free.v"), encoding="utf-8") as file:
+            self.yosys.put("free.v", file.read())
+        self.yosys.run(FREE)
+        check_drivers(*self.top_of("drawn.json"))
+        top, module = self.top_of("free.json")
+        if not WORD.fullmatch(top):
+            raise Fault(f"{top} is no name of a module")
+        return top, module
+
+    def top_of(self, name):
+        """The name of the top module and what it has, in a file in JSON."""
+        return next((name, it) for name, it in self.yosys.modules(name).items() if "top" in it["attributes"])
+
+    def write(self, module):
+        """Writes the file, and gives the name, the place and whether the design has that name for each bad state property's assertion."""
+        reset = self.put_reset(module) if self.reset else ""
+        clock = f"delete w:{self.clock[0]}\nopt_clean -purge" if self.clock else ""
+        renames = "\n".join(f"rename {old} {new}" for old, new in [*stored(module), *free_names(module)])
+        self.yosys.run(WRITE, top=self.top, renames=renames, clock=clock, reset=reset)
+        cells = self.yosys.modules("asserted.json").get(self.top, {"cells": {}})["cells"]
+        return [(name, cell["attributes"].get("src", "").partition("|")[0], not cell["hide_name"]) for name, cell in cells.items()]
+
+    def put_reset(self, module):
+        """Puts cells into the folder for assertions, and for the assumption that the reset is held, which count its steps, and gives the
+        lines that use them."""
+        signal, value, steps = self.reset
+        port = module["ports"].get(signal)
+        if port is None or port["direction"] != "input" or len(port["bits"]) > 1 or signal in (self.clock or []):
+            raise Fault(f"{self.top} has no input {signal} of one bit that could be a reset")
+        asked = {"kind": "$assert", "value": "A", "enabled": "EN & left == 0"}
+        held = {"kind": "$assume", "value": f"A == {value}", "enabled": "left != 0"}
+        for name, count, words in [("held.v", steps, held), ("asked.v", steps, asked), ("late.v", steps + 1, asked)]:
+            self.yosys.put(name, COUNTING.format(steps=count, high=count.bit_length() - 1, **words))
+        return RESET.format(signal=signal)
+
+    def about(self):
+        """The line of what is asked about."""
+        counted = [f"{count} {what}{'s' * (count != 1)}" for count, what in zip(self.counts, ["assertion", "assumption"])]
+        return f"{self.top}: {', '.join(counted)}" + (f", {self.reset}" if self.reset else "")
 
     def failing(self, witness, bad):
-        """The names and places of the assertions that fail where yosys runs a witness on the design: of the one that a bad state
-        property stands for, if it is among them."""
-        with open(self.place("witness.aiw"), "wb") as out:
-            out.write(witness)
-        clock = f"-clock{'' if self.clock[1] else 'n'} {self.clock[0]}" if self.clock else ""
-        failed = list(dict.fromkeys(FAILED.findall(self.yosys(REPLAY, self.folder, clock=clock, top=self.top))))
-        own = f"{self.top}.{self.assertions[bad]} (" if bad < len(self.assertions) else None
-        return [it for it in failed if own and it.startswith(own)] or failed
+        """The line of the assertion that a bad state property stands for, and of what yosys finds where it runs a witness on the design."""
+        name, place, is_named = self.assertions[bad]
+        own = f"assertion {self.top}{f'.{name}' if is_named else ''} ({self.yosys.told(place)}) fails"
+        try:
+            failed = self.failed(witness)
+        except Fault as why:
+            return [own, f"yosys doesn't run it: {why}"]
+        if any(it.startswith(f"{self.top}.{name} (") for it in failed):
+            return [f"{own}, as yosys runs it"]
+        return [f"{own} by the file, but where yosys runs the design {self.yosys.told(' and '.join(failed)) or 'none'} fails"]
 
-
-def names_of(module):
-    """A name for each bit of a module: of a port, else of a net that the design names, else of another."""
-    names = {}
-    ranked = sorted(module["netnames"].items(), key=lambda it: (it[0] in module["ports"], not it[1]["hide_name"]))
-    for name, net in ranked:
-        names.update(dict.fromkeys(net["bits"], name))
-    return names
-
-
-def clock_of(top, module):
-    """The name of the clock, and whether its rising edges count; None without registers. Several are refused by name."""
-    names = names_of(module)
-    clocks, read = set(), set()
-    for cell in module["cells"].values():
-        for port, bits in cell["connections"].items():
-            if port in CLOCKS:
-                edge = cell["parameters"].get(f"{port}_POLARITY", "1")
-                clocks.update((names.get(bit, str(bit)), "1" in edge) for bit in bits)
-            elif cell["port_directions"].get(port) != "output":
-                read.update(names.get(bit) for bit in bits)
-    if len(clocks) > 1:
-        shown = " and ".join(f"{name} ({'rising' if rising else 'falling'})" for name, rising in sorted(clocks))
-        raise Fault(f"{top} has several clocks, and one is taken: {shown}")
-    for clock, _ in clocks:
-        if clock in read:
-            raise Fault(f"{top} reads its clock {clock} as a value too")
-    return next(iter(clocks), None)
-
-
-def stored(module):
-    """New names for what registers with an asynchronous reset hold: the name in the design has its value with the reset."""
-    ranked = sorted(module["netnames"].items(), key=lambda it: (not it[1]["hide_name"], -it[0].count(".")))
-    nets = {tuple(net["bits"]): (name, net["hide_name"]) for name, net in ranked}
-    held = {tuple(cell["connections"]["Q"]) for cell in module["cells"].values() if "Q" in cell["connections"]}
-    for cell in module["cells"].values():
-        ports = cell["connections"]
-        for bits in [tuple(ports[port]) for port in "AB" if cell["type"] == "$mux"]:
-            old, new = nets.get(bits), nets.get(tuple(ports["Y"]))
-            if bits in held and old and old[1] and new and not new[1] and f"{new[0]}.stored" not in module["netnames"]:
-                yield old[0], f"{new[0]}.stored"
+    def failed(self, witness):
+        """The assertions that fail in the last step of a witness, as yosys prints them."""
+        # Yosys passes over an empty line, and wants a clock.
+        status, bad, *values, end = witness.decode().splitlines()
+        self.yosys.put("witness.aiw", "\n".join([status, bad, *(f"{line}0" for line in values), end, ""]))
+        clock, rising = self.clock or (SPARE, True)
+        spare = "" if self.clock else f"add -input {SPARE} 1"
+        printed = self.yosys.run(REPLAY, clock=f"-clock{'' if rising else 'n'} {clock}", top=self.top, spare=spare)
+        return list(dict.fromkeys(FAILED.findall(printed.rpartition("Simulating cycle ")[2])))

@@ -78,15 +78,16 @@ def variables(circuit):
         yield letter, [Variable(next(numbers), name or names[own[0]], [literals[i] for i in own]) for name, own in places]
 
 
-def declarations(made, depth=0):
-    """The declarations of variables, by the scopes in their names."""
-    for scope, group in itertools.groupby(made, key=lambda it: it.scopes[depth : depth + 1]):
-        if scope:
-            yield f"$scope module {scope[0]} $end"
-            yield from declarations(list(group), depth + 1)
-            yield "$upscope $end"
-        else:
-            yield from (it.declared() for it in group)
+def declarations(made):
+    """The declarations of variables that stand in the order of their scopes, which are opened and closed between them."""
+    opened = []
+    for it in made:
+        shared = sum(1 for _ in itertools.takewhile(lambda pair: pair[0] == pair[1], zip(opened, it.scopes)))
+        yield from ["$upscope $end"] * (len(opened) - shared)
+        yield from (f"$scope module {name} $end" for name in it.scopes[shared:])
+        yield it.declared()
+        opened = it.scopes
+    yield from ["$upscope $end"] * len(opened)
 
 
 def dump(circuit, state, inputs):

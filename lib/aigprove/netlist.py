@@ -1,0 +1,179 @@
+"""Designs as yosys writes them, in its own language and as JSON: what is asked, and which signals have which names."""
+import collections
+import re
+
+from aigprove.programs import Fault
+
+CLOCKS = {"CLK", "RD_CLK", "WR_CLK"}
+# What an assertion, an assumption or a write that isn't enabled says; a case whose items nobody has compared; and one item that is x.
+UNREACHED = re.compile(r"^( *assign \$[0-9]+\$(?:formal|memwr)\$\S+ )([0-9]+)'x+$(?=\n(?:.*\n)?.*_EN\S* [0-9]+'0+$)", re.MULTILINE)
+PARALLEL = re.compile(r"^ *attribute \\parallel_case .*\n", re.MULTILINE)
+SWITCH = re.compile(r'attribute \\src "([^"]*)"\n *switch ')
+ITEM = re.compile(r"^ *case .*[0-9]'[01-]*[xz]", re.MULTILINE)
+# What has values, but memories and what is compared with x; its lines that may have constants; and one with bits that are x.
+VALUED = re.compile(r"^  (?:cell (?!\$(?:mem|eqx |nex ))|process ).*?^  end$|^  connect .*$", re.MULTILINE | re.DOTALL)
+INITIAL = re.compile(r"^    sync init$", re.MULTILINE)
+VALUES = re.compile(r"^ *(?:connect|assign|switch|update) .*$", re.MULTILINE)
+X = re.compile(r"(?<= )([1-9][0-9]*)'([01x-]*x[01x-]*)(?= |$)")
+LINE = re.compile(r'^(module|  cell) (\S+)(?: (\S+))?$|^ *attribute \\src "([^"]*)"$', re.MULTILINE)
+PART = re.compile(r"(.+)\$\[([0-9]+):([0-9]+)\]")
+
+
+class Cell(collections.namedtuple("Cell", "module type name place")):
+    """A cell in yosys's own language, whose names begin with a sign; a module has no type."""
+
+    @property
+    def label(self):
+        """The module's name, and its own if the design gives one."""
+        return self.module[1:] + (f".{self.name[1:]}" if self.name.startswith("\\") else "")
+
+
+def cells_of(text):
+    """All modules of a design in yosys's own language, each before its cells."""
+    module = place = ""
+    for kind, first, second, src in LINE.findall(text):
+        if src:
+            place = src
+        elif kind == "module":
+            module = first
+            yield Cell(module, None, first, place)
+        else:
+            yield Cell(module, first, second, place)
+
+
+def roots_of(cells):
+    """The names of the modules that no other has, in order."""
+    types = {cell.type for cell in cells}
+    return [cell.module[1:] for cell in cells if cell.type is None and cell.module not in types]
+
+
+def reached(cells, root):
+    """The names of a module and of all below it."""
+    found, left = set(), [root]
+    while left:
+        found.add(left.pop())
+        left += [cell.type[1:] for cell in cells if cell.type and cell.module[1:] in found and cell.type[1:] not in found]
+    return found
+
+
+def item_of_x(text):
+    """The place of a case with an item that is x or z, if there is one."""
+    item = ITEM.search(text)
+    return item and SWITCH.findall(text, 0, item.start())[-1]
+
+
+def opened(text):
+    """A design in which each x is a wire that nothing drives: yosys would choose its value, or another for each reader. What isn't enabled
+    has the value 0, and not x; and the first of several items that fit counts, though the design says that only one does."""
+    text = PARALLEL.sub("", UNREACHED.sub(r"\1\2'0", text))
+    return "".join(map(freed, re.split(r"^(?=module )", text, flags=re.MULTILINE)))
+
+
+def freed(module):
+    """A module with a wire that nothing drives for each run of bits that are x."""
+    widths = []
+
+    def wire(bits):
+        widths.append(len(bits))
+        return f"$free${len(widths)}"
+
+    def spelled(found):
+        bits = found[2].rjust(int(found[1]), found[2][0])
+        parts = [wire(part) if "x" in part else f"{len(part)}'{part}" for part in re.findall("x+|[^x]+", bits)]
+        return f"{{ {' '.join(parts)} }}"
+
+    def valued(found):
+        is_initial = INITIAL.search(found[0])
+        return found[0] if is_initial else VALUES.sub(lambda line: X.sub(spelled, line[0]), found[0])
+
+    head, end, body = VALUED.sub(valued, module).partition("\n")
+    return head + end + "".join(f"  wire width {width} $free${i}\n" for i, width in enumerate(widths, 1)) + body
+
+
+def names_of(module):
+    """A name for each bit of a module: of a port, else of a net that the design names, else of another."""
+    names = {}
+    ranked = sorted(module["netnames"].items(), key=lambda it: (it[0] in module["ports"], not it[1]["hide_name"]))
+    for name, net in ranked:
+        names.update(dict.fromkeys(net["bits"], name))
+    return names
+
+
+def cells_like(module, kind):
+    return [cell for cell in module["cells"].values() if cell["type"] == kind]
+
+
+def constants(module):
+    """The names of what has any value, which is the same in each step."""
+    names = names_of(module)
+    return {names.get(bit) for cell in cells_like(module, "$anyconst") for bit in cell["connections"]["Y"]}
+
+
+def outputs(cell):
+    return [bit for port, bits in cell["connections"].items() if cell["port_directions"].get(port) == "output" for bit in bits]
+
+
+def check_drivers(top, module):
+    """Refuses nets that are z at times or have several drivers, of which one may be a constant."""
+    names, driven = names_of(module), set()
+    valued = [cell for cell in module["cells"].values() if cell["type"] not in ("$eqx", "$nex")]
+    open_bits = [names.get((outputs(cell) or [None])[0]) for cell in valued if any("z" in bits for bits in cell["connections"].values())]
+    for name in open_bits + [name for name, net in module["netnames"].items() if "z" in net["bits"]]:
+        raise Fault(f"{top}: {name} is z at times, and tristate is not taken")
+    inputs = [(name, bit) for name, port in module["ports"].items() if port["direction"] == "input" for bit in port["bits"]]
+    for name, bit in inputs + [(names.get(bit), bit) for cell in valued for bit in outputs(cell)]:
+        if bit in driven or isinstance(bit, str):
+            raise Fault(f"{top}: {name} has several drivers")
+        driven.add(bit)
+
+
+def clock_of(top, module):
+    """The name of the clock, and whether its rising edges count; None without registers. Several are refused by name."""
+    names = names_of(module)
+    clocks, read = set(), set()
+    for cell in module["cells"].values():
+        for port, bits in cell["connections"].items():
+            if port in CLOCKS:
+                edge = cell["parameters"].get(f"{port}_POLARITY", "1")
+                clocks.update((names.get(bit, str(bit)), "1" in edge) for bit in bits)
+            elif cell["port_directions"].get(port) != "output":
+                read.update(names.get(bit) for bit in bits)
+    if len(clocks) > 1:
+        shown = " and ".join(f"{name} ({'rising' if rising else 'falling'})" for name, rising in sorted(clocks))
+        raise Fault(f"{top} has several clocks, and one is taken: {shown}")
+    for clock, _ in clocks:
+        if clock in read:
+            raise Fault(f"{top} reads its clock {clock} as a value too")
+        if module["ports"].get(clock, {"direction": ""})["direction"] != "input":
+            raise Fault(f"{top} makes its clock {clock} itself, and one that is an input is taken")
+    return next(iter(clocks), None)
+
+
+def stored(module):
+    """New names for what registers with an asynchronous reset hold: the name in the design has its value with the reset."""
+    ranked = sorted(module["netnames"].items(), key=lambda it: (not it[1]["hide_name"], -it[0].count(".")))
+    nets = {tuple(net["bits"]): (name, net["hide_name"]) for name, net in ranked}
+    held = {tuple(cell["connections"]["Q"]) for cell in module["cells"].values() if "Q" in cell["connections"]}
+    for cell in module["cells"].values():
+        ports = cell["connections"]
+        for bits in [tuple(ports[port]) for port in "AB" if cell["type"] == "$mux"]:
+            old, new = nets.get(bits), nets.get(tuple(ports["Y"]))
+            if bits in held and old and old[1] and new and not new[1] and f"{new[0]}.stored" not in module["netnames"]:
+                yield old[0], f"{new[0]}.stored"
+
+
+def free_names(module):
+    """New names for inputs that stand for free values: of the net or its bits, else x0, x1 and so on."""
+    taken, count = set(module["netnames"]), 0
+    for name, port in module["ports"].items():
+        part = PART.fullmatch(name)
+        if part:
+            bits = [int(part[2]) - 1, int(part[3])]
+            new = f"{part[1]}[{':'.join(map(str, dict.fromkeys(bits)))}]"
+            if new not in taken:
+                yield name, new
+        elif module["netnames"][name]["hide_name"]:
+            while f"x{count}" in taken:
+                count += 1
+            taken.add(f"x{count}")
+            yield name, f"x{count}"
