@@ -17,14 +17,15 @@
  *
  * An answer is put at the front of `out`, which has room for `out_len` items, and `*needed` is how many it has. Where it doesn't
  * fit, the status is AIG_SMALL, `out` is as it was, and `*needed` is exact. After every other status but AIG_DONE all that is
- * pointed to is as it was. To ask for the size first costs a whole call: keep a buffer, and let it grow where it is too small.
+ * pointed to is as it was. Asking for the size does all the work: keep a buffer, and grow it after AIG_SMALL.
  *
  * `k` is the number of a step, from 0 on. `optimize` says whether exclusive ors and choices have clauses of their own; the programs'
  * word `raw` says the opposite. A proof and a solver's answer are of the clauses of the same `k` and `optimize`. A proof is in LRAT, as
  * text (cadical --lrat --no-binary), or in DRAT, as text or binary. A solver's answer is its lines `s SATISFIABLE` and `v ..`.
  *
  * Bad states are reached on runs that meet every constraint at each step: where there is no such run, none is. Justice and fairness are
- * read, kept and written, and not checked.
+ * read and not checked; `aig_cone`, `aig_reduce`, `aig_question`, `aig_miter` and `aig_join` drop them, other calls keep them. Names of
+ * inputs and latches are kept, others dropped.
  */
 #ifndef AIG_H
 #define AIG_H
