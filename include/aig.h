@@ -17,11 +17,15 @@
  *
  * An answer is put at the front of `out`, which has room for `out_len` items, and `*needed` is how many it has. Where it doesn't
  * fit, the status is AIG_SMALL, `out` is as it was, and `*needed` is exact. After every other status but AIG_DONE all that is
- * pointed to is as it was. To ask for the size first costs a whole call: keep a buffer, and let it grow where it is too small.
+ * pointed to is as it was. Asking for the size does all the work: keep a buffer, and grow it after AIG_SMALL.
  *
- * `k` is the number of a step, from 0 on. `optimize` says whether exclusive ors and choices have clauses of their own; a proof and a
- * solver's answer are of the clauses of the same `k` and `optimize`. A proof is in LRAT, as text (cadical --lrat
- * --no-binary), or in DRAT, as text or binary. A solver's answer is its lines `s SATISFIABLE` and `v ..`.
+ * `k` is the number of a step, from 0 on. `optimize` says whether exclusive ors and choices have clauses of their own; the programs'
+ * word `raw` says the opposite. A proof and a solver's answer are of the clauses of the same `k` and `optimize`. A proof is in LRAT, as
+ * text (cadical --lrat --no-binary), or in DRAT, as text or binary. A solver's answer is its lines `s SATISFIABLE` and `v ..`.
+ *
+ * Bad states are reached on runs that meet every constraint at each step: where there is no such run, none is. Justice and fairness are
+ * read and not checked; `aig_cone`, `aig_reduce`, `aig_question`, `aig_miter` and `aig_join` drop them, other calls keep them. Names of
+ * inputs and latches are kept, others dropped.
  */
 #ifndef AIG_H
 #define AIG_H
@@ -86,7 +90,7 @@ enum aig_status {
   AIG_PROOF_LITERAL = 42,    /* A literal has no variable. */
   AIG_PROOF_UNNAMED = 43,    /* A number names no clause. */
   AIG_PROOF_TWICE = 44,      /* A number was used before. */
-  AIG_PROOF_LARGE = 45,      /* A number is far above how many clauses there are. */
+  AIG_PROOF_LARGE = 45,      /* A number is 65,540 or more above four times how many were used. */
   AIG_PROOF_STEP = 46,       /* A clause doesn't follow. */
   AIG_PROOF_ASYMMETRY = 47,  /* A step is one by resolution asymmetry (RAT). */
   AIG_PROOF_BINARY = 48,     /* Neither text nor binary DRAT. */
@@ -136,17 +140,18 @@ uint32_t aig_binary(const uint8_t *file, size_t file_len, uint8_t *out, size_t o
 /* The text form of a file's circuit after structural hashing. */
 uint32_t aig_strash(const uint8_t *file, size_t file_len, uint8_t *out, size_t out_len, size_t *needed);
 
-/* The text form of a file's circuit, cut to its cone of influence: what no property reads is gone. */
+/* The text form of a file's circuit, cut to its cone of influence: what neither a property nor a latch reads is gone. Latches stay. */
 uint32_t aig_refine(const uint8_t *file, size_t file_len, uint8_t *out, size_t out_len, size_t *needed);
 
 /* The text form of a file's circuit in the numbering of the binary form. */
 uint32_t aig_reencode(const uint8_t *file, size_t file_len, uint8_t *out, size_t out_len, size_t *needed);
 
-/* The text form of a file's circuit with `k` further steps: its bad state properties are those of the steps 0 to `k`. */
+/* The text form of a file's circuit with `k` further steps: its bad state properties are those of the steps 0 to `k`, and its constraints,
+ * too. So a bad state is lost whose run can't go on to step `k` under the constraints: `aig_question` asks for it. */
 uint32_t aig_unroll(const uint8_t *file, size_t file_len, uint64_t k, uint8_t *out, size_t out_len, size_t *needed);
 
-/* The text form of a file's circuit with its constraints joined to its bad state property and the first output. Further outputs stay
- * without them. A file with constraints and more than one bad state property is refused: `aig_compress_bads` makes these one. */
+/* The text form of a file's circuit without constraints: its bad state property and its first output hold only while every constraint
+ * has held so far. A file with constraints and more than one bad state property is refused: `aig_compress_bads` makes them one. */
 uint32_t aig_move_constraints(const uint8_t *file, size_t file_len, uint8_t *out, size_t out_len, size_t *needed);
 
 /* The text form of a file's circuit with its bad state properties as one. */
@@ -217,13 +222,15 @@ uint32_t aig_check_inductive(const uint8_t *file, size_t file_len, uint64_t k, b
                              const uint8_t *proof, size_t proof_len);
 
 /* AIG_DONE only where no such run ever reaches a bad state, as `certificate` shows: a witness circuit of the hardware model checking
- * competition, with resets that are constants or open. `base` is a proof of the clauses of `aig_query` for step 0, and `step` of
- * those of `aig_window` for k = 0 without `distinct`, both of the text that `aig_join` gives. */
+ * competition: a file that begins with the first one's inputs and latches, in the same order, whatever their names, with resets that are
+ * constants or open, and that is bad, or breaks its constraints, wherever its invariant fails. `base` is a proof of the clauses of
+ * `aig_query` for step 0, and `step` of those of `aig_window` for k = 0 without `distinct`, both of the text that `aig_join` gives. */
 uint32_t aig_check_certified(const uint8_t *file, size_t file_len, const uint8_t *certificate, size_t certificate_len,
                              bool optimize, const uint8_t *base, size_t base_len, const uint8_t *step, size_t step_len);
 
-/* AIG_DONE only where the machines of two files have the same outputs and bad state properties at step `k`, on all runs of both with
- * the same inputs. `proof` is of the clauses of `aig_query` of the text that `aig_miter` gives. */
+/* AIG_DONE only where the machines of two files have the same outputs and bad state properties at step `k`, on all runs of both from
+ * initial states, with the same inputs, that meet the constraints of both at each step. Where there are no such runs it says nothing;
+ * constraints, justice and fairness aren't compared. `proof` is of the clauses of `aig_query` of the text that `aig_miter` gives. */
 uint32_t aig_check_equal(const uint8_t *file, size_t file_len, const uint8_t *other, size_t other_len, uint64_t k,
                          bool optimize, const uint8_t *proof, size_t proof_len);
 
@@ -232,8 +239,8 @@ uint32_t aig_check_equal(const uint8_t *file, size_t file_len, const uint8_t *ot
 uint32_t aig_witness(const uint8_t *file, size_t file_len, uint64_t k, bool optimize, const uint8_t *solution,
                      size_t solution_len, uint8_t *out, size_t out_len, size_t *needed);
 
-/* A witness of a bad state at a step up to `k`, from a solver's answer to the clauses of `aig_bounded`: of the first one in the run
- * that the answer says. It was checked, too. A status from 80 on says why there is none. */
+/* A witness of a bad state at a step up to `k`, of a solver's answer to the clauses of `aig_bounded`. It was checked, too. A status from
+ * 80 on says why there is none. */
 uint32_t aig_witness_to(const uint8_t *file, size_t file_len, uint64_t k, bool optimize, const uint8_t *solution,
                         size_t solution_len, uint8_t *out, size_t out_len, size_t *needed);
 
@@ -244,7 +251,7 @@ uint32_t aig_check_run(const uint8_t *file, size_t file_len, const uint8_t *witn
                        size_t *step);
 
 /* The text form of the miter of two files with as many inputs, outputs and bad state properties: a circuit over the inputs of both,
- * which is bad where their outputs or bad state properties differ. */
+ * and under the constraints of both, which is bad where their outputs or bad state properties differ. */
 uint32_t aig_miter(const uint8_t *file, size_t file_len, const uint8_t *other, size_t other_len, uint8_t *out, size_t out_len,
                    size_t *needed);
 
@@ -252,7 +259,7 @@ uint32_t aig_miter(const uint8_t *file, size_t file_len, const uint8_t *other, s
 uint32_t aig_join(const uint8_t *file, size_t file_len, const uint8_t *certificate, size_t certificate_len, uint8_t *out,
                   size_t out_len, size_t *needed);
 
-/* The text form of two files side by side: each list of the first, and then that of the second. */
+/* The text form of two files side by side: each list of the first, and then that of the second. The constraints of both are in force. */
 uint32_t aig_merge(const uint8_t *file, size_t file_len, const uint8_t *other, size_t other_len, uint8_t *out, size_t out_len,
                    size_t *needed);
 

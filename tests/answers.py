@@ -49,12 +49,32 @@ MANY = " ".join(str(i) for i in range(4, 1104))
 # has two literals that follow: a latch that is 1 where it was and an input is, from any start, and is bad where it is 1. Where each cost
 # what is there already, these took a minute; CPU seconds are enough.
 COUNT, CPU = 200_000, 10
+# A proof with hints that makes clauses and deletes 2,000 of them in one step.
+LISTED = "".join(f"{number} 2 0 13 10 11 2 6 0\n" for number in range(14, 2015))
+LISTED += f"2014 d {' '.join(map(str, range(14, 2014)))} 0\n2015 0 2014 13 10 11 3 7 0\n"
+# 600 gates over 601 latches that keep what they have, each the and of the gate before it and a latch, of which the last is bad; and the
+# question about two steps, in which both have the same gates.
+GATES = "1204 4 2\n" + "".join(f"{1202 + 2 * i} {1200 + 2 * i} {2 * i + 2}\n" for i in range(2, 601))
+KEPT = "aag 1201 0 601 0 600 1\n" + "".join(f"{2 * i} {2 * i} {2 * i}\n" for i in range(1, 602)) + "2402\n" + GATES
+ASKED = "aag 1201 601 0 1 600\n" + "".join(f"{2 * i}\n" for i in range(1, 602)) + "2402\n" + GATES
+# A chain of 201 latches, of which the first is bad and the last takes what a chain of 100,000 gates over two inputs gives: a bad state
+# reads that after 201 steps. All steps of the gates up to step 200 would be more than 2^24.
+AHEAD = "aag 100203 2 201 0 100000 1\n2\n4\n" + "".join(f"{6 + 2 * i} {8 + 2 * i}\n" for i in range(200)) + "406 200406\n6\n408 4 2\n"
+AHEAD += "".join(f"{408 + 2 * i} {406 + 2 * i} {2 + i % 2}\n" for i in range(1, 100_000))
 MADE = {
     "wide": WIDE,
     "many": f"2 {MANY} 0\nd {MANY} 2 0\nd {MANY} 0\n" + SPLIT,
     "many_numbered": f"14 2 {MANY} 0 13 10 11 2 6 0\n14 d 14 0\n" + OPPOSED.format(16, 17),
     "many_deleted": f"14 2 {MANY} 0 13 10 11 2 6 0\n14 d 14 0\n15 2 0 14 0\n",
     "deletions": "10 2 3 0\n" * COUNT + "d 10 2 3 0\n" * COUNT + SPLIT,
+    "listed": LISTED,
+    "kept": KEPT,
+    "asked": ASKED,
+    "ahead": AHEAD,
+    "inputs": "aig 1100000 1100000 0 0 0 1\n2\n",
+    "outputs": "aag 1 1 0 5000 0\n2\n" + "2\n" * 5000,
+    "last": "s SATISFIABLE\nv -3 1100002 0\n",
+    "late": f"s SATISFIABLE\nv -2 -3 {' '.join(str(-2 * i) for i in range(2, 3000))} 6000 -6002 0\n",
     "repeats": f"14 10{' 2' * COUNT} 0 13 0\n15 2 0{' 14' * COUNT} 13 10 11 2 6 0\n16 0 15 13 10 11 3 7 0\n",
     "staying": "aig 3 1 1 0 1 1\n6 4\n4\n\2\2",
     "conflict": "0\n",
@@ -136,7 +156,8 @@ class Answers:
         harness.write_files(self.folder, {name: text.encode() for name, text in MADE.items()})
         files = {name: self.folder / name for name in MADE}
         for limited, line, printed in harness.rows(FILES / "limits.tsv"):
-            self.check(line.format(**files), wanted_of("aigcheck", spelled(printed)), FILES, preexec_fn=LIMITS[limited])
+            wanted = wanted_of(line.split()[0], spelled(repeated(printed).format(**MADE)))
+            self.check(line.format(**files), wanted, FILES, preexec_fn=LIMITS[limited])
         with open("/dev/full", "wb") as full:
             for (line,) in harness.rows(FILES / "unwritten.tsv"):
                 wanted = (1, b"", f"{line.split()[0]}: write failed\n".encode())

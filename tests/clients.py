@@ -4,7 +4,7 @@
 The rows were worked by hand (answers.py), and so were those of clients/rows.tsv, of the calls that no program makes. From C each answer is
 asked for with no room, with as much as it takes and with one item less, and nothing else may be written; and each request for memory of
 each call is refused in turn, as memory.py does it to the programs. The header, the exports and what the clients declare are held
-together, and the names that libaig.so has for others.
+together, with the words of each status (clients/statuses.tsv), and the names that libaig.so has for others.
 
 C and Python are run everywhere; with --tools C++ and Rust too, where there are g++ and cadical's header, and rustc.
 """
@@ -39,6 +39,8 @@ EDITS = {name: name for name in "refine reencode unroll cone reduce question inf
 EDITS |= {"move": "move_constraints", "compress": "compress_bads", "bads": "outputs_as_bads"}
 # Those that take the setting of clauses.
 SET = "cnf query clauses numbers window bounded refuted inductive witness certified equal obligations".split()
+# The statuses that say what another one is about.
+ADDED = ["OTHER", "QUERY", "WINDOW"]
 # The words of a command that name no file.
 WORDS = ["raw", "distinct", "to"]
 # The calls of Python that aren't named as their commands, by the latter; and what those show that return nothing.
@@ -116,6 +118,11 @@ def source(*path):
     return TOP.joinpath(*path).read_text(encoding="utf-8")
 
 
+def header_statuses():
+    """The numbers of the header's statuses by their names, as it has them."""
+    return dict(re.findall(r"^  AIG_(\w+) = (\d+)", source("include", "aig.h"), re.M))
+
+
 class Clients:
     """The library in a folder, what was built over it, and what was seen."""
 
@@ -175,7 +182,7 @@ class Clients:
 
     def check_statuses(self):
         """Holds the header's statuses and the library's together."""
-        values = dict(re.findall(r"^  AIG_(\w+) = (\d+)", source("include", "aig.h"), re.M))
+        values = header_statuses()
         text = source("crates", "aig_calls", "src", "status.rt")
         constants = dict(re.findall(r"^(?:pub\(crate\) )?const (\w+): u32 = (\d+);", text, re.M))
         first = FIRST | {name: f"{name}_{SECTIONS[0]}" for name in ("SYNTAX", "LITERAL")}
@@ -185,11 +192,19 @@ class Clients:
             wanted = [str(int(constants[name]) + i) for i in range(len(SECTIONS))]
             self.tally.wants(f"the sections of {name}", wanted, [values.get(f"{name}_{section}") for section in SECTIONS])
 
+    def check_words(self, aig):
+        """Checks the words of each status of the header, but for those that are added to others."""
+        words, values = dict(harness.rows(CLIENTS / "statuses.tsv")), header_statuses()
+        self.tally.wants("statuses with words", [name for name in values if name not in ADDED], [*words])
+        for name, text in words.items():
+            self.tally.wants(f"the words of AIG_{name}", text, str(aig.Refused(int(values[name]))))
+
     def check_python(self):
         """Checks the rows from Python, in this process."""
         os.environ["LIBAIG"] = str(self.folder / "libaig.so")
         sys.path.insert(0, str(TOP / "lib" / "python"))
         aig = importlib.import_module("aig")
+        self.check_words(aig)
         for place, program, words, given, printed in table_rows():
             self.tally.wants(f"Python: {program} {' '.join(words)}", told(program, printed), by_python(aig, place, program, words, given))
         for words, printed in self.rows:

@@ -1,14 +1,17 @@
 #!/usr/bin/env python3
 """Runs the programs as processes where files, streams and memory fail, and compares status, output and files.
 
-Paths that aren't there, folders and closed streams; words that are no command; limits on memory and on the stack, of aigcheck too; in
-outs.py, what becomes of OUT; and in told.py, `--limit` and the lines of aigedit and aigcheck.
+Paths that aren't there, folders and closed streams; words that are no command; which files are opened, in which order, by each program;
+limits on memory and on the stack, of aigcheck too; in outs.py, what becomes of OUT; and in told.py, `--limit` and the lines of aigedit
+and aigcheck.
 """
 import contextlib
+import ctypes
 import inspect
 import os
 import resource
 import shutil
+import struct
 import sys
 
 import harness
@@ -23,6 +26,27 @@ CLAUSES_OF_AND = b"p cnf 4 4\n-1 0\n-4 2 0\n-4 3 0\n4 -2 -3 0\n"
 DEEP = 1_000_000
 # As much stack as docs/COMMANDS.md says is enough for aigtool, and for aigcheck, whose commands hold several readers at once.
 STACK, CHECK_STACK = 128 << 10, 176 << 10
+# Commands that open each file that they name once, in the order of the words; a new OUT is made under a name that ends so.
+OPENED = [
+    "aigtool text file",
+    "aigtool cnf file 0",
+    "aigtool binary file out",
+    "aigedit refine file",
+    "aigedit question file 1",
+    "aigedit miter file other",
+    "aigedit join file other",
+    "aigcheck clauses file 0",
+    "aigcheck refuted file 0 proof",
+    "aigcheck inductive file 0 proof",
+    "aigcheck refuted file to 0 proof",
+    "aigcheck equal file other 0 proof",
+    "aigcheck obligations file other",
+    "aigcheck certified file other proof step",
+]
+NEW_OUT = ".part"
+# The events of Linux's inotify that a file was opened and closed, without which two equal ones would be told as one; and the head of what
+# tells one: watch, event, cookie, length of the name.
+IN_OPEN, IN_CLOSE, IN_HEAD = 0x20, 0x18, struct.Struct("iIII")
 # Commands that refuse the file `wrong`.
 REFUSED = [
     "inductive waiting.aag 0 wrong",
@@ -37,9 +61,9 @@ REFUSED = [
 class Room:
     """A folder that the program runs in, with files, and the checks of what it does there."""
 
-    def __init__(self, tool, editor, checker, faults, folder, tally):
-        self.tool, self.editor, self.checker = tool, editor, checker
-        self.shim, self.folder, self.tally = faults, folder, tally
+    def __init__(self, programs, faults, folder, tally):
+        self.programs, self.shim, self.folder, self.tally = programs, faults, folder, tally
+        self.tool, self.editor, self.checker = (programs[name] for name in ["aigtool", "aigedit", "aigcheck"])
         self.env = None
         folder.mkdir()
         folder.chmod(0o755)
@@ -67,6 +91,21 @@ class Room:
             yield
         finally:
             self.env = None
+
+    def opened(self, program, *words):
+        """The names of the files of the folder that a program opens, in order, as the system tells them."""
+        system = ctypes.CDLL(None)
+        watch = system.inotify_init1(os.O_NONBLOCK)
+        system.inotify_add_watch(watch, bytes(self.folder), IN_OPEN | IN_CLOSE)
+        found = harness.run([self.programs[program], *words], cwd=self.folder)
+        self.check(found[0] == 0, f"{program} {words}: {found}")
+        events, names = os.read(watch, 1 << 16), []
+        os.close(watch)
+        while events:
+            _, event, _, length = IN_HEAD.unpack_from(events)
+            name, events = events[IN_HEAD.size : IN_HEAD.size + length], events[IN_HEAD.size + length :]
+            names += [name.rstrip(b"\0").decode()] if event & IN_OPEN else []
+        return [name for name in names if name]
 
     def shell(self, script, *words, status=0):
         """Runs a script in which `$0` is the program and `$1` the first of the words, and checks its status."""
@@ -146,6 +185,31 @@ def files_that_cannot_be_read(room):
     room.fails(b"bad header line", ["text", "/dev/null"])
     room.ends("text", "/dev/stdin", input=AND, out=AND)
     room.has("and.aag")
+
+
+def a_path_is_taken_as_it_is(room):
+    for name in [" spaced ", "\tspaced\n"]:
+        room.write(name, AND)
+        room.write(name.strip(), b"another file")
+        room.ends("text", name, out=AND)
+
+
+def a_pipe_can_be_read(room):
+    """It is opened once: what was written to it is gone then."""
+    os.mkfifo(room.path("pipe"))
+    room.shell('cat and.aag > pipe & "$0" text pipe | cmp - and.aag')
+    room.shell('cat and.aag > pipe & "$0" binary pipe out')
+    room.holds("out", BINARY_AND)
+
+
+def files_are_opened_once_in_order(room):
+    latch = b"aag 1 0 1 0 0 1\n2 2\n2\n"
+    harness.write_files(room.folder, {"file": latch, "other": latch, "proof": b"0\n", "step": b"0\n"})
+    for line in OPENED:
+        program, *words = line.split()
+        wanted = [NEW_OUT if word == "out" else word for word in words if word == "out" or room.path(word).is_file()]
+        names = [NEW_OUT if name.endswith(NEW_OUT) else name for name in room.opened(program, *words)]
+        room.check(names == wanted, f"{line}: opened {names}")
 
 
 def the_limit_is_on_variables(room):
@@ -263,11 +327,12 @@ def main():
     given, tally = parser.parse_args(), harness.Tally()
     with harness.new_folder() as folder:
         folder.chmod(0o755)
-        tool, faults = program(given.aigtool, folder), harness.shim("outs/faults.c", folder)
+        programs = {"aigtool": program(given.aigtool, folder), "aigedit": given.aigedit, "aigcheck": given.aigcheck}
+        faults = harness.shim("outs/faults.c", folder)
         for test in tests():
             if not given.names or test.__name__ in given.names:
                 try:
-                    test(Room(tool, given.aigedit, given.aigcheck, faults, folder / test.__name__, tally))
+                    test(Room(programs, faults, folder / test.__name__, tally))
                 except OSError as error:
                     tally.check(False, f"{test.__name__}: {error}")
     return tally.end()

@@ -174,7 +174,7 @@ def strash(file: bytes) -> bytes:
 
 
 def refine(file: bytes) -> bytes:
-    """The text form of a file's circuit, cut to its cone of influence."""
+    """The text form of a file's circuit, cut to what its properties and latches reach."""
     return _bytes("aig_refine", *_given(file))
 
 
@@ -189,7 +189,7 @@ def unroll(file: bytes, k: int) -> bytes:
 
 
 def move_constraints(file: bytes) -> bytes:
-    """The text form of a file's circuit with its constraints joined to its bad state property and the first output.
+    """The text form of a file's circuit without constraints: its bad state property holds only while each has held so far.
 
     A file with constraints and more than one bad state property is refused.
     """

@@ -104,7 +104,7 @@ pub fn strash(file: &[u8]) -> Result<Vec<u8>> {
     given(ROOM, |out, len, needed| unsafe { calls::aig_strash(file.as_ptr(), file.len(), out, len, needed) })
 }
 
-/// The text form of a file's circuit, cut to its cone of influence.
+/// The text form of a file's circuit, cut to what its properties and latches reach.
 pub fn refine(file: &[u8]) -> Result<Vec<u8>> {
     given(ROOM, |out, len, needed| unsafe { calls::aig_refine(file.as_ptr(), file.len(), out, len, needed) })
 }
@@ -119,7 +119,7 @@ pub fn unroll(file: &[u8], k: u64) -> Result<Vec<u8>> {
     given(ROOM, |out, len, needed| unsafe { calls::aig_unroll(file.as_ptr(), file.len(), k, out, len, needed) })
 }
 
-/// The text form of a file's circuit with its constraints joined to its bad state property and the first output. A file with
+/// The text form of a file's circuit without constraints: its bad state property holds only while each has held so far. A file with
 /// constraints and more than one bad state property is refused.
 pub fn move_constraints(file: &[u8]) -> Result<Vec<u8>> {
     given(ROOM, |out, len, needed| unsafe { calls::aig_move_constraints(file.as_ptr(), file.len(), out, len, needed) })
