@@ -6,8 +6,7 @@ import harness
 from aiger import AND
 from harness import limit
 
-LEFT_OUT = b"justice and fairness were not looked at"
-WITHIN = b"compared only on runs that its constraints allow"
+LEFT_OUT, WITHIN = harness.NOTICES
 # An input that is bad: with a justice property and a fairness constraint, as a binary file, with one of both, with none, and with a
 # constraint; with a fairness constraint an output, and a bad literal that is false; and a file that ends too soon.
 FILES = {
