@@ -26,8 +26,6 @@ TEXTS = {
     *("out of memory", "bad header line", "too many variables", "bad difference", "bad name line"),
     *(f"bad {what} in {section}" for what in ("line", "literal") for section in SECTIONS),
 }
-# What is told beside an answer.
-LEFT_OUT = re.compile(rb"aig(edit|check): .*: justice and fairness were not looked at\n")
 TOO_LARGE = "unrolled circuit may pass the limit"
 # The bytes of memory that each run may take, those for each byte of its file, and those that a variable of a header may take.
 MEMORY = 64 << 20
@@ -176,7 +174,7 @@ class Tool:
         too, and else one line. Beside an answer they tell of justice and fairness, if the header counts such."""
         for program, command, *further in BESIDE:
             status, out, error = self.ended(data, program, command, *further)
-            error, told = LEFT_OUT.sub(b"", error), bool(LEFT_OUT.search(error))
+            told, error = harness.NOTICES[0] in error, harness.alone(error)
             wants(told == (status in (0, 20) and command != "info" and is_live(data)), f"{command}: of justice it tells {told}")
             done = (status, error) == (0, b"")
             refused = out == b"" and re.fullmatch(rb"aig(edit|check): .*\n", error)

@@ -34,7 +34,10 @@ SECONDS = 100
 REPEATED = re.compile(r"\{([^{}]*)\}\*(\d+)")
 SPELLED = re.compile(r"\\n|\\x([0-9a-f]{2})")
 # The file that a program names behind its own name in a line, and the place there.
-NAMED = re.compile(rb"^(aigcheck|aigedit): (?!query: |window: )[^ :]+: (?:(?:line|byte) \d+: )?", re.MULTILINE)
+NAMED = re.compile(rb"^(aigcheck|aigedit): (?!query: |window: )[^ :]+: (?:(?:line|byte) \d+: )?", re.M)
+# What a program tells of files beside its answer.
+NOTICES = [b"justice and fairness were not looked at", b"compared only on runs that its constraints allow"]
+BESIDE = re.compile(rb"^aig(?:check|edit): .*: (?:%s)\n" % b"|".join(NOTICES), re.M)
 
 
 def parser(doc, *programs):
@@ -81,6 +84,11 @@ def run(words, **how):
 def unnamed(said):
     """What a program says, without the files that it names and the places there."""
     return NAMED.sub(rb"\1: ", said)
+
+
+def alone(said):
+    """What a program says, without what it tells of files beside its answer."""
+    return BESIDE.sub(b"", said)
 
 
 def output(words, statuses=(0,)):

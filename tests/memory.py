@@ -160,7 +160,7 @@ class Program:
                 wrong.append(f"{name}, request {refused}: status {ended.status}, {ended.err}")
             if self.contents(room) != files:
                 wrong.append(f"{name}, request {refused}: files {self.contents(room)}")
-        if ended.whole() != (0, out, b"") or status != 0 or self.contents(room) != made:
+        if (ended.status, ended.out, harness.alone(ended.err)) != (0, out, b"") or status != 0 or self.contents(room) != made:
             wrong.append(f"{name}: another answer without a refusal")
         if refused == 1:
             wrong.append(f"{name}: no request")

@@ -294,7 +294,7 @@ def a_small_stack_is_enough(room):
         stack = CHECK_STACK if program is room.checker else STACK
         for _ in range(10):
             status, _, error = harness.run([program, *words], cwd=room.folder, preexec_fn=limit(resource.RLIMIT_STACK, stack))
-            room.check((status, error) == (0, b""), f"{program.name} {words}: status {status}, {error}")
+            room.check((status, harness.alone(error)) == (0, b""), f"{program.name} {words}: status {status}, {error}")
 
 
 def a_small_stack_is_enough_for_refusals(room):

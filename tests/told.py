@@ -6,8 +6,7 @@ import harness
 from aiger import AND
 from harness import limit
 
-LEFT_OUT = b"justice and fairness were not looked at"
-WITHIN = b"compared only on runs that its constraints allow"
+LEFT_OUT, WITHIN = harness.NOTICES
 # An input that is bad: with a justice property and a fairness constraint, as a binary file, with one of both, with none, and with a
 # constraint; with a fairness constraint an output, and a bad literal that is false; and a file that ends too soon.
 FILES = {
@@ -86,7 +85,7 @@ def what_is_left_out_is_told(room):
     ends(room, room.checker, ["clauses", "safe.aag", "0"], 0, ASKED, b"")
     settled = [("none.aag", b"no bad state up to step 1"), ("none.aag", LEFT_OUT)]
     ends(room, room.checker, ["bounded", "none.aag", "1"], 20, b"", lines(room.checker, settled))
-    ends(room, room.checker, ["clauses", "cut.aag", "0"], 1, b"", lines(room.checker, [("cut.aag", b"line 5: bad line in justice")]))
+    ends(room, room.checker, ["clauses", "cut.aag", "0"], 1, b"", lines(room.checker, [("cut.aag", b"line 4: bad line in justice")]))
     refused = lines(room.checker, [("conflict", b"proof step does not follow")])
     ends(room, room.checker, ["refuted", "live.aag", "0", "conflict"], 1, b"", refused)
     with open("/dev/full", "wb") as full:
@@ -127,7 +126,7 @@ def more_steps_are_made_where_words_allow_it(room):
     words = ["refuted", "steps", "200000", "conflict"]
     ends(room, room.checker, words, 1, b"", b"aigcheck: steps: unrolled circuit may pass the limit\n")
     shown = b"no bad state at step 200000\n"
-    ends(room, room.checker, ["--limit", "33554432", *words], 0, shown, b"", preexec_fn=limit(resource.RLIMIT_AS, 3 << 30))
+    ends(room, room.checker, ["--limit", "33554432", *words], 0, shown, b"", preexec_fn=limit(resource.RLIMIT_AS, 4 << 30))
 
 
 def a_high_limit_takes_no_memory(room):

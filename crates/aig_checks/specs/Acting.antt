@@ -28,8 +28,8 @@ abbrev pub RunsFile : {R P W : Type 0} → (List ℕ → Result P OpenError → 
 RunsFile opens left failed given given_failed held write_failed limit c [] r w result rest made =
     Runs left failed nothing_given nothing_fails held write_failed c limit r tt w result rest tt
     made
-RunsFile {P = P} opens left failed given given_failed held write_failed limit c (path ∷ more) r w result
-    rest made =
+RunsFile {P = P} opens left failed given given_failed held write_failed limit c (path ∷ more) r w
+    result rest made =
     Opening opens path
     (λ p. (used : P)
     × Runs left failed given given_failed held write_failed c limit r p w result rest used made)
@@ -41,8 +41,8 @@ abbrev pub RunsProofs : {R S P W : Type 0} → (List ℕ → Result P OpenError 
     → (R → Option (List ℕ)) → (R → Bool) → (S → Option (List ℕ)) → (S → Bool) → (P → Bool)
     → (W → Option (List ℕ)) → (W → Bool) → ℕ → PairCommand → List (List ℕ) → R → S → W
     → Result Unit CheckError → R → S → W → Type 0
-RunsProofs opens left failed left_of failed_of proof_failed held write_failed limit c [] r s w result rest
-    other made =
+RunsProofs opens left failed left_of failed_of proof_failed held write_failed limit c [] r s w
+    result rest other made =
     RunsPair left failed left_of failed_of nothing_fails nothing_fails held write_failed c limit r s
     tt tt w result rest other tt tt made
 RunsProofs {P = P} opens left failed left_of failed_of proof_failed held write_failed limit c
@@ -67,18 +67,19 @@ RunsProofs {P = P} opens left failed left_of failed_of proof_failed held write_f
 abbrev pub Acts : {F W : Type 0} → (List ℕ → Result F OpenError → Type 0)
     → (F → Option (List ℕ)) → (F → Bool) → (W → Option (List ℕ)) → (W → Bool) → ℕ → Command
     → List (List ℕ) → List (List ℕ) → W → Result Unit CheckError → W → Type 0
-Acts {F} opens left failed held write_failed limit (commands.File c) (path ∷ []) further w result made =
+Acts {F} opens left failed held write_failed limit (commands.File c) (path ∷ []) further w result
+    made =
     Opening opens path
     (λ r. (rest : F)
     × RunsFile opens left failed left failed held write_failed limit c further r w result rest made)
     (λ e. (result ≡ Err e) × (made ≡ w))
-Acts {F} opens left failed held write_failed limit (commands.Pair c) (path ∷ beside ∷ []) further w result
-    made =
+Acts {F} opens left failed held write_failed limit (commands.Pair c) (path ∷ beside ∷ []) further w
+    result made =
     Opening opens path
     (λ r. Opening opens beside
     (λ s. (rest : F) × (other : F)
-    × RunsProofs opens left failed left failed failed held write_failed limit c further r s w result rest
-    other made)
+    × RunsProofs opens left failed left failed failed held write_failed limit c further r s w
+    result rest other made)
     (λ e. (result ≡ Err e) × (made ≡ w)))
     (λ e. (result ≡ Err e) × (made ≡ w))
 Acts opens left failed held write_failed limit c paths further w result made = ⊥

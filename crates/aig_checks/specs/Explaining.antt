@@ -49,7 +49,8 @@ IsPathOf opens subject paths further path = path ≡ word_of subject paths furth
 -- ---- places
 
 -- what is given beside a file was read up to this place, and refused so by the command
-pub record IsRefusedBeside (limit : ℕ) (c : FileCommand) (file known : Option (List ℕ)) (e : CheckError)
+pub record IsRefusedBeside (limit : ℕ) (c : FileCommand) (file known : Option (List ℕ))
+    (e : CheckError)
     (measure : Measure) (place : Place) : Type 0 where
   pub at : IsPlaceIn known measure place
   pub rest : Option (List ℕ)
@@ -62,7 +63,8 @@ RefusesFor limit c f g (errors.Certificate e) = RefusesPair c limit f g e
 RefusesFor limit c f g e = Unit {0}
 
 -- a proof about two files was read up to this place, and refused so by the command
-pub record IsRefusedOnPair (limit : ℕ) (c : PairCommand) (file other known : Option (List ℕ)) (e : CheckError)
+pub record IsRefusedOnPair (limit : ℕ) (c : PairCommand) (file other known : Option (List ℕ))
+    (e : CheckError)
     (measure : Measure) (place : Place) : Type 0 where
   pub at : IsPlaceIn known measure place
   pub rest : Option (List ℕ)
@@ -115,7 +117,8 @@ IsPlaceOf opens left limit c paths path e (searches.Run measure) place =
 
 -- the error is told with the path of what it is about, and the place there
 pub record Tells {F : Type 0} (opens : List ℕ → Result F OpenError → Type 0)
-    (left : F → Option (List ℕ)) (limit : ℕ) (c : Command) (paths further : List (List ℕ)) (e : CheckError)
+    (left : F → Option (List ℕ)) (limit : ℕ) (c : Command) (paths further : List (List ℕ))
+    (e : CheckError)
     (fault : Fault CheckError) : Type 0 where
   pub error : error_of fault ≡ e
   pub path : IsPathOf opens (about_error e).subject paths further (path_of fault)

@@ -200,7 +200,8 @@ fn place_in_base<R: Source + Drop, B: Origin>(
     requires limit { IsLimit limit }
     requires origin { R.left base ≡ B.bytes }
     ensures { let command = PairCommand.Certified optimize in (result ≡ places.Whole)
-        ⊎ IsRefusedOnPair limit command (R.left file) (R.left certificate) B.bytes error measure result }
+        ⊎ IsRefusedOnPair limit command (R.left file) (R.left certificate) B.bytes error measure
+        result }
 {
     let mut counted = Counted::<R, B>::new(base);
     match print_certified(
@@ -234,7 +235,8 @@ fn place_in_step<R: Source + Drop, B: Origin>(
     requires limit { IsLimit limit }
     requires origin { R.left step ≡ B.bytes }
     ensures { let command = PairCommand.Certified optimize in (result ≡ places.Whole)
-        ⊎ IsRefusedOnPair limit command (R.left file) (R.left certificate) B.bytes error measure result }
+        ⊎ IsRefusedOnPair limit command (R.left file) (R.left certificate) B.bytes error measure
+        result }
 {
     let mut counted = Counted::<R, B>::new(step);
     match print_certified(
@@ -280,7 +282,8 @@ fn place_of_beside<F: Reopens>(
     requires limit { IsLimit limit }
     requires beside { beside_of (Command.File command) ≡ 1 }
     requires small { step_of (Command.File command) < 2 ^ 32 }
-    ensures { IsRunPlace (F.opens files.now) F.File.left limit (Command.File command) (path.now ∷ [])
+    ensures { IsRunPlace (F.opens files.now) F.File.left limit (Command.File command)
+        (path.now ∷ [])
         given.now error measure result }
 {
     let Some((file, given)) = open_both(files, path, given) else {
@@ -406,7 +409,8 @@ fn place_in_first<F: Reopens>(
     requires small { step_of call.now.command < 2 ^ 32 }
     ensures { IfSome (word_of subjects.Given (map string_bytes call.now.paths.now)
         (map string_bytes call.now.further.now)) (λ path. IsRunPlace (F.opens files.now) F.File.left
-        call.now.limit call.now.command (map string_bytes call.now.paths.now) path error measure result) }
+        call.now.limit call.now.command (map string_bytes call.now.paths.now) path error measure
+        result) }
 {
     match (call.command, call.further) {
         (Command::File(command), [given]) => {
@@ -457,7 +461,8 @@ fn place_in_second<F: Reopens>(
     requires paths { length call.now.paths.now ≡ paths_of call.now.command }
     ensures { IfSome (word_of subjects.Step (map string_bytes call.now.paths.now)
         (map string_bytes call.now.further.now)) (λ path. IsRunPlace (F.opens files.now) F.File.left
-        call.now.limit call.now.command (map string_bytes call.now.paths.now) path error measure result) }
+        call.now.limit call.now.command (map string_bytes call.now.paths.now) path error measure
+        result) }
 {
     match (call.command, call.further) {
         (Command::Pair(PairCommand::Certified { optimize }), [base, step]) => {
@@ -485,7 +490,8 @@ pub(crate) fn place_by_run<F: Reopens>(
     requires small { step_of call.now.command < 2 ^ 32 }
     ensures { IfSome (word_of subject (map string_bytes call.now.paths.now)
         (map string_bytes call.now.further.now)) (λ path. IsRunPlace (F.opens files.now) F.File.left
-        call.now.limit call.now.command (map string_bytes call.now.paths.now) path error measure result) }
+        call.now.limit call.now.command (map string_bytes call.now.paths.now) path error measure
+        result) }
 {
     match subject {
         Subject::Given => place_in_first(alloc, files, call, error, measure),

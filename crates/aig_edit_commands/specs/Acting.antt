@@ -55,34 +55,36 @@ unopened refused opening.Refused = refused read.Open
 abbrev pub PrintsBoth : {R F W : Type 0} → (R → Option (List ℕ)) → (R → Bool)
     → (F → Option (List ℕ)) → (F → Bool) → (W → Option (List ℕ)) → (W → Bool) → (W → Bool)
     → ℕ → Pairing → R → Result F OpenError → W → Result Unit PairError → R → W → Type 0
-PrintsBoth {F = F} left failed left_of failed_of held write_failed flushed limit pairing r (Ok s) w result
-    rest made =
+PrintsBoth {F = F} left failed left_of failed_of held write_failed flushed limit pairing r (Ok s) w
+    result rest made =
     (other : F)
-    × PrintsPair left failed left_of failed_of held write_failed flushed limit pairing r s w result rest
-    other made
-PrintsBoth left failed left_of failed_of held write_failed flushed limit pairing r (Err e) w result rest
-    made =
+    × PrintsPair left failed left_of failed_of held write_failed flushed limit pairing r s w result
+    rest other made
+PrintsBoth left failed left_of failed_of held write_failed flushed limit pairing r (Err e) w result
+    rest made =
     (result ≡ Err (unopened errors.Other e)) × (made ≡ w)
 
 -- the file at the path is opened beside the first one
 pub record PrintsBeside {R F W : Type 0} (opens : List ℕ → Result F OpenError → Type 0)
     (left : R → Option (List ℕ)) (failed : R → Bool) (left_of : F → Option (List ℕ))
     (failed_of : F → Bool) (held : W → Option (List ℕ)) (write_failed flushed : W → Bool)
-    (limit : ℕ) (pairing : Pairing) (r : R) (other : List ℕ) (w : W) (result : Result Unit PairError) (rest : R)
+    (limit : ℕ) (pairing : Pairing) (r : R) (other : List ℕ) (w : W)
+    (result : Result Unit PairError) (rest : R)
     (made : W) : Type 0 where
   pub second : Result F OpenError
   pub opened : opens other second
-  pub prints : PrintsBoth left failed left_of failed_of held write_failed flushed limit pairing r second w
-      result rest made
+  pub prints : PrintsBoth left failed left_of failed_of held write_failed flushed limit pairing r
+      second w result rest made
 
 -- the first file is open, or it is not, and nothing is written
 abbrev pub PrintsFrom : {F W : Type 0} → (List ℕ → Result F OpenError → Type 0)
     → (F → Option (List ℕ)) → (F → Bool) → (W → Option (List ℕ)) → (W → Bool) → (W → Bool)
     → ℕ → Pairing → Result F OpenError → List ℕ → W → Result Unit PairError → W → Type 0
-PrintsFrom {F} opens left failed held write_failed flushed limit pairing (Ok r) other w result made =
+PrintsFrom {F} opens left failed held write_failed flushed limit pairing (Ok r) other w result
+    made =
     (rest : F)
-    × PrintsBeside opens left failed left failed held write_failed flushed limit pairing r other w result
-    rest made
+    × PrintsBeside opens left failed left failed held write_failed flushed limit pairing r other w
+    result rest made
 PrintsFrom opens left failed held write_failed flushed limit pairing (Err e) other w result made =
     (result ≡ Err (unopened errors.Read e)) × (made ≡ w)
 
@@ -93,13 +95,14 @@ pub record PrintsFiles {F W : Type 0} (opens : List ℕ → Result F OpenError �
     (result : Result Unit PairError) (made : W) : Type 0 where
   pub first : Result F OpenError
   pub opened : opens file first
-  pub prints : PrintsFrom opens left failed held write_failed flushed limit pairing first other w result
-      made
+  pub prints : PrintsFrom opens left failed held write_failed flushed limit pairing first other w
+      result made
 
 -- ---- one file
 
 -- what is printed of the file
-abbrev pub Prints : {W : Type 0} → (W → Option (List ℕ)) → (W → Bool) → ℕ → FileCommand → W → W → File
+abbrev pub Prints : {W : Type 0} → (W → Option (List ℕ)) → (W → Bool) → ℕ → FileCommand → W → W
+    → File
     → Result Unit EditError → Type 0
 Prints held failed limit (files.Edit edit) w made = PrintsEdit held failed edit limit w made
 Prints held failed limit files.Reduction w made = PrintsReduction held failed w made
@@ -108,9 +111,11 @@ Prints held failed limit files.Info w made = PrintsInfo held failed w made
 
 -- What is printed of a file that is open, and after Ok it is flushed.
 pub record PrintsOpen {R W : Type 0} (left : R → Option (List ℕ)) (failed : R → Bool)
-    (held : W → Option (List ℕ)) (write_failed flushed : W → Bool) (limit : ℕ) (c : FileCommand) (r : R) (w : W)
+    (held : W → Option (List ℕ)) (write_failed flushed : W → Bool) (limit : ℕ) (c : FileCommand)
+    (r : R) (w : W)
     (result : Result Unit EditError) (rest : R) (made : W) : Type 0 where
-  pub reads : ReadsFile left failed limit (Prints held write_failed limit c w made) edit_verdict IsEditOwn
+  pub reads : ReadsFile left failed limit (Prints held write_failed limit c w made) edit_verdict
+      IsEditOwn
       r result rest
   pub kept : IsEditUnwritten result → made ≡ w
   pub done : OnOk result (IsTrue (flushed made))

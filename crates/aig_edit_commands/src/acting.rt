@@ -105,7 +105,8 @@ fn print_open<R: Source, W: Flush>(
     w: &mut W,
 ) -> Result<(), EditError>
     requires { IsLimit limit }
-    ensures { PrintsOpen R.left R.failed W.held W.failed W.flushed limit command.now r.old w.old result
+    ensures { PrintsOpen R.left R.failed W.held W.failed W.flushed limit command.now r.old w.old
+        result
         r.new w.new }
 {
     print_read(alloc, limit, command, r, w)?;
@@ -122,7 +123,8 @@ fn print_file<F: Opens, W: Flush>(
     w: &mut W,
 ) -> Result<(), EditError>
     requires { IsLimit limit }
-    ensures { PrintsFile (F.opens files.now) F.File.left F.File.failed W.held W.failed W.flushed limit
+    ensures { PrintsFile (F.opens files.now) F.File.left F.File.failed W.held W.failed W.flushed
+        limit
         command.now path.now w.old result w.new }
 {
     match files.open(path) {
@@ -178,7 +180,8 @@ fn print_beside<F: Opens, R: Source, W: Flush>(
 ) -> Result<(), PairError>
     requires { IsLimit limit }
     ensures { PrintsBeside (F.opens files.now) R.left R.failed F.File.left
-        F.File.failed W.held W.failed W.flushed limit pairing first.old other.now w.old result first.new
+        F.File.failed W.held W.failed W.flushed limit pairing first.old other.now w.old result
+        first.new
         w.new }
 {
     match files.open(other) {

@@ -53,7 +53,8 @@ fn fault_of<'a, F: Reopens>(
     error: CommandError,
 ) -> Fault<'a, CommandError>
     requires { IsLimit limit }
-    ensures { Tells (F.opens files.now) F.File.left limit (map string_bytes paths.now) error result }
+    ensures { let names = map string_bytes paths.now in
+        Tells (F.opens files.now) F.File.left limit names error result }
 {
     let about = about_error(error);
     match path_of(paths, about.subject) {

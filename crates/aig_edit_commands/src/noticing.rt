@@ -36,7 +36,8 @@ fn tell_beside<T: Tells>(
     ending: Ending<CommandError>,
     errors: &mut T,
 )
-    ensures { TellsBeside T.tells (map string_bytes words.now) headers ending errors.old errors.new }
+    ensures { let given = map string_bytes words.now in
+        TellsBeside T.tells given headers ending errors.old errors.new }
 {
     let Ending::Done = ending else {
         return;
