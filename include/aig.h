@@ -39,7 +39,7 @@ enum aig_status {
   AIG_DONE = 0,       /* The answer is given, or what is checked holds. */
   AIG_SMALL = 1,      /* The answer doesn't fit `out`; `*needed` says how much it takes. */
   AIG_MEMORY = 2,     /* malloc or realloc gave null. Nothing is said of the files. */
-  AIG_STREAM = 3,     /* Never: a read failed. */
+  AIG_STREAM = 3,     /* No call gives it. */
   AIG_MANY_STEPS = 4, /* `k` is 2^32 or more. */
   AIG_TOO_LARGE = 5,  /* The circuit with its further steps may pass the limit. */
   AIG_NO_BADS = 6,    /* There is no bad state property, so that nothing is asked. */
@@ -78,9 +78,10 @@ enum aig_status {
   AIG_HAS_BADS = 33,       /* Outputs would become bad state properties, and there are some. */
   AIG_NO_OUTPUT = 34,      /* There is no output of this number. */
   AIG_LARGE_QUESTION = 35, /* The question has more nodes than the limit while it is made. */
+  AIG_MANY_BADS = 36,      /* There are constraints and more than one bad state property. */
 
   /* A proof is refused. */
-  AIG_PROOF_CLAUSES = 40,    /* Never: a literal of the clauses has no variable. */
+  AIG_PROOF_CLAUSES = 40,    /* A literal of the clauses has no variable. Tests have never met it. */
   AIG_PROOF_LINE = 41,       /* A line is no step, or is one of the other form than the first line. */
   AIG_PROOF_LITERAL = 42,    /* A literal has no variable. */
   AIG_PROOF_UNNAMED = 43,    /* A number names no clause. */
@@ -144,7 +145,8 @@ uint32_t aig_reencode(const uint8_t *file, size_t file_len, uint8_t *out, size_t
 /* The text form of a file's circuit with `k` further steps: its bad state properties are those of the steps 0 to `k`. */
 uint32_t aig_unroll(const uint8_t *file, size_t file_len, uint64_t k, uint8_t *out, size_t out_len, size_t *needed);
 
-/* The text form of a file's circuit with its constraints joined to the first bad state property and the first output. */
+/* The text form of a file's circuit with its constraints joined to its bad state property and the first output. Further outputs stay
+ * without them. A file with constraints and more than one bad state property is refused: `aig_compress_bads` makes these one. */
 uint32_t aig_move_constraints(const uint8_t *file, size_t file_len, uint8_t *out, size_t out_len, size_t *needed);
 
 /* The text form of a file's circuit with its bad state properties as one. */
@@ -226,16 +228,18 @@ uint32_t aig_check_equal(const uint8_t *file, size_t file_len, const uint8_t *ot
                          bool optimize, const uint8_t *proof, size_t proof_len);
 
 /* The witness, in the format of AIGER 1.9, that a solver's answer to the query says. It was checked: nothing of the answer is
- * trusted. */
+ * trusted. A status from 70 on says why there is none. */
 uint32_t aig_witness(const uint8_t *file, size_t file_len, uint64_t k, bool optimize, const uint8_t *solution,
                      size_t solution_len, uint8_t *out, size_t out_len, size_t *needed);
 
-/* The witness, of the first step with a bad state, that a solver's answer to the clauses of `aig_bounded` says. It was checked, too. */
+/* A witness of a bad state at a step up to `k`, from a solver's answer to the clauses of `aig_bounded`: of the first one in the run
+ * that the answer says. It was checked, too. A status from 80 on says why there is none. */
 uint32_t aig_witness_to(const uint8_t *file, size_t file_len, uint64_t k, bool optimize, const uint8_t *solution,
                         size_t solution_len, uint8_t *out, size_t out_len, size_t *needed);
 
 /* AIG_DONE only where the witness shows that a file's machine reaches a bad state. `*bad` is which bad state property that is, and
- * `*step` the step at which it is reached, both from 0 on. What follows the first witness isn't read. */
+ * `*step` the step at which it is reached, both from 0 on. A status from 60 on says why that isn't shown. What follows the first
+ * witness isn't read. */
 uint32_t aig_check_run(const uint8_t *file, size_t file_len, const uint8_t *witness, size_t witness_len, size_t *bad,
                        size_t *step);
 

@@ -189,7 +189,10 @@ def unroll(file: bytes, k: int) -> bytes:
 
 
 def move_constraints(file: bytes) -> bytes:
-    """The text form of a file's circuit with its constraints joined to the first bad state property and the first output."""
+    """The text form of a file's circuit with its constraints joined to its bad state property and the first output.
+
+    A file with constraints and more than one bad state property is refused.
+    """
     return _bytes("aig_move_constraints", *_given(file))
 
 

@@ -19,10 +19,11 @@ ghost use Rattle.aig_edits.specs.declared.pairing.Pairing.TheVariants.{Certifica
 ghost use Rattle.aig_join.specs.Files.{AreEqualMachinesAt, HasLinesOf, HaveSameFileCounts};
 ghost use Rattle.aig_reader.specs.Verdicts.{Accepted};
 ghost use Rattle.aig_runs.specs.Queries.{IsSafeTo};
+ghost use Rattle.aig_runs.specs.declared.window.Window.TheVariants.{Plain};
 ghost use Rattle.aig_witness.specs.Files.{ShowsNext};
-ghost use Rattle.aig_calls.specs.Calls.{Checks, ChecksPair, Gives, GivesBounded, GivesEdit, GivesPair, IsGiven, IsQuestionText, IsReductionText, Joins, ShowsBounded, ShowsStep, ShowsWindow, TellsOfSize, TellsProofOf, form_of, shown_at};
+ghost use Rattle.aig_calls.specs.Calls.{Checks, ChecksPair, FailsBounded, FailsStep, Gives, GivesBounded, GivesEdit, GivesPair, IsGiven, IsQuestionText, IsReductionText, Joins, ShowsBounded, ShowsStep, ShowsWindow, TellsFault, TellsJoint, TellsOfSize, TellsProofOf, TellsSolution, form_of, shown_at};
 ghost use Rattle.aig_calls.specs.Numbers.{IsListed};
-ghost use Rattle.aig_calls.specs.Statuses.{AtStep, IsOfBounded, IsOfBoundedProof, IsOfBoundedSolution, IsOfEdit, IsOfObligations, IsOfPairProof, IsOfProof, IsOfQuestion, IsOfSolution, IsOfText, IsOfWitness};
+ghost use Rattle.aig_calls.specs.Statuses.{AtStep, IsOfBounded, IsOfBoundedProof, IsOfBoundedSolution, IsOfEdit, IsOfObligations, IsOfPairProof, IsOfProof, IsOfQuestion, IsOfSolution, IsOfText, IsOfWitness, said_of_query, said_of_window};
 
 use aig_commands::LIMIT;
 use aig_edits::{Edit, Pairing};
@@ -104,7 +105,8 @@ pub extern "C" fn aig_unroll(
     aig_calls::print_unrolled(alloc, file, k, out, needed)
 }
 
-/// The text form of a file's circuit with its constraints joined to the first bad literal and the first output.
+/// The text form of a file's circuit with its constraints joined to its bad literal and the first output. A file with constraints
+/// and more than one bad literal is refused.
 #[unsafe(no_mangle)]
 pub extern "C" fn aig_move_constraints(
     alloc: Global,
@@ -379,8 +381,12 @@ pub extern "C" fn aig_check_certified(
     base: &[u8],
     step: &[u8],
 ) -> u32
-    ensures { ChecksPair Certificate LIMIT (λ f g. HasLinesOf g f × ((n : ℕ) → IsSafeTo f n))
+    ensures checks { ChecksPair Certificate LIMIT (λ f g. HasLinesOf g f × ((n : ℕ) → IsSafeTo f n))
         IsOfPairProof file.now certificate.now result }
+    ensures query { TellsJoint Certificate (asked_verdict LIMIT 0) LIMIT file.now certificate.now
+        (said_of_query result) }
+    ensures window { TellsJoint Certificate (window_verdict Plain LIMIT 0) LIMIT file.now
+        certificate.now (said_of_window result) }
 {
     aig_calls::check_certified(alloc, file, certificate, optimize, base, step)
 }
@@ -396,13 +402,18 @@ pub extern "C" fn aig_check_equal(
     optimize: bool,
     proof: &[u8],
 ) -> u32
-    ensures { ChecksPair Miter LIMIT (λ f g. HaveSameFileCounts f g × AreEqualMachinesAt f g k)
-        (AtStep k IsOfPairProof) file.now other.now result }
+    ensures checks { ChecksPair Miter LIMIT
+        (λ f g. HaveSameFileCounts f g × AreEqualMachinesAt f g k) (AtStep k IsOfPairProof)
+        file.now other.now result }
+    ensures query { TellsJoint Miter (asked_verdict LIMIT k) LIMIT file.now other.now
+        (said_of_query result) }
+    ensures no_window { result < 1024 }
 {
     aig_calls::check_equal(alloc, file, other, k, optimize, proof)
 }
 
-/// The witness that a solver's answer to the query of a file for step `k` says. It was checked: nothing of the answer is trusted.
+/// The witness that a solver's answer to the query of a file for step `k` says. It was checked: nothing of the answer is trusted, and
+/// a status of an answer that is refused says why.
 #[unsafe(no_mangle)]
 pub extern "C" fn aig_witness(
     alloc: Global,
@@ -413,15 +424,16 @@ pub extern "C" fn aig_witness(
     out: &mut [u8],
     needed: &mut usize,
 ) -> u32
-    ensures { let given = Some solution.now in
+    ensures gives { let given = Some solution.now in
         Gives (asked_verdict LIMIT k) LIMIT (λ f text. IsWitnessText given f k optimize text)
         (AtStep k IsOfSolution) file.now result out.old out.new needed.old needed.new }
+    ensures refusal { TellsSolution (FailsStep k optimize solution.now) LIMIT file.now result }
 {
     aig_calls::print_witness(alloc, file, k, optimize, solution, out, needed)
 }
 
 /// The witness that a solver's answer to the clauses of a file's question up to step `k` says, up to the first step with a bad state.
-/// It was checked: nothing of the answer is trusted.
+/// It was checked: nothing of the answer is trusted, and a status of an answer that is refused says why.
 #[unsafe(no_mangle)]
 pub extern "C" fn aig_witness_to(
     alloc: Global,
@@ -435,12 +447,13 @@ pub extern "C" fn aig_witness_to(
     ensures gives { Gives bounded_verdict LIMIT (λ f text. IsWitnessToText f k text)
         (AtStep k IsOfBoundedSolution) file.now result out.old out.new needed.old needed.new }
     ensures large { TellsOfSize k LIMIT file.now result }
+    ensures refusal { TellsSolution (FailsBounded k optimize solution.now) LIMIT file.now result }
 {
     aig_calls::print_witness_to(alloc, file, k, optimize, solution, out, needed)
 }
 
 /// Checks that a witness shows a bad state of a file's machine, and says which bad state property that is and at which step.
-/// Else both numbers are as they were.
+/// Else both numbers are as they were, and a status of a witness that is refused says why.
 #[unsafe(no_mangle)]
 pub extern "C" fn aig_check_run(
     alloc: Global,
@@ -452,6 +465,7 @@ pub extern "C" fn aig_check_run(
     ensures shows { Checks (λ _. Accepted) LIMIT
         (λ f. ShowsNext (Some witness.now) f (shown_at bad.new step.new)) IsOfWitness file.now
         result }
+    ensures refusal { TellsFault LIMIT file.now witness.now result }
     ensures kept { 1 ≤ result → (bad.new ≡ bad.old) × (step.new ≡ step.old) }
 {
     aig_calls::check_run(alloc, file, witness, bad, step)
@@ -511,8 +525,12 @@ pub extern "C" fn aig_obligations(
     out: &mut [u8],
     needed: &mut usize,
 ) -> u32
-    ensures { GivesPair Certificate LIMIT (IsObligationsText optimize) IsOfObligations file.now
-        certificate.now result out.old out.new needed.old needed.new }
+    ensures gives { GivesPair Certificate LIMIT (IsObligationsText optimize) IsOfObligations
+        file.now certificate.now result out.old out.new needed.old needed.new }
+    ensures query { TellsJoint Certificate (asked_verdict LIMIT 0) LIMIT file.now certificate.now
+        (said_of_query result) }
+    ensures window { TellsJoint Certificate (window_verdict Plain LIMIT 0) LIMIT file.now
+        certificate.now (said_of_window result) }
 {
     aig_calls::print_obligations(alloc, file, certificate, optimize, out, needed)
 }

@@ -1,6 +1,6 @@
 -- What a call that makes something of one file tells of its bytes.
 use Rattle.aig_base.proofs.Words.{◌≡◌, ◌≢◌, ℕ, ◌<◌, ◌≤◌, ◌^◌, Bool, true, false, List, [], ◌∷◌, length, Option, Some, Result, Ok, Err, Vec, Global, refl, sym, ap, subst, arith, rules, Appends, ne_eqb, or_right}
-use Rattle.std.specs.Prelude.{◌==◌, ◌||◌, if◌then◌else◌, nat_le, nat_lt, IfErr, IsTrue}
+use Rattle.std.specs.Prelude.{◌==◌, ◌||◌, if◌then◌else◌, nat_le, nat_lt, IsTrue}
 use Rattle.std.proofs.Math.Nat.{lt_of_not-le}
 use Rattle.aig_base.specs.declared.std_stream.ToWrite.{ToWrite}
 use Rattle.aig_bounded.specs.Question.{question_size}
@@ -24,7 +24,7 @@ use Rattle.aig_reader.proofs.Verdicts.{of_no_file, refused_again, said_of_read}
 use Rattle.aig_calls.specs.Statuses.{AtStep, IsOfEdit, IsOfQuestion, IsOfText, done, is_edit_fault, is_refusal, many_steps, small}
 use Rattle.aig_calls.specs.Calls.{GivesEdit, IsEditText, IsFileWith, IsQuestionText, IsReductionText, TellsEdit, edited_verdict}
 use Rattle.aig_calls.specs.Parts.{IsEditStatus, IsOfAsking, IsOfEditing, IsOfMaking, Makes, MakesEdit, Puts, verdict_of_edit}
-use Rattle.aig_calls.proofs.Giving.{gives, gives_at, gives_none}
+use Rattle.aig_calls.proofs.Giving.{gives, gives_at, gives_none, put_told}
 use Rattle.aig_calls.proofs.Making.{not_made, only_text, whole}
 
 -- ---- verdicts of files
@@ -168,6 +168,8 @@ module _ (edit : Edit) (limit : ℕ) (w made : Sink) where
   -- it is its verdict
   edit_said : (f : File) (e : EditError) → Printed f (Err e) → IsSettled (verdict_of_edit e)
       → IsSaidOf (edited_verdict edit limit) f (verdict_of_edit e)
+  edit_said f errors.ManyBads means settled = sym
+      (ap (λ (x : Edit). edited_verdict x limit f) means.0)
   edit_said f errors.HasBads means settled = sym
       (ap (λ (x : Edit). edited_verdict x limit f) means.0)
   edit_said f errors.NoOutput means settled = sym
@@ -207,6 +209,7 @@ module _ (edit : Edit) (limit : ℕ) (w made : Sink) where
       let Told = λ (x : EditError). ReadsFile left failed limit Printed editing.edit_verdict
       IsEditOwn r (Err x) rest in
       record {
+        several = λ h. file_with (subst Told (says.several h) told) bytes is refl;
         bads = λ h. file_with (subst Told (says.bads h) told) bytes is refl;
         output = λ h. file_with (subst Told (says.output h) told) bytes is refl;
         format = λ h. file_with (subst Told (says.format h) told) bytes is refl;
@@ -254,18 +257,11 @@ module _ (edit : Edit) (limit : ℕ) (bytes : List ℕ) where
   -- a status that is none of an edit's faults
   no_fault : (status : ℕ) → status < 9 → TellsEdit edit limit bytes status
   no_fault status low = record {
+    several = λ is. absurd (omega (arith, low, is));
     bads = λ is. absurd (omega (arith, low, is));
     output = λ is. absurd (omega (arith, low, is));
     format = λ is. absurd (omega (arith, low, is));
   }
-
-  put_refusal : (made : Result (Vec ℕ Global) ℕ) (status : ℕ) (old new : List ℕ) (before needed : ℕ)
-      → IfErr made (TellsEdit edit limit bytes) → Puts made status old new before needed
-      → TellsEdit edit limit bytes status
-  put_refusal (Ok made) status old new before needed tells puts = no_fault status
-      (omega (arith, puts.only))
-  put_refusal (Err error) status old new before needed tells puts = subst
-      (TellsEdit edit limit bytes) (sym puts.0) tells
 
   -- the text is put into the caller's memory
   pub gives_edit : (made : Result (Vec ℕ Global) ℕ) (status : ℕ) (old new : List ℕ)
@@ -275,7 +271,8 @@ module _ (edit : Edit) (limit : ℕ) (bytes : List ℕ) where
   gives_edit made status old new before needed makes puts = record {
     gives = gives (edited_verdict edit limit) limit bytes (IsEditText edit limit) IsOfEdit made
         status old new before needed makes.makes puts;
-    refusal = put_refusal made status old new before needed makes.refusal puts;
+    refusal = put_told (TellsEdit edit limit bytes) (λ n few. no_fault n (omega (arith, few))) made
+        status old new before needed makes.refusal puts;
   }
 
   module _ (k : ℕ) (IsOwn : ℕ → Type 0) (status : ℕ) (old new : List ℕ) (before needed : ℕ) where

@@ -1,5 +1,5 @@
 -- What a call gives, from what was made.
-use Rattle.std.proofs.Common.{◌≡◌, ℕ, ℤ, Bool, zero, suc, ◌<◌, ◌≤◌, ◌^◌, List, Some, Ok, Err, Result, Vec, Global, refl, sym, subst, arith}
+use Rattle.std.proofs.Common.{◌≡◌, ℕ, ℤ, Bool, zero, suc, ◌<◌, ◌≤◌, ◌^◌, List, Some, Ok, Err, Result, Vec, Global, refl, sym, subst, arith, IfErr}
 use Rattle.aig_format.specs.File.{File}
 use Rattle.aig_reader.specs.Verdicts.{Accepted, Verdict}
 use Rattle.aig_calls.specs.Statuses.{AtStep, Tells, done, many_steps, said_by, small}
@@ -19,6 +19,13 @@ pub answer_own : (IsOwn : ℕ → Type 0) (status : ℕ) → status < 2 → IsOw
 answer_own IsOwn zero lt has_done has_small = has_done
 answer_own IsOwn (suc zero) lt has_done has_small = has_small
 answer_own IsOwn (suc (suc n)) lt has_done has_small = absurd (omega (arith, lt))
+
+-- what a status tells where nothing was made is told by that of what is put into the caller's memory
+pub put_told : {X : Type 0} (Told : ℕ → Type 0) → ((n : ℕ) → n < 2 → Told n)
+    → (made : Result (Vec X Global) ℕ) (status : ℕ) (old new : List X) (before needed : ℕ)
+    → IfErr made Told → Puts made status old new before needed → Told status
+put_told Told few (Ok made) status old new before needed told puts = few status puts.only
+put_told Told few (Err error) status old new before needed told puts = subst Told (sym puts.0) told
 
 module _ (of : File → Verdict) (limit : ℕ) (bytes : List ℕ) where
   module _ {X : Type 0} (Means : File → List X → Type 0) where

@@ -2,9 +2,11 @@ mod Making
 mod Giving
 mod Saying
 mod Pairing
+mod Joining
 mod Listing
 mod Placing
 mod Taken
 mod Editing
+mod Failing
 mod Bounding
 mod Shown

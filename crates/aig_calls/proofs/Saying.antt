@@ -1,11 +1,16 @@
 -- What statuses with a flag say.
-use Rattle.aig_base.proofs.Words.{◌≡◌, ◌⊎◌, ℕ, zero, suc, ◌+◌, ◌-◌, ◌<◌, ◌≤◌, None, Some, refl, sym, subst, inl, inr, arith, le-leb, lt-ltb}
+use Rattle.aig_base.proofs.Words.{◌≡◌, ◌⊎◌, ℕ, zero, suc, ◌+◌, ◌-◌, ◌<◌, ◌≤◌, None, Some, refl, sym, subst, inl, inr, arith, le-leb, le-ltb, lt-leb, lt-ltb}
 use Rattle.aig_edits.specs.Joints.{first_verdict, second_verdict}
 use Rattle.aig_edits.specs.declared.error.PairError.TheVariants as pair
 use Rattle.aig_reader.specs.declared.error.ReadError.{ReadError}
 use Rattle.aig_reader.specs.Verdicts.{Accepted, verdict_of}
-use Rattle.aig_calls.specs.Statuses.{IsOfPair, said_by, said_of_other}
-use Rattle.aig_calls.specs.Parts.{IsPairStatus, SaysOnly, flagged}
+use Rattle.aig_answers.specs.Answers.{verdict_of as verdict_by}
+use Rattle.aig_answers.specs.declared.error.AnswerError.{AnswerError}
+use Rattle.aig_certificates.specs.declared.error.CertificateError.TheVariants as certificate
+use Rattle.aig_checks.specs.declared.tool.CheckError.{CheckError}
+use Rattle.aig_checks.specs.declared.tool.CheckError.TheVariants as checks
+use Rattle.aig_calls.specs.Statuses.{IsOfPair, memory, said_by, said_of_other, said_of_query, said_of_window}
+use Rattle.aig_calls.specs.Parts.{IsPairStatus, SaysJoint, SaysObliged, SaysOnly, flagged}
 
 -- memory, the stream or the step hides it
 none_said : (status : ℕ) → 2 ≤ status → status < 5 → said_by status ≡ None
@@ -55,8 +60,56 @@ other_status e status says low least = elim (flagged_cases 256 status) [
       })
 ]
 
+-- a status below the flags says nothing of a query or a window
+pub no_query : (status : ℕ) → status < 512 → said_of_query status ≡ None
+no_query status low = rw (lt-leb 512 status low)
+
+pub no_window : (status : ℕ) → status < 1024 → said_of_window status ≡ None
+no_window status low = rw (lt-leb 1024 status low)
+
+-- nor one of a window of a query
+pub window_no_query : (status : ℕ) → 1024 ≤ status → said_of_query status ≡ None
+window_no_query status high =
+    rw (le-leb 512 status (omega (arith, high)), le-ltb status 1024 high)
+
+-- the status of the query
+pub query_status : (e : AnswerError) (status : ℕ) → SaysOnly (said_by status) (verdict_by e)
+    → status < 60 → SaysJoint (flagged 512 status) (certificate.Query e)
+query_status e status says low = elim (flagged_cases 512 status) [
+  | inl few ↦ (
+    omega (arith, few.0, few.1),
+    rw (no_query (flagged 512 status) (omega (arith, few.0, few.1))) tt,
+  )
+  | inr many ↦
+      let back : (512 + status) - 512 ≡ status = omega arith in
+      let said : said_of_query (512 + status) ≡ said_by status =
+      rw (
+        le-leb 512 (512 + status) (omega arith),
+        lt-ltb (512 + status) 1024 (omega (arith, low)),
+        back,
+      ) in
+      subst (λ n. SaysJoint n (certificate.Query e)) (sym many.1)
+      (omega (arith, low), rw said says)
+]
+
+-- and that of the window
+pub window_status : (e : AnswerError) (status : ℕ) → SaysOnly (said_by status) (verdict_by e)
+    → status < 60 → SaysJoint (flagged 1024 status) (certificate.Window e)
+window_status e status says low = elim (flagged_cases 1024 status) [
+  | inl few ↦ (
+    inl (omega (arith, few.0, few.1)),
+    rw (no_window (flagged 1024 status) (omega (arith, few.0, few.1))) tt,
+  )
+  | inr many ↦
+      let back : (1024 + status) - 1024 ≡ status = omega arith in
+      let said : said_of_window (1024 + status) ≡ said_by status =
+      rw (le-leb 1024 (1024 + status) (omega arith), back) in
+      subst (λ n. SaysJoint n (certificate.Window e)) (sym many.1)
+      (inr (omega arith), rw said says)
+]
+
 -- and which it is
-pub other_own : (status : ℕ) → (status < 4) ⊎ ((8 ≤ status) × (status < 32)) → IsOfPair (flagged 256 status)
+pub other_own : (status : ℕ) → (status < 3) ⊎ ((8 ≤ status) × (status < 32)) → IsOfPair (flagged 256 status)
 other_own status own = elim own [
   | inl few ↦ grind (arith, few)
   | inr file ↦ elim (flagged_cases 256 status) [
@@ -64,3 +117,16 @@ other_own status own = elim own [
     | inr many ↦ subst IsOfPair (sym many.1) (inr (inr (omega (arith, file.0), omega (arith, file.1))))
   ]
 ]
+
+-- a status about two files is below those of their circuit
+pub pair_low : (status : ℕ) → IsOfPair status → status < 512
+pair_low status (inl few) = omega (arith, few)
+pair_low status (inr (inl file)) = omega (arith, file.1)
+pair_low status (inr (inr other)) = omega (arith, other.1)
+
+-- memory says nothing of any
+pub memory_obliged : (e : CheckError) → SaysObliged memory e
+memory_obliged (checks.Certificate (certificate.Pair e)) = omega arith
+memory_obliged (checks.Certificate (certificate.Query e)) = (omega arith, tt)
+memory_obliged (checks.Certificate (certificate.Window e)) = (inl (omega arith), tt)
+memory_obliged e = omega arith

@@ -19,6 +19,7 @@ use Rattle.aig_refutation.specs.declared.error.RefutationError.{RefutationError}
 use Rattle.aig_calls.specs.Statuses.{many_steps, said_of_proof}
 use Rattle.aig_calls.specs.Calls.{IsFileWith, TellsOfSize, TellsProofOf}
 use Rattle.aig_calls.specs.Parts.{IsErrWith, Puts}
+use Rattle.aig_calls.proofs.Giving.{put_told}
 use Rattle.aig_calls.proofs.Making.{whole}
 use Rattle.aig_calls.proofs.Taken.{judged_as}
 
@@ -58,10 +59,7 @@ module _ (k limit : ℕ) (bytes : List ℕ) where
   pub put_large : (made : Result (Vec ℕ Global) ℕ) (status : ℕ) (old new : List ℕ)
       (before needed : ℕ) → IfErr made (TellsOfSize k limit bytes)
       → Puts made status old new before needed → TellsOfSize k limit bytes status
-  put_large (Ok made) status old new before needed tells puts =
-      λ is. absurd (omega (arith, is, puts.only))
-  put_large (Err error) status old new before needed tells puts =
-      subst (TellsOfSize k limit bytes) (sym puts.0) tells
+  put_large = put_told (TellsOfSize k limit bytes) (λ n few is. absurd (omega (arith, is, few)))
 
   -- K isn't below 2^32
   pub none_large : (status : ℕ) → status ≡ many_steps → TellsOfSize k limit bytes status

@@ -1,16 +1,17 @@
 -- Part of what is promised.
 -- What a call does, by the bytes that it is given: what it leaves in its caller's memory, and what
 -- its status says.
-use Rattle.std.specs.Prelude.{◌≡◌, ℕ, ◌<◌, ◌≤◌, ◌++◌, if◌then◌else◌, Bool, List, length, drop, Some, IfSome, Result, Ok, Err}
+use Rattle.std.specs.Prelude.{◌≡◌, ℕ, ◌<◌, ◌≤◌, ◌++◌, if◌then◌else◌, Bool, false, IsTrue, List, length, drop, Option, Some, IfSome, Result, Ok, Err}
 use Rattle.aig_runs.specs.declared.window.Window.{Window}
 use Rattle.aig_runs.specs.declared.window.Window.TheVariants.{Distinct, Plain}
 use Rattle.aig_circuit.specs.Circuit.{Circuit}
 use Rattle.aig_answers.specs.Answers.{TellsOfStep, TellsOfWindow}
 use Rattle.aig_answers.specs.declared.error.AnswerError.TheVariants as answers
 use Rattle.aig_bounded.specs.Question.{question_size}
-use Rattle.aig_bounded_answers.specs.Asking.{bounded_verdict}
+use Rattle.aig_bounded_answers.specs.Asking.{RefusesSolution, bounded_verdict}
 use Rattle.aig_bounded_answers.specs.declared.error.BoundedAnswerError.TheVariants as bounded
 use Rattle.aig_checks.specs.Bounded.{IsBoundedText, IsSettledTo, TellsProof}
+use Rattle.aig_checks.specs.Running.{RefusesAnswer}
 use Rattle.aig_edits.specs.Edits.{IsEditRefusal, IsWrittenEdit}
 use Rattle.aig_edits.specs.Questions.{IsQuestionOf}
 use Rattle.aig_edits.specs.Reductions.{IsReductionOf}
@@ -24,10 +25,14 @@ use Rattle.aig_edits.specs.declared.pairing.Pairing.{Pairing}
 use Rattle.aig_format.specs.Circuit.{circuit_of, text_of}
 use Rattle.aig_format.specs.File.{File}
 use Rattle.aig_format.specs.Fits.{Accepts}
-use Rattle.aig_reader.specs.Verdicts.{Accepted, Verdict}
+use Rattle.aig_reader.specs.Verdicts.{Accepted, IsVerdictOn, Verdict}
 use Rattle.aig_refutation.specs.declared.error.RefutationError.{RefutationError}
+use Rattle.aig_solutions.specs.declared.error.SolutionError.{SolutionError}
+use Rattle.aig_witness.specs.Files.{FailsNext, HasNoNext}
+use Rattle.aig_witness.specs.declared.file.ShowError.{ShowError}
+use Rattle.aig_witness.specs.declared.file.ShowError.TheVariants as shows
 use Rattle.aig_witness.specs.declared.file.Shown.{Shown}
-use Rattle.aig_calls.specs.Statuses.{IsOfPair, Tells, done, has_bads, large_question, misfit, no_output, said_by, said_of_other, said_of_proof, settled, small, unwritable}
+use Rattle.aig_calls.specs.Statuses.{IsOfPair, SaysFault, SaysSolution, Tells, done, has_bads, is_solution_fault, is_witness_fault, large_question, many_bads, misfit, no_output, said_by, said_of_other, said_of_proof, settled, small, unwritable}
 
 -- ---- words
 
@@ -108,6 +113,32 @@ abbrev pub TellsProofOf : (File → Result (Unit {0}) RefutationError → Type 0
 TellsProofOf Shows limit bytes status =
     IfSome (said_of_proof status) (λ said. IsFileWith limit bytes (λ f. Shows f said))
 
+-- ---- witnesses and solvers' answers
+
+-- why the bytes of a witness show no bad state of the file's machine
+abbrev pub FailsToShow : List ℕ → File → ShowError → Type 0
+FailsToShow text f (shows.File e) = ⊥
+FailsToShow text f (shows.Check fault) = FailsNext (Some text) f fault
+FailsToShow text f e = HasNoNext (Some text) false e
+
+-- a status that refuses a witness says why
+abbrev pub TellsFault : ℕ → List ℕ → List ℕ → ℕ → Type 0
+TellsFault limit bytes text status = IsTrue (is_witness_fault status)
+    → (e : ShowError) × SaysFault status e × IsFileWith limit bytes (λ f. FailsToShow text f e)
+
+-- why the bytes of a solver's answer to the file's query say no witness
+abbrev pub FailsStep : ℕ → Bool → List ℕ → File → SolutionError → Type 0
+FailsStep k optimize text f e = RefusesAnswer (Some text) false k optimize f e
+
+-- or those of one to its question
+abbrev pub FailsBounded : ℕ → Bool → List ℕ → File → SolutionError → Type 0
+FailsBounded k optimize text f e = RefusesSolution (Some text) false k optimize f e
+
+-- a status that refuses a solver's answer says why
+abbrev pub TellsSolution : (File → SolutionError → Type 0) → ℕ → List ℕ → ℕ → Type 0
+TellsSolution Fails limit bytes status = IsTrue (is_solution_fault status)
+    → (e : SolutionError) × SaysSolution status e × IsFileWith limit bytes (λ f. Fails f e)
+
 -- ---- what is made of one file
 
 -- the verdict on a file that is edited: its further steps may pass the limit, or it is taken
@@ -130,6 +161,8 @@ IsQuestionText k limit f text = (m : Circuit) × IsQuestionOf k limit f m × (te
 
 -- why a file isn't edited
 pub record TellsEdit (edit : Edit) (limit : ℕ) (bytes : List ℕ) (status : ℕ) : Type 0 where
+  pub several : status ≡ many_bads
+      → IsFileWith limit bytes (λ f. IsEditRefusal edit limit f edit_errors.ManyBads)
   pub bads : status ≡ has_bads
       → IsFileWith limit bytes (λ f. IsEditRefusal edit limit f edit_errors.HasBads)
   pub output : status ≡ no_output
@@ -175,6 +208,12 @@ pub record TellsMisfit (pairing : Pairing) (limit : ℕ) (bytes others : List �
         → AreFilesWith limit bytes others (λ f g. ¬ DoFit pairing f g)
     pub format : status ≡ unwritable
         → AreFilesWith limit bytes others (λ f g. IsRefusalOf pairing f g TooLarge)
+
+-- what is said of the text of the circuit of two files is the verdict on it
+abbrev pub TellsJoint : Pairing → (File → Verdict) → ℕ → List ℕ → List ℕ → Option Verdict → Type 0
+TellsJoint pairing of limit bytes others said =
+    IfSome said (λ v. AreFilesWith limit bytes others (λ f g. (m : Circuit) × IsJointOf pairing f g m
+    × IsVerdictOn of limit (text_of m) v))
 
 -- what a call that gives an answer about two files does
 pub record GivesPair (pairing : Pairing) (limit : ℕ) (Means : File → File → List ℕ → Type 0)

@@ -1,10 +1,17 @@
 -- Serves private clauses alone.
 -- What the parts of a call do.
-use Rattle.std.specs.Prelude.{◌≡◌, ℕ, ◌+◌, ◌≤◌, nat_lt, if◌then◌else◌, Bool, List, Option, None, Some, Result, Ok, Err, IfErr, IfOk, IfSome, Vec, ℤ}
+use Rattle.std.specs.Prelude.{◌≡◌, ℕ, ◌+◌, ◌<◌, ◌≤◌, ◌⊎◌, nat_lt, if◌then◌else◌, Bool, List, Option, None, Some, Result, Ok, Err, IfErr, IfOk, IfSome, Vec, ℤ}
 use Rattle.std.specs.declared.alloc.Global.{Global}
+use Rattle.aig_answers.specs.Answers as answering
+use Rattle.aig_certificates.specs.declared.error.CertificateError.{CertificateError}
+use Rattle.aig_certificates.specs.declared.error.CertificateError.TheVariants as certificate
 use Rattle.aig_checks.specs.Running.{Answers, file_verdict}
 use Rattle.aig_checks.specs.declared.command.FileCommand.{FileCommand}
 use Rattle.aig_checks.specs.declared.command.FileCommand.TheVariants as commands
+use Rattle.aig_bounded_answers.specs.declared.error.BoundedAnswerError.{BoundedAnswerError}
+use Rattle.aig_bounded_answers.specs.declared.error.BoundedAnswerError.TheVariants as bounded
+use Rattle.aig_checks.specs.declared.tool.CheckError.{CheckError}
+use Rattle.aig_checks.specs.declared.tool.CheckError.TheVariants as checks
 use Rattle.aig_checks.specs.Bounded.{IsSettledTo}
 use Rattle.aig_edits.specs.declared.edit.Edit.{Edit}
 use Rattle.aig_edits.specs.declared.edit_error.EditError.{EditError}
@@ -13,7 +20,7 @@ use Rattle.aig_edits.specs.declared.pairing.Pairing.{Pairing}
 use Rattle.aig_format.specs.File.{File}
 use Rattle.aig_reader.specs.Verdicts.{Accepted, IsSettled, Memory, NoBads, Short, TooLarge, Verdict, verdict_of}
 use Rattle.aig_refutation.specs.declared.error.RefutationError.{RefutationError}
-use Rattle.aig_calls.specs.Statuses.{IsOfBounded, IsOfBoundedSolution, IsOfEdit, IsOfSolution, IsOfText, Tells, done, has_bads, misfit, no_output, said_by, said_of_other, said_of_proof, settled, small, unwritable}
+use Rattle.aig_calls.specs.Statuses.{IsOfBounded, IsOfBoundedSolution, IsOfEdit, IsOfSolution, IsOfText, SaysSolution, Tells, done, has_bads, many_bads, misfit, no_output, said_by, said_of_other, said_of_proof, said_of_query, said_of_window, settled, small, unwritable}
 use Rattle.aig_calls.specs.declared.numbers.Listed.{Listed}
 use Rattle.aig_calls.specs.Calls.{AreFilesWith, IsEditText, IsFileWith, IsGiven, TellsEdit, TellsMisfit, TellsOfPair, TellsOfSize, edited_verdict}
 
@@ -26,9 +33,22 @@ abbrev pub IsErrWith : {E : Type 0} → (E → Type 0) → Result (Unit {0}) E �
 IsErrWith Is (Ok _) = ⊥
 IsErrWith Is (Err e) = Is e
 
+-- what a status says of a solver's answer to a question is this refusal
+abbrev pub SaysBounded : ℕ → BoundedAnswerError → Type 0
+SaysBounded status (bounded.Solution e) = SaysSolution status e
+SaysBounded status e = status < 60
+
 -- what a status says of a proof is this refusal
 abbrev pub SaysProof : ℕ → (RefutationError → Type 0) → Type 0
 SaysProof status Is = IfSome (said_of_proof status) (IsErrWith Is)
+
+-- what a status says of a solver's answer is this refusal; one below 60 is another's
+abbrev pub SaysAnswer : ℕ → CheckError → Type 0
+SaysAnswer status (checks.Solution e) = SaysSolution status e
+SaysAnswer status (checks.Bounded e) = SaysBounded status e
+SaysAnswer status (checks.Show e) = Unit {0}
+SaysAnswer status (checks.Certificate e) = Unit {0}
+SaysAnswer status e = status < 60
 
 -- the verdict that is told: a file that would be taken is
 abbrev pub told_as : Verdict → Verdict
@@ -78,6 +98,7 @@ IsOfMaking e = ⊥
 -- what the status of a call that makes something of one file says that has this error
 pub record IsEditStatus (e : EditError) (status : ℕ) : Type 0 where
   pub said : SaysOnly (said_by status) (verdict_of_edit e)
+  pub several : status ≡ many_bads → e ≡ edit.ManyBads
   pub bads : status ≡ has_bads → e ≡ edit.HasBads
   pub output : status ≡ no_output → e ≡ edit.NoOutput
   pub format : status ≡ unwritable → e ≡ edit.TooLarge
@@ -92,6 +113,19 @@ pub record IsPairStatus {E : Type 0} (first second : E → Verdict) (counts form
   pub misfit : status ≡ misfit → e ≡ counts
   pub large : status ≡ unwritable → e ≡ format
   pub least : 2 ≤ status
+
+-- what the status of a call on two files says of the text of their circuit that has this error
+abbrev pub SaysJoint : ℕ → CertificateError → Type 0
+SaysJoint status (certificate.Pair e) = status < 512
+SaysJoint status (certificate.Query e) =
+    (status < 1024) × SaysOnly (said_of_query status) (answering.verdict_of e)
+SaysJoint status (certificate.Window e) =
+    (status < 512 ⊎ 1024 ≤ status) × SaysOnly (said_of_window status) (answering.verdict_of e)
+
+-- or of one that gives clauses about it
+abbrev pub SaysObliged : ℕ → CheckError → Type 0
+SaysObliged status (checks.Certificate e) = SaysJoint status e
+SaysObliged status e = status < 512
 
 -- the status with a flag, which one that says nothing hasn't
 abbrev pub flagged : ℕ → ℕ → ℕ

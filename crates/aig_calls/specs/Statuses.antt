@@ -5,6 +5,14 @@ use Rattle.aig_format.specs.File.{File}
 use Rattle.aig_reader.specs.Verdicts.{Accepted, Crowded, IsVerdictOn, NoBads, Refused, TooLarge, TooMany, Verdict}
 use Rattle.aig_refutation.specs.declared.error.RefutationError.{RefutationError}
 use Rattle.aig_refutation.specs.declared.error.RefutationError.TheVariants as faults
+use Rattle.aig_solutions.specs.declared.error.SolutionError.{SolutionError}
+use Rattle.aig_solutions.specs.declared.error.SolutionError.TheVariants as solution
+use Rattle.aig_witness.specs.declared.error.WitnessError.{WitnessError}
+use Rattle.aig_witness.specs.declared.error.WitnessError.TheVariants as witness
+use Rattle.aig_witness.specs.declared.fault.WitnessFault.{WitnessFault}
+use Rattle.aig_witness.specs.declared.fault.WitnessFault.TheVariants as shown
+use Rattle.aig_witness.specs.declared.file.ShowError.{ShowError}
+use Rattle.aig_witness.specs.declared.file.ShowError.TheVariants as shows
 
 -- ---- names
 
@@ -15,6 +23,10 @@ done = 0
 -- the answer doesn't fit the caller's memory
 abbrev pub small : ℕ
 small = 1
+
+-- memory was refused
+abbrev pub memory : ℕ
+memory = 2
 
 -- K is 2^32 or more
 abbrev pub many_steps : ℕ
@@ -44,6 +56,10 @@ no_output = 34
 abbrev pub large_question : ℕ
 large_question = 35
 
+-- constraints would be joined to the first of several bad literals alone
+abbrev pub many_bads : ℕ
+many_bads = 36
+
 -- ---- what is said of a file's bytes
 
 -- what a status says of the bytes of the file, of two files the first one, if anything
@@ -65,6 +81,15 @@ said_of_other status =
     else if nat_lt status 5 then said_by status
     else Some Accepted
 
+-- one of the text of the circuit of two files, of which the query is asked
+abbrev pub said_of_query : ℕ → Option Verdict
+said_of_query status =
+    if nat_le 512 status && nat_lt status 1024 then said_by (status - 512) else None
+
+-- or the window
+abbrev pub said_of_window : ℕ → Option Verdict
+said_of_window status = if nat_le 1024 status then said_by (status - 1024) else None
+
 -- where something is said, it is the verdict on these bytes
 abbrev pub Tells : (File → Verdict) → ℕ → List ℕ → Option Verdict → Type 0
 Tells of limit bytes said = IfSome said (IsVerdictOn of limit bytes)
@@ -83,17 +108,66 @@ said_of_proof status =
     if status == 0 then Some (Ok tt)
     else if nat_lt status 40 then None else option_map Err (slice_get proof_faults (status - 40))
 
+-- ---- what is said of a witness and of a solver's answer
+
+-- the status of a fault of a witness; which step it is isn't told
+abbrev pub fault_status : WitnessFault → ℕ
+fault_status shown.Memory = memory
+fault_status shown.Latches = 70
+fault_status (shown.Inputs step) = 71
+fault_status shown.NoStep = 72
+fault_status shown.NoBad = 73
+fault_status shown.Start = 74
+fault_status (shown.Constraint step) = 75
+fault_status shown.Bad = 76
+
+-- of a witness that isn't read
+abbrev pub witness_status : WitnessError → ℕ
+witness_status witness.Memory = memory
+witness_status witness.Stream = memory
+witness_status witness.Status = 60
+witness_status witness.Property = 61
+witness_status witness.Values = 62
+
+-- of a solver's answer that is refused
+abbrev pub solution_status : SolutionError → ℕ
+solution_status solution.Memory = memory
+solution_status solution.Stream = memory
+solution_status solution.Unsatisfiable = 80
+solution_status solution.Unknown = 81
+solution_status solution.Answer = 82
+solution_status solution.Line = 83
+solution_status solution.Literal = 84
+solution_status solution.Variable = 85
+solution_status solution.Clash = 86
+solution_status solution.Unfinished = 87
+solution_status solution.NoBad = 88
+solution_status (solution.Check fault) = fault_status fault
+
+-- a status says that this is why a witness shows no bad state: one below 60 that the file is
+-- refused
+abbrev pub SaysFault : ℕ → ShowError → Type 0
+SaysFault status (shows.File e) = status < 60
+SaysFault status (shows.Witness e) = status ≡ witness_status e
+SaysFault status shows.NoWitness = status ≡ 63
+SaysFault status (shows.Check fault) = status ≡ fault_status fault
+
+-- or that a solver's answer is refused so
+abbrev pub SaysSolution : ℕ → SolutionError → Type 0
+SaysSolution status e = status ≡ solution_status e
+
 -- ---- which statuses a call has
 
 -- the file is refused, or memory was
 abbrev pub is_refusal : ℕ → Bool
 is_refusal status =
-    nat_le 2 status && nat_lt status 4 || nat_le 5 status && nat_lt status 8
+    status == memory || nat_le 5 status && nat_lt status 8
     || nat_le 10 status && nat_lt status 32
 
 -- the file isn't edited
 abbrev pub is_edit_fault : ℕ → Bool
-is_edit_fault status = status == 9 || nat_le 33 status && nat_lt status 35
+is_edit_fault status =
+    status == unwritable || nat_le 33 status && nat_lt status 35 || status == many_bads
 
 -- a proof is refused
 abbrev pub is_proof_fault : ℕ → Bool
@@ -157,7 +231,7 @@ IsOfWitness status = IsTrue (status == 0 || (is_refusal status || is_witness_fau
 -- of one that gives the text of two files' circuit: one of the files is refused, or they are
 abbrev pub IsOfPair : ℕ → Type 0
 IsOfPair status =
-    (status < 4) ⊎ ((8 ≤ status) × (status < 32)) ⊎ ((264 ≤ status) × (status < 288))
+    (status < 3) ⊎ ((8 ≤ status) × (status < 32)) ⊎ ((264 ≤ status) × (status < 288))
 
 -- and of one that gives the clauses of their circuit's query and window: or one of these is
 abbrev pub IsOfObligations : ℕ → Type 0

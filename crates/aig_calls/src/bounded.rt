@@ -5,7 +5,7 @@ ghost use Rattle.aig_bounded_answers.specs.Asking.{bounded_verdict};
 ghost use Rattle.aig_checks.specs.Bounded.{IsWitnessToText};
 ghost use Rattle.aig_checks.specs.declared.command.FileCommand.TheVariants as commands;
 ghost use Rattle.aig_runs.specs.Queries.{IsSafeTo};
-ghost use Rattle.aig_calls.specs.Calls.{Checks, Gives, GivesBounded, ShowsBounded, TellsOfSize, TellsProofOf};
+ghost use Rattle.aig_calls.specs.Calls.{Checks, FailsBounded, Gives, GivesBounded, ShowsBounded, TellsOfSize, TellsProofOf, TellsSolution};
 ghost use Rattle.aig_calls.specs.Parts.{MakesBounded, MakesChecked};
 ghost use Rattle.aig_calls.specs.Statuses.{AtStep, IsOfBounded, IsOfBoundedProof, IsOfBoundedSolution};
 
@@ -40,6 +40,8 @@ fn witness_text(
     ensures makes { let given = Some solution.now in
         MakesChecked LIMIT (commands.WitnessTo k optimize) given file.now result }
     ensures large { IfErr result (TellsOfSize k LIMIT file.now) }
+    ensures refusal { IfErr result
+        (TellsSolution (FailsBounded k optimize solution.now) LIMIT file.now) }
 {
     let mut source = FromRead::new(file);
     let mut answer = FromRead::new(solution);
@@ -72,7 +74,7 @@ pub fn print_bounded(
 }
 
 /// Gives the witness that a solver's answer to the clauses of `print_bounded` says, up to the first step with a bad state. It was
-/// checked: nothing of the answer is trusted.
+/// checked: nothing of the answer is trusted, and a status of an answer that is refused says why.
 pub fn print_witness_to(
     alloc: Global,
     file: &[u8],
@@ -85,6 +87,7 @@ pub fn print_witness_to(
     ensures gives { Gives bounded_verdict LIMIT (λ f text. IsWitnessToText f k text)
         (AtStep k IsOfBoundedSolution) file.now result out.old out.new needed.old needed.new }
     ensures large { TellsOfSize k LIMIT file.now result }
+    ensures refusal { TellsSolution (FailsBounded k optimize solution.now) LIMIT file.now result }
 {
     match step_of(k) {
         Ok(k) => put(

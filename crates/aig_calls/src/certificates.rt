@@ -1,11 +1,13 @@
 //! Calls that check proofs about two files.
 
-ghost use Rattle.std.specs.Prelude.{ℕ};
+ghost use Rattle.std.specs.Prelude.{ℕ, ◌<◌};
+ghost use Rattle.aig_answers.specs.Answers.{asked_verdict, window_verdict};
 ghost use Rattle.aig_edits.specs.declared.pairing.Pairing.TheVariants.{Certificate, Miter};
 ghost use Rattle.aig_join.specs.Files.{AreEqualMachinesAt, HasLinesOf, HaveSameFileCounts};
 ghost use Rattle.aig_runs.specs.Queries.{IsSafeTo};
-ghost use Rattle.aig_calls.specs.Calls.{ChecksPair};
-ghost use Rattle.aig_calls.specs.Statuses.{AtStep, IsOfPairProof};
+ghost use Rattle.aig_runs.specs.declared.window.Window.TheVariants.{Plain};
+ghost use Rattle.aig_calls.specs.Calls.{ChecksPair, TellsJoint};
+ghost use Rattle.aig_calls.specs.Statuses.{AtStep, IsOfPairProof, said_of_query, said_of_window};
 
 use crate::status::{DONE, of_certificate};
 use crate::steps::step_of;
@@ -23,8 +25,12 @@ pub fn check_certified(
     base: &[u8],
     step: &[u8],
 ) -> u32
-    ensures { ChecksPair Certificate LIMIT (λ f g. HasLinesOf g f × ((n : ℕ) → IsSafeTo f n))
+    ensures checks { ChecksPair Certificate LIMIT (λ f g. HasLinesOf g f × ((n : ℕ) → IsSafeTo f n))
         IsOfPairProof file.now certificate.now result }
+    ensures query { TellsJoint Certificate (asked_verdict LIMIT 0) LIMIT file.now certificate.now
+        (said_of_query result) }
+    ensures window { TellsJoint Certificate (window_verdict Plain LIMIT 0) LIMIT file.now
+        certificate.now (said_of_window result) }
 {
     let mut first = FromRead::new(file);
     let mut second = FromRead::new(certificate);
@@ -46,8 +52,12 @@ fn refute_miter(
     optimize: bool,
     proof: &[u8],
 ) -> u32
-    ensures { ChecksPair Miter LIMIT (λ f g. HaveSameFileCounts f g × AreEqualMachinesAt f g k)
-        IsOfPairProof file.now other.now result }
+    ensures checks { ChecksPair Miter LIMIT
+        (λ f g. HaveSameFileCounts f g × AreEqualMachinesAt f g k) IsOfPairProof file.now other.now
+        result }
+    ensures query { TellsJoint Miter (asked_verdict LIMIT k) LIMIT file.now other.now
+        (said_of_query result) }
+    ensures no_window { result < 1024 }
 {
     let mut first = FromRead::new(file);
     let mut second = FromRead::new(other);
@@ -69,8 +79,12 @@ pub fn check_equal(
     optimize: bool,
     proof: &[u8],
 ) -> u32
-    ensures { ChecksPair Miter LIMIT (λ f g. HaveSameFileCounts f g × AreEqualMachinesAt f g k)
-        (AtStep k IsOfPairProof) file.now other.now result }
+    ensures checks { ChecksPair Miter LIMIT
+        (λ f g. HaveSameFileCounts f g × AreEqualMachinesAt f g k) (AtStep k IsOfPairProof)
+        file.now other.now result }
+    ensures query { TellsJoint Miter (asked_verdict LIMIT k) LIMIT file.now other.now
+        (said_of_query result) }
+    ensures no_window { result < 1024 }
 {
     match step_of(k) {
         Ok(k) => refute_miter(alloc, file, other, k, optimize, proof),

@@ -1,10 +1,10 @@
 //! Calls that give what a command of `aigcheck` prints of a file.
 
-ghost use Rattle.std.specs.Prelude.{◌≡◌, ◌<◌, ◌^◌, None, Some};
+ghost use Rattle.std.specs.Prelude.{◌≡◌, ◌<◌, ◌^◌, None, Some, IfErr};
 ghost use Rattle.aig_answers.specs.Answers.{asked_verdict, window_verdict};
 ghost use Rattle.aig_checks.specs.Running.{IsClausesText, IsWindowText, IsWitnessText};
 ghost use Rattle.aig_checks.specs.declared.command.FileCommand.TheVariants as commands;
-ghost use Rattle.aig_calls.specs.Calls.{Gives, form_of};
+ghost use Rattle.aig_calls.specs.Calls.{FailsStep, Gives, TellsSolution, form_of};
 ghost use Rattle.aig_calls.specs.Parts.{MakesChecked};
 ghost use Rattle.aig_calls.specs.Statuses.{AtStep, IsOfSolution, IsOfText};
 
@@ -57,8 +57,10 @@ fn witness_text(
     solution: &[u8],
 ) -> Result<Vec<u8>, u32>
     requires { k < 2 ^ 32 }
-    ensures { let given = Some solution.now in
+    ensures makes { let given = Some solution.now in
         MakesChecked LIMIT (commands.Witness k optimize) given file.now result }
+    ensures refusal { IfErr result
+        (TellsSolution (FailsStep k optimize solution.now) LIMIT file.now) }
 {
     let mut source = FromRead::new(file);
     let mut answer = FromRead::new(solution);
@@ -113,7 +115,7 @@ pub fn print_window(
 }
 
 /// Gives the witness that a solver's answer to the query of a file for step `k` says. It was checked: nothing of the answer is
-/// trusted.
+/// trusted, and a status of an answer that is refused says why.
 pub fn print_witness(
     alloc: Global,
     file: &[u8],
@@ -123,9 +125,10 @@ pub fn print_witness(
     out: &mut [u8],
     needed: &mut usize,
 ) -> u32
-    ensures { let given = Some solution.now in
+    ensures gives { let given = Some solution.now in
         Gives (asked_verdict LIMIT k) LIMIT (λ f text. IsWitnessText given f k optimize text)
         (AtStep k IsOfSolution) file.now result out.old out.new needed.old needed.new }
+    ensures refusal { TellsSolution (FailsStep k optimize solution.now) LIMIT file.now result }
 {
     match step_of(k) {
         Ok(k) => put(

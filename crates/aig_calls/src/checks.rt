@@ -6,7 +6,7 @@ ghost use Rattle.aig_runs.specs.Safety.{IsSafeAt};
 ghost use Rattle.aig_reader.specs.Verdicts.{Accepted};
 ghost use Rattle.aig_runs.specs.Queries.{IsSafeTo};
 ghost use Rattle.aig_witness.specs.Files.{ShowsNext};
-ghost use Rattle.aig_calls.specs.Calls.{Checks, ShowsStep, ShowsWindow, TellsProofOf, form_of, shown_at};
+ghost use Rattle.aig_calls.specs.Calls.{Checks, ShowsStep, ShowsWindow, TellsFault, TellsProofOf, form_of, shown_at};
 ghost use Rattle.aig_calls.specs.Statuses.{AtStep, IsOfProof, IsOfWitness};
 
 use crate::status::{DONE, of_answer, of_show};
@@ -90,7 +90,7 @@ pub fn check_inductive(
 }
 
 /// Checks that a witness shows a bad state of a file's machine, and says which bad state property that is and at which step.
-/// Else both numbers are as they were.
+/// Else both numbers are as they were, and a status of a witness that is refused says why.
 pub fn check_run(
     alloc: Global,
     file: &[u8],
@@ -101,6 +101,7 @@ pub fn check_run(
     ensures shows { Checks (λ _. Accepted) LIMIT
         (λ f. ShowsNext (Some witness.now) f (shown_at bad.new step.new)) IsOfWitness file.now
         result }
+    ensures refusal { TellsFault LIMIT file.now witness.now result }
     ensures kept { 1 ≤ result → (bad.new ≡ bad.old) × (step.new ≡ step.old) }
 {
     let mut source = FromRead::new(file);

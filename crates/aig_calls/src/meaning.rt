@@ -57,6 +57,7 @@ fn words_of_file(status: u32) -> &'static [u8] {
         33 => b"has bad states already",
         34 => b"no such output",
         35 => b"question passes the limit",
+        36 => b"constraints and several bad state properties (aigedit compress makes these one)",
         _ => b"no status",
     }
 }

@@ -1,10 +1,13 @@
 //! Calls that give the text of a circuit made of two files, or of its clauses.
 
+ghost use Rattle.std.specs.Prelude.{IfErr};
+ghost use Rattle.aig_answers.specs.Answers.{asked_verdict, window_verdict};
 ghost use Rattle.aig_checks.specs.Pairs.{IsObligationsText};
 ghost use Rattle.aig_edits.specs.declared.pairing.Pairing.TheVariants.{Certificate};
-ghost use Rattle.aig_calls.specs.Calls.{GivesPair, IsJointText, Joins};
+ghost use Rattle.aig_runs.specs.declared.window.Window.TheVariants.{Plain};
+ghost use Rattle.aig_calls.specs.Calls.{GivesPair, IsJointText, Joins, TellsJoint};
 ghost use Rattle.aig_calls.specs.Parts.{MakesOfPair};
-ghost use Rattle.aig_calls.specs.Statuses.{IsOfObligations, IsOfPair};
+ghost use Rattle.aig_calls.specs.Statuses.{IsOfObligations, IsOfPair, said_of_query, said_of_window};
 
 use crate::buffer::put;
 use crate::status::{of_obligations, of_pair};
@@ -48,8 +51,12 @@ fn obligations_text(
     certificate: &[u8],
     optimize: bool,
 ) -> Result<Vec<u8>, u32>
-    ensures { MakesOfPair Certificate LIMIT (IsObligationsText optimize) IsOfObligations file.now
-        certificate.now result }
+    ensures makes { MakesOfPair Certificate LIMIT (IsObligationsText optimize) IsOfObligations
+        file.now certificate.now result }
+    ensures query { IfErr result (λ status. TellsJoint Certificate (asked_verdict LIMIT 0) LIMIT
+        file.now certificate.now (said_of_query status)) }
+    ensures window { IfErr result (λ status. TellsJoint Certificate (window_verdict Plain LIMIT 0)
+        LIMIT file.now certificate.now (said_of_window status)) }
 {
     let mut first = FromRead::new(file);
     let mut second = FromRead::new(certificate);
@@ -71,8 +78,12 @@ pub fn print_obligations(
     out: &mut [u8],
     needed: &mut usize,
 ) -> u32
-    ensures { GivesPair Certificate LIMIT (IsObligationsText optimize) IsOfObligations file.now
-        certificate.now result out.old out.new needed.old needed.new }
+    ensures gives { GivesPair Certificate LIMIT (IsObligationsText optimize) IsOfObligations
+        file.now certificate.now result out.old out.new needed.old needed.new }
+    ensures query { TellsJoint Certificate (asked_verdict LIMIT 0) LIMIT file.now certificate.now
+        (said_of_query result) }
+    ensures window { TellsJoint Certificate (window_verdict Plain LIMIT 0) LIMIT file.now
+        certificate.now (said_of_window result) }
 {
     put(
         obligations_text(alloc, file, certificate, optimize),

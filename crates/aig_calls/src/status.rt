@@ -20,8 +20,8 @@ ghost use Rattle.aig_encode.specs.Encoding as encoding;
 ghost use Rattle.aig_reader.specs.Verdicts as reading;
 ghost use Rattle.aig_reader.specs.Verdicts.{Refused};
 ghost use Rattle.aig_witness.specs.Files as showing;
-ghost use Rattle.aig_calls.specs.Parts.{IsEditStatus, IsOfAsking, IsOfEditing, IsOfMaking, IsOwnOf, IsPairStatus, SaysOnly, SaysProof, flagged, told_as};
-ghost use Rattle.aig_calls.specs.Statuses.{IsOfBounded, IsOfBoundedProof, IsOfBoundedSolution, IsOfObligations, IsOfPair, IsOfPairProof, IsOfQuestion, is_edit_fault, is_proof_fault, is_refusal, is_solution_fault, is_witness_fault, large_question, said_by, settled};
+ghost use Rattle.aig_calls.specs.Parts.{IsEditStatus, IsOfAsking, IsOfEditing, IsOfMaking, IsOwnOf, IsPairStatus, SaysAnswer, SaysBounded, SaysJoint, SaysObliged, SaysOnly, SaysProof, flagged, told_as};
+ghost use Rattle.aig_calls.specs.Statuses.{IsOfBounded, IsOfBoundedProof, IsOfBoundedSolution, IsOfObligations, IsOfPair, IsOfPairProof, IsOfQuestion, SaysFault, SaysSolution, fault_status, is_edit_fault, is_proof_fault, is_refusal, is_solution_fault, is_witness_fault, large_question, said_by, settled, witness_status};
 
 use aig::ReadError;
 use aig_answers::AnswerError;
@@ -43,8 +43,6 @@ pub(crate) const DONE: u32 = 0;
 pub(crate) const SMALL: u32 = 1;
 /// Memory was refused.
 pub(crate) const MEMORY: u32 = 2;
-/// A read failed: never of bytes in memory.
-const STREAM: u32 = 3;
 /// The number of a step is 2^32 or more.
 pub(crate) const MANY_STEPS: u32 = 4;
 /// The circuit with its further steps may pass the limit.
@@ -77,6 +75,8 @@ const HAS_BADS: u32 = 33;
 const NO_OUTPUT: u32 = 34;
 /// The question of a bounded check passes the limit while it is made.
 const LARGE_QUESTION: u32 = 35;
+/// Constraints would be joined to the first of several bad literals alone.
+const MANY_BADS: u32 = 36;
 /// A proof is refused. The fault's number is added.
 pub(crate) const PROOF: u32 = 40;
 /// A witness is refused. The fault's number is added.
@@ -109,17 +109,16 @@ fn section_number(section: Section) -> u32
     }
 }
 
-/// The status of a file that is refused. `Open` is never asked for.
+/// The status of a file that is refused. `Open` is never asked for, and no read of bytes in memory fails.
 fn of_read(error: ReadError) -> u32
     ensures said { SaysOnly (said_by result) (reading.verdict_of error) }
     ensures own { IsTrue (is_refusal result) }
     ensures few { result < 60 }
     ensures least { 2 ≤ result }
-    ensures pair { (result < 4) ⊎ ((8 ≤ result) × (result < 32)) }
+    ensures pair { (result < 3) ⊎ ((8 ≤ result) × (result < 32)) }
 {
     match error {
-        ReadError::Memory => MEMORY,
-        ReadError::Stream => STREAM,
+        ReadError::Memory | ReadError::Stream => MEMORY,
         ReadError::Header | ReadError::Open => HEADER,
         ReadError::TooMany => TOO_MANY,
         ReadError::Syntax(section) => SYNTAX + section_number(section),
@@ -153,6 +152,7 @@ pub(crate) fn of_edit(error: EditError) -> u32
 {
     match error {
         EditError::Read(error) => of_read(error),
+        EditError::ManyBads => MANY_BADS,
         EditError::HasBads => HAS_BADS,
         EditError::NoOutput => NO_OUTPUT,
         EditError::NoBads => NO_BADS,
@@ -185,8 +185,7 @@ fn of_refutation(error: RefutationError) -> u32
     ensures least { 2 ≤ result }
 {
     match error {
-        RefutationError::Memory => MEMORY,
-        RefutationError::Stream => STREAM,
+        RefutationError::Memory | RefutationError::Stream => MEMORY,
         RefutationError::Variable => PROOF,
         RefutationError::Line => PROOF + 1,
         RefutationError::Literal => PROOF + 2,
@@ -220,6 +219,7 @@ pub(crate) fn of_answer(error: AnswerError) -> u32
 /// The status of a witness that shows no bad state. Which step it is isn't told.
 fn of_fault(fault: WitnessFault) -> u32
     ensures said { SaysOnly (said_by result) (showing.verdict_of (ShowError.Check fault)) }
+    ensures exact { result ≡ fault_status fault }
     ensures own { IsTrue (is_refusal result || is_witness_fault result) }
     ensures solution { IsTrue (is_refusal result || is_solution_fault result) }
     ensures least { 2 ≤ result }
@@ -239,12 +239,12 @@ fn of_fault(fault: WitnessFault) -> u32
 /// The status of a witness that is refused.
 fn of_witness(error: WitnessError) -> u32
     ensures said { SaysOnly (said_by result) (showing.verdict_of (ShowError.Witness error)) }
+    ensures exact { result ≡ witness_status error }
     ensures own { IsTrue (is_refusal result || is_witness_fault result) }
     ensures least { 2 ≤ result }
 {
     match error {
-        WitnessError::Memory => MEMORY,
-        WitnessError::Stream => STREAM,
+        WitnessError::Memory | WitnessError::Stream => MEMORY,
         WitnessError::Status => WITNESS,
         WitnessError::Property => WITNESS + 1,
         WitnessError::Values => WITNESS + 2,
@@ -254,6 +254,7 @@ fn of_witness(error: WitnessError) -> u32
 /// The status of a file and a witness that show no bad state.
 pub(crate) fn of_show(error: ShowError) -> u32
     ensures said { SaysOnly (said_by result) (showing.verdict_of error) }
+    ensures fault { SaysFault result error }
     ensures own { IsTrue (is_refusal result || is_witness_fault result) }
     ensures least { 2 ≤ result }
 {
@@ -268,14 +269,14 @@ pub(crate) fn of_show(error: ShowError) -> u32
 /// The status of a solver's answer that is refused.
 fn of_solution(error: SolutionError) -> u32
     ensures said { SaysOnly (said_by result) (checking.verdict_of (CheckError.Solution error)) }
+    ensures exact { SaysSolution result error }
     ensures own { IsTrue (is_refusal result || is_solution_fault result) }
     ensures answer { bounding.IsOfWitness (BoundedAnswerError.Solution error)
         → IsOfBoundedSolution result }
     ensures least { 2 ≤ result }
 {
     match error {
-        SolutionError::Memory => MEMORY,
-        SolutionError::Stream => STREAM,
+        SolutionError::Memory | SolutionError::Stream => MEMORY,
         SolutionError::Unsatisfiable => SOLUTION,
         SolutionError::Unknown => SOLUTION + 1,
         SolutionError::Answer => SOLUTION + 2,
@@ -298,6 +299,7 @@ pub(crate) fn of_bounded(error: BoundedAnswerError) -> u32
         → SaysProof result (λ e. error ≡ BoundedAnswerError.Refutation e) }
     ensures large { result ≡ large_question
         → error ≡ BoundedAnswerError.Question BoundedError.TooLarge }
+    ensures solution { SaysBounded result error }
     ensures answer { bounding.IsOfWitness error → IsOfBoundedSolution result }
     ensures least { 2 ≤ result }
     ensures unsettled { result ≢ settled }
@@ -319,6 +321,7 @@ pub(crate) fn of_check(error: CheckError) -> u32
     ensures settled { result ≡ settled → (k : ℕ) × (error ≡ checks.Settled k) }
     ensures large { result ≡ large_question
         → error ≡ checks.Bounded (BoundedAnswerError.Question BoundedError.TooLarge) }
+    ensures solution { SaysAnswer result error }
     ensures least { 2 ≤ result }
 {
     match error {
@@ -375,6 +378,7 @@ pub(crate) fn of_certificate(error: CertificateError) -> u32
     ensures said { IsPairStatus first_verdict second_verdict (certificate.Pair pair.Misfit)
         (certificate.Pair pair.TooLarge) error result }
     ensures own { IsOfPairProof result }
+    ensures joint { SaysJoint result error }
     ensures clauses { IsOfClauses error → IsOfObligations result }
 {
     match error {
@@ -389,6 +393,7 @@ pub(crate) fn of_obligations(error: CheckError) -> u32
     ensures said { IsPairStatus checking.verdict_of checking_pairs.other_verdict_of
         (checks.Certificate (certificate.Pair pair.Misfit))
         (checks.Certificate (certificate.Pair pair.TooLarge)) error result }
+    ensures joint { SaysObliged result error }
     ensures own { (optimize : Bool) → IsErrorOfPair (pair_commands.Obligations optimize) error
         → IsOfObligations result }
 {

@@ -119,7 +119,8 @@ pub fn unroll(file: &[u8], k: u64) -> Result<Vec<u8>> {
     given(ROOM, |out, len, needed| unsafe { calls::aig_unroll(file.as_ptr(), file.len(), k, out, len, needed) })
 }
 
-/// The text form of a file's circuit with its constraints joined to the first bad state property and the first output.
+/// The text form of a file's circuit with its constraints joined to its bad state property and the first output. A file with
+/// constraints and more than one bad state property is refused.
 pub fn move_constraints(file: &[u8]) -> Result<Vec<u8>> {
     given(ROOM, |out, len, needed| unsafe { calls::aig_move_constraints(file.as_ptr(), file.len(), out, len, needed) })
 }

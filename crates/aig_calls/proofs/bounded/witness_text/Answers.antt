@@ -4,6 +4,7 @@ use Rattle.aig_checks.specs.Running.{Answers}
 use Rattle.aig_checks.specs.declared.command.FileCommand.TheVariants as commands
 use Rattle.aig_commands.specs.declared.tool.TheConstants.{LIMIT}
 use Rattle.aig_calls.specs.Parts.{IsOwnOf}
+use Rattle.aig_calls.proofs.Failing.{bounded_told}
 use Rattle.aig_calls.proofs.Making.{text_made}
 use Rattle.aig_calls.proofs.Shown.{size_printed}
 use Rattle.aig_calls.proofs.Taken.{check_not_made}
@@ -42,3 +43,11 @@ returns-in-Err-clause-large c =
     c.in-Err.error refl (c.of_check.ensures.large is) (rw c.new-source.ensures.reader at
     told.verdict)
     (rw (c.new-source.ensures.reader, c.new-answer.ensures.reader) at told.refusal)
+
+pub returns-in-Err-clause-refusal : goal.returns-in-Err-clause-refusal
+returns-in-Err-clause-refusal c =
+    let told = c.in-Err.ensures in
+    bounded_told c.args.k c.args.optimize LIMIT c.args.file.now c.args.solution.now
+    c.of_check.result _ _ _ c.in-Err.error told.own (rw c.new-source.ensures.reader at told.verdict)
+    (rw (c.new-source.ensures.reader, c.new-answer.ensures.reader) at told.refusal)
+    c.of_check.ensures.solution

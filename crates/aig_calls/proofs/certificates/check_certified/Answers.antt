@@ -1,11 +1,15 @@
 use Rattle.std.proofs.Common.{refl, arith, inl}
+use Rattle.aig_answers.specs.Answers.{asked_verdict, window_verdict}
+use Rattle.aig_commands.specs.declared.tool.TheConstants.{LIMIT}
+use Rattle.aig_runs.specs.declared.window.Window.TheVariants.{Plain}
 use Rattle.aig_edits.specs.declared.pairing.Pairing.TheVariants.{Certificate}
 use Rattle.aig_calls.specs.Statuses.{done}
+use Rattle.aig_calls.proofs.Joining.{joint_query, joint_window}
 use Rattle.aig_calls.proofs.Pairing.{both_whole, misfit_tells, no_misfit, pair_tells}
 use Rattle.aig_calls.proofs.certificates.check_certified.Goals as goal
 
-pub returns-in-Ok : goal.returns-in-Ok
-returns-in-Ok c =
+pub returns-in-Ok-clause-checks : goal.returns-in-Ok-clause-checks
+returns-in-Ok-clause-checks c =
     let told = c.in-Ok.ensures.reads in
     let bytes = c.args.file.now in
     let others = c.args.certificate.now in
@@ -18,8 +22,8 @@ returns-in-Ok c =
       answer = λ is. both_whole told bytes others (rw first) (rw second) refl refl;
     }
 
-pub returns-in-Err : goal.returns-in-Err
-returns-in-Err c =
+pub returns-in-Err-clause-checks : goal.returns-in-Err-clause-checks
+returns-in-Err-clause-checks c =
     let told = c.in-Err.ensures.reads in
     let says = c.of_certificate.ensures.said in
     let bytes = c.args.file.now in
@@ -32,3 +36,17 @@ returns-in-Err c =
       misfit = misfit_tells Certificate told says bytes others (rw first) (rw second) refl refl refl refl (λ f g not. not) (λ f g large. large);
       answer = λ is. absurd (omega (arith, is, says.least));
     }
+
+pub returns-in-Err-clause-query : goal.returns-in-Err-clause-query
+returns-in-Err-clause-query c =
+    joint_query (λ e. e) Certificate (asked_verdict LIMIT 0) c.args.file.now c.args.certificate.now
+    (rw c.new-first.ensures.reader) (rw c.new-second.ensures.reader) c.of_certificate.result
+    (λ e. (refl, refl, λ f g told. told)) c.in-Err.error c.in-Err.ensures.reads
+    c.of_certificate.ensures.joint
+
+pub returns-in-Err-clause-window : goal.returns-in-Err-clause-window
+returns-in-Err-clause-window c =
+    joint_window (λ e. e) Certificate (window_verdict Plain LIMIT 0) c.args.file.now
+    c.args.certificate.now (rw c.new-first.ensures.reader) (rw c.new-second.ensures.reader)
+    c.of_certificate.result (λ e. (refl, refl, λ f g told. told)) c.in-Err.error
+    c.in-Err.ensures.reads c.of_certificate.ensures.joint

@@ -1,11 +1,14 @@
 use Rattle.std.proofs.Common.{refl, arith, inl}
+use Rattle.aig_answers.specs.Answers.{asked_verdict}
+use Rattle.aig_commands.specs.declared.tool.TheConstants.{LIMIT}
 use Rattle.aig_edits.specs.declared.pairing.Pairing.TheVariants.{Miter}
 use Rattle.aig_calls.specs.Statuses.{done}
+use Rattle.aig_calls.proofs.Joining.{joint_query, miter_low}
 use Rattle.aig_calls.proofs.Pairing.{both_whole, misfit_tells, no_misfit, pair_tells}
 use Rattle.aig_calls.proofs.certificates.refute_miter.Goals as goal
 
-pub returns-in-Ok : goal.returns-in-Ok
-returns-in-Ok c =
+pub returns-in-Ok-clause-checks : goal.returns-in-Ok-clause-checks
+returns-in-Ok-clause-checks c =
     let told = c.in-Ok.ensures.reads in
     let bytes = c.args.file.now in
     let others = c.args.other.now in
@@ -18,8 +21,8 @@ returns-in-Ok c =
       answer = λ is. both_whole told bytes others (rw first) (rw second) refl refl;
     }
 
-pub returns-in-Err : goal.returns-in-Err
-returns-in-Err c =
+pub returns-in-Err-clause-checks : goal.returns-in-Err-clause-checks
+returns-in-Err-clause-checks c =
     let told = c.in-Err.ensures.reads in
     let says = c.of_certificate.ensures.said in
     let bytes = c.args.file.now in
@@ -32,3 +35,16 @@ returns-in-Err c =
       misfit = misfit_tells Miter told says bytes others (rw first) (rw second) refl refl refl refl (λ f g not. not) (λ f g large. large);
       answer = λ is. absurd (omega (arith, is, says.least));
     }
+
+pub returns-in-Err-clause-query : goal.returns-in-Err-clause-query
+returns-in-Err-clause-query c =
+    joint_query (λ e. e) Miter (asked_verdict LIMIT c.args.k) c.args.file.now c.args.other.now
+    (rw c.new-first.ensures.reader) (rw c.new-second.ensures.reader) c.of_certificate.result
+    (λ e. (refl, refl, λ f g told. told)) c.in-Err.error c.in-Err.ensures.reads
+    c.of_certificate.ensures.joint
+
+pub returns-in-Err-clause-no_window : goal.returns-in-Err-clause-no_window
+returns-in-Err-clause-no_window c =
+    miter_low c.args.file.now c.args.other.now (rw c.new-first.ensures.reader)
+    (rw c.new-second.ensures.reader) c.of_certificate.result c.in-Err.error c.in-Err.ensures.reads
+    c.of_certificate.ensures.joint

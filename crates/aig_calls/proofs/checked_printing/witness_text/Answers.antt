@@ -4,12 +4,13 @@ use Rattle.aig_checks.specs.Running.{Answers, file_verdict}
 use Rattle.aig_checks.specs.declared.command.FileCommand.TheVariants as commands
 use Rattle.aig_commands.specs.declared.tool.TheConstants.{LIMIT}
 use Rattle.aig_calls.specs.Parts.{IsOwnOf}
+use Rattle.aig_calls.proofs.Failing.{step_told}
 use Rattle.aig_calls.proofs.Making.{text_made}
 use Rattle.aig_calls.proofs.Taken.{check_not_made}
 use Rattle.aig_calls.proofs.checked_printing.witness_text.Goals as goal
 
-pub returns-in-Ok : goal.returns-in-Ok
-returns-in-Ok c =
+pub returns-in-Ok-clause-makes : goal.returns-in-Ok-clause-makes
+returns-in-Ok-clause-makes c =
     let command = (commands.Witness c.args.k c.args.optimize) in
     let told = c.in-Ok.ensures in
     let items = λ (v : Vec ℕ Global). Some v.items in
@@ -23,8 +24,8 @@ returns-in-Ok c =
     (rw c.new-source.ensures.reader at told.verdict)
     (rw (c.new-source.ensures.reader, c.new-answer.ensures.reader) at told.ok) none all
 
-pub returns-in-Err : goal.returns-in-Err
-returns-in-Err c =
+pub returns-in-Err-clause-makes : goal.returns-in-Err-clause-makes
+returns-in-Err-clause-makes c =
     let command = (commands.Witness c.args.k c.args.optimize) in
     let told = c.in-Err.ensures in
     check_not_made LIMIT c.args.file.now _ _ command (Some c.args.solution.now) c.in-Err.error
@@ -32,3 +33,11 @@ returns-in-Err c =
     (rw c.new-source.ensures.reader at told.verdict) c.of_check.ensures.said
     c.of_check.ensures.least
     (c.of_check.ensures.own command told.own)
+
+pub returns-in-Err-clause-refusal : goal.returns-in-Err-clause-refusal
+returns-in-Err-clause-refusal c =
+    let told = c.in-Err.ensures in
+    step_told c.args.k c.args.optimize LIMIT c.args.file.now c.args.solution.now c.of_check.result
+    _ _ _ c.in-Err.error told.own (rw c.new-source.ensures.reader at told.verdict)
+    (rw (c.new-source.ensures.reader, c.new-answer.ensures.reader) at told.refusal)
+    c.of_check.ensures.solution

@@ -1,10 +1,11 @@
-use Rattle.aig_base.proofs.Words.{ℕ, Some, List, rules, or_right}
+use Rattle.aig_base.proofs.Words.{ℕ, Some, List, arith, rules, or_right}
 use Rattle.aig_commands.specs.declared.tool.TheConstants.{LIMIT}
 use Rattle.aig_format.proofs.Words.{File, Accepts}
 use Rattle.aig_reader.specs.Verdicts.{Accepted}
 use Rattle.aig_witness.specs.Files.{ShowsNext, verdict_of}
 use Rattle.aig_calls.specs.Calls.{shown_at}
-use Rattle.aig_calls.specs.Statuses.{IsOfWitness}
+use Rattle.aig_calls.specs.Statuses.{IsOfWitness, done}
+use Rattle.aig_calls.proofs.Failing.{fault_told, no_fault}
 use Rattle.aig_calls.proofs.Making.{checked, not_checked}
 use Rattle.aig_calls.proofs.checks.check_run.Goals as goal
 
@@ -25,3 +26,15 @@ returns-in-Err-clause-shows c =
     (λ f. ShowsNext (Some c.args.witness.now) f (shown_at c.args.bad.now c.args.step.now)) IsOfWitness
     (verdict_of c.in-Err.error) c.of_show.result told c.of_show.ensures.said c.of_show.ensures.least
     (or_right _ _ c.of_show.ensures.own)
+
+pub returns-in-Ok-clause-refusal : goal.returns-in-Ok-clause-refusal
+returns-in-Ok-clause-refusal c =
+    no_fault LIMIT c.args.file.now c.args.witness.now done (omega arith)
+
+pub returns-in-Err-clause-refusal : goal.returns-in-Err-clause-refusal
+returns-in-Err-clause-refusal c =
+    let told = c.in-Err.ensures in
+    fault_told LIMIT c.args.file.now c.args.witness.now c.of_show.result _ _ _ c.in-Err.error
+    (rw c.new-source.ensures.reader at told.verdict)
+    (rw (c.new-source.ensures.reader, c.new-values.ensures.reader) at told.refusal)
+    c.of_show.ensures.fault

@@ -3,11 +3,12 @@ use Rattle.aig_checks.specs.Pairs.{IsObligationsText}
 use Rattle.aig_edits.specs.declared.pairing.Pairing.TheVariants.{Certificate}
 use Rattle.aig_calls.specs.Statuses.{done}
 use Rattle.aig_calls.proofs.Making.{only_text}
+use Rattle.aig_calls.proofs.Joining.{obliged_query, obliged_window}
 use Rattle.aig_calls.proofs.Pairing.{both_whole, misfit_tells, pair_tells}
 use Rattle.aig_calls.proofs.pairs.obligations_text.Goals as goal
 
-pub returns-in-Ok : goal.returns-in-Ok
-returns-in-Ok c =
+pub returns-in-Ok-clause-makes : goal.returns-in-Ok-clause-makes
+returns-in-Ok-clause-makes c =
     let told = c.in-Ok.ensures.reads in
     let bytes = c.args.file.now in
     let others = c.args.certificate.now in
@@ -30,8 +31,8 @@ returns-in-Ok c =
       misfit = tt;
     }
 
-pub returns-in-Err : goal.returns-in-Err
-returns-in-Err c =
+pub returns-in-Err-clause-makes : goal.returns-in-Err-clause-makes
+returns-in-Err-clause-makes c =
     let told = c.in-Err.ensures.reads in
     let says = c.of_obligations.ensures.said in
     let bytes = c.args.file.now in
@@ -48,3 +49,15 @@ returns-in-Err c =
         c.of_obligations.ensures.own c.args.optimize told.own,
       );
     }
+
+pub returns-in-Err-clause-query : goal.returns-in-Err-clause-query
+returns-in-Err-clause-query c =
+    obliged_query c.args.optimize c.args.file.now c.args.certificate.now
+    (rw c.new-first.ensures.reader) (rw c.new-second.ensures.reader) c.of_obligations.result
+    (λ x f g told. told) c.in-Err.error c.in-Err.ensures.reads c.of_obligations.ensures.joint
+
+pub returns-in-Err-clause-window : goal.returns-in-Err-clause-window
+returns-in-Err-clause-window c =
+    obliged_window c.args.optimize c.args.file.now c.args.certificate.now
+    (rw c.new-first.ensures.reader) (rw c.new-second.ensures.reader) c.of_obligations.result
+    (λ x f g told. told) c.in-Err.error c.in-Err.ensures.reads c.of_obligations.ensures.joint

@@ -1,0 +1,147 @@
+-- What statuses tell of the text of the circuit of two files.
+use Rattle.aig_base.proofs.Words.{◌≡◌, ℕ, ◌<◌, Bool, List, Option, None, Some, Result, Err, refl, sym, subst, inl, inr, arith}
+use Rattle.aig_answers.specs.Answers as answering
+use Rattle.aig_answers.specs.Answers.{asked_verdict, window_verdict}
+use Rattle.aig_answers.specs.declared.error.AnswerError.{AnswerError}
+use Rattle.aig_certificates.specs.Certificates.{Equals, IsOwn, IsTold, Obliges, first_verdict, second_verdict}
+use Rattle.aig_certificates.specs.declared.error.CertificateError.{CertificateError}
+use Rattle.aig_certificates.specs.declared.error.CertificateError.TheVariants as errors
+use Rattle.aig_edits.specs.Pairs.{ReadsPair}
+use Rattle.aig_checks.specs.Pairs.{other_verdict_of}
+use Rattle.aig_checks.specs.Running.{verdict_of}
+use Rattle.aig_checks.specs.declared.tool.CheckError.{CheckError}
+use Rattle.aig_checks.specs.declared.tool.CheckError.TheVariants as checks
+use Rattle.aig_edits.specs.declared.pairing.Pairing.{Pairing}
+use Rattle.aig_edits.specs.declared.pairing.Pairing.TheVariants.{Certificate}
+use Rattle.aig_runs.specs.declared.window.Window.TheVariants.{Plain}
+use Rattle.aig_format.specs.File.{File}
+use Rattle.aig_reader.specs.Verdicts.{Accepted, Verdict}
+use Rattle.aig_calls.specs.Statuses.{many_steps, said_of_query, said_of_window}
+use Rattle.aig_calls.specs.Calls.{TellsJoint}
+use Rattle.aig_calls.specs.Parts.{SaysJoint, SaysObliged, SaysOnly}
+use Rattle.aig_calls.proofs.Pairing.{both_whole}
+use Rattle.aig_calls.proofs.Saying.{no_query, no_window, window_no_query}
+
+-- nothing is said of it
+pub none_joint : (pairing : Pairing) (of : File → Verdict) (limit : ℕ) (bytes others : List ℕ)
+    (said : Option Verdict) → said ≡ None → TellsJoint pairing of limit bytes others said
+none_joint pairing of limit bytes others said is =
+    subst (TellsJoint pairing of limit bytes others) (sym is) tt
+
+-- nor where K isn't below 2^32
+pub none_query : (pairing : Pairing) (of : File → Verdict) (limit : ℕ) (bytes others : List ℕ)
+    (status : ℕ) → status ≡ many_steps
+    → TellsJoint pairing of limit bytes others (said_of_query status)
+none_query pairing of limit bytes others status is =
+    none_joint pairing of limit bytes others _ (no_query status (omega (arith, is)))
+
+-- the error is of files that are taken, and the text of their circuit has this one
+abbrev IsOfJoint : {T E : Type 0} → Pairing → (File → Verdict) → ℕ
+    → (File → File → Result T E → Type 0) → (E → Verdict) → (E → Verdict) → E → AnswerError → Type 0
+IsOfJoint pairing of limit Means first second x e =
+    (first x ≡ Accepted) × (second x ≡ Accepted)
+    × ((f g : File) → Means f g (Err x) → IsTold pairing of limit f g e)
+
+-- an error of a call whose errors have those about two files among them
+module _ {R S T E : Type 0} (wrap : CertificateError → E) (pairing : Pairing) (of : File → Verdict)
+    {left : R → Option (List ℕ)} {failed : R → Bool} {left_of : S → Option (List ℕ)}
+    {failed_of : S → Bool} {limit : ℕ} {Means : File → File → Result T E → Type 0}
+    {first second : E → Verdict} {Own : E → Type 0} {r rest : R} {s other : S}
+    (bytes others : List ℕ) (is : left r ≡ Some bytes) (also : left_of s ≡ Some others)
+    (status : ℕ) where
+  verdict_told : (e : CertificateError) (asked : AnswerError) (said : Option Verdict)
+      → IsOfJoint pairing of limit Means first second (wrap e) asked
+      → ReadsPair left failed left_of failed_of limit Means first second Own r s (Err (wrap e)) rest
+      other
+      → SaysOnly said (answering.verdict_of asked)
+      → TellsJoint pairing of limit bytes others said
+  verdict_told e asked None joint told says = tt
+  verdict_told e asked (Some v) joint told says =
+      let both = both_whole told bytes others is also joint.0 joint.1 in
+      let text = joint.2 both.0 both.2.0 both.2.2 in (
+        both.0,
+        both.1,
+        (
+          both.2.0,
+          both.2.1,
+          (text.0, text.1, rw says.0 (text.2 says.1)),
+        ),
+      )
+
+  -- what is said of its query
+  pub joint_query : ((e : AnswerError)
+      → IsOfJoint pairing of limit Means first second (wrap (errors.Query e)) e)
+      → (e : CertificateError)
+      → ReadsPair left failed left_of failed_of limit Means first second Own r s (Err (wrap e)) rest
+      other
+      → SaysJoint status e
+      → TellsJoint pairing of limit bytes others (said_of_query status)
+  joint_query joint (errors.Pair e) told says =
+      none_joint pairing of limit bytes others _ (no_query status says)
+  joint_query joint (errors.Query e) told says =
+      verdict_told (errors.Query e) e (said_of_query status) (joint e) told says.1
+  joint_query joint (errors.Window e) told (inl low, says) =
+      none_joint pairing of limit bytes others _ (no_query status low)
+  joint_query joint (errors.Window e) told (inr high, says) =
+      none_joint pairing of limit bytes others _ (window_no_query status high)
+
+  -- and of its window
+  pub joint_window : ((e : AnswerError)
+      → IsOfJoint pairing of limit Means first second (wrap (errors.Window e)) e)
+      → (e : CertificateError)
+      → ReadsPair left failed left_of failed_of limit Means first second Own r s (Err (wrap e)) rest
+      other
+      → SaysJoint status e
+      → TellsJoint pairing of limit bytes others (said_of_window status)
+  joint_window joint (errors.Pair e) told says =
+      none_joint pairing of limit bytes others _ (no_window status (omega (arith, says)))
+  joint_window joint (errors.Query e) told says =
+      none_joint pairing of limit bytes others _ (no_window status says.0)
+  joint_window joint (errors.Window e) told says =
+      verdict_told (errors.Window e) e (said_of_window status) (joint e) told says.1
+
+-- the circuit of two files of which equality is asked has no window
+module _ {R S : Type 0} {left : R → Option (List ℕ)} {failed : R → Bool}
+    {left_of : S → Option (List ℕ)} {failed_of : S → Bool} {limit k : ℕ} {r rest : R} {s other : S}
+    (bytes others : List ℕ) (is : left r ≡ Some bytes) (also : left_of s ≡ Some others)
+    (status : ℕ) where
+  pub miter_low : (e : CertificateError)
+      → ReadsPair left failed left_of failed_of limit (Equals limit k) first_verdict second_verdict
+      IsOwn r s (Err e) rest other
+      → SaysJoint status e → status < 1024
+  miter_low (errors.Pair e) told says = omega (arith, says)
+  miter_low (errors.Query e) told says = says.0
+  miter_low (errors.Window e) told says = absurd
+      (both_whole told bytes others is also refl refl).2.2
+
+-- clauses about the circuit of two files, or an error of them
+module _ {R S : Type 0} {left : R → Option (List ℕ)} {failed : R → Bool}
+    {left_of : S → Option (List ℕ)} {failed_of : S → Bool} {limit : ℕ}
+    {Means : File → File → Result (Unit {0}) CheckError → Type 0} {Own : CheckError → Type 0}
+    {r rest : R} {s other : S} (optimize : Bool) (bytes others : List ℕ)
+    (is : left r ≡ Some bytes) (also : left_of s ≡ Some others) (status : ℕ)
+    (means : (x : CertificateError) (f g : File) → Means f g (Err (checks.Certificate x))
+    → Obliges limit optimize f g (Err x)) where
+  pub obliged_query : (e : CheckError)
+      → ReadsPair left failed left_of failed_of limit Means verdict_of other_verdict_of Own r s
+      (Err e) rest other
+      → SaysObliged status e
+      → TellsJoint Certificate (asked_verdict limit 0) limit bytes others (said_of_query status)
+  obliged_query (checks.Certificate e) told says =
+      joint_query checks.Certificate Certificate (asked_verdict limit 0) bytes others is also status
+      (λ x. (refl, refl, means (errors.Query x))) e told says
+  obliged_query e told says =
+      none_joint Certificate (asked_verdict limit 0) limit bytes others _ (no_query status says)
+
+  pub obliged_window : (e : CheckError)
+      → ReadsPair left failed left_of failed_of limit Means verdict_of other_verdict_of Own r s
+      (Err e) rest other
+      → SaysObliged status e
+      → TellsJoint Certificate (window_verdict Plain limit 0) limit bytes others
+      (said_of_window status)
+  obliged_window (checks.Certificate e) told says =
+      joint_window checks.Certificate Certificate (window_verdict Plain limit 0) bytes others is
+      also status (λ x. (refl, refl, means (errors.Window x))) e told says
+  obliged_window e told says =
+      none_joint Certificate (window_verdict Plain limit 0) limit bytes others _
+      (no_window status (omega (arith, says)))
