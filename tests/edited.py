@@ -88,9 +88,13 @@ class Edits:
         (self.folder / "file").write_text(machine.text())
         (self.folder / "other").write_text(other.text())
         bads = reached(machine, machine.bads)
-        for command in ["refine", "reencode", "compress", "reduce", *(["move"] if len(machine.bads) <= 1 else [])]:
+        is_movable = not machine.constraints or len(machine.bads) <= 1
+        for command in ["refine", "reencode", "compress", "reduce", *["move"] * is_movable]:
             made = self.edited(command, "file")
             self.compare(command, bads, reached(made, made.bads))
+        if not is_movable:
+            status, out, said = harness.run([self.program, "move", "file"], cwd=self.folder)
+            self.tally.wants("a move that is refused", (1, b"", True), (status, out, b"several bad state properties" in said))
         for k in range(LAST):
             made = self.edited("unroll", "file", str(k))
             self.compare(f"unroll {k}", reached_by(machine, k), 0 in reached(made, made.bads))
