@@ -1,6 +1,6 @@
 -- What a call that makes something of one file tells of its bytes.
 use Rattle.aig_base.proofs.Words.{◌≡◌, ◌≢◌, ℕ, ◌<◌, ◌≤◌, ◌^◌, Bool, true, false, List, [], ◌∷◌, length, Option, Some, Result, Ok, Err, Vec, Global, refl, sym, ap, subst, arith, rules, Appends, ne_eqb, or_right}
-use Rattle.std.specs.Prelude.{◌==◌, ◌||◌, if◌then◌else◌, nat_le, nat_lt, IfErr, IsTrue}
+use Rattle.std.specs.Prelude.{◌==◌, ◌||◌, if◌then◌else◌, nat_le, nat_lt, IsTrue}
 use Rattle.std.proofs.Math.Nat.{lt_of_not-le}
 use Rattle.aig_base.specs.declared.std_stream.ToWrite.{ToWrite}
 use Rattle.aig_bounded.specs.Question.{question_size}

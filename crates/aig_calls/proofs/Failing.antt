@@ -1,11 +1,10 @@
 -- What statuses that refuse a witness or a solver's answer tell.
-use Rattle.aig_base.proofs.Words.{◌≡◌, ◌≢◌, ℕ, ◌<◌, ◌≤◌, Bool, false, List, Option, Some, Err, arith, and_parts, leb-true}
+use Rattle.aig_base.proofs.Words.{◌≡◌, ℕ, ◌<◌, ◌≤◌, Bool, false, List, Option, Some, arith, and_parts, leb-true}
 use Rattle.std.specs.Prelude.{IsTrue, nat_le, nat_lt}
 use Rattle.aig_answers.specs.Answers.{IsAsked, asked_verdict}
 use Rattle.aig_bounded_answers.specs.Asking as bounding
 use Rattle.aig_bounded_answers.specs.Asking.{IsAskedWithin, bounded_verdict}
 use Rattle.aig_bounded_answers.specs.declared.clauses.BoundedClauses.{BoundedClauses}
-use Rattle.aig_bounded_answers.specs.declared.error.BoundedAnswerError.{BoundedAnswerError}
 use Rattle.aig_bounded_answers.specs.declared.error.BoundedAnswerError.TheVariants as bounded
 use Rattle.aig_checks.specs.Running.{IsErrorOf, RefusesAnswer, TellsOfGiven, verdict_of}
 use Rattle.aig_checks.specs.declared.command.FileCommand.TheVariants.{Witness, WitnessTo}
@@ -23,7 +22,7 @@ use Rattle.aig_witness.specs.declared.error.WitnessError.TheVariants as witness
 use Rattle.aig_witness.specs.declared.fault.WitnessFault.TheVariants as shown
 use Rattle.aig_witness.specs.declared.file.ShowError.{ShowError}
 use Rattle.aig_witness.specs.declared.file.ShowError.TheVariants as shows
-use Rattle.aig_calls.specs.Statuses.{SaysFault, SaysSolution, is_solution_fault, is_witness_fault, many_steps, solution_status}
+use Rattle.aig_calls.specs.Statuses.{SaysFault, is_solution_fault, is_witness_fault, many_steps, solution_status}
 use Rattle.aig_calls.specs.Calls.{FailsBounded, FailsStep, IsFileWith, TellsFault, TellsSolution}
 use Rattle.aig_calls.specs.Parts.{SaysAnswer}
 use Rattle.aig_calls.proofs.Making.{whole}

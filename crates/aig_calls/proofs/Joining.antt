@@ -1,5 +1,5 @@
 -- What statuses tell of the text of the circuit of two files.
-use Rattle.aig_base.proofs.Words.{◌≡◌, ℕ, ◌<◌, Bool, List, Option, None, Some, Result, Err, Vec, Global, refl, sym, subst, inl, inr, arith}
+use Rattle.aig_base.proofs.Words.{◌≡◌, ℕ, ◌<◌, Bool, List, Option, None, Some, Result, Err, refl, sym, subst, inl, inr, arith}
 use Rattle.aig_answers.specs.Answers as answering
 use Rattle.aig_answers.specs.Answers.{asked_verdict, window_verdict}
 use Rattle.aig_answers.specs.declared.error.AnswerError.{AnswerError}

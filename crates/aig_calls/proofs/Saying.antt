@@ -83,8 +83,11 @@ query_status e status says low = elim (flagged_cases 512 status) [
   | inr many ↦
       let back : (512 + status) - 512 ≡ status = omega arith in
       let said : said_of_query (512 + status) ≡ said_by status =
-      rw (le-leb 512 (512 + status) (omega arith), lt-ltb (512 + status) 1024 (omega (arith, low)),
-      back) in
+      rw (
+        le-leb 512 (512 + status) (omega arith),
+        lt-ltb (512 + status) 1024 (omega (arith, low)),
+        back,
+      ) in
       subst (λ n. SaysJoint n (certificate.Query e)) (sym many.1)
       (omega (arith, low), rw said says)
 ]

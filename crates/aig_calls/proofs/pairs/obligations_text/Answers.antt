@@ -3,9 +3,6 @@ use Rattle.aig_checks.specs.Pairs.{IsObligationsText}
 use Rattle.aig_edits.specs.declared.pairing.Pairing.TheVariants.{Certificate}
 use Rattle.aig_calls.specs.Statuses.{done}
 use Rattle.aig_calls.proofs.Making.{only_text}
-use Rattle.aig_answers.specs.Answers.{asked_verdict, window_verdict}
-use Rattle.aig_commands.specs.declared.tool.TheConstants.{LIMIT}
-use Rattle.aig_runs.specs.declared.window.Window.TheVariants.{Plain}
 use Rattle.aig_calls.proofs.Joining.{obliged_query, obliged_window}
 use Rattle.aig_calls.proofs.Pairing.{both_whole, misfit_tells, pair_tells}
 use Rattle.aig_calls.proofs.pairs.obligations_text.Goals as goal
