@@ -86,7 +86,8 @@ def shown(found):
 def edits_of(name):
     """The edits of a crate."""
     folder = TOP / "crates" / name
-    return [Edit(path, folder) for path in sorted([*(EDITS / name).glob("*.edit"), *folder.glob("must-fail/*.edit")])]
+    paths = [*(EDITS / name).glob("*.edit"), *folder.glob("must-fail/*.edit")]
+    return [Edit(path, folder) for path in sorted(paths, key=lambda path: path.stem)]
 
 
 def together(edits):
