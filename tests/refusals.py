@@ -1,4 +1,4 @@
-"""Which function of a crate a line of its text belongs to, and where a check of the crate says that a function isn't proved.
+"""Which function of a crate a line of its text belongs to, and where a check of the crate says that one isn't proved.
 
 A check names a function by its crate, its module, its type or impl, and its name. What it says of one stands before its line `fn ..`;
 errors in the files of its proof stand above all of these. Where such a file names what the body doesn't have, a goal that has no answer
@@ -15,8 +15,10 @@ FALSE = "allow values at which this goal is false"
 SEARCHED = re.compile(r"`search` did not prove ((?:`[^`]+`(?:, )?)+)")
 ANSWER = re.compile(r"(?:\./)?proofs/(\S+)/\w+\.antt:\d+:\d+: error: (?:`([^`]+)`: )?(.*)")
 NAME = re.compile(r"has no field|is not in scope|has no `|was not admitted")
-# An error in a text of src or specs is no goal: what stands there can't be read.
-UNREAD = re.compile(r"(?:\./)?(?:src|specs)/\S+:\d+:\d+: error")
+# An error in src is a law of an impl that doesn't hold, if it has the law's name, and else, as in specs, a text that can't be read.
+LAW = re.compile(r"(?:\./)?(?:src|specs)/(\S+)\.\w+:\d+:\d+: error(?:: `([^`]+)`)?(.*)")
+# An error's line goes on in the next.
+WRAPPED = re.compile(r"(: error[^\n]*)\n  ")
 HEAD = re.compile(r"( *)(?:pub(?:\([a-z]+\))? )?(?:const )?(?:unsafe )?(?:extern \"C\" )?fn (\w+)")
 
 
@@ -35,25 +37,32 @@ class State:
         return self.wrong if self.by_name else self.wrong | self.unproved
 
 
+def take_notes(state, notes, line):
+    """Takes what a check says of a function: the notes before its line, and that line."""
+    searched = [names.strip("`").split("`, `") for names in SEARCHED.findall(line)]
+    state.status = FUNCTION.match(line)[2]
+    state.unproved |= {goal for goal, _ in notes}.union(*searched)
+    state.wrong |= {goal for goal, rest in notes if FALSE in rest}
+
+
 def states(said):
     """What a check said of each function, by its name; None where it didn't come to that."""
     found, notes = collections.defaultdict(State), []
-    lines = said.replace("\n  ", " ").splitlines()
-    for line in lines:
+    for line in WRAPPED.sub(r"\1 ", said).splitlines():
         notes += NOTE.findall(line)
         if answer := ANSWER.match(line):
-            state = found[answer[1].replace("/", "::")]
-            state.by_name |= bool(NAME.search(answer[3]))
-            state.wrong |= set() if NAME.search(answer[3]) or not answer[2] else {answer[2]}
+            state, is_name = found[answer[1].replace("/", "::")], bool(NAME.search(answer[3]))
+            state.by_name |= is_name
+            state.wrong |= {answer[2]} if answer[2] and not is_name else set()
+        elif law := LAW.match(line):
+            if not law[2] or NAME.search(law[3]):
+                return None
+            found[law[1].replace("/", "::")].wrong.add(law[2])
         elif function := FUNCTION.match(line):
             state = found[function[1].partition("::")[2]]
-            state.status = function[2]
-            searched = [names.strip("`").split("`, `") for names in SEARCHED.findall(line)]
-            state.unproved |= {goal for goal, _ in notes}.union(*searched)
-            state.wrong |= {goal for goal, rest in notes if FALSE in rest}
+            take_notes(state, notes, line)
             notes = []
-    came = any(state.status for state in found.values()) and not any(map(UNREAD.match, lines))
-    return found if came else None
+    return found if any(state.status for state in found.values()) else None
 
 
 def place_at(path, text, at):
