@@ -9,6 +9,8 @@ import collections
 import dataclasses
 import re
 
+# A goal's name, unlike that of a lemma beside an answer.
+GOAL = re.compile(r"returns$|.*-")
 FUNCTION = re.compile(r"fn (\S+): (.*)")
 NOTE = re.compile(r"note: \S+:\d+:\d+: .*?\(`([^`]+)`\)(.*)")
 FALSE = "allow values at which this goal is false"
@@ -53,7 +55,7 @@ def states(said):
         if answer := ANSWER.match(line):
             state, is_name = found[answer[1].replace("/", "::")], bool(NAME.search(answer[3]))
             state.by_name |= is_name
-            state.wrong |= {answer[2]} if answer[2] and not is_name else set()
+            state.wrong |= {answer[2]} if GOAL.match(answer[2] or "") and not is_name else set()
         elif law := LAW.match(line):
             if not law[2] or NAME.search(law[3]):
                 return None
