@@ -104,8 +104,8 @@ def together(edits):
 
 def judged(edit, states):
     """At which goals the functions of an edit are refused, and what is wrong, if anything is."""
-    is_own = lambda name: None in edit.places or any(refusals.is_at(name, place) for place in edit.places)
-    own = {name: state for name, state in states.items() if is_own(name)}
+    at = [states] if None in edit.places else [refusals.at_place(place, states) for place in edit.places]
+    own = {name: states[name] for names in at for name in names}
     refused = {name: state.goals for name, state in own.items() if state.goals}
     if refused:
         return refused, ""

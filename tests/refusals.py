@@ -78,9 +78,14 @@ def place_at(path, text, at):
     return None if f"{indent}}}" in lines[begin:] else ("::".join(module), name)
 
 
-def is_at(function, place):
-    """Whether a function has this place's module and name. Those of several types or impls of a module can."""
-    module, _, name = function.rpartition("::")
-    owner = module.rpartition("::")[2]
-    inside = module.rpartition("::")[0] if owner[:1].isupper() else module
-    return (inside, name) == place
+def module_of(function):
+    """A function's module: what stands before its name, and before that of its type or impl."""
+    module = function.rpartition("::")[0]
+    return module.rpartition("::")[0] if module.rpartition("::")[2][:1].isupper() else module
+
+
+def at_place(place, functions):
+    """The functions with a place's name in its module; where there is none, the methods of that name, whose module is their type's."""
+    module, name = place
+    named = [it for it in functions if it.rpartition("::")[2] == name]
+    return [it for it in named if module_of(it) == module] or [it for it in named if module_of(it) != it.rpartition("::")[0]]
