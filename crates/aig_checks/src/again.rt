@@ -112,7 +112,7 @@ fn place_told<R: Source, B: Origin>(counted: &Counted<R, B>, measure: Measure) -
     ensures { (result ≡ places.Whole) ⊎ IsPlaceIn B.bytes measure result }
 {
     match (measure, counted.place(Measure::Byte)) {
-        (Measure::Proof, Place::Byte(count)) if count <= AHEAD => Place::Whole,
+        (Measure::Proof | Measure::Byte, Place::Byte(count)) if count <= AHEAD => Place::Whole,
         _ => counted.place(measure),
     }
 }
