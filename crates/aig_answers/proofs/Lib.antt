@@ -3,6 +3,7 @@ mod Growing
 mod Asking
 pub mod Verdicts
 mod Answering
+mod Alike
 mod Deciding
 mod Differing
 mod WindowRuns

@@ -89,25 +89,30 @@ TellsOfProof lists further text (Err (errors.Refutation e)) =
     Shows (length lists) (clauses_in lists ++ further) text (Err e)
 TellsOfProof lists further text (Err e) = Unit {0}
 
--- the proof is held against the clauses of the file's query for step k
+-- the file has a query for step k, and the answer is so of the clauses of each: of those that any
+-- call gives or prints, as there is one (`encodings_are_one`)
 abbrev pub TellsOfStep : ℕ → Bool → Option (List ℕ) → File → Result (Unit {0}) AnswerError → Type 0
 TellsOfStep k optimize text f answer =
-    (q : Query) × IsQuery k optimize f q × TellsOfProof q.encoded.clauses q.extra text answer
+    ((q : Query) × IsQuery k optimize f q)
+    × ((q : Query) → IsQuery k optimize f q → TellsOfProof q.encoded.clauses q.extra text answer)
 
--- against those of the file's window
+-- so with the clauses of the file's window (`windows_are_one`)
 abbrev pub TellsOfWindow : Window → ℕ → Bool → Option (List ℕ) → File
     → Result (Unit {0}) AnswerError → Type 0
 TellsOfWindow form k optimize text f answer =
-    (lists : List (List (List Lit))) × (further : List (List Lit))
-    × AsksWindow form (circuit_of f) k optimize lists further
-    × TellsOfProof lists further text answer
+    ((lists : List (List (List Lit))) × (further : List (List Lit))
+    × AsksWindow form (circuit_of f) k optimize lists further)
+    × ((lists : List (List (List Lit))) (further : List (List Lit))
+    → AsksWindow form (circuit_of f) k optimize lists further
+    → TellsOfProof lists further text answer)
 
--- against those of a circuit's query for step k
+-- and with those of a circuit's query for step k
 abbrev pub TellsOfCircuit : ℕ → Bool → Option (List ℕ) → Circuit → Result (Unit {0}) AnswerError
     → Type 0
 TellsOfCircuit k optimize text c answer =
-    (q : CircuitQuery) × IsCircuitQuery c k optimize q
-    × TellsOfProof q.clauses q.further text answer
+    ((q : CircuitQuery) × IsCircuitQuery c k optimize q)
+    × ((q : CircuitQuery) → IsCircuitQuery c k optimize q
+    → TellsOfProof q.clauses q.further text answer)
 
 -- ---- errors of calls
 

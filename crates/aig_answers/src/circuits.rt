@@ -11,6 +11,7 @@ use crate::error::AnswerError;
 use crate::refuting::refute;
 use aig::Aig;
 use aig_base::{DagCnf, LitVvec, MemoryError, Source};
+use aig_cnf::clauses_are_one;
 use aig_encode::EncodeError;
 use aig_refutation::RefutationError;
 use aig_runs::{circuit_queries_ask, query_clauses, refuted_circuit_queries_have_no_witness};
@@ -115,6 +116,7 @@ pub fn check_query_of<P: Source>(
         → IsTrue (P.failed proof.new) }
 {
     refuted_circuit_queries_have_no_witness();
+    clauses_are_one();
     if circuit.bads().is_empty() {
         return Err(AnswerError::NoBads);
     }

@@ -22,7 +22,7 @@ use aig_circuit::{CircuitLists, CircuitView};
 use aig_encode::{Encoded, Query};
 use aig_refutation::RefutationError;
 use aig_runs::{
-    Unrolled, circuit_witnesses_are_file_witnesses, clauses_are_file_runs,
+    Unrolled, circuit_witnesses_are_file_witnesses, clauses_are_file_runs, encodings_are_one,
     refuted_queries_have_no_witness,
 };
 use std::alloc::Global;
@@ -146,7 +146,7 @@ pub fn check_step<R: Source, P: Source>(
         (R.failed r.new) (verdict_by verdict_of result) }
     ensures own { IfErr result IsOfStep }
     ensures unread { verdict_by verdict_of result ≢ Accepted → proof.new ≡ proof.old }
-    // Of a file that is taken, the answer is what the text of the proof shows of the query's clauses.
+    // Of a file that is taken, the answer is what the text of the proof shows of the query's clauses, as every call prints them.
     ensures shown { verdict_by verdict_of result ≡ Accepted → IsReadAs (IsAsked limit k)
         (TellsOfStep k optimize (P.left proof.old)) (R.left r.old) (R.left r.new) result }
     // Stream only where a read failed in this call.
@@ -154,6 +154,7 @@ pub fn check_step<R: Source, P: Source>(
         → IsTrue (P.failed proof.new) }
 {
     refuted_queries_have_no_witness();
+    encodings_are_one();
     let Query { encoded, extra } = asked_query(alloc, r, limit, k, optimize)?;
     let Encoded {
         circuit,

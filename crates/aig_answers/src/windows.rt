@@ -20,7 +20,7 @@ use crate::refuting::refute;
 use aig::{Aig, AigEdge, PropList};
 use aig_base::{DagCnf, LitVvec, MemoryError, Source};
 use aig_refutation::RefutationError;
-use aig_runs::{Window, refuted_windows_are_inductive};
+use aig_runs::{Window, refuted_windows_are_inductive, windows_are_one};
 use std::alloc::Global;
 
 /// The clauses that ask for a window of steps with a bad state first at its end.
@@ -226,7 +226,7 @@ pub fn check_window<R: Source, P: Source>(
         (R.failed r.new) (verdict_by verdict_of result) }
     ensures own { IfErr result IsOfInduction }
     ensures unread { verdict_by verdict_of result ≢ Accepted → proof.new ≡ proof.old }
-    // Of a file that is taken, the answer is what the text of the proof shows of the window's clauses.
+    // Of a file that is taken, the answer is what the text of the proof shows of the window's clauses, as every call prints them.
     ensures shown { verdict_by verdict_of result ≡ Accepted → IsReadAs (IsAsked limit (k + 1))
         (TellsOfWindow form k optimize (P.left proof.old)) (R.left r.old) (R.left r.new) result }
     // Stream only where a read failed in this call.
@@ -234,6 +234,7 @@ pub fn check_window<R: Source, P: Source>(
         → IsTrue (P.failed proof.new) }
 {
     refuted_windows_are_inductive();
+    windows_are_one();
     let asked = window(alloc, r, limit, k, optimize, form)?;
     refute(alloc, &asked.clauses, &asked.further, proof)
 }

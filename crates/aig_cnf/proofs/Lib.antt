@@ -5,5 +5,6 @@ pub mod Needing
 pub mod Fixing
 pub mod Marking
 pub mod Adding
+pub mod OneList
 mod Examples
 mod Refuted

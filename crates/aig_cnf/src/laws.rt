@@ -22,3 +22,9 @@ pub fn clauses_fix_roots()
     ensures satisfied { (c : Circuit) (optimize : Bool) (lists : List (List (List Lit)))
         → IsCircuit c → HasClauses c optimize lists → NodeValuesSatisfy c lists }
 {}
+
+/// Law: a circuit has one list of clauses for each setting.
+pub fn clauses_are_one()
+    ensures { (c : Circuit) (optimize : Bool) (lists others : List (List (List Lit)))
+        → HasClauses c optimize lists → HasClauses c optimize others → lists ≡ others }
+{}

@@ -9,5 +9,5 @@ mod needed;
 
 pub use cnf::encode;
 pub use form::{Form, find_form};
-pub use laws::{clauses_fix_roots, literals_have_edge_values};
+pub use laws::{clauses_are_one, clauses_fix_roots, literals_have_edge_values};
 pub use needed::{NeededGates, find_needed};

@@ -13,5 +13,6 @@ pub mod Certified
 pub mod Files
 pub mod Writable
 pub mod Written
+pub mod OneMiter
 mod Examples
 mod Refuted

@@ -115,3 +115,8 @@ pub fn written_witnesses_certify()
         × ((n : ℕ) → IsSafeTo (file_of Text (certified (circuit_of f) (circuit_of g))) n
         → IsSafeTo f n) }
 {}
+
+/// Law: two circuits have one miter.
+pub fn miters_are_one()
+    ensures { (a b m n : Circuit) → IsMiter a b m → IsMiter a b n → m ≡ n }
+{}

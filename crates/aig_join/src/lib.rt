@@ -12,7 +12,7 @@ pub use certificate::{certified_by, has_constant_further_inits, has_leaves_of};
 pub use comparing::{have_same_counts, miter};
 pub use joining::join;
 pub use laws::{
-    joining_pairs_runs, joint_circuits_are_written, joint_circuits_keep_names,
+    joining_pairs_runs, joint_circuits_are_written, joint_circuits_keep_names, miters_are_one,
     miters_compare_machines, miters_compare_runs, witness_circuits_certify, witness_files_certify,
     written_miters_compare_machines, written_witnesses_certify,
 };

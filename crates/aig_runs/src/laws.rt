@@ -1,6 +1,6 @@
 //! Laws of encoding, which rest on what unrolling and clauses promise.
 
-ghost use Rattle.std.specs.Prelude.{◌↔◌, ◌≤◌, ℕ, Bool, List};
+ghost use Rattle.std.specs.Prelude.{◌≡◌, ◌↔◌, ◌≤◌, ℕ, Bool, List};
 ghost use Rattle.aig_base.specs.declared.logic.literal.Lit.{Lit};
 ghost use Rattle.aig_circuit.specs.Circuit.{Circuit, IsCircuit};
 ghost use Rattle.aig_circuit.specs.Runs.{AgreeOnLeaves};
@@ -14,6 +14,10 @@ ghost use Rattle.aig_runs.specs.Circuits.{AssignmentsAreCircuitRuns, CircuitRuns
 ghost use Rattle.aig_runs.specs.CircuitQueries.{AsksOfCircuit, IsCircuitWitness};
 ghost use Rattle.aig_runs.specs.Encodes.{Encodes};
 ghost use Rattle.aig_runs.specs.Queries.{IsQueryOf, IsRefuted, IsSafeTo, IsWitness, query_clauses};
+ghost use Rattle.aig_runs.specs.WindowClauses.{AsksWindow};
+ghost use Rattle.aig_runs.specs.declared.window.Window.{Window};
+
+use aig_cnf::clauses_are_one;
 
 /// Law: of every circuit, assignments that satisfy the clauses of its unrolled circuit are runs, and runs are assignments.
 pub fn clauses_are_circuit_runs()
@@ -73,3 +77,23 @@ pub fn refuted_queries_are_safe()
         → ((k : ℕ) → k ≤ n → IsQueryOf f k (circuit k) (unrolled k) (clauses k) (further k))
         → ((k : ℕ) → k ≤ n → IsRefuted (clauses k) (further k)) ↔ IsSafeTo f n }
 {}
+
+/// Law: for each file, each number of steps and each setting there is one encoding.
+pub fn encodings_are_one()
+    ensures { (f : File) (k : ℕ) (optimize : Bool) (circuit unrolled other further : Circuit)
+        (clauses others : List (List (List Lit)))
+        → Encodes f k optimize circuit unrolled clauses → Encodes f k optimize other further others
+        → (circuit ≡ other) × (unrolled ≡ further) × (clauses ≡ others) }
+{
+    clauses_are_one();
+}
+
+/// Law: for each circuit, each window and each setting there is one list of clauses of either kind.
+pub fn windows_are_one()
+    ensures { (form : Window) (c : Circuit) (k : ℕ) (optimize : Bool)
+        (lists others : List (List (List Lit))) (further more : List (List Lit))
+        → AsksWindow form c k optimize lists further → AsksWindow form c k optimize others more
+        → (lists ≡ others) × (further ≡ more) }
+{
+    clauses_are_one();
+}

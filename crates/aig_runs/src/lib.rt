@@ -13,7 +13,8 @@ pub use circuits::{refuted_circuit_queries_have_no_witness, safe_circuits_are_sa
 pub use clauses::{push_any, push_units, query_clauses};
 pub use laws::{
     circuit_queries_ask, circuit_witnesses_are_file_witnesses, clauses_are_circuit_runs,
-    clauses_are_file_runs, queries_ask, refuted_queries_are_safe,
+    clauses_are_file_runs, encodings_are_one, queries_ask, refuted_queries_are_safe,
+    windows_are_one,
 };
 pub use safety::{
     certificates_are_safe, distinct_windows_are_complete, extended_files_have_runs,

@@ -1,5 +1,5 @@
 -- The images of nodes, one node after another.
-use Rattle.aig_base.proofs.Words.{◌≡◌, ◌≢◌, ℕ, suc, ◌+◌, ◌<◌, ◌≤◌, Bool, true, false, not, cond, ◌&&◌, Some, List, [], ◌∷◌, ◌++◌, length, map, get_or, set, take, get_or-set_other, get_or-set_same, below_more, refl, sym, ap, subst, ◌∙◌, arith, inl, inr, length-append, All, Contains, filter, option_map, ◌==◌, list_any, eq-eqb, eqb-true, true≢false, false_from_ne_true, same_Some, slice_get-get_or}
+use Rattle.aig_base.proofs.Words.{◌≡◌, ◌≢◌, ℕ, suc, ◌+◌, ◌<◌, ◌≤◌, Bool, true, false, not, cond, ◌&&◌, Option, Some, None, add-one, ap₂, take_more_set, List, [], ◌∷◌, ◌++◌, length, map, get_or, set, take, get_or-set_other, get_or-set_same, below_more, refl, sym, ap, subst, ◌∙◌, arith, inl, inr, length-append, All, Contains, filter, option_map, ◌==◌, list_any, eq-eqb, eqb-true, true≢false, false_from_ne_true, same_Some, slice_get-get_or}
 use Rattle.std.proofs.Math.ListN.{length-set}
 use Rattle.std.proofs.lemmas.List.{append-nil, drop_all, drop_at, get_or-take, length-take, map-append}
 use Rattle.std.proofs.lemmas.List.Elements.{All-contains, All-filter, All-map, filter_more}
@@ -13,7 +13,10 @@ use Rattle.aig_circuit.proofs.Circuits.{latch_leaves-leaves}
 use Rattle.aig_circuit.proofs.Trees.{kind_at-read, kind_at-within, node_value-and, node_value-false, node_value-leaf}
 use Rattle.aig_renumber.proofs.Kept.{is_in-back, is_in-there}
 use Rattle.aig_unroll.specs.Places.{is_other_leaf, leaves_after}
-use Rattle.aig_unroll.specs.Step.{Copies, CopiesBelow, MarksLatches, image_at, image_in, others_among, takes_no_node}
+use Rattle.aig_unroll.specs.Frame.{folded, frame_to, with_copy, with_folded}
+use Rattle.aig_circuit.specs.Node.{and_of}
+use Rattle.aig_unroll.proofs.Framed.{frame_of, with_folded-rule}
+use Rattle.aig_unroll.specs.Step.{Copies, CopiesBelow, IsState, MarksLatches, image_at, image_in, others_among, takes_no_node}
 use Rattle.aig_unroll.specs.Step.Copies.{false_node, latch_leaf, other_leaf, gate}
 use Rattle.aig_unroll.proofs.Added.{following-are, leaves_after-more, no_node, number_there}
 
@@ -183,6 +186,18 @@ module _ (from : Circuit) (circuit : IsCircuit from) (old mid new : List AigNode
         → edge_value new y e ≡ node_value from.nodes x i
     size : length new + length (filter (takes_no_node from) (take (i + 1) from.nodes))
         ≤ length old + (i + 1)
+    exact : (state : ℕ → Option AigEdge) → IsState from (length old) before state
+        → frame_to from.nodes state old (i + 1) ≡ frame_of new (take (i + 1) more)
+
+  -- the frame, one node on
+  frame_more : (state : ℕ → Option AigEdge) → IsState from (length old) before state
+      → (kind : AigNodeType) → kind_at from.nodes i ≡ Some kind
+      → with_copy (state i) (Some kind) (frame_of mid (take i images))
+      ≡ frame_of new (take i images ++ e ∷ [])
+      → frame_to from.nodes state old (i + 1) ≡ frame_of new (take (i + 1) more)
+  frame_more state is kind at one =
+      ap (frame_to from.nodes state old) (add-one i) ∙ ap (λ k. with_copy (state i) k (frame_to from.nodes state old i)) at
+      ∙ ap (with_copy (state i) (Some kind)) (so_far.exact state is) ∙ one ∙ ap (frame_of new) (sym (take_more_set images i e inside))
 
   -- then there is one image more
   follows_more : Follows → CopiesBelow from old new before more (i + 1)
@@ -200,6 +215,7 @@ module _ (from : Circuit) (circuit : IsCircuit from) (old mid new : List AigNode
         below_more _ _ (λ n l. value_kept y n l ∙ below n l)
         (ap (edge_value new y) image_new ∙ follows.value y x below (λ is. leaves i (omega arith) is ∙ ap (edge_value new y) image_new));
     size = follows.size;
+    exact = follows.exact;
   }
     where
       latch_at : (n : ℕ) → Contains (latch_leaves from.latchs) n → (b : Bool) → (n == i) ≡ b
@@ -227,6 +243,7 @@ module _ (from : Circuit) (circuit : IsCircuit from) (old mid new : List AigNode
         others = no_leaf same other;
         value = λ y x below leaf. ap (edge_value new y) image ∙ node_value-false new y 0 grows.sound.false_first ∙ sym (node_value-false from.nodes x i is);
         size = let long : length new ≡ length mid = ap length same in omega (arith, none_more true none, so_far.size);
+        exact = λ state st. frame_more state st False is (ap₂ frame_of (sym same) (ap (λ f. take i images ++ f ∷ []) (sym image)));
       })
     where
       not_leaf : Leaf ≡ False → ⊥
@@ -242,6 +259,10 @@ module _ (from : Circuit) (circuit : IsCircuit from) (old mid new : List AigNode
         others = no_leaf same other;
         value = λ y x below leaf. sym (leaf is) ∙ sym (node_value-leaf from.nodes x i is);
         size = let long : length new ≡ length mid = ap length same in omega (arith, none_more true none, so_far.size);
+        exact = λ state st.
+            let first = so_far.rest i (omega arith) in
+            let known : state i ≡ Some (image_at before i) = st.low i is (omega (arith, low, ap (λ (f : AigEdge). f.node_id) first)) in
+            frame_more state st Leaf is (ap (λ o. with_copy o (Some Leaf) (frame_of mid (take i images))) known ∙ ap₂ frame_of (sym same) (ap (λ f. take i images ++ f ∷ []) (sym (image ∙ first))));
       })
     where
       latch_there : (b : Bool) → list_any (λ m. m == i) (latch_leaves from.latchs) ≡ b
@@ -268,8 +289,12 @@ module _ (from : Circuit) (circuit : IsCircuit from) (old mid new : List AigNode
             ∙ sym (ap (map leaf_edge) leaves ∙ map-append leaf_edge (leaves_after (length old) mid) (length mid ∷ []));
         value = λ y x below leaf. sym (leaf is) ∙ sym (node_value-leaf from.nodes x i is);
         size = let long : length new ≡ length mid + 1 = ap length same ∙ length-append mid _ in omega (arith, none_more false none, so_far.size);
+        exact = λ state st.
+            let first = so_far.rest i (omega arith) in
+            let unknown : state i ≡ None = st.high i is (omega (arith, high, ap (λ (f : AigEdge). f.node_id) first)) in
+            frame_more state st Leaf is (ap (λ o. with_copy o (Some Leaf) (frame_of mid (take i images))) unknown ∙ ap₂ frame_of (sym same) (ap (λ f. take i images ++ f ∷ []) (sym image)));
       })
-  copies_more count marks (gate a b is adds size gives) =
+  copies_more count marks (gate a b is rule adds size gives) =
       let typ = kind_is (And a b) is in
       let other : is_other_leaf from node ≡ false = ap (λ k. is_other_leaf from (record { node_id = node.node_id; typ = k })) typ in
       let none : takes_no_node from node ≡ false = ap (λ k. takes_no_node from (record { node_id = node.node_id; typ = k })) typ in
@@ -284,8 +309,15 @@ module _ (from : Circuit) (circuit : IsCircuit from) (old mid new : List AigNode
             ∙ ap (λ v. edge_value from.nodes x a && v) (edge_value-image_in mid y images b ∙ ap (inverted_if b.compl) (below b.node_id (circuit.nodes.ordered.second_before i a b is)))
             ∙ sym (node_value-and from.nodes circuit.nodes.ordered x i a b is);
         size = omega (arith, none_more false none, so_far.size);
+        exact = λ state st. frame_more state st (And a b) is
+            (ap₂ (λ f g. with_folded (folded f g) (and_of f g) (frame_of mid (take i images))) (early a (circuit.nodes.ordered.first_before i a b is)) (early b (circuit.nodes.ordered.second_before i a b is))
+            ∙ with_folded-rule mid new (take i images) (image_in images a) (image_in images b) e rule);
       })
     where
+      -- an operand's image is one of the first
+      early : (f : AigEdge) → f.node_id < i → image_in (take i images) f ≡ image_in images f
+      early f l = ap (λ (g : AigEdge). edge_to g.node_id (inverted_if f.compl g.compl)) (get_or-take i images f.node_id (edge_to 0 false) l)
+
       no_gate : Leaf ≡ And a b → ⊥
       no_gate q = cc
 
@@ -310,6 +342,7 @@ copies_none from old images sound count =
       others = sym (ap (map (λ n. edge_to n false)) (leaves_after-all old));
       value = λ y x leaves n h. absurd (omega arith);
       size = omega arith;
+      exact = λ state is. refl;
     }
 
 -- the kind that was read of a node

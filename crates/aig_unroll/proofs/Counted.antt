@@ -10,7 +10,9 @@ use Rattle.aig_circuit.proofs.Words.{kind_at, Circuit, IsCircuit, IsLeaf, latch_
 use Rattle.aig_circuit.proofs.Circuits.{AllPairs-append, latch_leaves-leaves}
 use Rattle.aig_circuit.proofs.Trees.{kind_at-within}
 use Rattle.aig_renumber.proofs.Kept.{is_in-there}
-use Rattle.aig_unroll.specs.Step.{CopiesAll, CopiesBelow, image_at, others_among, takes_no_node}
+use Rattle.aig_unroll.specs.Frame.{next_of}
+use Rattle.aig_unroll.proofs.Framed.{frame_of}
+use Rattle.aig_unroll.specs.Step.{CopiesAll, CopiesBelow, IsState, image_at, others_among, takes_no_node}
 use Rattle.aig_unroll.proofs.Added.{no_node, number_there}
 use Rattle.aig_unroll.proofs.Copied.{map_same}
 use Rattle.aig_unroll.proofs.Others.{kept_all, number_in}
@@ -63,8 +65,9 @@ module _ (from : Circuit) (circuit : IsCircuit from) where
       omega (arith, length-map from.latchs (λ (l : AigLatch). l.input), length-map (filter (takes_no_node from) from.nodes) (λ (x : AigNode). x.node_id))
 
   -- all nodes have their images
-  pub all_copies : (latchs : List AigLatch) (old new : List AigNode) (before images : List AigEdge) → map (image_at before) (latch_leaves from.latchs) ≡ next_edges latchs → CopiesBelow from old new before images (length from.nodes) → CopiesAll from latchs old new images
-  all_copies latchs old new before images latch_images copies =
+  pub all_copies : (latchs : List AigLatch) (old new : List AigNode) (before images : List AigEdge) → map (image_at before) (latch_leaves from.latchs) ≡ next_edges latchs → IsState from (length old) before (next_of latchs)
+      → CopiesBelow from old new before images (length from.nodes) → CopiesAll from latchs old new images
+  all_copies latchs old new before images latch_images state copies =
       let all = take_all (length from.nodes) from.nodes (omega arith) in
       record {
         grows = copies.grows;
@@ -74,4 +77,5 @@ module _ (from : Circuit) (circuit : IsCircuit from) where
         others = ap (λ l. map (image_at images) (others_among from l)) (sym all) ∙ copies.others;
         value = copies.value;
         size = let many = ap (λ l. length (filter (takes_no_node from) l)) all in omega (arith, copies.size, bare_many, many);
+        exact = copies.exact (next_of latchs) state ∙ ap (frame_of new) (take_all (length from.nodes) images (omega (arith, copies.count)));
       }

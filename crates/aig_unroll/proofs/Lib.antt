@@ -9,6 +9,7 @@ pub mod NextStep
 pub mod MoreShown
 pub mod MoreSteps
 mod OneStep
+pub mod Framed
 pub mod Copied
 pub mod Table
 pub mod Counted

@@ -1,5 +1,5 @@
 -- A circuit unrolled by k steps, with one step more, is unrolled by k + 1: what is claimed of it, one by one.
-use Rattle.aig_base.proofs.Words.{◌≡◌, ℕ, zero, suc, ◌+◌, ◌-◌, ◌*◌, ◌<◌, ◌≤◌, ◌↔◌, Bool, cond, ltb, Option, Some, None, List, [], ◌∷◌, ◌++◌, length, get_or, sym, ap, subst, ◌∙◌, arith, inl, inr, append_assoc, length-append, All, Contains, IfSome, cases_lt, le-ltb, lt-ltb, get_or_default, All-cons, All-contains, All-map, All-tail, Contains-get_or}
+use Rattle.aig_base.proofs.Words.{◌≡◌, ℕ, zero, suc, add-one, ◌+◌, ◌-◌, ◌*◌, ◌<◌, ◌≤◌, ◌↔◌, Bool, cond, ltb, Option, Some, None, List, [], ◌∷◌, ◌++◌, length, get_or, sym, ap, subst, ◌∙◌, arith, inl, inr, append_assoc, length-append, All, Contains, IfSome, cases_lt, le-ltb, lt-ltb, get_or_default, All-cons, All-contains, All-map, All-tail, Contains-get_or}
 use Rattle.aig_circuit.specs.declared.edge.AigEdge.{AigEdge}
 use Rattle.aig_circuit.specs.declared.node.AigLatch.{AigLatch}
 use Rattle.aig_circuit.specs.declared.node.AigNode.{AigNode}
@@ -8,6 +8,7 @@ use Rattle.aig_circuit.proofs.Words.{edge_value, position_of, Circuit, IsCircuit
 use Rattle.aig_circuit.proofs.Building.{Grows-kept, Grows-longer, Grows-then, edge_value-Grows}
 use Rattle.aig_circuit.proofs.Trees.{kind_at-within}
 use Rattle.aig_renumber.proofs.Places.{position_of-get_or, position_of-within}
+use Rattle.aig_unroll.specs.Frame.{with_step, with_steps}
 use Rattle.aig_unroll.specs.Places.{Reads, leaves_after, other_leaves, place_at, unrolled_size}
 use Rattle.aig_unroll.specs.Unroll.{KeepsCircuit, PropertiesStandAtSteps, HasStepValues, UnrollsOnce, UnrollsTo, starts_of}
 use Rattle.aig_unroll.proofs.Added.{following-are, following-distinct, following-have, leaves_after-more}
@@ -217,4 +218,5 @@ module _ (c old new : Circuit) (k : ℕ) (is : IsCircuit c) (is_old : IsCircuit 
     same = same_more;
     starts = starts_more;
     size = size_more;
+    exact = once.exact ∙ ap (with_step c) to.exact ∙ sym (ap (with_steps c) (add-one k));
   }

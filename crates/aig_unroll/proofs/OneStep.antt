@@ -56,6 +56,7 @@ toggle-unrolls = record {
   reads = toggle-reads;
   values = λ y x r. let v = toggle-values y x r in (record { outputs = (v.0, tt); bads = tt; constraints = tt; justice = tt; fairness = tt }, (v.1, tt));
   size = omega arith;
+  exact = refl;
 }
 
 -- it is a circuit

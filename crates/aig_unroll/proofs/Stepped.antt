@@ -13,6 +13,10 @@ use Rattle.aig_circuit.proofs.Trees.{kind_at-within, node_value-leaf}
 use Rattle.aig_circuit.proofs.Listed.{AllProperties-append, AllProperties-map, AllProperties-weaker, AreProperties-map}
 use Rattle.aig_circuit.proofs.Lists.{All-from_map}
 use Rattle.aig_unroll.specs.Places.{leaves_after, other_leaves}
+use Rattle.aig_base.proofs.Words.{FinMap, nat_cmp}
+use Rattle.aig_circuit.specs.Properties.{Properties}
+use Rattle.aig_unroll.specs.Frame.{Frame, with_next}
+use Rattle.aig_unroll.proofs.Framed.{frame_of, with_next-is}
 use Rattle.aig_unroll.specs.Step.{AppendsButJustice, AppendsImages, CopiesAll, HaveNextImages, image_at, image_in}
 use Rattle.aig_unroll.specs.Unroll.{ReadsNext, UnrollsOnce, UnrollsTo, starts_of}
 use Rattle.aig_unroll.proofs.Added.{following-are, following-distinct, IsBehind}
@@ -166,6 +170,30 @@ module _ (from old new : Circuit) (images : List AigEdge) (is_from : IsCircuit f
         AreProperties-map (image_in images) (λ e f. edge_value new.nodes y f ≡ edge_value from.nodes x e) from.properties
         (AllProperties-weaker (IsInRange from.nodes) (λ e. edge_value new.nodes y (image_in images e) ≡ edge_value from.nodes x e) image_value from.properties is_from.properties)
 
+  -- the circuit that a frame makes
+  abbrev step_of : Frame → Circuit
+  step_of made = record {
+    nodes = made.nodes;
+    inputs = old.inputs ++ leaves_after (length old.nodes) made.nodes;
+    latchs = with_next old.latchs (map (image_in made.images) (next_edges from.latchs));
+    properties = append_properties old.properties (map_properties (image_in made.images) from.properties);
+    names = old.names;
+  }
+
+  abbrev made_of : Circuit
+  made_of = step_of (frame_of new.nodes images)
+
+  next_is : new.latchs ≡ with_next old.latchs (map (image_in images) (next_edges from.latchs))
+  next_is = with_next-is old.latchs new.latchs appends.latchs.leaves appends.latchs.starts ∙ ap (with_next old.latchs) appends.latchs.next
+
+  whole : new ≡ made_of
+  whole =
+      let inputs : new ≡ record new { inputs = made_of.inputs } = ap (λ (x : List ℕ). record new { inputs = x }) appends.inputs in
+      let latchs = ap (λ (x : List AigLatch). record new { inputs = made_of.inputs; latchs = x }) next_is in
+      let properties = ap (λ (x : Properties AigEdge). record made_of { properties = x; names = new.names }) appends.properties in
+      let names = ap (λ (x : FinMap nat_cmp (List ℕ)). record made_of { names = x }) appends.names in
+      inputs ∙ latchs ∙ properties ∙ names
+
   pub stepped_unrolls : UnrollsOnce from old new
   stepped_unrolls = record {
     keeps = record { nodes = copies.grows; inputs = appends.inputs; names = appends.names; leaves = appends.latchs.leaves; starts = appends.latchs.starts };
@@ -178,6 +206,7 @@ module _ (from old new : Circuit) (images : List AigEdge) (is_from : IsCircuit f
       subst (λ es. HaveSameValues new.nodes y es from.nodes x (next_edges from.latchs)) (sym appends.latchs.next) (image_values y x reads (next_edges from.latchs) next_in),
     );
     size = copies.size;
+    exact = whole ∙ sym (ap step_of copies.exact);
   }
 
 -- what was made of a circuit is one step more: first its nodes, its inputs and its justice sets, and then its other lists

@@ -1,12 +1,16 @@
 -- The table of images before a step: at latches' leaves their next edges.
-use Rattle.aig_base.proofs.Words.{◌≡◌, ◌≢◌, ◌⊎◌, ℕ, ◌+◌, ◌<◌, ◌≤◌, false, None, inl, inr, List, [], ◌∷◌, ◌++◌, length, map, get_or, set, take, get_or-set_other, get_or-set_same, sym, ap, subst, ◌∙◌, arith, All, AllPairs, Contains, cases_lt, Contains-get_or}
+use Rattle.aig_base.proofs.Words.{◌≡◌, ◌≢◌, ◌⊎◌, ℕ, ◌+◌, ◌<◌, ◌≤◌, false, refl, Option, Some, None, inl, inr, List, [], ◌∷◌, ◌++◌, length, map, get_or, set, take, get_or-set_other, get_or-set_same, sym, ap, subst, ◌∙◌, arith, All, AllPairs, Contains, cases_lt, Contains-get_or}
 use Rattle.std.proofs.Math.ListN.{length-set}
 use Rattle.std.proofs.lemmas.List.{get_or_default, get_or-map, length-map, map-append, map-set, same_lists, set-get_or, take_more, take_more_set}
 use Rattle.aig_circuit.specs.declared.edge.AigEdge.{AigEdge}
 use Rattle.aig_circuit.specs.declared.node.AigLatch.{AigLatch}
-use Rattle.aig_circuit.proofs.Words.{edge_to, Circuit, IsCircuit, latch_leaves, next_edges}
+use Rattle.aig_circuit.proofs.Words.{edge_to, Circuit, IsCircuit, IsLeaf, latch_leaves, next_edges}
 use Rattle.aig_circuit.proofs.Circuits.{leaf-read}
-use Rattle.aig_unroll.specs.Step.{HasLatchImages, MarksLatches, image_at, image_in}
+use Rattle.aig_circuit.specs.declared.node.AigNodeType.TheVariants.{Leaf}
+use Rattle.aig_circuit.proofs.Trees.{kind_at-within}
+use Rattle.aig_unroll.specs.Frame.{next_of}
+use Rattle.aig_unroll.proofs.Framed.{next_of-found, next_of-none}
+use Rattle.aig_unroll.specs.Step.{HasLatchImages, IsState, MarksLatches, image_at, image_in}
 use Rattle.aig_unroll.specs.Unroll.{starts_of}
 
 -- no latch is set yet
@@ -75,6 +79,41 @@ module _ (from : Circuit) (circuit : IsCircuit from) (current : List AigLatch) (
           let inside : k < length current = omega arith in
           let leaf : (get_or from.latchs k no_latch).input ≡ n = sym (get_or-map (λ (l : AigLatch). l.input) from.latchs k no_latch n within) ∙ is in
           omega (arith, low k no_latch inside, ap (λ (e : AigEdge). e.node_id) (sym (ap (image_at images) leaf) ∙ has.each k no_latch no_latch within))
+
+  -- the state of a leaf is its latch's next edge
+  pub state_of : length images ≡ length from.nodes
+      → latch_leaves current ≡ latch_leaves from.latchs
+      → All (λ (l : AigLatch). l.next.node_id < unset) current
+      → IsState from unset images (next_of current)
+  state_of count leaves low = record { low = λ n leaf l. low_at n leaf l (next_of current n) refl; high = λ n leaf l. high_at n leaf l (next_of current n) refl }
+    where
+      -- the image of the leaf of a latch
+      image : (n : ℕ) (e : AigEdge) → next_of current n ≡ Some e → image_at images n ≡ e
+      image n e is =
+          let found = next_of-found current n e no_latch is in
+          let k = found.0 in
+          let inside : k < length from.latchs = omega (arith, found.1) in
+          let leaf : (get_or from.latchs k no_latch).input ≡ n = sym (leaf-read from.latchs k no_latch inside) ∙ ap (λ ns. get_or ns k 0) (sym leaves) ∙ leaf-read current k no_latch found.1 ∙ found.2 in
+          ap (image_at images) (sym leaf) ∙ has.each k no_latch no_latch inside ∙ found.3
+
+      none : (n : ℕ) → IsLeaf from.nodes n → next_of current n ≡ None
+          → image_at images n ≡ edge_to unset false
+      none n leaf is =
+          has.rest n (omega (arith, count, kind_at-within from.nodes n Leaf leaf))
+          (λ k d l q. let inside : k < length current = omega arith in next_of-none current n is k d inside (sym (leaf-read current k d inside) ∙ ap (λ ns. get_or ns k 0) leaves ∙ leaf-read from.latchs k d l ∙ q))
+
+      low_at : (n : ℕ) → IsLeaf from.nodes n → (image_at images n).node_id < unset
+          → (o : Option AigEdge) → next_of current n ≡ o
+          → next_of current n ≡ Some (image_at images n)
+      low_at n leaf l (Some e) is = is ∙ ap Some (sym (image n e is))
+      low_at n leaf l None is = absurd (omega (arith, l, ap (λ (e : AigEdge). e.node_id) (none n leaf is)))
+
+      high_at : (n : ℕ) → IsLeaf from.nodes n → unset ≤ (image_at images n).node_id
+          → (o : Option AigEdge) → next_of current n ≡ o → next_of current n ≡ None
+      high_at n leaf l None is = is
+      high_at n leaf l (Some e) is =
+          let found = next_of-found current n e no_latch is in
+          absurd (omega (arith, l, low found.0 no_latch found.1, ap (λ (f : AigEdge). f.node_id) (image n e is), ap (λ (f : AigEdge). f.node_id) found.3))
 
 -- ---- next edges
 

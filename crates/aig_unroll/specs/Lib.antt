@@ -1,3 +1,4 @@
 pub mod Places
+pub mod Frame
 pub mod Unroll
 pub mod Step

@@ -1,7 +1,7 @@
 -- Serves private clauses alone.
 -- One step more: the images of the nodes of a circuit in it, and what is appended to the lists.
 -- (The crate aig: `unroll`.)
-use Rattle.std.specs.Prelude.{◌≡◌, ◌≢◌, ℕ, ◌+◌, ◌-◌, ◌<◌, ◌≤◌, Bool, false, not, All, Vec, ◌&&◌, ◌||◌, Some, List, ◌++◌, length, map, filter, take, Contains, slice_index_or}
+use Rattle.std.specs.Prelude.{◌≡◌, ◌≢◌, ℕ, ◌+◌, ◌-◌, ◌<◌, ◌≤◌, Bool, false, not, All, Vec, ◌&&◌, ◌||◌, Option, Some, None, List, ◌++◌, length, map, filter, take, Contains, slice_index_or}
 use Rattle.std.specs.declared.alloc.Global.{Global}
 use Rattle.aig_circuit.specs.declared.edge.AigEdge.{AigEdge}
 use Rattle.aig_circuit.specs.declared.node.AigNode.{AigNode}
@@ -12,24 +12,16 @@ use Rattle.aig_circuit.specs.Edge.{edge_to, inverted_if}
 use Rattle.aig_circuit.specs.Node.{is_gate, kind_at}
 use Rattle.aig_circuit.specs.Tree.{edge_value, node_value}
 use Rattle.aig_circuit.specs.Circuit.{Circuit, IsCircuit, IsInRange, IsLeaf, latch_leaves}
-use Rattle.aig_circuit.specs.Build.{AddsGates, GivesEdge, Grows, with_node}
+use Rattle.aig_circuit.specs.Build.{AddsGates, FoldsOrAdds, GivesEdge, Grows, with_node}
 use Rattle.aig_circuit.specs.Properties.{Properties, append_properties, map_properties}
 use Rattle.aig_circuit.specs.Runs.{next_edges}
 use Rattle.aig_circuit.specs.View.{HasRoomFor, lists_circuit, properties_of}
 use Rattle.aig_unroll.specs.Places.{is_other_leaf, leaves_after, other_leaves}
+pub use Rattle.aig_unroll.specs.Frame.{image_at, image_in}
+use Rattle.aig_unroll.specs.Frame.{frame_to, next_of}
 use Rattle.aig_unroll.specs.Unroll.{UnrollsBySteps, UnrollsTo, starts_of}
 
 -- ---- images
-
--- the image of node n
-abbrev pub image_at : List AigEdge → ℕ → AigEdge
-image_at images n = slice_index_or images n (edge_to 0 false)
-
--- the image of an edge: that of its node, inverted as the edge is
-abbrev pub image_in : List AigEdge → AigEdge → AigEdge
-image_in images e =
-    edge_to (image_at images e.node_id).node_id
-    (inverted_if e.compl (image_at images e.node_id).compl)
 
 -- the leaves that are no latch's among these nodes
 abbrev pub others_among : Circuit → List AigNode → List ℕ
@@ -70,13 +62,22 @@ pub data Copies (from : Circuit) (n start : ℕ) (old new : List AigNode) (image
   other_leaf : IsLeaf from.nodes n → start ≤ (image_at images n).node_id
       → e ≡ edge_to (length old) false → new ≡ with_node old Leaf
       → Copies from n start old new images e
-  gate : (a b : AigEdge) → kind_at from.nodes n ≡ Some (And a b) → AddsGates old new
+  gate : (a b : AigEdge) → kind_at from.nodes n ≡ Some (And a b)
+      → FoldsOrAdds old new (image_in images a) (image_in images b) e → AddsGates old new
       → length new ≤ length old + 1
       → GivesEdge new
       (λ y. edge_value old y (image_in images a) && edge_value old y (image_in images b)) e
       → Copies from n start old new images e
 
 -- ---- the first nodes
+
+-- the state of a leaf is its image before the step, where that is among the first so many nodes
+pub record IsState (from : Circuit) (count : ℕ) (before : List AigEdge) (state : ℕ → Option AigEdge)
+    : Type 0 where
+  pub low : (n : ℕ) → IsLeaf from.nodes n → (image_at before n).node_id < count
+      → state n ≡ Some (image_at before n)
+  pub high : (n : ℕ) → IsLeaf from.nodes n → count ≤ (image_at before n).node_id
+      → state n ≡ None
 
 -- The first i nodes have their images: each has under leaf values y the value that its node has
 -- under the values x of the leaves' images.
@@ -94,6 +95,8 @@ pub record CopiesBelow (from : Circuit) (old new : List AigNode) (before images 
       → ((n : ℕ) → n < i → IsLeaf from.nodes n → x n ≡ edge_value new y (image_at images n))
       → (n : ℕ) → n < i → edge_value new y (image_at images n) ≡ node_value from.nodes x n
   pub size : length new + length (filter (takes_no_node from) (take i from.nodes)) ≤ length old + i
+  pub exact : (state : ℕ → Option AigEdge) → IsState from (length old) before state
+      → frame_to from.nodes state old i ≡ record { nodes = new; images = take i images }
 
 -- ---- all nodes
 
@@ -112,6 +115,8 @@ pub record CopiesAll (from : Circuit) (latchs : List AigLatch) (old new : List A
       → x n ≡ edge_value new y (image_at images n)) → (n : ℕ) → n < length from.nodes
       → edge_value new y (image_at images n) ≡ node_value from.nodes x n
   pub size : length new ≤ length old + (length from.nodes - 1 - length from.latchs)
+  pub exact : frame_to from.nodes (next_of latchs) old (length from.nodes)
+      ≡ record { nodes = new; images = images }
 
 -- ---- the lists
 

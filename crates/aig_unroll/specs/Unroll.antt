@@ -12,6 +12,7 @@ use Rattle.aig_circuit.specs.Circuit.{Circuit, IsLeaf, latch_leaves}
 use Rattle.aig_circuit.specs.Build.{Grows}
 use Rattle.aig_circuit.specs.Properties.{Properties, AreProperties, append_properties}
 use Rattle.aig_circuit.specs.Runs.{AgreeOnLeaves, HaveSameValues, IsRun, IsInitial, next_edges}
+use Rattle.aig_unroll.specs.Frame.{with_step, with_steps}
 use Rattle.aig_unroll.specs.Places.{Reads, leaves_after, other_leaves, unrolled_size}
 
 -- the initial edges of the latches, in order
@@ -52,6 +53,8 @@ pub record UnrollsOnce (from old new : Circuit) : Type 0 where
       added
       × HaveSameValues new.nodes y (next_edges new.latchs) from.nodes x (next_edges from.latchs)
   pub size : length new.nodes ≤ length old.nodes + (length from.nodes - 1 - length from.latchs)
+  -- and it is this circuit
+  pub exact : new ≡ with_step from old
 
 -- ---- all steps
 
@@ -105,6 +108,8 @@ pub record UnrollsTo (c : Circuit) (k : ℕ) (unrolled : Circuit) : Type 0 where
   pub starts : (y : ℕ → Bool) (x : ℕ → ℕ → Bool) → IsRun c k x → Reads c unrolled k y x
       → IsInitial unrolled y ↔ IsInitial c (x 0)
   pub size : length unrolled.nodes ≤ unrolled_size c k
+  -- and it is this circuit
+  pub exact : unrolled ≡ with_steps c k
 
 -- the circuit d is c with so many steps added, one after another
 abbrev pub UnrollsBySteps : Circuit → ℕ → Circuit → Type 0

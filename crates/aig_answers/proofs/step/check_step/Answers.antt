@@ -1,6 +1,8 @@
-use Rattle.aig_base.proofs.Words.{sym, subst, IfOk-weaker, err_from_is_err_and}
+use Rattle.aig_base.proofs.Words.{ap₂, sym, subst, ◌∙◌, IfOk-weaker, err_from_is_err_and}
 use Rattle.aig_reader.specs.Verdicts.{Judges}
+use Rattle.aig_runs.specs.Queries.{query_clauses}
 use Rattle.aig_answers.specs.Answers.{asked_verdict}
+use Rattle.aig_answers.proofs.Alike.{told_alike}
 use Rattle.aig_answers.proofs.Verdicts.{proof_of_step, proof_taken, query_not_taken, query_of_step}
 use Rattle.aig_answers.proofs.step.check_step.Goals as goal
 
@@ -46,6 +48,12 @@ returns-clause-shown g c taken =
       file = o.file;
       bytes = o.bytes;
       holds = o.holds;
-      means = (_, o.means, c.refute.ensures.shown);
+      means = (
+        (_, o.means),
+        λ q is.
+            let one = c.encodings_are_one.ensures o.file c.args.k c.args.optimize _ _ q.encoded.circuit q.encoded.unrolled _ q.encoded.clauses o.means.0 is.0 in
+            let further = o.means.1.exact ∙ ap₂ (λ d u. query_clauses d c.args.k u) one.0 one.1 ∙ sym is.1.exact in
+            told_alike _ q.encoded.clauses _ q.extra _ c.refute.result one.2 further c.refute.ensures.shown,
+      );
       taken = o.taken;
     }

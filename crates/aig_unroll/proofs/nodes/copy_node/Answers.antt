@@ -31,7 +31,7 @@ returns-in-And-clause-copies c =
     let new = c.new_and_node.new.nodes.items in
     let is = kind_read c.args.from.now.nodes c.nodes.result.now c.args.id (And a b) c.typ.result.now c.requires.there c.nodes.ensures.value c.typ.ensures c.in-And.is in
     let ensures = c.new_and_node.ensures in
-    from_both c.new_and_node.result _ _ _ (λ e rule gives. gate a b is ensures.gates (at_most_one_more old new c.image_of-first.result c.image_of-second.result e rule)
+    from_both c.new_and_node.result _ _ _ (λ e rule gives. gate a b is (rw (c.image_of-first.ensures, c.image_of-second.ensures) at rule) ensures.gates (at_most_one_more old new c.image_of-first.result c.image_of-second.result e rule)
     (rw (c.image_of-first.ensures, c.image_of-second.ensures) at gives)) ensures.rule ensures.gives
 
 pub returns-in-False-clause-copies : goal.returns-in-False-clause-copies

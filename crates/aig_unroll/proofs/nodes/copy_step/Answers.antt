@@ -4,7 +4,7 @@ use Rattle.aig_circuit.specs.declared.node.AigNodeType.TheVariants.{Leaf}
 use Rattle.aig_circuit.proofs.Trees.{kind_at-within}
 use Rattle.aig_unroll.specs.Step.{HasLatchImages, CopiesAll, CopiesBelow, image_at}
 use Rattle.aig_unroll.proofs.Counted.{all_copies}
-use Rattle.aig_unroll.proofs.Table.{as_many_latchs, latch_images, marks_latches}
+use Rattle.aig_unroll.proofs.Table.{as_many_latchs, latch_images, marks_latches, state_of}
 use Rattle.aig_unroll.proofs.nodes.copy_step.Goals as goal
 
 pub copy_nodes-requires-clause-latches : goal.copy_nodes-requires-clause-latches
@@ -27,8 +27,12 @@ returns-clause-copies c =
     let has = subst (λ l. HasLatchImages l current (length l) c.len.result c.set_latch_images.new.images) c.latchs.ensures.value c.set_latch_images.ensures in
     let same = sym (as_many_latchs current from.latchs c.requires.leaves) in
     let placed : map (image_at before) (latch_leaves from.latchs) ≡ next_edges current = latch_images from c.latchs.ensures.circuit current c.len.result before same has in
+    let unset : c.len.result ≡ length old = omega arith in
+    let state =
+    state_of from c.latchs.ensures.circuit current (length old) before same (subst (λ n. HasLatchImages from.latchs current (length from.latchs) n before) unset has)
+    (c.set_latch_images.auto.images ∙ c.requires.table) c.requires.leaves c.requires.next in
     on_ok_weaker {P = (CopiesBelow from old new before images (length from.nodes))} {Q = (CopiesAll from current old new images)} c.copy_nodes.result
-    (λ copies. all_copies from c.latchs.ensures.circuit current old new before images placed copies) c.copy_nodes.ensures.copies
+    (λ copies. all_copies from c.latchs.ensures.circuit current old new before images placed state copies) c.copy_nodes.ensures.copies
 
 pub set_latch_images-requires-clause-lengths : goal.set_latch_images-requires-clause-lengths
 set_latch_images-requires-clause-lengths c = ap length c.latchs.ensures.value ∙ sym (as_many_latchs c.args.latchs.now c.args.from.now.latchs c.requires.leaves)
