@@ -39,6 +39,7 @@ opt -fine -noff -keepdc
 setattr -unset hdlname w:*
 setattr -set outer 1 w:* w:*.* %d
 opt_clean -purge
+setundef -undriven -undef
 delete t:$anyseq
 setundef -undriven -expose
 write_rtlil free.il
