@@ -118,7 +118,8 @@ def path_faults(folder):
     for name in NAMES:
         (here / name).write_text(UNSAFE)
         words = [PROVE, "--engine", "steps", name]
-        done = subprocess.run(words, cwd=here, capture_output=True, encoding="utf-8", env={**os.environ, "TMPDIR": str(here)})
+        environment = {**os.environ, "TMPDIR": str(here)}
+        done = subprocess.run(words, cwd=here, capture_output=True, encoding="utf-8", env=environment)
         shown = name.replace("\n", "\\x0a")
         if done.returncode != 10 or f"assertion top.low ({shown}:3." not in done.stdout:
             yield f"{shown}: ended with status {done.returncode}: {done.stdout}{done.stderr}"

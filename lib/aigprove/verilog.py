@@ -5,7 +5,8 @@ net or a bit without a driver and each x. So each gets a free value, an input of
 import os
 import re
 
-from aigprove.netlist import cells_like, cells_of, check_drivers, clock_of, constants, free_names, item_of_x, opened, reached, roots_of, stored
+from aigprove.netlist import cells_like, cells_of, check_drivers, clock_of, constants, free_names, item_of_x, opened, reached
+from aigprove.netlist import roots_of, stored
 from aigprove.programs import Fault
 from aigprove.yosys import Yosys
 
@@ -54,10 +55,9 @@ write_rtlil named.il
 {reset}
 formalff -clk2ff -ff2anyinit
 {clock}
-opt -noff -keepdc
 techmap
 setundef -undriven -anyseq
-opt -noff -keepdc
+opt -fast -noff -keepdc
 abc -g AND
 opt_clean
 formalff -anyinit2ff -fine
