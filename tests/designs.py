@@ -109,7 +109,7 @@ def verilog_faults(words, wanted_status, wanted, folder):
 
 
 def path_faults(folder):
-    """What is wrong where a path has signs that yosys would take for a pattern or a command: another file is asked about, or one is made."""
+    """What is wrong where a path has signs that are a pattern or a command to yosys: another file is asked about, or one is made."""
     here = folder / "begin\n!touch made;\"`touch made`"
     here.mkdir()
     (here / "q1.v").write_text(SAFE)

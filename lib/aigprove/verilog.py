@@ -113,9 +113,9 @@ class Design:
         """Reads the design as far as its top module has it, and gives lines of what isn't asked about."""
         every, below = self.read_below(top and f"-top {top}" or "-auto-top")
         others = [] if top else [name for name in roots_of(every) if name not in below]
-        if others and not asked_below(every, below):
-            # The one below which most assertions are, or the last of these.
-            better = max(reversed(roots_of(every)), key=lambda name: asked_below(every, reached(every, name)))
+        # Where yosys takes one without an assertion: the one below which most are, or the last of these.
+        better = max(reversed(others), key=lambda name: asked_below(every, reached(every, name)), default="")
+        if not asked_below(every, below) and asked_below(every, reached(every, better)) and WORD.fullmatch(better):
             others = [name for name in roots_of(every) if name != better]
             every, below = self.read_below(f"-top {better}")
         lines = [f"{name} is a top module too, and not asked about" for name in others]
