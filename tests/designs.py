@@ -3,9 +3,9 @@
 
 For each file of tests/designs the answer has to come within SECONDS (60), and to be the one of answers.tsv, which bmc3 and pdr of ABC
 agree on: a bad state at that step or a later one, or none at any step. Those in Verilog, which yosys makes files, if it is there, stand
-in the rows of tests/verilog, and some have paths that are patterns or commands to yosys. What is kept is shown again by check.sh. It isn't with the first bad literal of the file's copy or of the
-certificate inverted, with another bad state or no end in the witness, or with a sign before a proof that is no step, where unit
-propagation alone doesn't show the line."""
+in the rows of tests/verilog, and some have paths that are patterns or commands to yosys. What is kept is shown again by check.sh. It
+isn't with the first bad literal of the file's copy or of the certificate inverted, with another bad state or no end in the witness, or
+with a sign before a proof that is no step, where unit propagation alone doesn't show the line."""
 import os
 import shlex
 import shutil
