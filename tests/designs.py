@@ -3,9 +3,10 @@
 
 For each file of tests/designs the answer has to come within SECONDS (60), and to be the one of answers.tsv, which bmc3 and pdr of ABC
 agree on: a bad state at that step or a later one, or none at any step. Those in Verilog, which yosys makes files, if it is there, stand
-in the rows of tests/verilog. What is kept is shown again by check.sh. It isn't with the first bad literal of the file's copy or of the
-certificate inverted, with another bad state or no end in the witness, or with a sign before a proof that is no step, where unit
-propagation alone doesn't show the line."""
+in the rows of tests/verilog, and some have paths that are patterns or commands to yosys. What is kept is shown again by check.sh. It
+isn't with the first bad literal of the file's copy or of the certificate inverted, with another bad state or no end in the witness, or
+with a sign before a proof that is no step, where unit propagation alone doesn't show the line."""
+import os
 import shlex
 import shutil
 import subprocess
@@ -17,6 +18,13 @@ from harness import CHECK, PROVE, TESTS, TOP, rows
 from aigprove.aiger import Header, Lines
 
 DESIGNS = TESTS / "designs"
+# A design that another file is beside, and names for it.
+UNSAFE = """`include "q.vh"
+module top(input clk, input d); reg q = `INITIAL; always @(posedge clk) q <= d;
+  low: assert property (!q); endmodule
+"""
+SAFE = "module top(input clk); reg q = 0; always @(posedge clk) q <= 0; low: assert property (!q); endmodule\n"
+NAMES = ["q[1].v", "q?.v", 'a "q;.v', "q\n!touch made\n.v", "q $(touch made).v", "q'#%{x}.sv"]
 
 
 def is_right(answer, status, printed):
@@ -93,11 +101,30 @@ def file_faults(design, answer, folder, seconds):
 def verilog_faults(words, wanted_status, wanted, folder):
     """What is wrong of an answer about a design in Verilog, which is looked for by the engines that find the first step."""
     status, printed, said = answered(["--engine", "steps,windows", "--keep", folder, *words.split()])
-    lines = (printed if wanted_status != "1" else said).splitlines()
+    lines = (printed + said).splitlines()
     if status != int(wanted_status) or not all(any(line.startswith(it) for line in lines) for it in wanted):
         yield f"ended with status {status}: {printed}{said}"
-    if wanted_status != "1":
+    if wanted_status in ("10", "20"):
         yield from kept_faults(folder)
+
+
+def path_faults(folder):
+    """What is wrong where a path has signs that are a pattern or a command to yosys: another file is asked about, or one is made."""
+    here = folder / "begin\n!touch made;\"`touch made`"
+    here.mkdir()
+    (here / "q1.v").write_text(SAFE)
+    (here / '"q').write_text("")
+    (here / "q.vh").write_text("`define INITIAL 1'b1\n")
+    for name in NAMES:
+        (here / name).write_text(UNSAFE)
+        words = [PROVE, "--engine", "steps", name]
+        environment = {**os.environ, "TMPDIR": str(here)}
+        done = subprocess.run(words, cwd=here, capture_output=True, encoding="utf-8", env=environment)
+        shown = name.replace("\n", "\\x0a")
+        if done.returncode != 10 or f"assertion top.low ({shown}:3." not in done.stdout:
+            yield f"{shown}: ended with status {done.returncode}: {done.stdout}{done.stderr}"
+    if made := sorted({it.name for it in here.iterdir()} - {"q1.v", '"q', "q.vh", *NAMES}):
+        yield f"there is {made}"
 
 
 def main():
@@ -106,6 +133,7 @@ def main():
         for design, answer in rows(DESIGNS / "answers.tsv"):
             tally.wants(design, [], list(file_faults(design, answer, folder / design, seconds)))
         if shutil.which("yosys"):
+            tally.wants("paths", [], list(path_faults(folder)))
             for i, (words, status, *wanted) in enumerate(rows(TESTS / "verilog" / "answers.tsv")):
                 tally.wants(words, [], list(verilog_faults(words, status, wanted, folder / str(i))))
         else:

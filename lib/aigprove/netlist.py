@@ -121,8 +121,12 @@ def check_drivers(top, module):
     for name in open_bits + [name for name, net in module["netnames"].items() if "z" in net["bits"]]:
         raise Fault(f"{top}: {name} is z at times, and tristate is not taken")
     inputs = [(name, bit) for name, port in module["ports"].items() if port["direction"] == "input" for bit in port["bits"]]
+    read = {bit for port in module["ports"].values() for bit in port["bits"]}
+    for cell in module["cells"].values():
+        read.update(bit for port, bits in cell["connections"].items() if cell["port_directions"].get(port) != "output" for bit in bits)
     for name, bit in inputs + [(names.get(bit), bit) for cell in valued for bit in outputs(cell)]:
-        if bit in driven or isinstance(bit, str):
+        # One that nothing reads may be the variable of loops.
+        if isinstance(bit, str) or bit in driven and bit in read:
             raise Fault(f"{top}: {name} has several drivers")
         driven.add(bit)
 

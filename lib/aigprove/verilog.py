@@ -5,7 +5,8 @@ net or a bit without a driver and each x. So each gets a free value, an input of
 import os
 import re
 
-from aigprove.netlist import cells_like, cells_of, check_drivers, clock_of, constants, free_names, item_of_x, opened, reached, roots_of, stored
+from aigprove.netlist import cells_like, cells_of, check_drivers, clock_of, constants, free_names, item_of_x, opened, reached
+from aigprove.netlist import roots_of, stored
 from aigprove.programs import Fault
 from aigprove.yosys import Yosys
 
@@ -39,6 +40,7 @@ opt -fine -noff -keepdc
 setattr -unset hdlname w:*
 setattr -set outer 1 w:* w:*.* %d
 opt_clean -purge
+setundef -undriven -undef
 delete t:$anyseq
 setundef -undriven -expose
 write_rtlil free.il
@@ -53,10 +55,9 @@ write_rtlil named.il
 {reset}
 formalff -clk2ff -ff2anyinit
 {clock}
-opt -noff -keepdc
 techmap
 setundef -undriven -anyseq
-opt -noff -keepdc
+opt -fast -noff -keepdc
 abc -g AND
 opt_clean
 formalff -anyinit2ff -fine
@@ -112,9 +113,9 @@ class Design:
         """Reads the design as far as its top module has it, and gives lines of what isn't asked about."""
         every, below = self.read_below(top and f"-top {top}" or "-auto-top")
         others = [] if top else [name for name in roots_of(every) if name not in below]
-        if others and not asked_below(every, below):
-            # The one below which most assertions are, or the last of these.
-            better = max(reversed(roots_of(every)), key=lambda name: asked_below(every, reached(every, name)))
+        # Where yosys takes one without an assertion: the one below which most are, or the last of these.
+        better = max(reversed(others), key=lambda name: asked_below(every, reached(every, name)), default="")
+        if not asked_below(every, below) and asked_below(every, reached(every, better)) and WORD.fullmatch(better):
             others = [name for name in roots_of(every) if name != better]
             every, below = self.read_below(f"-top {better}")
         lines = [f"{name} is a top module too, and not asked about" for name in others]

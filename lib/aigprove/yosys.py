@@ -77,20 +77,27 @@ class Yosys:
         return self.printed(["env", "-C", self.folder, "TMPDIR=.", "yosys", "script.ys"])
 
     def printed(self, words, **streams):
-        """What a run prints."""
+        """What a run prints, which has to end with status 0."""
         with tempfile.TemporaryFile() as out:
-            group = self.programs.start(words, stdout=out, stderr=subprocess.STDOUT, **streams)
-            left = max(self.deadline - time.monotonic(), 0)
-            timer = threading.Timer(min(left, threading.TIMEOUT_MAX), group.signal, [signal.SIGKILL])
-            timer.daemon = True
-            timer.start()
-            status = self.programs.finish(group)
-            timer.cancel()
+            status = self.status(words, stdout=out, stderr=subprocess.STDOUT, **streams)
             out.seek(0)
             said = plain(out.read())
-        if status != 0 and time.monotonic() >= self.deadline:
-            raise Late(f"{self.path}: yosys was still reading it when the time was over")
         if status != 0:
             why = [line for line in said.splitlines() if "ERROR: " in line]
             raise Fault(self.told(why[0]) if why else f"yosys {ending(status)}")
         return said
+
+    def status(self, words, **streams):
+        """The status of a run, which is ended where the time is over."""
+        late, left = Late(f"{self.path}: yosys was still at it when the time was over"), self.deadline - time.monotonic()
+        if left <= 0:
+            raise late
+        group = self.programs.start(words, **streams)
+        timer = threading.Timer(min(left, threading.TIMEOUT_MAX), group.signal, [signal.SIGKILL])
+        timer.daemon = True
+        timer.start()
+        status = self.programs.finish(group)
+        timer.cancel()
+        if status != 0 and time.monotonic() >= self.deadline:
+            raise late
+        return status

@@ -1,0 +1,38 @@
+#!/usr/bin/env python3
+"""Measures bin/aigprove on the designs in Verilog of tests/verilog and examples: verilog.py [OTHER [TIMES]]
+
+For each design: processor seconds of this tree's aigprove and of that in the tree OTHER, with all that they run, each the best of TIMES
+(3) runs by turns, both with this tree's programs and the same engines. The last row has the sums over the designs that both answer."""
+import pathlib
+import sys
+
+from measuring import CHECK, EDIT, TESTS, TOOL, TOP, heads, row, run
+
+WORDS = ["--engine", "steps,windows", "--timeout", "60", "--aigtool", TOOL, "--aigedit", EDIT, "--aigcheck", CHECK]
+ANSWERS = (10, 20)
+
+
+def seconds(tree, design):
+    """Processor seconds of one run, with all that it runs; None where it gives no answer."""
+    status, took, _ = run([tree / "bin" / "aigprove", *WORDS, design])
+    return took if status in ANSWERS else None
+
+
+def main():
+    trees = [TOP, *map(lambda path: pathlib.Path(path).resolve(), sys.argv[1:2])]
+    times = int(sys.argv[2]) if len(sys.argv) > 2 else 3
+    sums = [0] * len(trees)
+    heads("design", *trees)
+    for design in sorted([*(TESTS / "verilog").glob("*v"), *(TOP / "examples").glob("*.v")]):
+        runs = [[seconds(tree, design) for tree in trees] for _ in range(times)]
+        if all(None not in run for run in runs):
+            best = [min(of_tree) for of_tree in zip(*runs)]
+            sums = [sum(it) for it in zip(sums, best)]
+            row(design.name, *(f"{took:.2f}" for took in best))
+    row("sum", *(f"{it:.2f}" for it in sums))
+    if len(trees) > 1:
+        print(f"ratio {sums[0] / sums[1]:.2f}")
+
+
+if __name__ == "__main__":
+    main()
