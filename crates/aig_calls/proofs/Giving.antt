@@ -20,7 +20,8 @@ answer_own IsOwn zero lt has_done has_small = has_done
 answer_own IsOwn (suc zero) lt has_done has_small = has_small
 answer_own IsOwn (suc (suc n)) lt has_done has_small = absurd (omega (arith, lt))
 
--- what a status tells where nothing was made is told by that of what is put into the caller's memory
+-- what a status tells where nothing was made is told by that of what is put into the caller's
+-- memory
 pub put_told : {X : Type 0} (Told : ℕ → Type 0) → ((n : ℕ) → n < 2 → Told n)
     → (made : Result (Vec X Global) ℕ) (status : ℕ) (old new : List X) (before needed : ℕ)
     → IfErr made Told → Puts made status old new before needed → Told status

@@ -1,5 +1,5 @@
--- A circuit whose constraints were joined to its first bad edge has the witnesses of the old one, where it had no
--- constraint, or at most one bad edge.
+-- A circuit whose constraints were joined to its first bad edge has the witnesses of the old one,
+-- where it had no constraint, or at most one bad edge.
 use Rattle.aig_base.proofs.Words.{◌≡◌, ℕ, ◌≤◌, ◌⊎◌, ◌↔◌, Bool, true, false, ◌||◌, List, [], ◌∷◌, length, drop, IsTrue, get_or, refl, sym, ap, subst, ◌∙◌, inl, inr, arith, All, slice_get, list_any, false≢true, All-head, All-nil, All-tail}
 use Rattle.aig_circuit.specs.declared.edge.AigEdge.{AigEdge}
 use Rattle.aig_circuit.proofs.Words.{Circuit, IsCircuit, IsInRange, IsLeaf, edge_value}
@@ -36,16 +36,20 @@ module _ (fixes : FixesValues) (old new : Circuit) (is : IsCircuit old) (folds :
       → list_any (edge_value new.nodes x) es ≡ list_any (edge_value old.nodes x) es
   any_value x [] all = refl
   any_value x (e ∷ es) all =
-      ap (λ b. b || list_any (edge_value new.nodes x) es) (value x e (All-head (IsInRange old.nodes) e es all))
-      ∙ ap (λ b. edge_value old.nodes x e || b) (any_value x es (All-tail (IsInRange old.nodes) e es all))
+      ap (λ b. b || list_any (edge_value new.nodes x) es)
+          (value x e (All-head (IsInRange old.nodes) e es all))
+      ∙ ap (λ b. edge_value old.nodes x e || b)
+          (any_value x es (All-tail (IsInRange old.nodes) e es all))
 
-  -- a run from an initial state shows the new bad edges exactly where it shows the old ones under the constraints
+  -- a run from an initial state shows the new bad edges exactly where it shows the old ones under the
+  -- constraints
   module _ (k : ℕ) (z : ℕ → ℕ → Bool) (run : IsRunFromInitial new k z) where
     -- the constraints hold where a bad edge but the first one does
     others_held : AreJoined old → (e : AigEdge) (es : List AigEdge) → e ∷ es ≡ old.properties.bads
         → IsTrue (list_any (edge_value old.nodes (z k)) es) → ConstraintsHoldUpTo old k z
     others_held (inl none) e es at bad =
-        λ t h. subst (All (λ (c : AigEdge). IsTrue (edge_value old.nodes (z t) c))) (sym none) (All-nil _)
+        λ t h. subst (All (λ (c : AigEdge). IsTrue (edge_value old.nodes (z t) c))) (sym none)
+            (All-nil _)
     others_held (inr few) e [] at bad = absurd (false≢true bad)
     others_held (inr few) e (d ∷ es) at bad =
         absurd (omega (arith, subst (λ (l : List AigEdge). length l ≤ 1) (sym at) few))
@@ -55,7 +59,8 @@ module _ (fixes : FixesValues) (old new : Circuit) (is : IsCircuit old) (folds :
         → IsTrue (edge_value new.nodes (z k) f)
         ↔ (IsTrue (edge_value old.nodes (z k) e) × ConstraintsHoldUpTo old k z)
     at_first e f es fs at to = folds.bads.first k z run k e f (omega arith)
-        (ap (λ (l : List AigEdge). slice_get l 0) (sym at)) (ap (λ (l : List AigEdge). slice_get l 0) (sym to))
+        (ap (λ (l : List AigEdge). slice_get l 0) (sym at))
+        (ap (λ (l : List AigEdge). slice_get l 0) (sym to))
 
     -- all bad edges but the first one stay
     others_same : (e f : AigEdge) (es fs : List AigEdge) → e ∷ es ≡ old.properties.bads
@@ -67,7 +72,8 @@ module _ (fixes : FixesValues) (old new : Circuit) (is : IsCircuit old) (folds :
         ap (list_any (edge_value new.nodes (z k))) same
         ∙ any_value (z k) es (All-tail (IsInRange old.nodes) e es all)
 
-    shown : AreJoined old → (es fs : List AigEdge) → es ≡ old.properties.bads → fs ≡ new.properties.bads
+    shown : AreJoined old → (es fs : List AigEdge) → es ≡ old.properties.bads
+        → fs ≡ new.properties.bads
         → length fs ≡ length es → IsTrue (list_any (edge_value new.nodes (z k)) fs)
         → IsTrue (list_any (edge_value old.nodes (z k)) es) × ConstraintsHoldUpTo old k z
     shown joined [] [] at to same bad = absurd (false≢true bad)
@@ -136,7 +142,8 @@ module _ (fixes : FixesValues) (old new : Circuit) (is : IsCircuit old) (folds :
             is_run = longer.1.run;
             start = longer.1.start;
             constraints = λ t h. subst (All (λ (e : AigEdge). IsTrue (edge_value new.nodes (z t) e))) (sym folds.constraints) (All-nil _);
-            bad = shows k z longer.1 old.properties.bads new.properties.bads refl refl folds.bads.count bad held;
+            bad = shows k z longer.1 old.properties.bads new.properties.bads refl refl folds.bads.count
+                bad held;
           },
         )
 
