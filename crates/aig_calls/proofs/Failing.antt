@@ -130,8 +130,10 @@ module _ (k : ℕ) (optimize : Bool) (limit : ℕ) (bytes text : List ℕ) (stat
           },
         ),
       )
-  step_told (errors.Answer e) own judges tells says = no_solution (FailsStep k optimize text) limit bytes status says
-  step_told errors.Write own judges tells says = no_solution (FailsStep k optimize text) limit bytes status says
+  step_told (errors.Answer e) own judges tells says =
+      no_solution (FailsStep k optimize text) limit bytes status says
+  step_told errors.Write own judges tells says =
+      no_solution (FailsStep k optimize text) limit bytes status says
   step_told e own judges tells says = absurd own
 
   -- or of its question

@@ -212,8 +212,8 @@ pub record TellsMisfit (pairing : Pairing) (limit : ℕ) (bytes others : List �
 -- what is said of the text of the circuit of two files is the verdict on it
 abbrev pub TellsJoint : Pairing → (File → Verdict) → ℕ → List ℕ → List ℕ → Option Verdict → Type 0
 TellsJoint pairing of limit bytes others said =
-    IfSome said (λ v. AreFilesWith limit bytes others (λ f g. (m : Circuit) × IsJointOf pairing f g m
-    × IsVerdictOn of limit (text_of m) v))
+    IfSome said (λ v. AreFilesWith limit bytes others
+    (λ f g. (m : Circuit) × IsJointOf pairing f g m × IsVerdictOn of limit (text_of m) v))
 
 -- what a call that gives an answer about two files does
 pub record GivesPair (pairing : Pairing) (limit : ℕ) (Means : File → File → List ℕ → Type 0)
