@@ -137,7 +137,7 @@ class Batch:
         if self.told:
             (self.told / f"{self.crate.name}.{self.rounds}").write_bytes(said)
         if status < 0:
-            sys.exit(f"{self.crate.name}: the check was killed, most likely for memory")
+            raise MemoryError(f"{self.crate.name}: a check was killed, most likely for memory")
         return said.decode("utf-8", "replace")
 
     def in_one(self, edits):
@@ -231,7 +231,10 @@ def try_these(crates, given):
     with concurrent.futures.ThreadPoolExecutor(given.jobs) as pool:
         runs = {pool.submit(try_all, crate, edits_of(crate.name), given.told): crate for crate in crates}
         for run in concurrent.futures.as_completed(runs):
-            report(runs[run], run.result(), given.write, tally)
+            if run.exception():
+                tally.check(False, repr(run.exception()))
+            else:
+                report(runs[run], run.result(), given.write, tally)
     return tally.end()
 
 

@@ -15,8 +15,11 @@ FUNCTION = re.compile(r"fn (\S+): (.*)")
 NOTE = re.compile(r"note: \S+:\d+:\d+: .*?\(`([^`]+)`\)(.*)")
 FALSE = "allow values at which this goal is false"
 SEARCHED = re.compile(r"`search` did not prove ((?:`[^`]+`(?:, )?)+)")
-ANSWER = re.compile(r"(?:\./)?proofs/(\S+)/\w+\.antt:\d+:\d+: error: (?:`([^`]+)`: )?(.*)")
+ANSWER = re.compile(r"(?:\./)?proofs/(\S+)/(?:Answers|Given|Invariants|Proof)\.antt:\d+:\d+: error: (?:`([^`]+)`: )?(.*)")
 NAME = re.compile(r"has no field|is not in scope|has no `|was not admitted")
+# A lemma that no longer holds, as one that computes a table of the code, and what rests on it.
+LEMMA = re.compile(r"(?:\./)?proofs/\S+\.antt:\d+:\d+: error: (?:`([^`]+)`: )?(.*)")
+RESTS = re.compile(r"that depends? on `([^`]+)`, which was \D+, w\w+ not checked: (.*)")
 # An error in src is a law of an impl that doesn't hold, if it has the law's name, and else, as in specs, a text that can't be read.
 LAW = re.compile(r"(?:\./)?(?:src|specs)/(\S+)\.\w+:\d+:\d+: error(?:: `([^`]+)`)?(.*)")
 # An error's line goes on in the next.
@@ -47,22 +50,30 @@ def take_notes(state, notes, line):
     state.wrong |= {goal for goal, rest in notes if FALSE in rest}
 
 
+def refused(name, why, broken):
+    """The names that an error in a proof refuses for what they say: its own, or those that rest on a lemma that is broken."""
+    if rests := RESTS.search(why):
+        return set(rests[2].split(", ")) if rests[1] in broken else set()
+    return {name} if name and not NAME.search(why) else set()
+
+
 def states(said):
     """What a check said of each function, by its name; None where it didn't come to that."""
-    found, notes = collections.defaultdict(State), []
+    found, notes, broken = collections.defaultdict(State), [], set()
     for line in WRAPPED.sub(r"\1 ", said).splitlines():
         notes += NOTE.findall(line)
         if answer := ANSWER.match(line):
-            state, is_name = found[answer[1].replace("/", "::")], bool(NAME.search(answer[3]))
-            state.by_name |= is_name
-            state.wrong |= {answer[2]} if GOAL.match(answer[2] or "") and not is_name else set()
+            state, names, rests = found[answer[1].replace("/", "::")], refused(answer[2], answer[3], broken), RESTS.search(answer[3])
+            state.by_name |= not names and not (rests and rests[1] in state.wrong)
+            state.wrong |= set(filter(GOAL.match, names))
+        elif lemma := LEMMA.match(line):
+            broken |= refused(lemma[1], lemma[2], broken)
         elif law := LAW.match(line):
             if not law[2] or NAME.search(law[3]):
                 return None
             found[law[1].replace("/", "::")].wrong.add(law[2])
         elif function := FUNCTION.match(line):
-            state = found[function[1].partition("::")[2]]
-            take_notes(state, notes, line)
+            take_notes(found[function[1].partition("::")[2]], notes, line)
             notes = []
     return found if any(state.status for state in found.values()) else None
 
