@@ -37,9 +37,9 @@ module _ (fixes : FixesValues) (old new : Circuit) (is : IsCircuit old) (folds :
   any_value x [] all = refl
   any_value x (e ∷ es) all =
       ap (λ b. b || list_any (edge_value new.nodes x) es)
-          (value x e (All-head (IsInRange old.nodes) e es all))
+      (value x e (All-head (IsInRange old.nodes) e es all))
       ∙ ap (λ b. edge_value old.nodes x e || b)
-          (any_value x es (All-tail (IsInRange old.nodes) e es all))
+      (any_value x es (All-tail (IsInRange old.nodes) e es all))
 
   -- a run from an initial state shows the new bad edges exactly where it shows the old ones under the
   -- constraints
@@ -49,7 +49,7 @@ module _ (fixes : FixesValues) (old new : Circuit) (is : IsCircuit old) (folds :
         → IsTrue (list_any (edge_value old.nodes (z k)) es) → ConstraintsHoldUpTo old k z
     others_held (inl none) e es at bad =
         λ t h. subst (All (λ (c : AigEdge). IsTrue (edge_value old.nodes (z t) c))) (sym none)
-            (All-nil _)
+        (All-nil _)
     others_held (inr few) e [] at bad = absurd (false≢true bad)
     others_held (inr few) e (d ∷ es) at bad =
         absurd (omega (arith, subst (λ (l : List AigEdge). length l ≤ 1) (sym at) few))
