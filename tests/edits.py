@@ -8,8 +8,9 @@ It fails if it no longer applies, doesn't compile, is proved, or is refused else
 what the body lacks and no goal speaks: it fails too, unless tests/edits/lemmas.tsv names the lemma that rejects what such a body gives.
 
 With no words this tries the crates whose texts, edits and crates below aren't those that tests/edits/tried.tsv has a hash of; --all
-tries all. --write writes the lines `refused:` and the hash of each crate whose edits are all refused. --selftest tries those of
-tests/unfit, which have to fail as their lines `fails:` say.
+tries all. A crate that has no row there, as its edits don't all name their goals yet, is named and passed over. --write writes the lines
+`refused:` and the hash of each crate whose edits are all refused. --selftest tries those of tests/unfit, which have to fail as their
+lines `fails:` say.
 """
 import concurrent.futures
 import hashlib
@@ -251,6 +252,14 @@ def try_unfit(known, told):
     return tally.end()
 
 
+def changed(crates):
+    """Those of some crates whose hash isn't that at which all their edits were refused. Crates that have none are named."""
+    tried = dict(harness.rows(TRIED))
+    if unknown := [crate.name for crate in crates if crate.name not in tried]:
+        print(f"not all edits name their goals yet, so none is tried: {', '.join(unknown)}")
+    return [crate for crate in crates if crate.name in tried and tried[crate.name] != hash_of(crate)]
+
+
 def main():
     parser = harness.parser(__doc__)
     parser.add_argument("names", nargs="*", metavar="NAME", help="the crates whose edits are tried")
@@ -262,10 +271,9 @@ def main():
     given, known = parser.parse_args(), {}
     if given.selftest:
         return try_unfit(known, given.told)
-    names = given.names or [name for name in harness.crates() if edits_of(name)]
-    crates = [kit.crate(TOP / "crates" / name, TOP, known) for name in names]
-    tried = {} if given.all or given.names else dict(harness.rows(TRIED))
-    crates = [crate for crate in crates if tried.get(crate.name) != hash_of(crate)]
+    crates = [kit.crate(TOP / "crates" / name, TOP, known) for name in given.names or [name for name in harness.crates() if edits_of(name)]]
+    if not (given.all or given.names):
+        crates = changed(crates)
     if unproved := [crate.name for crate in crates if not libraries(crate)]:
         sys.exit(f"a library isn't proved below {unproved[0]}")
     if not crates:
