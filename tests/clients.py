@@ -91,8 +91,10 @@ def table_rows():
 
 
 def told(program, printed):
-    """What a row's words give through a call: the status, the output and what is said, without the number of a step."""
+    """What a row's words give through a call: the status, the output and what is said, without the number of a step and what a program
+    tells beside its answer."""
     status, out, said = answers.wanted_of(program, spelled(printed))
+    said = harness.alone(said)
     for numbered, plain in NUMBERED:
         said = re.sub(numbered, plain, said)
     return status, out, said

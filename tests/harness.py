@@ -37,7 +37,7 @@ SPELLED = re.compile(r"\\n|\\x([0-9a-f]{2})")
 NAMED = re.compile(rb"^(aigcheck|aigedit): (?!query: |window: )[^ :]+: (?:(?:line|byte) \d+: )?", re.M)
 # What a program tells of files beside its answer.
 NOTICES = [b"justice and fairness were not looked at", b"compared only on runs that its constraints allow"]
-BESIDE = re.compile(rb"^aig(?:check|edit): .*: (?:%s)\n" % b"|".join(NOTICES), re.M)
+BESIDE = re.compile(rb"^aig(?:check|edit): (?:.*: )?(?:%s)\n" % b"|".join(NOTICES), re.M)
 
 
 def parser(doc, *programs):
