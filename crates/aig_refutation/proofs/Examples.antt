@@ -1,5 +1,7 @@
 -- What the definitions say of small proofs: some follow, and wrong ones are refused.
-use Rattle.std.proofs.Common.{◌≡◌, ℕ, true, false, inl, inr, List, [], ◌∷◌, ◌++◌, Option, None, Ok, Err, slice_get, refl, subst, arith}
+use Rattle.std.proofs.Common.{◌≡◌, ℕ, true, false, inl, inr, List, [], ◌∷◌, ◌++◌, Option, None, Some, Ok, Err, slice_get, refl, subst, arith}
+use Rattle.std.specs.Fmt.{digits}
+use Rattle.std.specs.Prelude.{codes}
 use Rattle.aig_base.specs.declared.logic.literal.Lit.{Lit}
 use Rattle.aig_base.specs.Clauses.{lit_to}
 use Rattle.aig_refutation.specs.declared.error.RefutationError.TheVariants as errors
@@ -8,10 +10,11 @@ use Rattle.aig_refutation.specs.Checking.{IsInConflict, IsPlainOutcome, Shows}
 use Rattle.aig_format.specs.Parse.{parse_groups}
 use Rattle.aig_refutation.specs.Binary.{binary_script, binary_steps_in, groups_in}
 use Rattle.aig_refutation.specs.Forms.{is_binary, plain_steps_in, steps_in}
-use Rattle.aig_refutation.specs.Proofs.{Script, after_clause, after_first, after_number, after_word, clause_from, line_in, plain_of}
+use Rattle.aig_refutation.specs.Proofs.{Script, after_clause, after_first, after_number, after_word, clause_from, clause_in, ended, line_in, numbers_from, numbers_in, plain_of, script_if, script_of}
 use Rattle.aig_refutation.specs.Propagation.{is_rup}
-use Rattle.aig_refutation.specs.Steps.{Adds, Deletes, Drops, Learns, PlainStep, Refute, is_refutation, without_one}
+use Rattle.aig_refutation.specs.Steps.{Adds, Deletes, Drops, Learns, PlainStep, Refute, Step, is_refutation, without_one}
 use Rattle.aig_refutation.specs.Text.{digits_after, lines_after, number_in, word_at, word_in, words_after, words_of}
+use Rattle.aig_refutation.specs.Written.{proof_text}
 use Rattle.aig_refutation.proofs.Plainly.{refutation_taken}
 
 -- a variable, and its inverse
@@ -251,3 +254,28 @@ module _ (text : Option (List ℕ)) where
   -- and where each has one, none is said to have none
   out_at_will : Shows 2 apart text (Err errors.Variable) → ⊥
   out_at_will shows = let wrong = shows.in_conflict refl apart_in_conflict in cc
+
+-- ---- texts that are written
+
+abbrev three_steps : List Step
+three_steps =
+    Adds 5 (plain 0 ∷ []) (1 ∷ 2 ∷ [])
+    ∷ Deletes (1 ∷ 2 ∷ [])
+    ∷ Adds 6 [] (5 ∷ 3 ∷ 4 ∷ [])
+    ∷ []
+
+written : proof_text 4 three_steps ≡ codes "5 1 0 1 2 0\n5 d 1 2 0\n6 0 5 3 4 0\n"
+unfolding proof_text digits
+written = refl
+
+-- a literal without the one that is added to its variable, and hints before literals: no step, or another one
+unshifted : steps_in 2 (codes "5 0 0 1 2 0\n") ≡ Some (record { steps = []; fault = errors.Line })
+unfolding script_if script_of words_of words_after word_at lines_after line_in word_in number_in digits_after after_first after_number after_word clause_from clause_in after_clause numbers_from ended
+unshifted = refl
+
+hints_first : steps_in 2 (codes "5 1 2 0 1 0\n") ≡ Some (record {
+  steps = Adds 5 (plain 0 ∷ plain 1 ∷ []) (1 ∷ []) ∷ [];
+  fault = errors.Unfinished;
+})
+unfolding script_if script_of words_of words_after word_at lines_after line_in word_in number_in digits_after after_first after_number after_word clause_from clause_in after_clause numbers_from numbers_in ended
+hints_first = refl

@@ -9,7 +9,7 @@ use Rattle.aig_refutation.specs.Propagation.{also, conflicts, is_rup, propagates
 use Rattle.aig_refutation.specs.Tables.{Holds, SaysSame, Table, clause_by, clause_in, entry_at, place_by, place_in}
 use Rattle.aig_refutation.proofs.Numbering.{named_by_place}
 
-conflicts_same : (r s : Reading) (f g : Lit → Bool) → r ≡ s → ((lit : Lit) → f lit ≡ g lit) →
+pub conflicts_same : (r s : Reading) (f g : Lit → Bool) → r ≡ s → ((lit : Lit) → f lit ≡ g lit) →
     conflicts r f ≡ conflicts s g
 conflicts_same r s f g e h = rw (← e) (by r)
   where

@@ -32,3 +32,9 @@ mod Plainly
 mod Groups
 mod Fronts
 mod BinarySteps
+mod WrittenWords
+mod WrittenLines
+mod WrittenProofs
+mod WrittenPlain
+mod WrittenBinary
+mod Turned

@@ -1,14 +1,15 @@
 //! Laws of refutations.
 
-ghost use Rattle.std.specs.Prelude.{◌≡◌, ℕ, Bool, Err, IsTrue, List, Ok, Option, Some};
+ghost use Rattle.std.specs.Prelude.{◌≡◌, ◌⊎◌, ◌^◌, ◌<◌, ◌≤◌, ◌∷◌, ℕ, All, Bool, Err, IsTrue, List, None, Ok, Option, Some, length, map, true};
 ghost use Rattle.aig_base.specs.declared.logic.literal.Lit.{Lit};
 ghost use Rattle.aig_base.specs.Clauses.{is_true_clause};
 ghost use Rattle.aig_base.specs.Formula.{IsSatisfiable};
 ghost use Rattle.aig_refutation.specs.declared.error.RefutationError.{RefutationError};
-ghost use Rattle.aig_refutation.specs.Checking.{IsPlainOutcome, shown_by};
-ghost use Rattle.aig_refutation.specs.Forms.{plain_steps_in};
+ghost use Rattle.aig_refutation.specs.Checking.{IsPlainOutcome, Shows, all_live, are_all_in, outcome, shown_by};
+ghost use Rattle.aig_refutation.specs.Forms.{is_binary, plain_steps_in, steps_in, telling};
 ghost use Rattle.aig_refutation.specs.Propagation.{is_rup};
-ghost use Rattle.aig_refutation.specs.Steps.{PlainStep, Refute, Step, is_refutation};
+ghost use Rattle.aig_refutation.specs.Steps.{Drops, Learns, PlainStep, Refute, Step, is_refutation};
+ghost use Rattle.aig_refutation.specs.Written.{IsNumber, IsPlainStep, IsStep, as_read, binary_text, plain_text, proof_text, step_bytes};
 
 /// Law: a clause that follows by reverse unit propagation is true wherever the clauses are among
 /// which its hints are looked up.
@@ -44,4 +45,63 @@ pub fn plain_refutations_are_taken()
     ensures { (variables : ℕ) (clauses : List (List Lit)) (bytes : List ℕ) (e : RefutationError)
         → let script = plain_steps_in variables bytes in
         IsPlainOutcome clauses script (Err e) → Refute clauses script.steps → ⊥ }
+{}
+
+/// Law: the steps of an LRAT file are read from the text that is written of them.
+pub fn proofs_are_read()
+    ensures { (variables last : ℕ) (step : Step) (steps : List Step) → variables < 2 ^ 32
+        → IsNumber last → All (IsStep variables) (step ∷ steps)
+        → steps_in variables (proof_text last (step ∷ steps))
+        ≡ Some (record { steps = step ∷ steps; fault = RefutationError.Unfinished }) }
+{}
+
+/// Law: the steps of a DRAT file are read from the text that is written of them, where the first literal of a clause that is added
+/// comes last; no line has a number.
+pub fn plain_proofs_are_read()
+    ensures { (variables : ℕ) (steps : List PlainStep) → variables < 2 ^ 32
+        → All (IsPlainStep variables) steps
+        → (steps_in variables (plain_text steps) ≡ None)
+        × (plain_steps_in variables (plain_text steps)
+        ≡ record { steps = map as_read steps; fault = RefutationError.Unfinished }) }
+{}
+
+/// Law: the steps of a binary DRAT proof are read from the bytes that are written of them, if these are taken for one: where the
+/// first step adds a clause, or drops one of few enough bytes.
+pub fn binary_proofs_are_read()
+    ensures read { (variables : ℕ) (steps : List PlainStep) → variables < 2 ^ 31
+        → All (IsPlainStep variables) steps → is_binary (binary_text steps) ≡ true
+        → (steps_in variables (binary_text steps) ≡ None)
+        × (plain_steps_in variables (binary_text steps)
+        ≡ record { steps = steps; fault = RefutationError.Unfinished }) }
+    ensures adds { (clause : List Lit) (steps : List PlainStep)
+        → is_binary (binary_text (Learns clause ∷ steps)) ≡ true }
+    ensures drops { (clause : List Lit) (steps : List PlainStep)
+        → length (step_bytes (Drops clause)) ≤ telling
+        → is_binary (binary_text (Drops clause ∷ steps)) ≡ true }
+{}
+
+/// Law: the text of an LRAT file that is written of steps which can all be taken, up to the empty clause, is refused for memory and
+/// the stream alone.
+pub fn written_proofs_are_taken()
+    ensures { (variables last : ℕ) (clauses : List (List Lit)) (steps : List Step)
+        (e : RefutationError) → variables < 2 ^ 32 → IsNumber last → All (IsStep variables) steps
+        → are_all_in variables clauses ≡ true
+        → outcome variables (all_live clauses) steps RefutationError.Unfinished ≡ Ok tt
+        → Shows variables clauses (Some (proof_text last steps)) (Err e)
+        → (e ≡ RefutationError.Memory) ⊎ (e ≡ RefutationError.Stream) }
+{}
+
+/// Law: so is that of a DRAT file, text or binary, which is written of steps that refute the clauses.
+pub fn written_plain_proofs_are_taken()
+    ensures text { (variables : ℕ) (clauses : List (List Lit)) (steps : List PlainStep)
+        (e : RefutationError) → variables < 2 ^ 32 → All (IsPlainStep variables) steps
+        → are_all_in variables clauses ≡ true → Refute clauses steps
+        → Shows variables clauses (Some (plain_text steps)) (Err e)
+        → (e ≡ RefutationError.Memory) ⊎ (e ≡ RefutationError.Stream) }
+    ensures binary { (variables : ℕ) (clauses : List (List Lit)) (steps : List PlainStep)
+        (e : RefutationError) → variables < 2 ^ 31 → All (IsPlainStep variables) steps
+        → is_binary (binary_text steps) ≡ true
+        → are_all_in variables clauses ≡ true → Refute clauses steps
+        → Shows variables clauses (Some (binary_text steps)) (Err e)
+        → (e ≡ RefutationError.Memory) ⊎ (e ≡ RefutationError.Stream) }
 {}

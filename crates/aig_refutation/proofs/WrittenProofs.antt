@@ -1,0 +1,113 @@
+-- Texts of LRAT files as they are written, and the steps that are read of them.
+use Rattle.aig_base.proofs.Words.{◌≡◌, ℕ, ◌^◌, ◌<◌, Bool, true, false, List, [], ◌∷◌, ◌++◌, map, Some, Ok, Err, inl, inr, ◌⊎◌, IfSome, option_map, refl, sym, ap, subst, ◌∙◌, append_assoc, append-nil, codes, flat_map, AllByRecursion, All, recursion_from_All}
+use Rattle.aig_base.specs.declared.logic.literal.Lit.{Lit}
+use Rattle.aig_base.specs.Clauses.{variable_of}
+use Rattle.aig_format.specs.Parse.{is_digit}
+use Rattle.aig_refutation.specs.declared.error.RefutationError.{RefutationError}
+use Rattle.aig_refutation.specs.declared.error.RefutationError.TheVariants as errors
+use Rattle.aig_refutation.specs.Checking.{IsInConflict, IsOutcome, Shows, all_live, are_all_in, outcome, shown_by}
+use Rattle.aig_refutation.specs.Forms.{steps_in}
+use Rattle.aig_refutation.specs.Proofs.{Numbered, is_comment, is_none, line_in, script_if, script_of}
+use Rattle.aig_refutation.specs.Steps.{Step, Adds, Deletes}
+use Rattle.aig_refutation.specs.Text.{begins, lines_of}
+use Rattle.aig_refutation.specs.Written.{IsNumber, IsStep, added_line, deleted_line, literal_text, number_text, proof_text}
+use Rattle.aig_refutation.proofs.WrittenLines.{added_read, added_words, deleted_read, deleted_words}
+use Rattle.aig_refutation.proofs.WrittenWords.{begins-number, reads_lines}
+use Rattle.aig_refutation.proofs.Texts.{end_first}
+
+-- a text that shows clauses to be in conflict isn't refused
+module _ (variables : ℕ) (clauses : List (List Lit)) (bytes : List ℕ) (fits : are_all_in variables clauses ≡ true) (is : shown_by variables clauses bytes ≡ Some (Ok tt)) where
+  no_error : (e : RefutationError) → IsOutcome variables clauses (Some bytes) (Err e) → ⊥
+  no_error e o =
+      let none : IsInConflict clauses → ⊥ = λ conflict. let wrong = o.in_conflict fits conflict in cc in
+      let same = subst (λ shown. IfSome shown (λ r. Err e ≡ r)) is (o.by_steps fits none) in
+      cc
+
+  pub not_refused : (e : RefutationError) → Shows variables clauses (Some bytes) (Err e) → (e ≡ errors.Memory) ⊎ (e ≡ errors.Stream)
+  not_refused errors.Memory shows = inl refl
+  not_refused errors.Stream shows = inr refl
+  not_refused e shows = absurd (no_error e shows)
+
+-- the number that a step's line begins with, and the words after it
+abbrev step_number : ℕ → Step → ℕ
+step_number last (Adds number clause hints) = number
+step_number last (Deletes numbers) = last
+
+abbrev step_words : Step → List (List ℕ)
+step_words (Adds number clause hints) = map literal_text clause ++ codes "0 " ∷ (map number_text hints ++ codes "0\n" ∷ [])
+step_words (Deletes numbers) = codes "d " ∷ (map number_text numbers ++ codes "0\n" ∷ [])
+
+module _ (variables : ℕ) (few : variables < 2 ^ 32) where
+  number_is : (last : ℕ) (step : Step) → IsNumber last → IsStep variables step → IsNumber (step_number last step)
+  number_is last (Adds number clause hints) before is = is.0
+  number_is last (Deletes numbers) before is = before
+
+  step_lines : (last : ℕ) (step : Step) (steps : List Step) → IsNumber last → IsStep variables step
+      → lines_of (proof_text last (step ∷ steps)) ≡ (number_text (step_number last step) ∷ step_words step) ∷ lines_of (proof_text (step_number last step) steps)
+  unfolding proof_text
+  step_lines last (Adds number clause hints) steps before is =
+      reads_lines _ _ _ (added_words variables few number is.0 (proof_text number steps) clause hints (recursion_from_All (λ lit. variable_of lit < variables) clause is.1) (recursion_from_All IsNumber hints is.2))
+  step_lines last (Deletes numbers) steps before is =
+      reads_lines _ _ _ (deleted_words variables few last before (proof_text last steps) numbers (recursion_from_All IsNumber numbers is))
+
+  step_read : (numbered is_last : Bool) (last : ℕ) (step : Step) → IsNumber last → IsStep variables step
+      → line_in numbered variables is_last (number_text (step_number last step)) (step_words step) ≡ Ok (Numbered step)
+  step_read numbered is_last last (Adds number clause hints) before is =
+      added_read variables few numbered is_last number is.0 clause hints (recursion_from_All (λ lit. variable_of lit < variables) clause is.1) (recursion_from_All IsNumber hints is.2)
+  step_read numbered is_last last (Deletes numbers) before is =
+      deleted_read variables few numbered is_last last before numbers (recursion_from_All IsNumber numbers is)
+
+  no_comment : (n : ℕ) → n < 2 ^ 32 → is_comment (number_text n) ≡ false
+  no_comment n small = rw (other 99 refl, other 112 refl) refl
+    where
+      other : (k : ℕ) → is_digit k ≡ false → begins k (number_text n) ≡ false
+      other k apart = ap (begins k) (sym (append-nil (number_text n))) ∙ begins-number k n small apart []
+
+  -- what is read after a step
+  script_of-written : (last : ℕ) (steps : List Step) → IsNumber last → AllByRecursion (IsStep variables) steps
+      → script_of variables (lines_of (proof_text last steps)) ≡ record { steps = steps; fault = errors.Unfinished }
+  unfolding script_of proof_text
+  script_of-written last [] before are = ap (script_of variables) end_first
+  script_of-written last (step ∷ steps) before are =
+      let number = step_number last step in
+      let is = number_is last step before are.0 in
+      let later = lines_of (proof_text number steps) in
+      rw (step_lines last step steps before are.0, no_comment number is.1, step_read true (is_none later) last step before are.0, script_of-written number steps is are.1) refl
+
+  script_if-written : (last : ℕ) (step : Step) (steps : List Step) → IsNumber last → AllByRecursion (IsStep variables) (step ∷ steps)
+      → script_if variables (lines_of (proof_text last (step ∷ steps))) ≡ Some (record { steps = step ∷ steps; fault = errors.Unfinished })
+  unfolding script_if
+  script_if-written last step steps before are =
+      let number = step_number last step in
+      let is = number_is last step before are.0 in
+      let later = lines_of (proof_text number steps) in
+      rw (step_lines last step steps before are.0, no_comment number is.1, step_read false (is_none later) last step before are.0, script_of-written number steps is are.1) refl
+
+  begins-step : (k last : ℕ) (step : Step) (steps : List Step) → IsNumber last → IsStep variables step → is_digit k ≡ false → begins k (proof_text last (step ∷ steps)) ≡ false
+  unfolding proof_text
+  begins-step k last (Adds number clause hints) steps before is apart =
+      let regroup : added_line number clause hints ++ proof_text number steps ≡ number_text number ++ (flat_map literal_text clause ++ (codes "0 " ++ (flat_map number_text hints ++ (codes "0\n" ++ proof_text number steps)))) = simp append_assoc in
+      ap (begins k) regroup ∙ begins-number k number is.0.1 apart _
+  begins-step k last (Deletes numbers) steps before is apart =
+      let regroup : deleted_line last numbers ++ proof_text last steps ≡ number_text last ++ (codes "d " ++ (flat_map number_text numbers ++ (codes "0\n" ++ proof_text last steps))) = simp append_assoc in
+      ap (begins k) regroup ∙ begins-number k last before.1 apart _
+
+  pub steps_in-written : (last : ℕ) (step : Step) (steps : List Step) → IsNumber last → All (IsStep variables) (step ∷ steps)
+      → steps_in variables (proof_text last (step ∷ steps)) ≡ Some (record { steps = step ∷ steps; fault = errors.Unfinished })
+  steps_in-written last step steps before are =
+      let each = recursion_from_All (IsStep variables) (step ∷ steps) are in
+      rw (begins-step 97 last step steps before each.0 refl, begins-step 100 last step steps before each.0 refl) (script_if-written last step steps before each)
+
+  -- ---- what it shows
+
+  shown_by-written : (last : ℕ) (clauses : List (List Lit)) (steps : List Step) → IsNumber last → All (IsStep variables) steps
+      → outcome variables (all_live clauses) steps errors.Unfinished ≡ Ok tt → shown_by variables clauses (proof_text last steps) ≡ Some (Ok tt)
+  unfolding outcome
+  shown_by-written last clauses [] before are is = absurd cc
+  shown_by-written last clauses (step ∷ steps) before are is =
+      ap (option_map (λ script. outcome variables (all_live clauses) script.steps script.fault)) (steps_in-written last step steps before are) ∙ ap (λ r. Some r) is
+
+  pub written_taken : (last : ℕ) (clauses : List (List Lit)) (steps : List Step) (e : RefutationError) → IsNumber last → All (IsStep variables) steps
+      → are_all_in variables clauses ≡ true → outcome variables (all_live clauses) steps errors.Unfinished ≡ Ok tt
+      → Shows variables clauses (Some (proof_text last steps)) (Err e) → (e ≡ errors.Memory) ⊎ (e ≡ errors.Stream)
+  written_taken last clauses steps e before are fits is shows = not_refused variables clauses (proof_text last steps) fits (shown_by-written last clauses steps before are is) e shows

@@ -1,0 +1,98 @@
+-- Part of what laws say, and of no promise of a call.
+-- The texts of proofs, as solvers write them. (LRAT: Cruz-Filipe, Heule, Hunt, Kaufmann and
+-- Schneider-Kamp, 2017. DRAT: Wetzler, Heule and Hunt, 2014.)
+use Rattle.std.specs.Prelude.{ℕ, ◌+◌, ◌*◌, ◌^◌, ◌<◌, if◌then◌else◌, List, [], ◌∷◌, ◌++◌, All, codes, decimal}
+use Rattle.std.specs.List.{flat_map}
+use Rattle.aig_base.specs.declared.logic.literal.Lit.{Lit}
+use Rattle.aig_base.specs.Clauses.{is_positive, variable_of}
+use Rattle.aig_format.specs.Written.{delta_of}
+use Rattle.aig_refutation.specs.Steps.{Step, Adds, Deletes, PlainStep, Drops, Learns}
+
+-- ---- what a text can say
+
+-- a number that a clause can have in a text
+abbrev pub IsNumber : ℕ → Type 0
+IsNumber n = (0 < n) × (n < 2 ^ 32)
+
+-- a clause of so many variables
+abbrev pub IsClause : ℕ → List Lit → Type 0
+IsClause variables clause = All (λ lit. variable_of lit < variables) clause
+
+-- a step over so many variables that a text can say
+abbrev pub IsStep : ℕ → Step → Type 0
+IsStep variables (Adds number clause hints) =
+    IsNumber number × IsClause variables clause × All IsNumber hints
+IsStep variables (Deletes numbers) = All IsNumber numbers
+
+-- a step without a number
+abbrev pub IsPlainStep : ℕ → PlainStep → Type 0
+IsPlainStep variables (Learns clause) = IsClause variables clause
+IsPlainStep variables (Drops clause) = IsClause variables clause
+
+-- ---- words
+
+-- a number, and a space
+abbrev pub number_text : ℕ → List ℕ
+number_text n = decimal n ++ 32 ∷ []
+
+-- a literal: its variable's number and one more, after a minus where it is inverted, and a space
+abbrev pub literal_text : Lit → List ℕ
+literal_text lit = (if is_positive lit then [] else codes "-") ++ number_text (variable_of lit + 1)
+
+-- ---- LRAT
+
+-- a line that adds a clause: its number, its literals and a 0, its hints and a 0
+abbrev pub added_line : ℕ → List Lit → List ℕ → List ℕ
+added_line number clause hints =
+    number_text number ++ flat_map literal_text clause ++ codes "0 " ++ flat_map number_text hints
+    ++ codes "0\n"
+
+-- a line that deletes clauses: a number, a `d`, the clauses' numbers and a 0
+abbrev pub deleted_line : ℕ → List ℕ → List ℕ
+deleted_line number numbers =
+    number_text number ++ codes "d " ++ flat_map number_text numbers ++ codes "0\n"
+
+-- the lines of steps; one that deletes clauses has the number of the last clause before it, here
+-- `last`
+unfoldable pub proof_text : ℕ → List Step → List ℕ
+proof_text last [] = []
+proof_text last (Adds number clause hints ∷ steps) =
+    added_line number clause hints ++ proof_text number steps
+proof_text last (Deletes numbers ∷ steps) = deleted_line last numbers ++ proof_text last steps
+
+-- ---- DRAT
+
+-- a line of a clause: its literals and a 0
+abbrev pub clause_line : List Lit → List ℕ
+clause_line clause = flat_map literal_text clause ++ codes "0\n"
+
+-- a line of a step: a clause that is added, or one that is dropped after a `d`
+abbrev pub plain_line : PlainStep → List ℕ
+plain_line (Learns clause) = clause_line clause
+plain_line (Drops clause) = codes "d " ++ clause_line clause
+
+-- the lines of steps
+abbrev pub plain_text : List PlainStep → List ℕ
+plain_text steps = flat_map plain_line steps
+
+-- a step as it is read of its line: the first literal of a clause that is added comes last
+abbrev pub as_read : PlainStep → PlainStep
+as_read (Learns []) = Learns []
+as_read (Learns (lit ∷ lits)) = Learns (lits ++ lit ∷ [])
+as_read (Drops clause) = Drops clause
+
+-- ---- binary DRAT
+
+-- a literal: twice one more than its variable's number, and one more where it is inverted, in groups
+-- of seven bits
+abbrev pub literal_bytes : Lit → List ℕ
+literal_bytes lit = delta_of (2 * (variable_of lit + 1) + (if is_positive lit then 0 else 1))
+
+-- a step: a letter, the literals of its clause, and a 0
+abbrev pub step_bytes : PlainStep → List ℕ
+step_bytes (Learns clause) = 97 ∷ flat_map literal_bytes clause ++ 0 ∷ []
+step_bytes (Drops clause) = 100 ∷ flat_map literal_bytes clause ++ 0 ∷ []
+
+-- the bytes of steps
+abbrev pub binary_text : List PlainStep → List ℕ
+binary_text steps = flat_map step_bytes steps
