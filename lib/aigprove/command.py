@@ -27,6 +27,8 @@ ALL = [*ENGINES, "bounded"]
 BELIEVED = ["aigtool", "aigedit", "aigcheck"]
 # What can go wrong: a thread that can't be started is a RuntimeError.
 FAULTS = (Fault, OSError, MemoryError, RuntimeError, UnicodeError)
+# How many lists of files may be in one another.
+MOST_LISTS = 16
 # Stands in the place of --, and is nothing that a command line can have.
 END = "--\0"
 # Options that name files, folders and programs.
@@ -104,6 +106,28 @@ def reset(word):
     return Reset(found[1], int(found[2] or 1), int(found[3] or 1))
 
 
+def macro(word):
+    """The name and the text of a macro."""
+    name, is_given, text = word.partition("=")
+    if not re.fullmatch("[A-Za-z_][A-Za-z0-9_$]*", name) or not text.isprintable() or text.endswith("\\"):
+        raise argparse.ArgumentTypeError(f"{word} is no NAME or NAME=TEXT of one line, as WIDTH=8")
+    return name, text if is_given else "1"
+
+
+def module(word):
+    if not re.fullmatch("[A-Za-z_][A-Za-z0-9_$]*", word):
+        raise argparse.ArgumentTypeError(f"{word} is no name of a module")
+    return word
+
+
+def parameter(word):
+    """The name and the value of a parameter."""
+    found = re.fullmatch(r"([A-Za-z_][A-Za-z0-9_$]*)=(-?[0-9]+|[0-9]+'s?(?:b[01_]+|o[0-7_]+|d[0-9_]+|h[0-9A-Fa-f_]+))", word)
+    if not found:
+        raise argparse.ArgumentTypeError(f"{word} is no NAME=NUMBER, as WIDTH=8 or MODE=2'b10 (a text stands in the design, or -D gives it)")
+    return found.groups()
+
+
 def engines(word):
     names = word.replace("abc", "bmc3,pdr").split(",")
     if not set(names) <= set(ALL):
@@ -114,16 +138,26 @@ def engines(word):
 def parser():
     """The words of the command line."""
     it = Parser("aigprove", description=ABOUT, epilog=ENDS, formatter_class=argparse.RawDescriptionHelpFormatter)
-    file = "a file in AIGER form, text or binary, which may be packed by gzip, or a design in Verilog (.v, .sv)"
+    file = "a file in AIGER form, text or binary, which may be packed by gzip; or the files of a design, in order: Verilog (.v, .sv), an .il " \
+        "file or a script (.ys) of yosys, or BLIF (.blif); - is standard input"
     held = "hold this input of a design at V (1) in the first N steps (1), in which assertions don't count; later it is free, and where " \
         "it is to stay released the design has to assume so"
+    boxes = "let the outputs of this module, of which there are the ports alone, have any values in each step"
+    many = "take several clocks, and both edges: a step is a moment, in which each input may change, clocks too"
     bound = "ask about the steps 0 to N; once they were shown, other engines have as long again, and a second (no bound)"
     running, processors = "run so many programs at once, and others by turns (one for each processor)", len(os.sched_getaffinity(0))
     limit = "take circuits of so many nodes, up to 2^31 (2^24)"
     solver = "a SAT solver that writes a proof in text: it is given a DIMACS file and the proof's name (cadical)"
-    it.add_argument("file", metavar="FILE", type=nonempty, help=file)
-    it.add_argument("top", metavar="TOP", nargs="?", help="the top module of a design (the one that no other has)")
+    it.add_argument("files", metavar="FILE", type=nonempty, nargs="+", help=file)
+    top = "the top module of a design (the one that no other has); a last word that may be a name, as TOP, says it too"
+    it.add_argument("--top", metavar="TOP", help=top)
     it.add_argument("--version", action="version", version=f"aigprove {VERSION}")
+    it.add_argument("-f", metavar="LIST", action="append", help="put the words of this file here: files, -D, -I and -f, with # or // for comments")
+    it.add_argument("-D", "--define", metavar="NAME[=TEXT]", type=macro, action="append", default=[], help="define a macro of Verilog (1)")
+    it.add_argument("-I", "--include", metavar="FOLDER", type=nonempty, action="append", default=[], help="look for included files here too")
+    it.add_argument("--parameter", metavar="NAME=NUMBER", type=parameter, action="append", default=[], help="set a parameter of the top module")
+    it.add_argument("--black-box", metavar="NAME", type=module, action="append", default=[], help=boxes)
+    it.add_argument("--multiclock", action="store_true", help=many)
     it.add_argument("--reset", metavar="SIGNAL[=V][:N]", type=reset, help=held)
     it.add_argument("--bound", metavar="N", type=count("[0-9]{1,10}", "steps"), help=bound)
     seconds = count(r"[0-9]{1,9}(\.[0-9]{1,9})?", "seconds", float)
@@ -163,9 +197,42 @@ def marked(line):
     return [*line[:end], *[END] * (end < len(line)), *behind]
 
 
+def listed(line, depth=0):
+    """A command line with the words of each file in the place of -f and its name."""
+    found, words = [], iter(line)
+    for word in words:
+        if word == "--":
+            return [*found, word, *words]
+        path = (word[2:] or next(words, None)) if word.startswith("-f") else None
+        found += [word] if path is None else of_list(path, depth)
+    return found
+
+
+def of_list(path, depth):
+    """The words of a list of files, which may have others in it."""
+    if depth > MOST_LISTS:
+        raise Fault(f"{path} is in itself")
+    text = sealed(path).bytes().decode("utf-8", "surrogateescape")
+    words = []
+    for word in shlex.split(re.sub("^ *//.*", "", text, flags=re.MULTILINE), comments=True):
+        kind, *values = word.split("+")[1:] if word.startswith("+") else [None]
+        # As other tools spell them.
+        flag = {"incdir": "-I", "define": "-D"}.get(kind)
+        words += [flag + value for value in values if value] if flag else [word]
+    options = [word for word in words if word.startswith("-") and not word.startswith(("-D", "-I", "-f"))]
+    if options:
+        raise Fault(f"{path}: {options[0]} is no file, -D, -I or -f")
+    return listed(words, depth + 1)
+
+
 def parse(line):
     """What the words of a command line say, with paths that hold in any folder."""
-    words = parser().parse_intermixed_args(marked(line))
+    made = parser()
+    words = made.parse_intermixed_args(marked(listed(line)))
+    names = [i for i, word in enumerate(words.files) if i and re.fullmatch("[A-Za-z_][A-Za-z0-9_$]*", word)]
+    if names and names[0] < len(words.files) - 1 or names and words.top:
+        made.error(f"unrecognized arguments: {' '.join(words.files[names[0] + 1 - bool(words.top):])}")
+    words.top = words.files.pop() if names else words.top
     words.deadline = math.inf if words.timeout is None else time.monotonic() + words.timeout
     given = words.certificate or words.run
     words.engines = words.engine or ([] if given else ENGINES)

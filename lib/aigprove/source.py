@@ -10,9 +10,9 @@ from aigprove.judge import Claim
 from aigprove.misfit import misfit
 from aigprove.programs import Fault, say
 from aigprove.shown import Shown, word
-from aigprove.verilog import Design
-
-VERILOG = (".v", ".sv")
+from aigprove.verilog import BLIF, FRONTS, STANDARD_INPUT, VERILOG, Design, File, kind_of
+# Options that are for designs alone, or for those that certain front ends read.
+OF_DESIGNS = {"top": None, "reset": None, "parameter": None, "black_box": None, "multiclock": None, "define": [VERILOG], "include": [VERILOG]}
 # How many outputs that differ are named.
 NAMED = 100
 # How many registers that are open at first are named.
@@ -26,23 +26,34 @@ CLAIMS = {
 
 
 class Given:
-    """A file in AIGER form as it was given, and its name among what is kept; a design in Verilog is made one first."""
+    """A file in AIGER form as it was given, and its name among what is kept; of the files of a design one is made first."""
 
-    def __init__(self, path, words, above, judge, name="file"):
-        self.path, self.design, self.judge, self.given = path, None, judge, sealed(path, judge.limit)
-        if path.endswith(VERILOG):
+    def __init__(self, paths, words, above, judge, name="file"):
+        self.path, self.design, self.judge = paths[0], None, judge
+        self.given = [sealed("/dev/stdin" if path == STANDARD_INPUT else path, judge.limit) for path in paths]
+        self.kinds = [kind_of(path, file.line()) for path, file in zip(paths, self.given)]
+        self.check_kinds(paths, words)
+        if self.kinds[0]:
             folder = tempfile.mkdtemp(prefix="design-", dir=above)
-            self.design = Design(path, self.given.bytes(), words, folder, judge.programs)
-        elif words.top:
-            raise Fault(f"{path} is no design in Verilog, so it has no module {words.top}")
-        elif words.reset:
-            raise Fault(f"{path} is no design in Verilog, and --reset is for these")
+            files = [File(path, file.bytes()) for path, file in zip(paths, self.given)]
+            self.design = Design(files, words, folder, judge.programs)
         for line in self.design.left_out if self.design else []:
             say(line)
-        self.file = sealed(self.design.file, judge.limit) if self.design else self.given
+        self.file = sealed(self.design.file, judge.limit) if self.design else self.given[0]
         self.line = self.file.line()
         self.suffix = "aag" if self.line.startswith(b"aag") else "aig"
         self.name = f"{name}.{self.suffix}"
+
+    def check_kinds(self, paths, words):
+        """Refuses a file among several that is of no design, and what is for designs alone."""
+        for path, kind in zip(paths, self.kinds):
+            if not kind and len(paths) > 1:
+                raise Fault(f"{path} is no file of a design (those end with {', '.join(FRONTS)})")
+        for option, of in OF_DESIGNS.items():
+            given = getattr(words, option)
+            if given and not any(kind and FRONTS[kind] in (of or FRONTS.values()) for kind in self.kinds):
+                what = f"so it has no module {given}" if option == "top" else f"and --{option.replace('_', '-')} is for these"
+                raise Fault(f"{self.path} is no design{' in Verilog' if of else ''}, {what}")
 
     def header(self):
         return Header(Lines(self.line, "FILE"))
@@ -66,8 +77,9 @@ class Given:
 
     def keep(self, evidence):
         evidence.put(self.name, self.file)
-        if self.design:
-            evidence.put(self.name[:-3] + self.path.rpartition(".")[2], self.given)
+        for i, (kind, file) in enumerate(zip(self.kinds, self.given)):
+            if kind:
+                evidence.put(f"{self.name[:-4]}{f'-{i}' if i else ''}{kind}", file)
 
 
 class Asked:
@@ -108,9 +120,9 @@ class Source(Asked):
     """One file, whose bad states are asked about."""
 
     def __init__(self, words, above, judge):
-        self.given, self.path = Given(words.file, words, above, judge), words.file
+        self.given, self.path = Given(words.files, words, above, judge), words.files[0]
         self.name, self.asked, self.is_old = self.given.name, self.given.file, is_old(self.given.line)
-        if self.given.design and not self.given.design.assertions:
+        if self.given.design and not self.given.design.assertions and BLIF not in self.given.kinds:
             raise Fault(f"{self.path}: {self.given.design.top} has no assertion")
         if self.is_old:
             self.name, self.asked = "bads.aag", judge.made("bads", self.asked)
@@ -154,15 +166,15 @@ class Pair(Asked):
     name, prefix, safe, so_far, empty = "miter.aag", "miter: ", "equal at every step", "equal", "no output and no bad state property"
 
     def __init__(self, words, above, judge):
-        self.judge, self.path = judge, f"{words.file} and {words.equal}"
-        self.first = Given(words.file, words, above, judge)
-        self.other = Given(words.equal, argparse.Namespace(**{**vars(words), "top": None}), above, judge, "other")
+        self.judge, self.path = judge, f"{words.files[0]} and {words.equal}"
+        self.first = Given(words.files, words, above, judge)
+        self.other = Given([words.equal], argparse.Namespace(**{**vars(words), **of_first(words)}), above, judge, "other")
         try:
             self.asked = judge.made("miter", self.first.file, self.other.file)
         except Fault as why:
             if str(why) != "aigedit: files do not fit":
                 raise
-            raise Fault(misfit([words.file, words.equal], [self.first.circuit(), self.other.circuit()])) from None
+            raise Fault(misfit([words.files[0], words.equal], [self.first.circuit(), self.other.circuit()])) from None
 
     def unsolvable(self, question, proof):
         """That a question has no solution: of a step, that both are equal there."""
@@ -216,6 +228,13 @@ class Pair(Asked):
         self.first.keep(evidence)
         self.other.keep(evidence)
         evidence.makes(self.name, self.asked, "miter", self.first.name, self.other.name)
+
+
+def of_first(words):
+    """What is of FILE alone where another file is compared with it: its top module, parameters and boxes, and macros where OTHER has none."""
+    alone = {"top": None, "parameter": [], "black_box": []}
+    is_design = kind_of(words.equal, b"")
+    return {**alone, **({} if is_design else {"reset": None, "multiclock": False, "define": [], "include": []})}
 
 
 def counted(number, one, many=None):
