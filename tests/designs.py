@@ -51,7 +51,8 @@ def needed(folder):
     for line in (folder / "check.sh").read_text().splitlines():
         verb, *words = shlex.split(line) or [""]
         if verb == "shows" and words[1] != "run":
-            for proof in words[4:6] if words[1] == "certified" else words[5:6] if words[1] == "equal" else words[4:5]:
+            first, count = {"certified": (4, 2), "equal": (5, 1)}.get(words[1], (5 if words[3] == "to" else 4, 1))
+            for proof in words[first:first + count]:
                 tried = [*words[1:words.index(proof)], "/dev/stdin", *words[words.index(proof) + 1 :]]
                 if harness.run([CHECK, *tried], cwd=folder, input=b"0\n")[0] != 0:
                     yield proof

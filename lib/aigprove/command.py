@@ -21,9 +21,8 @@ from aigprove.source import Pair, Source
 from aigprove.yosys import Late
 
 TOP = os.path.dirname(os.path.dirname(os.path.dirname(os.path.realpath(__file__))))
-# Engines that are asked where none is named, and all.
-ENGINES = ["steps", "windows", "bmc3", "pdr"]
-ALL = [*ENGINES, "bounded"]
+# Engines, those first whose answers may come at once.
+ENGINES = ["bmc3", "pdr", "bounded", "steps", "windows"]
 BELIEVED = ["aigtool", "aigedit", "aigcheck"]
 # What can go wrong: a thread that can't be started is a RuntimeError.
 FAULTS = (Fault, OSError, MemoryError, RuntimeError, UnicodeError)
@@ -45,10 +44,10 @@ ABOUT = """\
 Asks whether the machine of an AIGER file can reach a bad state, and believes no engine: what is printed was checked by aigcheck.
 
 Engines look for an answer side by side, and the first that is checked is printed:
-  steps     asks a SAT solver about step 0, 1 and so on
-  bounded   asks it one question about all steps up to 1, 2, 4 and so on; by --engine alone
-  windows   asks it about K + 2 steps from any state, bad at the last alone (k-induction)
   bmc3, pdr commands of ABC, whose counterexamples become witnesses and whose invariant becomes a certificate
+  bounded   asks a SAT solver one question about all steps up to 1, 2, 4 and so on
+  steps     asks it about step 0, 1 and so on
+  windows   asks it about K + 2 steps from any state, bad at the last alone (k-induction)
 An engine that isn't installed, lies or breaks is told of on standard error, and changes nothing else.
 
 With --equal outputs and bad states of FILE and OTHER are compared, on all runs of both that have the same inputs, and that the
@@ -57,7 +56,7 @@ Justice and fairness are not looked at.
 """
 ENDS = """\
 Exit status 20: no bad state at any step, or no difference. 10: a bad state is reached, or a difference. 0: neither was shown.
-1: something went wrong. 2: wrong words.
+1: something went wrong. 2: wrong words. With --aiger it is 0 where it would be 20, 10 or 0.
 """
 
 
@@ -130,8 +129,8 @@ def parameter(word):
 
 def engines(word):
     names = word.replace("abc", "bmc3,pdr").split(",")
-    if not set(names) <= set(ALL):
-        raise argparse.ArgumentTypeError(f"{word} names others than {', '.join(ALL)} and abc")
+    if not set(names) <= set(ENGINES):
+        raise argparse.ArgumentTypeError(f"{word} names others than {', '.join(ENGINES)} and abc")
     return names
 
 
@@ -143,6 +142,7 @@ def parser():
     held = "hold this input of a design at V (1) in the first N steps (1), in which assertions don't count; later it is free, and where " \
         "it is to stay released the design has to assume so"
     boxes = "let the outputs of this module, of which there are the ports alone, have any values in each step"
+    aiger = "print the answer alone, as the AIGER report has it: 1 and a witness, 0 (none at any step) or 2 (neither), each with status 0"
     many = "take several clocks, and both edges: a step is a moment, in which each input may change, clocks too"
     bound = "ask about the steps 0 to N; once they were shown, other engines have as long again, and a second (no bound)"
     running, processors = "run so many programs at once, and others by turns (one for each processor)", len(os.sched_getaffinity(0))
@@ -151,6 +151,10 @@ def parser():
     it.add_argument("files", metavar="FILE", type=nonempty, nargs="+", help=file)
     top = "the top module of a design (the one that no other has); a last word that may be a name, as TOP, says it too"
     it.add_argument("--top", metavar="TOP", help=top)
+    loud = it.add_mutually_exclusive_group()
+    loud.add_argument("-v", "--verbose", action="store_true", help="say on standard error which engine answered, and when")
+    loud.add_argument("-q", "--quiet", action="store_true", help="print the line of the answer alone, and only faults on standard error")
+    it.add_argument("--aiger", action="store_true", help=aiger)
     it.add_argument("--version", action="version", version=f"aigprove {VERSION}")
     it.add_argument("-f", metavar="LIST", action="append", help="put the words of this file here: files, -D, -I and -f, with # or // for comments")
     it.add_argument("-D", "--define", metavar="NAME[=TEXT]", type=macro, action="append", default=[], help="define a macro of Verilog (1)")
@@ -271,7 +275,7 @@ def answer(line):
         return Race(words, running, judge, above, source).run()
     except Late as why:
         programs.say(why)
-        print("nothing was shown")
+        print("2\n." if words.aiger else "nothing was shown")
         return OPEN
     finally:
         running.stop()

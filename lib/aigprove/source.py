@@ -3,12 +3,13 @@ import argparse
 import re
 import tempfile
 
-from aigprove import aiger
+from aigprove import aiger, waves
 from aigprove.aiger import Header, Lines
 from aigprove.files import sealed
 from aigprove.judge import Claim
 from aigprove.misfit import misfit
 from aigprove.programs import Fault, say
+from aigprove.replay import SIMULATED, Replay
 from aigprove.shown import Shown, word
 from aigprove.verilog import BLIF, FRONTS, STANDARD_INPUT, VERILOG, Design, File, kind_of
 # Options that are for designs alone, or for those that certain front ends read.
@@ -37,7 +38,7 @@ class Given:
             folder = tempfile.mkdtemp(prefix="design-", dir=above)
             files = [File(path, file.bytes()) for path, file in zip(paths, self.given)]
             self.design = Design(files, words, folder, judge.programs)
-        for line in self.design.left_out if self.design else []:
+        for line in self.design.left_out if self.design and not words.quiet else []:
             say(line)
         self.file = sealed(self.design.file, judge.limit) if self.design else self.given[0]
         self.line = self.file.line()
@@ -59,8 +60,11 @@ class Given:
         return Header(Lines(self.line, "FILE"))
 
     def circuit(self):
-        """The circuit that was given, with all its names."""
-        return self.judge.circuit(self.file, "FILE")
+        """The circuit that was given, with all its names; where a design has several for one signal, with the outermost."""
+        circuit = self.judge.circuit(self.file, "FILE")
+        if self.design:
+            circuit.names = {place: outermost(name) for place, name in circuit.names.items()}
+        return circuit
 
     def warnings(self):
         """A line of what the file has that nothing is asked about."""
@@ -111,9 +115,19 @@ class Asked:
         """Further witnesses of what a run shows."""
         return []
 
-    def failing(self, data, bad):
-        """Lines of which assertions fail in a run."""
-        return []
+    def lines(self, shown, circuit, told):
+        """Lines of a run: the latches that are read by what it shows, or that are open at first and matter; the inputs of each step; and which
+        of the latches that are read, and have names, changed."""
+        read = circuit.read_by((circuit.bads or circuit.outputs)[told.bad])
+        yield from shown.lines(told, read | self.opened(circuit, told), changes_of(shown, circuit, told, read))
+
+    def opened(self, circuit, told):
+        """The places of the latches that are open at first, and matter."""
+        return {i for i, reset in enumerate(circuit.resets) if reset > 1 and told.start[i] != "x"}
+
+    def dump(self, circuit, told):
+        """The lines of a value change dump."""
+        return waves.dump(circuit, told.start, told.steps)
 
 
 class Source(Asked):
@@ -126,7 +140,7 @@ class Source(Asked):
             raise Fault(f"{self.path}: {self.given.design.top} has no assertion")
         if self.is_old:
             self.name, self.asked = "bads.aag", judge.made("bads", self.asked)
-        self.circuit, self.warnings = self.given.circuit, self.given.warnings
+        self.circuit, self.warnings, self.replay = self.given.circuit, self.given.warnings, None
 
     def about(self):
         """Lines of what the file is, where that isn't seen."""
@@ -138,10 +152,35 @@ class Source(Asked):
         """The line that says what a run shows."""
         return f"a bad state at step {len(tolds[0].steps) - 1}: {shown.place('b', tolds[0].bad)}"
 
-    def failing(self, data, bad):
-        """Lines of the registers that are open at first, and of the assertion that fails in a run."""
-        design = self.given.design
-        return [*self.open_registers(design), *design.failing(data, bad)] if design else []
+    def lines(self, shown, circuit, told):
+        """Lines of a run; of a design, with the values of what the failing assertion reads, as yosys runs it."""
+        design, last = self.given.design, len(told.steps) - 1
+        if design is None or not design.assertions:
+            yield from super().lines(shown, circuit, told)
+            return
+        replay = None
+        try:
+            replay = self.replay = Replay(design, circuit, told)
+        except Fault as why:
+            yield from super().lines(shown, circuit, told)
+            trouble = f"yosys doesn't run it: {why}"
+        else:
+            yield from shown.lines(told, replay.latches | self.opened(circuit, told), replay.changes)
+            trouble = replay.trouble
+        yield from self.open_registers(design)
+        own, text = design.assertion(told.bad)
+        if replay is None:
+            yield from [f"{own} fails", trouble]
+        elif trouble:
+            yield f"{own} fails by the file, but where yosys runs the design {trouble}"
+        else:
+            yield f"{own} fails, as yosys runs it"
+            yield from replay.read(last)
+        yield from [f"it says: {text}"] * bool(text)
+
+    def dump(self, circuit, told):
+        """The lines of a value change dump: of a design that yosys ran, as yosys writes it."""
+        return self.replay.dump.splitlines() if self.replay else super().dump(circuit, told)
 
     def open_registers(self, design):
         """The line of the registers of a design that have any value at first, if there are any."""
@@ -237,9 +276,26 @@ def of_first(words):
     return {**alone, **({} if is_design else {"reset": None, "multiclock": False, "define": [], "include": []})}
 
 
+def changes_of(shown, circuit, told, read):
+    """What latches that are read have in each step, by names, where that changed; nothing of a long run."""
+    if len(told.steps) * len(circuit.gates) > SIMULATED:
+        return {}
+    named, last, found = {i for i in read if f"l{i}" in shown.names}, None, {}
+    for t, values in enumerate(circuit.run(told.start, told.steps)):
+        now = shown.values("l", [values[latch] for latch in circuit.latches], named)
+        found[t] = [it for it in now if it not in (last or now)]
+        last = now
+    return found
+
+
 def counted(number, one, many=None):
     """How many there are of something, unless there is none."""
     return [f"{number} {one if number == 1 else many or one + 's'}"] if number else []
+
+
+def outermost(name):
+    """Of the names of a signal, with spaces between, the one of fewest modules, and of these the shortest."""
+    return min(name.split(b" "), key=lambda it: (it.count(b"."), len(it), it))
 
 
 def is_old(line):

@@ -9,7 +9,8 @@ import re
 
 from aigprove.netlist import cells_like, cells_of, check_drivers, clock_of, constants, free_names, item_of_x, opened, reached
 from aigprove.netlist import base_of, modules_of, roots_of, stored
-from aigprove.programs import Fault
+from aigprove.programs import Fault, escaped, plain
+from aigprove.replay import Module
 from aigprove.yosys import Yosys
 
 # By the end of a file's name: what reads it. The latches of BLIF have one clock.
@@ -51,6 +52,7 @@ setundef -undriven -anyseq
 opt -fine -noff -keepdc
 setattr -unset hdlname w:*
 setattr -set outer 1 w:* w:*.* %d
+write_rtlil whole.il
 opt_clean -purge
 setundef -undriven -undef
 delete t:$anyseq
@@ -93,11 +95,26 @@ module counting (input A, input EN);
   \\{kind} _TECHMAP_REPLACE_ (.A({value}), .EN({enabled}));
 endmodule
 """
-REPLAY = """read_rtlil named.il
+# All names of a net stay, and the hierarchy is that of the design.
+REPLAY = """read_rtlil whole.il
+opt_clean
+setundef -undriven -undef
+delete t:$anyseq
+setundef -undriven -expose
+cd {top}
+{renames}
+cd ..
 {spare}
-sim {clock} -r witness.aiw -map design.aim {top}
+write_rtlil replayed.il
+write_json replayed.json
+"""
+SIMULATE = """read_rtlil replayed.il
+sim {clock} -r witness.aiw -map design.aim -hdlname -vcd run.vcd {top}
 """
 SPARE = "aigprove_clock"
+WIRE = re.compile(r"^  wire .*\\(\S+)$", re.MULTILINE)
+# How many signs of an assertion's text are printed.
+SPELLED = 200
 STANDARD_INPUT = "-"
 BOX, TOP = (re.compile(rf"^attribute \\{name} 1\n", re.MULTILINE) for name in ["blackbox", "top"])
 ASKED = ("$assert", "$assume")
@@ -239,8 +256,8 @@ class Design:
         """Writes the file, and gives the name, the place and whether the design has that name for each bad state property's assertion."""
         reset = self.put_reset(module) if self.reset else ""
         clock = f"delete w:{self.clock[0]}\nopt_clean -purge" if self.clock else ""
-        renames = "\n".join(f"rename {old} {new}" for old, new in [*stored(module), *free_names(module)])
-        self.yosys.run(WRITE, top=self.top, renames=renames, clock=clock, reset=reset)
+        self.renames = "\n".join(f"rename {old} {new}" for old, new in [*stored(module), *free_names(module)])
+        self.yosys.run(WRITE, top=self.top, renames=self.renames, clock=clock, reset=reset)
         cells = self.yosys.modules("asserted.json").get(self.top, {"cells": {}})["cells"]
         return [(name, cell["attributes"].get("src", "").partition("|")[0], not cell["hide_name"]) for name, cell in cells.items()]
 
@@ -262,24 +279,42 @@ class Design:
         counted = [f"{count} {what}{'s' * (count != 1)}" for count, what in zip(self.counts, ["assertion", "assumption"])]
         return f"{self.top}: {', '.join(counted)}" + (f", {self.reset}" if self.reset else "")
 
-    def failing(self, witness, bad):
-        """The line of the assertion that a bad state property stands for, and of what yosys finds where it runs a witness on the design."""
+    def assertion(self, bad):
+        """The line of the assertion that a bad state property stands for, and what it is in the design's text."""
         name, place, is_named = self.assertions[bad]
-        own = f"assertion {self.top}{f'.{name}' if is_named else ''} ({self.yosys.told(place)}) fails"
-        try:
-            failed = self.failed(witness)
-        except Fault as why:
-            return [own, f"yosys doesn't run it: {why}"]
-        if any(it.startswith(f"{self.top}.{name} (") for it in failed):
-            return [f"{own}, as yosys runs it"]
-        return [f"{own} by the file, but where yosys runs the design {self.yosys.told(' and '.join(failed)) or 'none'} fails"]
+        return f"assertion {self.top}{f'.{name}' if is_named else ''} ({self.yosys.told(place)})", self.spelled(self.yosys.told(place))
 
-    def failed(self, witness):
-        """The assertions that fail in the last step of a witness, as yosys prints them."""
+    def spelled(self, place):
+        """The lines of the design's files at a place, as one, where they are known: what is counted in a line are signs without macros."""
+        path, _, lines = place.rpartition(":")
+        found = re.fullmatch(r"([0-9]+)\.[0-9]+-([0-9]+)\.[0-9]+", lines)
+        data = next((file.data for file in self.files if plain(os.fsencode(file.path)) == path), None)
+        if not found or data is None:
+            return ""
+        first, last = map(int, found.groups())
+        return " ".join(escaped(line.strip()) for line in data.decode("utf-8", "replace").split("\n")[first - 1:last])[:SPELLED]
+
+    def run(self, told):
+        """Has yosys run a witness on the design: the names of the assertions that fail in the last step, as yosys prints them, and a replay.
+        In the place of x there is 0."""
+        self.replayed()
+        lines = [line.replace("x", "0") + "0" for line in [told.start, *told.steps]]
         # Yosys passes over an empty line, and wants a clock.
-        status, bad, *values, end = witness.decode().splitlines()
-        self.yosys.put("witness.aiw", "\n".join([status, bad, *(f"{line}0" for line in values), end, ""]))
+        self.yosys.put("witness.aiw", "\n".join(["1", f"b{told.bad}", *lines, ".", ""]))
         clock, rising = self.clock or (SPARE, True)
+        printed = self.yosys.run(SIMULATE, clock=f"-clock{'' if rising else 'n'} {clock}", top=self.top)
+        failed = FAILED.findall(printed.rpartition("Simulating cycle ")[2])
+        return list(dict.fromkeys(failed)), self.yosys.text("run.vcd")
+
+    def replayed(self):
+        """Has yosys make the module that it simulates, in which all signals of the design are."""
         spare = "" if self.clock else f"add -input {SPARE} 1"
-        printed = self.yosys.run(REPLAY, clock=f"-clock{'' if rising else 'n'} {clock}", top=self.top, spare=spare)
-        return list(dict.fromkeys(FAILED.findall(printed.rpartition("Simulating cycle ")[2])))
+        self.yosys.run(REPLAY, top=self.top, renames=self.renames, spare=spare)
+        paths = {name: net["attributes"]["hdlname"] for name, net in self.top_of("drawn.json")[1]["netnames"].items() if "hdlname" in net["attributes"]}
+        text = WIRE.sub(lambda line: f'  attribute \\hdlname "{paths[line[1]]}"\n{line[0]}' if line[1] in paths else line[0], self.yosys.text("replayed.il"))
+        self.yosys.put("replayed.il", text)
+
+    @functools.cached_property
+    def module(self):
+        """The module that yosys simulates."""
+        return Module(self.top_of("replayed.json")[1])
