@@ -28,6 +28,8 @@ BELIEVED = ["aigtool", "aigedit", "aigcheck"]
 FAULTS = (Fault, OSError, MemoryError, RuntimeError, UnicodeError)
 # How many lists of files may be in one another.
 MOST_LISTS = 16
+# What may stand there beside files.
+LISTED = ("-D", "-I", "-f")
 # Stands in the place of --, and is nothing that a command line can have.
 END = "--\0"
 # Options that name files, folders and programs.
@@ -217,15 +219,14 @@ def of_list(path, depth):
     if depth > MOST_LISTS:
         raise Fault(f"{path} is in itself")
     text = sealed(path).bytes().decode("utf-8", "surrogateescape")
-    words = []
-    for word in shlex.split(re.sub("^ *//.*", "", text, flags=re.MULTILINE), comments=True):
-        kind, *values = word.split("+")[1:] if word.startswith("+") else [None]
+    words, given = [], iter(shlex.split(re.sub(r"(?m)(^|\s)//.*", "", text), comments=True))
+    for word in given:
         # As other tools spell them.
+        kind, *values = word.split("+")[1:] if word.startswith("+") else [None]
         flag = {"incdir": "-I", "define": "-D"}.get(kind)
-        words += [flag + value for value in values if value] if flag else [word]
-    options = [word for word in words if word.startswith("-") and not word.startswith(("-D", "-I", "-f"))]
-    if options:
-        raise Fault(f"{path}: {options[0]} is no file, -D, -I or -f")
+        words += [flag + value for value in values if value] if flag else [word + next(given, "") if word in LISTED else word]
+        if word.startswith("-") and not word.startswith(LISTED):
+            raise Fault(f"{path}: {word} is no file, -D, -I or -f")
     return listed(words, depth + 1)
 
 

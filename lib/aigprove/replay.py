@@ -109,11 +109,13 @@ class Replay:
         bits = {place: BIT.fullmatch(name) for place, name in held.items()}
         words = {place: found[1] if found else held[place] for place, found in bits.items()}
         inputs = {BIT.sub(r"\1", circuit.name("i", i).decode("utf-8", "replace")) for i in range(len(circuit.inputs))}
+        # What a register holds beside its name in the design is another's value in the step before.
         names = list(dict.fromkeys(it.name for it in reads))
+        seen = [name for name in names if name not in inputs and name.removesuffix(".stored") not in set(names) - {name}]
         self.values = values_of(self.dump, {*names, *words.values()})
         self.latches = {int(place[1:]) for place, name in words.items() if name in names}
         at_first = {words[f"l{i}"] for i in self.latches}
-        self.changes = {t: self.changed(t, [name for name in names if name not in inputs], at_first) for t in range(last + 1)}
+        self.changes = {t: self.changed(t, seen, at_first) for t in range(last + 1)}
         self.direct = [it for it in reads if it.is_direct and it.name not in inputs]
         self.trouble = self.differing(circuit, held, words) or self.other(design, failed, f"{design.top}.{name} (")
 

@@ -113,6 +113,7 @@ sim {clock} -r witness.aiw -map design.aim -hdlname -vcd run.vcd {top}
 """
 SPARE = "aigprove_clock"
 WIRE = re.compile(r"^  wire .*\\(\S+)$", re.MULTILINE)
+FF = re.compile(r"^  cell \$ff (\S+)\n", re.MULTILINE)
 # How many signs of an assertion's text are printed.
 SPELLED = 200
 STANDARD_INPUT = "-"
@@ -310,9 +311,13 @@ class Design:
         """Has yosys make the module that it simulates, in which all signals of the design are."""
         spare = "" if self.clock else f"add -input {SPARE} 1"
         self.yosys.run(REPLAY, top=self.top, renames=self.renames, spare=spare)
-        paths = {name: net["attributes"]["hdlname"] for name, net in self.top_of("drawn.json")[1]["netnames"].items() if "hdlname" in net["attributes"]}
-        text = WIRE.sub(lambda line: f'  attribute \\hdlname "{paths[line[1]]}"\n{line[0]}' if line[1] in paths else line[0], self.yosys.text("replayed.il"))
-        self.yosys.put("replayed.il", text)
+        nets = self.top_of("drawn.json")[1]["netnames"]
+        paths = {name: net["attributes"]["hdlname"] for name, net in nets.items() if "hdlname" in net["attributes"]}
+        placed = lambda line: f'  attribute \\hdlname "{paths[line[1]]}"\n{line[0]}' if line[1] in paths else line[0]
+        # Yosys has no first value for a register of all steps, but for one of a clock.
+        clock, rising = self.clock or (SPARE, True)
+        clocked = rf"  cell $dff \1\n    parameter \\CLK_POLARITY 1'{rising:d}\n    connect \\CLK \\{clock}\n"
+        self.yosys.put("replayed.il", FF.sub(clocked, WIRE.sub(placed, self.yosys.text("replayed.il"))))
 
     @functools.cached_property
     def module(self):
