@@ -24,6 +24,13 @@ module top(input clk, input d); reg q = `INITIAL; always @(posedge clk) q <= d;
   low: assert property (!q); endmodule
 """
 SAFE = "module top(input clk); reg q = 0; always @(posedge clk) q <= 0; low: assert property (!q); endmodule\n"
+# The same by a part, and what stands in names of its files.
+WHOLE = """`include "q.vh"
+module top(input clk, input d); wire [1:0] q; part part(clk, d, q[0]); assign q[1] = 0;
+  low: assert property (!q); endmodule
+"""
+PART = "module part(input clk, input d, output reg q); initial q = `INITIAL; always @(posedge clk) q <= d; endmodule\n"
+ODD = ["[1]", "?", 'a "q;', "\n!touch made\n", " $(touch made)", "'#%{x}", "--"]
 NAMES = ["q[1].v", "q?.v", 'a "q;.v', "q\n!touch made\n.v", "q $(touch made).v", "q'#%{x}.sv"]
 
 
@@ -51,7 +58,8 @@ def needed(folder):
     for line in (folder / "check.sh").read_text().splitlines():
         verb, *words = shlex.split(line) or [""]
         if verb == "shows" and words[1] != "run":
-            for proof in words[4:6] if words[1] == "certified" else words[5:6] if words[1] == "equal" else words[4:5]:
+            first, count = {"certified": (4, 2), "equal": (5, 1)}.get(words[1], (5 if words[3] == "to" else 4, 1))
+            for proof in words[first:first + count]:
                 tried = [*words[1:words.index(proof)], "/dev/stdin", *words[words.index(proof) + 1 :]]
                 if harness.run([CHECK, *tried], cwd=folder, input=b"0\n")[0] != 0:
                     yield proof
@@ -127,6 +135,48 @@ def path_faults(folder):
         yield f"there is {made}"
 
 
+def odd_files(here, odd):
+    """Files of a design whose names have odd signs, and the words that name each set of them, with the file of the assertion."""
+    top, part, listed, script, made, include = (f"{odd}{name}" for name in ["top.sv", "part.v", "list", "t.ys", "t.il", "inc"])
+    (here / include).mkdir()
+    (here / include / "q.vh").write_text("`define INITIAL 1'b1\n")
+    (here / top).write_text(WHOLE)
+    (here / part).write_text(PART)
+    (here / listed).write_text(f"-I {shlex.quote(include)} {shlex.quote(f'./{top}')}\n{shlex.quote(f'./{part}')} // the part\n")
+    (here / "plain.sv").write_text(WHOLE)
+    (here / script).write_text("read_verilog -formal -sv -DINITIAL=1'b1 -Iplain plain.sv\nread_verilog -DINITIAL=1'b1 part.v\n")
+    (here / "part.v").write_text(PART)
+    (here / "plain").mkdir()
+    (here / "plain" / "q.vh").write_text("")
+    subprocess.run(["yosys", "-q", "-s", "/dev/stdin"], cwd=here, input=(here / script).read_bytes() + b"write_rtlil out.il\n")
+    (here / "out.il").rename(here / made)
+    yield [f"-I{include}", "--", top, part], f"./{top}" if top.startswith("-") else top
+    yield ["-f", listed], f"./{top}"
+    yield ["-D", f"INITIAL=1 // {odd}".replace("\n", " "), "-Iplain", f"./{top}", f"./{part}"], f"./{top}"
+    yield ["--", script], "plain.sv"
+    yield ["--", made], "plain.sv"
+
+
+def odd_faults(folder):
+    """What is wrong where files of several, folders, lists, scripts and macros have signs that are a pattern or a command to yosys."""
+    for i, odd in enumerate(ODD):
+        here = folder / f"odd {i}"
+        here.mkdir()
+        before = None
+        for words, place in odd_files(here, odd):
+            before = before or sorted(os.listdir(here))
+            done = subprocess.run([PROVE, "--engine", "steps", *words], cwd=here, capture_output=True, encoding="utf-8")
+            shown = place.replace("\n", "\\x0a")
+            if done.returncode != 10 or f"assertion top.low ({shown}:3." not in done.stdout:
+                yield f"{words}: ended with status {done.returncode}: {done.stdout}{done.stderr}"
+        if sorted(os.listdir(here)) != before:
+            yield f"there is {set(os.listdir(here)) - set(before)}"
+    for words in [["--parameter", "A=1;!touch made"], ["--black-box", "a;b"], ["-D", "A=1\n!touch made"], ["-D", "A b=1"], ["--top", "a;b"]]:
+        done = subprocess.run([PROVE, *words, "examples/queue.v"], cwd=TOP, capture_output=True, encoding="utf-8")
+        if done.returncode != (1 if "--top" in words else 2) or done.stdout:
+            yield f"{words}: ended with status {done.returncode}: {done.stdout}"
+
+
 def main():
     tally, seconds = harness.Tally(), (sys.argv[1:] or ["60"])[0]
     with harness.new_folder() as folder:
@@ -134,6 +184,7 @@ def main():
             tally.wants(design, [], list(file_faults(design, answer, folder / design, seconds)))
         if shutil.which("yosys"):
             tally.wants("paths", [], list(path_faults(folder)))
+            tally.wants("paths of several files", [], list(odd_faults(folder)))
             for i, (words, status, *wanted) in enumerate(rows(TESTS / "verilog" / "answers.tsv")):
                 tally.wants(words, [], list(verilog_faults(words, status, wanted, folder / str(i))))
         else:

@@ -131,7 +131,7 @@ def files():
     with running("", files={"\x1b[2J.aag": "aag\n"}) as run:
         yield "a path", (1, "", "aigprove: \\x1b[2J.aag: bad header line\n", []), run.result(["\x1b[2J.aag"], run.words[:-1])
     named = TOGGLE + "l0 a\x1b[2J\nb0 \x1b]0;t\x07\n"
-    shown = 'a bad state at step 1: b0 "\\u001b]0;t\\u0007"\nstart: "a\\u001b[2J"=0\nstep 0:\nstep 1:\n'
+    shown = 'a bad state at step 1: b0 "\\u001b]0;t\\u0007"\nstart: "a\\u001b[2J"=0\nstep 0:\nstep 1: | "a\\u001b[2J"=1\n'
     for data in [named.encode(), gzip.compress(named.encode())]:
         yield compared(data, (10, shown, ""), asked(["--engine", "bmc3"], data, "exit 3", RUN))
 
@@ -303,7 +303,7 @@ def missing():
     with running(TOGGLE) as run:
         run.environment["PATH"] = str(run.temporary)
         solver, abc = "passed over: cadical is not installed", "passed over: none of berkeley-abc, yosys-abc, abc is installed"
-        engines = {"steps": solver, "windows": solver, "bmc3": abc, "pdr": abc}
+        engines = {"bmc3": abc, "pdr": abc, "bounded": solver, "steps": solver, "windows": solver}
         wanted = "".join(f"aigprove: {name}: {why}\n" for name, why in engines.items())
         yield "nothing is installed", (1, "", wanted, []), run.result(["t.aag"], [sys.executable, *run.words[:7]])
 

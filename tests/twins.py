@@ -22,8 +22,9 @@ TABLE, SEARCH = TESTS / "twins" / "table.txt", TESTS / "twins" / "search.v"
 STEPS = 4095
 PART = re.compile(r"(state|free|first|next|also|ok|bad|refused): (.*)")
 SIGNAL = re.compile(r"(\w+)(?:\[(\d+):0\])?")
-# A value in a printed run: of a bit, or of a word in hexadecimal.
-VALUE = re.compile(r"(?<!\S)(\w+)(?:\[(\d+)\])?=(?:([01])|\d+'h([0-9a-f]+))(?!\S)")
+# A value in a printed run: of a bit, or of a word in hexadecimal, or in base two where some bits don't matter; and several steps in a line.
+VALUE = re.compile(r"(?<!\S)(\w+)(?:\[(\d+)\])?=(?:([01-])|\d+'h([0-9a-f]+)|\d+'b([01-]+))(?!\S)")
+STEPS_LINE = re.compile(r"steps (\d+) to (\d+):")
 TWIN = """module twin(input clk, input [{free_end}:0] free);
   {registers}
   {wires}
@@ -70,12 +71,16 @@ class Design:
         return TWIN.format(**words)
 
     def pattern(self, part, printed):
-        """The bits of all registers or free values, the highest of the first signal first, as printed values have them; else x."""
+        """The bits of all registers or free values, the highest of the first signal first, as printed values have them; else x. What is
+        printed as one that doesn't matter is drawn."""
         bits = {(name, i): "x" for name, width in self.signals(part).items() for i in reversed(range(width))}
-        for name, place, bit, digits in VALUE.findall(printed):
-            value, low = int(bit or digits, 16), int(place or 0)
-            places = range(low, low + 1 if place else len(bits))
-            bits.update({(name, i): str(value >> i - low & 1) for i in places if (name, i) in bits})
+        rng = random.Random(printed)
+        for name, place, bit, digits, base_two in VALUE.findall(printed):
+            low, width = int(place or 0), 1 if place else self.signals(part).get(name, 0)
+            spelled = f"{int(digits, 16):0{width}b}" if digits else (base_two or bit * width).rjust(width, "0")
+            for i, value in enumerate(reversed(spelled)):
+                if (name, low + i) in bits:
+                    bits[name, low + i] = rng.choice("01") if value == "-" else value
         return "".join(bits.values())
 
     def first_bad(self, folder, held=None):
@@ -107,12 +112,21 @@ class Design:
 
     def run_faults(self, folder, wanted, lines):
         """What is wrong of a printed run to the wanted step, and of the witness that was written of it."""
-        held = [line for line in lines if line.startswith(("start:", "step "))]
+        held = list(spread(lines))
         steps = (folder / "witness").read_text().split("\n")[3:-2]
         if len(steps) != len(held) - 1 or f"step {len(held) - 2}" != wanted:
             yield f"{wanted} is reached by {held}, and a witness of {len(steps)} steps"
         elif (found := self.first_bad(folder, held)) != wanted:
             yield f"{held} is no run of the twin to {wanted}, where Icarus says {found}"
+
+
+def spread(lines):
+    """The lines of a run, with one for each of several steps that are told in one."""
+    for line in lines:
+        found = STEPS_LINE.match(line)
+        steps = range(int(found[1]), int(found[2]) + 1) if found else []
+        yield from (f"step {t}:{line[found.end():]}" for t in steps)
+        yield from [line] * line.startswith(("start:", "step "))
 
 
 def answered(status, lines, said):

@@ -149,6 +149,15 @@ class Circuit:
         """The name of a signal, as bytes."""
         return self.names.get((letter, position)) or f"{letter}{position}".encode()
 
+    def read_by(self, literal):
+        """The places of the latches that a literal reads in the same step."""
+        gates, left, seen = {gate: operands for gate, *operands in self.gates}, [literal & ~1], set()
+        while left:
+            if (it := left.pop()) not in seen:
+                seen.add(it)
+                left += [operand & ~1 for operand in gates.get(it, [])]
+        return {i for i, latch in enumerate(self.latches) if latch in seen}
+
     def run(self, state, inputs):
         """The values of all even literals in each step."""
         for given in inputs:

@@ -21,12 +21,15 @@ from aigprove.source import Pair, Source
 from aigprove.yosys import Late
 
 TOP = os.path.dirname(os.path.dirname(os.path.dirname(os.path.realpath(__file__))))
-# Engines that are asked where none is named, and all.
-ENGINES = ["steps", "windows", "bmc3", "pdr"]
-ALL = [*ENGINES, "bounded"]
+# Engines, those first whose answers may come at once.
+ENGINES = ["bmc3", "pdr", "bounded", "steps", "windows"]
 BELIEVED = ["aigtool", "aigedit", "aigcheck"]
 # What can go wrong: a thread that can't be started is a RuntimeError.
 FAULTS = (Fault, OSError, MemoryError, RuntimeError, UnicodeError)
+# How many lists of files may be in one another.
+MOST_LISTS = 16
+# What may stand there beside files.
+LISTED = ("-D", "-I", "-f")
 # Stands in the place of --, and is nothing that a command line can have.
 END = "--\0"
 # Options that name files, folders and programs.
@@ -43,10 +46,10 @@ ABOUT = """\
 Asks whether the machine of an AIGER file can reach a bad state, and believes no engine: what is printed was checked by aigcheck.
 
 Engines look for an answer side by side, and the first that is checked is printed:
-  steps     asks a SAT solver about step 0, 1 and so on
-  bounded   asks it one question about all steps up to 1, 2, 4 and so on; by --engine alone
-  windows   asks it about K + 2 steps from any state, bad at the last alone (k-induction)
   bmc3, pdr commands of ABC, whose counterexamples become witnesses and whose invariant becomes a certificate
+  bounded   asks a SAT solver one question about all steps up to 1, 2, 4 and so on
+  steps     asks it about step 0, 1 and so on
+  windows   asks it about K + 2 steps from any state, bad at the last alone (k-induction)
 An engine that isn't installed, lies or breaks is told of on standard error, and changes nothing else.
 
 With --equal outputs and bad states of FILE and OTHER are compared, on all runs of both that have the same inputs, and that the
@@ -55,7 +58,7 @@ Justice and fairness are not looked at.
 """
 ENDS = """\
 Exit status 20: no bad state at any step, or no difference. 10: a bad state is reached, or a difference. 0: neither was shown.
-1: something went wrong. 2: wrong words.
+1: something went wrong. 2: wrong words. With --aiger it is 0 where it would be 20, 10 or 0.
 """
 
 
@@ -104,26 +107,63 @@ def reset(word):
     return Reset(found[1], int(found[2] or 1), int(found[3] or 1))
 
 
+def macro(word):
+    """The name and the text of a macro."""
+    name, is_given, text = word.partition("=")
+    if not re.fullmatch("[A-Za-z_][A-Za-z0-9_$]*", name) or not text.isprintable() or text.endswith("\\"):
+        raise argparse.ArgumentTypeError(f"{word} is no NAME or NAME=TEXT of one line, as WIDTH=8")
+    return name, text if is_given else "1"
+
+
+def module(word):
+    if not re.fullmatch("[A-Za-z_][A-Za-z0-9_$]*", word):
+        raise argparse.ArgumentTypeError(f"{word} is no name of a module")
+    return word
+
+
+def parameter(word):
+    """The name and the value of a parameter."""
+    found = re.fullmatch(r"([A-Za-z_][A-Za-z0-9_$]*)=(-?[0-9]+|[0-9]+'s?(?:b[01_]+|o[0-7_]+|d[0-9_]+|h[0-9A-Fa-f_]+))", word)
+    if not found:
+        raise argparse.ArgumentTypeError(f"{word} is no NAME=NUMBER, as WIDTH=8 or MODE=2'b10 (a text stands in the design, or -D gives it)")
+    return found.groups()
+
+
 def engines(word):
     names = word.replace("abc", "bmc3,pdr").split(",")
-    if not set(names) <= set(ALL):
-        raise argparse.ArgumentTypeError(f"{word} names others than {', '.join(ALL)} and abc")
+    if not set(names) <= set(ENGINES):
+        raise argparse.ArgumentTypeError(f"{word} names others than {', '.join(ENGINES)} and abc")
     return names
 
 
 def parser():
     """The words of the command line."""
     it = Parser("aigprove", description=ABOUT, epilog=ENDS, formatter_class=argparse.RawDescriptionHelpFormatter)
-    file = "a file in AIGER form, text or binary, which may be packed by gzip, or a design in Verilog (.v, .sv)"
+    file = "a file in AIGER form, text or binary, which may be packed by gzip; or the files of a design, in order: Verilog (.v, .sv), an .il " \
+        "file or a script (.ys) of yosys, or BLIF (.blif); - is standard input"
     held = "hold this input of a design at V (1) in the first N steps (1), in which assertions don't count; later it is free, and where " \
         "it is to stay released the design has to assume so"
+    boxes = "let the outputs of this module, of which there are the ports alone, have any values in each step"
+    aiger = "print the answer alone, as the AIGER report has it: 1 and a witness, 0 (none at any step) or 2 (neither), each with status 0"
+    many = "take several clocks, and both edges: a step is a moment, in which each input may change, clocks too"
     bound = "ask about the steps 0 to N; once they were shown, other engines have as long again, and a second (no bound)"
     running, processors = "run so many programs at once, and others by turns (one for each processor)", len(os.sched_getaffinity(0))
     limit = "take circuits of so many nodes, up to 2^31 (2^24)"
     solver = "a SAT solver that writes a proof in text: it is given a DIMACS file and the proof's name (cadical)"
-    it.add_argument("file", metavar="FILE", type=nonempty, help=file)
-    it.add_argument("top", metavar="TOP", nargs="?", help="the top module of a design (the one that no other has)")
+    it.add_argument("files", metavar="FILE", type=nonempty, nargs="+", help=file)
+    top = "the top module of a design (the one that no other has); a last word that may be a name, as TOP, says it too"
+    it.add_argument("--top", metavar="TOP", help=top)
+    loud = it.add_mutually_exclusive_group()
+    loud.add_argument("-v", "--verbose", action="store_true", help="say on standard error which engine answered, and when")
+    loud.add_argument("-q", "--quiet", action="store_true", help="print the line of the answer alone, and only faults on standard error")
+    it.add_argument("--aiger", action="store_true", help=aiger)
     it.add_argument("--version", action="version", version=f"aigprove {VERSION}")
+    it.add_argument("-f", metavar="LIST", action="append", help="put the words of this file here: files, -D, -I and -f, with # or // for comments")
+    it.add_argument("-D", "--define", metavar="NAME[=TEXT]", type=macro, action="append", default=[], help="define a macro of Verilog (1)")
+    it.add_argument("-I", "--include", metavar="FOLDER", type=nonempty, action="append", default=[], help="look for included files here too")
+    it.add_argument("--parameter", metavar="NAME=NUMBER", type=parameter, action="append", default=[], help="set a parameter of the top module")
+    it.add_argument("--black-box", metavar="NAME", type=module, action="append", default=[], help=boxes)
+    it.add_argument("--multiclock", action="store_true", help=many)
     it.add_argument("--reset", metavar="SIGNAL[=V][:N]", type=reset, help=held)
     it.add_argument("--bound", metavar="N", type=count("[0-9]{1,10}", "steps"), help=bound)
     seconds = count(r"[0-9]{1,9}(\.[0-9]{1,9})?", "seconds", float)
@@ -163,9 +203,41 @@ def marked(line):
     return [*line[:end], *[END] * (end < len(line)), *behind]
 
 
+def listed(line, depth=0):
+    """A command line with the words of each file in the place of -f and its name."""
+    found, words = [], iter(line)
+    for word in words:
+        if word == "--":
+            return [*found, word, *words]
+        path = (word[2:] or next(words, None)) if word.startswith("-f") else None
+        found += [word] if path is None else of_list(path, depth)
+    return found
+
+
+def of_list(path, depth):
+    """The words of a list of files, which may have others in it."""
+    if depth > MOST_LISTS:
+        raise Fault(f"{path} is in itself")
+    text = sealed(path).bytes().decode("utf-8", "surrogateescape")
+    words, given = [], iter(shlex.split(re.sub(r"(?m)(^|\s)//.*", "", text), comments=True))
+    for word in given:
+        # As other tools spell them.
+        kind, *values = word.split("+")[1:] if word.startswith("+") else [None]
+        flag = {"incdir": "-I", "define": "-D"}.get(kind)
+        words += [flag + value for value in values if value] if flag else [word + next(given, "") if word in LISTED else word]
+        if word.startswith("-") and not word.startswith(LISTED):
+            raise Fault(f"{path}: {word} is no file, -D, -I or -f")
+    return listed(words, depth + 1)
+
+
 def parse(line):
     """What the words of a command line say, with paths that hold in any folder."""
-    words = parser().parse_intermixed_args(marked(line))
+    made = parser()
+    words = made.parse_intermixed_args(marked(listed(line)))
+    names = [i for i, word in enumerate(words.files) if i and re.fullmatch("[A-Za-z_][A-Za-z0-9_$]*", word)]
+    if names and names[0] < len(words.files) - 1 or names and words.top:
+        made.error(f"unrecognized arguments: {' '.join(words.files[names[0] + 1 - bool(words.top):])}")
+    words.top = words.files.pop() if names else words.top
     words.deadline = math.inf if words.timeout is None else time.monotonic() + words.timeout
     given = words.certificate or words.run
     words.engines = words.engine or ([] if given else ENGINES)
@@ -204,7 +276,7 @@ def answer(line):
         return Race(words, running, judge, above, source).run()
     except Late as why:
         programs.say(why)
-        print("nothing was shown")
+        print("2\n." if words.aiger else "nothing was shown")
         return OPEN
     finally:
         running.stop()

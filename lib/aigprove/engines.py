@@ -6,6 +6,7 @@ import collections
 import concurrent.futures
 import itertools
 import shutil
+import threading
 
 from aigprove import aiger, witness
 from aigprove.programs import Fault, Folder, Sealed, ending
@@ -42,8 +43,8 @@ class Steps(Asking):
     def run(self):
         # Steps that unit propagation is tried on, and claims that are being checked.
         self.tried, self.checking, propagates = {}, collections.deque(), False
-        with concurrent.futures.ThreadPoolExecutor(CHECKS) as self.checker:
-            for k in itertools.count() if self.race.bound is None else range(self.race.bound + 1):
+        with concurrent.futures.ThreadPoolExecutor(CHECKS, threading.current_thread().name) as self.checker:
+            for k in self.steps():
                 is_power = k & (k - 1) == 0
                 self.race.progress("step", k)
                 propagates = (propagates or is_power) and self.propagates(k, CHECKS if propagates else 0)
@@ -51,6 +52,13 @@ class Steps(Asking):
                     return
             self.finish()
             self.race.bound_reached()
+
+    def steps(self):
+        """Each step that no engine has shown yet, in order, up to the bound."""
+        k = 0
+        while self.race.bound is None or k <= self.race.bound:
+            yield k
+            k = max(k + 1, self.race.steps)
 
     def propagation(self, k):
         """That unit propagation finds that no bad state is reached at step k."""
@@ -104,7 +112,8 @@ class Bounded(Asking):
 
     def steps(self):
         bound = self.race.bound
-        yield from itertools.takewhile(lambda k: bound is None or k < bound, (1 << i for i in itertools.count()))
+        powers = itertools.takewhile(lambda k: bound is None or k < bound, (1 << i for i in itertools.count()))
+        yield from itertools.filterfalse(lambda k: k < self.race.steps, powers)
         yield bound
 
     def reaches(self, k):
@@ -185,10 +194,10 @@ class Abc:
             return None
 
     def hand_in_run(self, found):
-        reached = witness.reached(self.race.circuit, *self.plain.run(found))
-        if reached is None:
+        told = self.race.reached(*self.plain.run(found))
+        if told is None:
             raise Fault("its counterexample reaches no bad state")
-        self.race.hand_in_run(reached.text().encode())
+        self.race.hand_in_run(told.text().encode())
 
     def hand_in_invariant(self, invariant):
         made = self.plain.certificate(invariant)
@@ -224,7 +233,8 @@ class Run:
         if data.startswith((b"1\nb", b"c")):
             self.race.hand_in_run(data)
             return
-        told = witness.of_abc(data.decode("utf-8", "replace"), self.race.circuit)
+        run = witness.of_abc(data.decode("utf-8", "replace"), self.race.circuit)
+        told = run and self.race.reached(*run)
         if told is None:
             raise Fault("WITNESS is neither a witness nor a counterexample of ABC that reaches a bad state")
         self.race.hand_in_run(told.text().encode())

@@ -71,6 +71,13 @@ class Judge:
         """Whether aigcheck prints the line of a claim, and doesn't say that a proof doesn't follow."""
         return self.refusal(claim) is None
 
+    def holds(self, claim):
+        """Whether aigcheck prints the line of a claim about a run, whatever it says else."""
+        try:
+            return self.shows(claim)
+        except Fault:
+            return False
+
     def check(self, claim):
         if why := self.refusal(claim):
             raise Fault(why)

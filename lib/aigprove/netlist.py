@@ -5,6 +5,7 @@ import re
 from aigprove.programs import Fault
 
 CLOCKS = {"CLK", "RD_CLK", "WR_CLK"}
+MANY = "--multiclock takes any, and a step is then a moment in which inputs and clocks may change"
 # What an assertion, an assumption or a write that isn't enabled says; a case whose items nobody has compared; and one item that is x.
 UNREACHED = re.compile(r"^( *assign \$[0-9]+\$(?:formal|memwr)\$\S+ )([0-9]+)'x+$(?=\n(?:.*\n)?.*_EN\S* [0-9]+'0+$)", re.MULTILINE)
 PARALLEL = re.compile(r"^ *attribute \\parallel_case .*\n", re.MULTILINE)
@@ -39,6 +40,17 @@ def cells_of(text):
             yield Cell(module, None, first, place)
         else:
             yield Cell(module, first, second, place)
+
+
+def modules_of(text):
+    """The text of each module of a design in yosys's own language, with the attributes before it, by its name."""
+    parts = re.split(r"(?<=^end\n)", text, flags=re.MULTILINE)
+    return {found[1]: part for part in parts if (found := re.search(r"^module (\S+)$", part, re.MULTILINE))}
+
+
+def base_of(name):
+    """The name that a module has in the design: that of one with parameters stands behind the second sign."""
+    return name.split("\\")[1]
 
 
 def roots_of(cells):
@@ -144,12 +156,12 @@ def clock_of(top, module):
                 read.update(names.get(bit) for bit in bits)
     if len(clocks) > 1:
         shown = " and ".join(f"{name} ({'rising' if rising else 'falling'})" for name, rising in sorted(clocks))
-        raise Fault(f"{top} has several clocks, and one is taken: {shown}")
+        raise Fault(f"{top} has several clocks, and one is taken: {shown} ({MANY})")
     for clock, _ in clocks:
         if clock in read:
-            raise Fault(f"{top} reads its clock {clock} as a value too")
+            raise Fault(f"{top} reads its clock {clock} as a value too ({MANY})")
         if module["ports"].get(clock, {"direction": ""})["direction"] != "input":
-            raise Fault(f"{top} makes its clock {clock} itself, and one that is an input is taken")
+            raise Fault(f"{top} makes its clock {clock} itself, and one that is an input is taken ({MANY})")
     return next(iter(clocks), None)
 
 
@@ -158,11 +170,13 @@ def stored(module):
     ranked = sorted(module["netnames"].items(), key=lambda it: (not it[1]["hide_name"], -it[0].count(".")))
     nets = {tuple(net["bits"]): (name, net["hide_name"]) for name, net in ranked}
     held = {tuple(cell["connections"]["Q"]) for cell in module["cells"].values() if "Q" in cell["connections"]}
+    taken = set(module["netnames"])
     for cell in module["cells"].values():
         ports = cell["connections"]
         for bits in [tuple(ports[port]) for port in "AB" if cell["type"] == "$mux"]:
             old, new = nets.get(bits), nets.get(tuple(ports["Y"]))
-            if bits in held and old and old[1] and new and not new[1] and f"{new[0]}.stored" not in module["netnames"]:
+            if bits in held and old and old[1] and new and not new[1] and f"{new[0]}.stored" not in taken:
+                taken.add(f"{new[0]}.stored")
                 yield old[0], f"{new[0]}.stored"
 
 

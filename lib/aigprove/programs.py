@@ -1,4 +1,5 @@
 """Programs that are run: each in a group of its own that is ended whole, by turns, and with limits on what it writes."""
+import collections
 import contextlib
 import ctypes
 import fcntl
@@ -20,8 +21,10 @@ from aigprove.aiger import Fault
 # No write, no other length, and no seal less.
 SEALS = fcntl.F_SEAL_WRITE | fcntl.F_SEAL_GROW | fcntl.F_SEAL_SHRINK | fcntl.F_SEAL_SEAL
 SUBREAPER = 36
-# Seconds of a turn.
+# Seconds that an engine may have run longer than another that waits.
 TURN = 0.5
+# How many times as long as others an engine may run that got further lately, and seconds of its own for which that holds.
+SHARE, LATELY = 2, 2
 # What part of the free bytes of the temporary folder, and of all memory, an engine may write.
 PART = 4
 # How many files an engine may write.
@@ -113,8 +116,8 @@ class Group:
 
     def __init__(self, words, folder=None, **streams):
         environment = {**os.environ, "TMPDIR": folder} if folder else None
-        # The folder whose limit it keeps.
-        self.folder = None
+        # The folder whose limit it keeps, the engine whose thread started it, and up to when its time was counted.
+        self.folder, self.engine, self.counted = None, threading.current_thread().name.partition("_")[0], time.monotonic()
         self.process = subprocess.Popen(words, cwd=folder, env=environment, start_new_session=True, stdin=subprocess.DEVNULL, **streams)
 
     def signal(self, number):
@@ -155,14 +158,15 @@ def end_left(told):
 
 
 class Programs:
-    """All programs that run now. As many as there are jobs run at once, and the others wait for their turn."""
+    """All programs that run now. As many as there are jobs run at once, and the others wait until those of their engine ran least."""
 
     def __init__(self, jobs):
         self.jobs, self.lock, self.is_stopped = jobs, threading.Lock(), False
         self.keeper = Keeper()
-        # Groups that run and groups that wait, the longest first.
         self.running, self.waiting = [], []
-        self.turned = self.looked = time.monotonic()
+        self.looked = time.monotonic()
+        # By the engine: for how long its programs ran, and for how long when it last got further.
+        self.used, self.further = collections.Counter(), {}
 
     def start(self, words, **options):
         """Starts a program, which waits for its turn where there is none free."""
@@ -174,7 +178,25 @@ class Programs:
             (self.running if len(self.running) < self.jobs else self.waiting).append(group)
             if group in self.waiting:
                 group.signal(signal.SIGSTOP)
+                self.turn()
         return group
+
+    def achieved(self, engine):
+        """Takes that an engine got further."""
+        with self.lock:
+            self.further[engine] = self.used[engine]
+
+    def weighed(self, group):
+        """For how long the engine of a program ran, as that counts."""
+        used = self.used[group.engine]
+        return used / SHARE if used - self.further.get(group.engine, -LATELY) < LATELY else used
+
+    def count(self):
+        """Counts how long programs ran since this was done last."""
+        now = time.monotonic()
+        for group in self.running:
+            self.used[group.engine] += now - group.counted
+            group.counted = now
 
     def finish(self, group):
         """Waits for the end of a program, ends what it left running, and gives its status."""
@@ -184,6 +206,7 @@ class Programs:
         self.keeper.tell(-group.process.pid)
         status = group.process.wait()
         with self.lock:
+            self.count()
             for groups in self.running, self.waiting:
                 if group in groups:
                     groups.remove(group)
@@ -195,24 +218,29 @@ class Programs:
     def fill(self):
         """Continues programs that wait, while there is a turn free."""
         while self.waiting and len(self.running) < self.jobs:
-            self.running.append(self.waiting.pop(0))
-            self.running[-1].signal(signal.SIGCONT)
+            group = min(self.waiting, key=self.weighed)
+            self.waiting.remove(group)
+            self.running.append(group)
+            group.counted = time.monotonic()
+            group.signal(signal.SIGCONT)
 
     def look(self, tick):
         """Sees to turns and limits, where that was so many seconds ago."""
         if time.monotonic() - self.looked > tick:
             self.looked = time.monotonic()
-            self.turn()
+            with self.lock:
+                self.turn()
             self.check_limits()
 
     def turn(self):
-        """Gives the turn of the program that had it longest to the one that waited longest, where it is time for that."""
-        with self.lock:
-            if self.waiting and self.running and time.monotonic() - self.turned > TURN:
-                self.turned = time.monotonic()
-                self.waiting.append(self.running.pop(0))
-                self.waiting[-1].signal(signal.SIGSTOP)
-                self.fill()
+        """Gives the turn of the program whose engine ran longest to the one whose engine ran least, where that is a turn less."""
+        self.count()
+        longest, least = max(self.running, key=self.weighed, default=None), min(self.waiting, key=self.weighed, default=None)
+        if longest and least and self.weighed(longest) - self.weighed(least) > TURN:
+            self.running.remove(longest)
+            longest.signal(signal.SIGSTOP)
+            self.fill()
+            self.waiting.append(longest)
 
     def check_limits(self):
         """Ends programs that wrote more than they may."""
@@ -221,6 +249,13 @@ class Programs:
         for group in groups:
             if group.folder.is_full():
                 group.signal(signal.SIGKILL)
+
+    def end_engines(self):
+        """Ends what engines run."""
+        with self.lock:
+            for group in self.running + self.waiting:
+                if group.engine != threading.current_thread().name:
+                    group.signal(signal.SIGKILL)
 
     def stop(self):
         """Ends all programs; none is started from now on."""

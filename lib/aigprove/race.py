@@ -6,16 +6,22 @@ import sys
 import threading
 import time
 
-from aigprove import aiger, files, plain, waves, witness
+from aigprove import aiger, files, plain, witness
 from aigprove.engines import COMMANDS, Abc, Bounded, Certificate, Missing, Run, Steps, Windows
 from aigprove.evidence import Evidence
+from aigprove.minimal import minimal
 from aigprove.programs import Fault, Sealed, Stopped, reason, say, tell
 from aigprove.questions import Solver
+from aigprove.replay import SIMULATED
 from aigprove.shown import Shown
 
 SAFE, UNSAFE, OPEN, FAILED = 20, 10, 0, 1
+# How the AIGER report spells what is shown.
+REPORTED = {SAFE: 0, UNSAFE: 1, OPEN: 2}
 # Seconds between two looks at turns, limits and the clock.
 TICK = 0.1
+# How many seconds values that don't matter are looked for in a run, and of how many properties that it shows.
+SECONDS, SHOWN = 1, 8
 
 
 class Race:
@@ -30,6 +36,8 @@ class Race:
         self.deadline = words.deadline
         # What the progress line says, and the last line that was printed.
         self.doing, self.last = {}, None
+        # The run that was found.
+        self.told = None
         self.evidence = words.keep and Evidence(words.keep, words.limit)
         if self.evidence:
             source.keep(self.evidence)
@@ -57,6 +65,19 @@ class Race:
             raise Missing("cadical is not installed")
         return Solver(self.words.solver, self.programs, self.judge, self.above)
 
+    def claimed(self, told):
+        """What aigcheck says of a run."""
+        return self.source.run(told, Sealed(told.text().encode()))
+
+    def reached(self, start, steps):
+        """The witness of a run whose last step is bad, as aigcheck finds; of one that is short, else of the first bad step. None where there
+        is none."""
+        for bad in range(len(self.circuit.bads) if steps else 0):
+            told = witness.Witness(bad, start, steps)
+            if self.judge.holds(self.claimed(told)):
+                return told
+        return witness.reached(self.circuit, start, steps) if len(steps) * len(self.circuit.gates) < SIMULATED else None
+
     # What engines hand in, from their threads.
 
     def progress(self, what, count=None):
@@ -65,48 +86,71 @@ class Race:
 
     def step(self, k, claim, prefix=""):
         """Takes that step k was checked, and all before it."""
-        self.events.put(lambda: self.print_step(k, claim, prefix))
+        if k >= self.steps:
+            self.programs.achieved(threading.current_thread().name)
+        self.hand_in(lambda: self.print_step(k, claim, prefix))
 
     def window(self, k, claim):
         self.shown_window = k, claim
-        self.events.put(self.print_induction)
+        self.hand_in(self.print_induction)
 
     def certificate(self, claim):
-        self.events.put(lambda: self.print_safe(claim))
+        self.hand_in(lambda: self.print_safe(claim))
+
+    def hand_in(self, answer):
+        """Takes an answer of the engine whose thread this is."""
+        name = threading.current_thread().name
+        self.events.put(lambda: self.answered(name, answer))
 
     def hand_in_run(self, data):
         """Has aigcheck check a run to a bad state, and takes it."""
         header = self.circuit.header
         told = witness.read(aiger.Lines(data, "WITNESS"), header.latches, header.inputs)
-        claim = self.source.run(told, Sealed(data))
-        self.judge.check(claim)
+        self.judge.check(self.claimed(told))
         others = self.source.others(self.circuit, told)
-        shown = [it for it in others if self.judge.shows(self.source.run(it, Sealed(it.text().encode())))]
-        self.events.put(lambda: self.print_run([told, *shown], data, claim))
+        shown = [it for it in others if self.judge.holds(self.claimed(it))]
+        self.hand_in(lambda: self.print_run([told, *shown]))
 
     def bound_reached(self):
         """Takes that all steps up to the bound were shown: the other engines may take as long again, and a second."""
         now = time.monotonic()
         self.deadline = min(self.deadline, now + (now - self.begun) + 1)
 
+    def answered(self, name, answer):
+        """Prints an answer, and says whose it is, where that is wanted."""
+        status = answer()
+        if self.words.verbose and status is not None:
+            say(f"{name} answered after {time.monotonic() - self.begun:.1f} s")
+        return status
+
     # What is printed. Each of these gives the exit status once there is an answer, and else None.
 
-    def print_line(self, line):
-        """Prints a line, in the place of the progress line."""
+    def print_line(self, line, is_answer=False):
+        """Prints a line, in the place of the progress line; where the answer alone is wanted, only that."""
         self.show_progress("")
-        print(line, flush=True)
+        if not self.words.aiger and (is_answer or not self.words.quiet):
+            print(line, flush=True)
         self.last = line
 
-    def print_claim(self, claim, prefix=""):
+    def print_status(self, status, told=None):
+        """Prints the status of the AIGER report, where that is wanted, and gives the exit status."""
+        if not self.words.aiger or status == FAILED:
+            return status
+        asked = "".join(f"b{i}" for i in range(len(self.circuit.bads)))
+        print(told.text() if told else f"{REPORTED[status]}\n{asked}\n.\n", end="", flush=True)
+        return OPEN
+
+    def print_claim(self, claim, prefix="", is_answer=False):
         """Prints a line that was checked, and keeps what shows it."""
-        self.print_line(prefix + claim.line)
+        self.print_line(prefix + claim.line, is_answer)
         if self.evidence:
             self.evidence.shows(claim)
 
     def print_step(self, k, claim, prefix):
-        """Prints that step k was shown, or the steps up to it."""
-        self.print_claim(claim, prefix)
-        self.steps = max(self.steps, k + 1)
+        """Prints that step k was shown, or the steps up to it, unless another engine showed that."""
+        if k >= self.steps:
+            self.print_claim(claim, prefix)
+            self.steps = k + 1
         return self.print_induction()
 
     def print_induction(self):
@@ -118,32 +162,45 @@ class Race:
     def print_safe(self, claim):
         """Prints a claim from which it follows that no step has what is asked about, and that."""
         prefix, safe = self.source.prefix, self.source.safe
-        self.print_claim(claim, prefix)
+        self.print_claim(claim, prefix, prefix + claim.line == safe)
         if prefix + claim.line != safe:
-            self.print_line(safe)
+            self.print_line(safe, True)
             if self.evidence:
                 self.evidence.add("echo", safe)
         return SAFE
 
-    def print_run(self, tolds, data, claim):
-        """Prints a run, and writes it where it is wanted."""
+    def smallest(self, tolds):
+        """Witnesses of a run with x for what doesn't matter to what they show."""
+        if len(tolds) > SHOWN:
+            return tolds
+        opened = [i for i, reset in enumerate(self.circuit.resets) if reset > 1]
+        each = lambda it: [it._replace(bad=told.bad) for told in tolds]
+        seconds = min(SECONDS, self.deadline - time.monotonic())
+        return each(minimal(tolds[0], opened, lambda it: all(self.judge.holds(self.claimed(own)) for own in each(it)), seconds))
+
+    def print_run(self, tolds):
+        """Prints a run without what doesn't matter, and writes it where it is wanted."""
+        self.programs.end_engines()
+        tolds = self.smallest(tolds)
         circuit, told = self.source.circuit(), tolds[0]
         shown = Shown(circuit)
-        for line in [self.source.found(shown, tolds), *shown.lines(told), *self.source.failing(data, told.bad)]:
+        self.told = told
+        self.print_line(self.source.found(shown, tolds), True)
+        for line in self.source.lines(shown, circuit, told):
             self.print_line(line)
         if self.evidence:
-            self.evidence.shows(claim)
+            self.evidence.shows(self.claimed(told))
         if self.words.witness:
-            files.write(self.words.witness, [data])
+            files.write(self.words.witness, [told.text().encode()])
         if self.words.vcd:
-            files.write(self.words.vcd, (f"{line}\n".encode() for line in waves.dump(circuit, told.start, told.steps)))
+            files.write(self.words.vcd, (f"{line}\n".encode() for line in self.source.dump(circuit, told)))
         return UNSAFE
 
     def print_open(self):
         """Prints up to which step all were shown, unless that was the last line."""
         line = f"{self.source.so_far} up to step {self.steps - 1}" if self.steps else "nothing was shown"
-        if line != self.last:
-            self.print_line(line)
+        if line != self.last or self.words.quiet:
+            self.print_line(line, True)
         return OPEN
 
     # The race.
@@ -165,7 +222,7 @@ class Race:
         except Missing as why:
             self.fail(name, f"passed over: {why}")
             return False
-        threading.Thread(target=self.work, args=[name, engine], daemon=True).start()
+        threading.Thread(target=self.work, args=[name, engine], name=name, daemon=True).start()
         return True
 
     def work(self, name, engine):
@@ -201,7 +258,7 @@ class Race:
 
     def run(self):
         """Runs the engines until there is an answer, or none can come any more, and gives the exit status."""
-        for line in self.source.warnings():
+        for line in [] if self.words.quiet else self.source.warnings():
             say(line)
         for line in self.source.about():
             self.print_line(line)
@@ -220,7 +277,7 @@ class Race:
             status = FAILED if len(self.faults) == len(engines) else self.print_open()
         if self.evidence:
             self.evidence.end()
-        return status
+        return self.print_status(status, self.told)
 
     def show_progress(self, text=None):
         """Shows what is being done, on a terminal."""

@@ -2,13 +2,16 @@
 
 A name is printed as it is where it is a plain word, and else as a JSON string, behind its place (i0, l0) where another signal has
 it too; a signal without a name is printed by its place. The bits `d[0]` to `d[7]` are printed as `d=8'hff`, in base two where one
-is x."""
+doesn't matter: x is printed as -."""
 import collections
+import itertools
 import json
 import re
 
 from aigprove.waves import grouped, words
 
+# How many steps that are equal are printed as one line, at least; and how many lines of a run are printed, at its begin and its end.
+EQUAL, FIRST, LAST = 3, 20, 180
 PLAIN = re.compile(r"(?![ilb][0-9]+(:|$))[!#-<>-\[\]-~]+")
 
 
@@ -19,8 +22,10 @@ def word(name):
 
 def number(bits):
     """A number of bits, the lowest first."""
+    if len(bits) == 1 or set(bits) == {"x"}:
+        return bits[0].replace("x", "-")
     if "x" in bits:
-        return f"{len(bits)}'b{''.join(reversed(bits))}"
+        return f"{len(bits)}'b{''.join(reversed(bits)).replace('x', '-')}"
     return f"{len(bits)}'h{int(''.join(reversed(bits)), 2):0{(len(bits) + 3) // 4}x}"
 
 
@@ -56,16 +61,37 @@ class Shown:
         place = f"{letter}{position}"
         return " ".join([place, *(word(self.names[place]) for _ in range(place in self.names))])
 
-    def values(self, label, letter, values):
-        """A line with the values of all inputs or latches."""
-        shown = [
-            f"{name}={number([values[n] for n in places])}" if name else f"{self.signal(f'{letter}{places[0]}')}={values[places[0]]}"
-            for name, places in grouped(len(values), self.buses[letter])
-        ]
-        return " ".join([f"{label}:", *shown])
+    def values(self, letter, values, places=None):
+        """The values of inputs or latches: of all, or of those at these places."""
+        shown = []
+        for name, own in grouped(len(values), self.buses[letter]):
+            if places is None or not places.isdisjoint(own):
+                bits = [values[i] for i in own]
+                shown.append(f"{name}={number(bits)}" if name else f"{self.signal(f'{letter}{own[0]}')}={number(bits)}")
+        return shown
 
-    def lines(self, witness):
-        yield self.values("start", "l", witness.start)
-        for t, inputs in enumerate(witness.steps):
-            yield self.values(f"step {t}", "i", inputs)
+    def lines(self, told, latches, changes):
+        """The lines of a run: the values of these latches at first, and for each step the inputs, and what else changed, behind a bar."""
+        yield spaced("start:", *self.values("l", told.start, latches))
+        steps = []
+        for t, inputs in enumerate(told.steps):
+            steps.append(spaced(*self.values("i", inputs), *["|", *changes[t]] * bool(changes.get(t))))
+        yield from folded(steps)
 
+
+def spaced(*words):
+    return " ".join(words)
+
+
+def folded(steps):
+    """A line for each step, or for several that are equal; of many lines the first and the last."""
+    lines, t = [], 0
+    for text, own in itertools.groupby(steps):
+        count = len(list(own))
+        spans = [(t, t + count - 1)] if count >= EQUAL else [(i, i) for i in range(t, t + count)]
+        lines += [(first, last, text) for first, last in spans]
+        t += count
+    if len(lines) > FIRST + LAST:
+        lines[FIRST:-LAST] = [(lines[FIRST][0], lines[-LAST][0] - 1, "as --witness and --vcd write them")]
+    for first, last, text in lines:
+        yield spaced(f"step {first}:" if first == last else f"steps {first} to {last}:", *[text] * bool(text))

@@ -3,16 +3,17 @@ import argparse
 import re
 import tempfile
 
-from aigprove import aiger
+from aigprove import aiger, waves
 from aigprove.aiger import Header, Lines
 from aigprove.files import sealed
 from aigprove.judge import Claim
 from aigprove.misfit import misfit
 from aigprove.programs import Fault, say
+from aigprove.replay import SIMULATED, Replay
 from aigprove.shown import Shown, word
-from aigprove.verilog import Design
-
-VERILOG = (".v", ".sv")
+from aigprove.verilog import BLIF, FRONTS, STANDARD_INPUT, VERILOG, Design, File, kind_of
+# Options that are for designs alone, or for those that certain front ends read.
+OF_DESIGNS = {"top": None, "reset": None, "parameter": None, "black_box": None, "multiclock": None, "define": [VERILOG], "include": [VERILOG]}
 # How many outputs that differ are named.
 NAMED = 100
 # How many registers that are open at first are named.
@@ -26,30 +27,44 @@ CLAIMS = {
 
 
 class Given:
-    """A file in AIGER form as it was given, and its name among what is kept; a design in Verilog is made one first."""
+    """A file in AIGER form as it was given, and its name among what is kept; of the files of a design one is made first."""
 
-    def __init__(self, path, words, above, judge, name="file"):
-        self.path, self.design, self.judge, self.given = path, None, judge, sealed(path, judge.limit)
-        if path.endswith(VERILOG):
+    def __init__(self, paths, words, above, judge, name="file"):
+        self.path, self.design, self.judge = paths[0], None, judge
+        self.given = [sealed("/dev/stdin" if path == STANDARD_INPUT else path, judge.limit) for path in paths]
+        self.kinds = [kind_of(path, file.line()) for path, file in zip(paths, self.given)]
+        self.check_kinds(paths, words)
+        if self.kinds[0]:
             folder = tempfile.mkdtemp(prefix="design-", dir=above)
-            self.design = Design(path, self.given.bytes(), words, folder, judge.programs)
-        elif words.top:
-            raise Fault(f"{path} is no design in Verilog, so it has no module {words.top}")
-        elif words.reset:
-            raise Fault(f"{path} is no design in Verilog, and --reset is for these")
-        for line in self.design.left_out if self.design else []:
+            files = [File(path, file.bytes()) for path, file in zip(paths, self.given)]
+            self.design = Design(files, words, folder, judge.programs)
+        for line in self.design.left_out if self.design and not words.quiet else []:
             say(line)
-        self.file = sealed(self.design.file, judge.limit) if self.design else self.given
+        self.file = sealed(self.design.file, judge.limit) if self.design else self.given[0]
         self.line = self.file.line()
         self.suffix = "aag" if self.line.startswith(b"aag") else "aig"
         self.name = f"{name}.{self.suffix}"
+
+    def check_kinds(self, paths, words):
+        """Refuses a file among several that is of no design, and what is for designs alone."""
+        for path, kind in zip(paths, self.kinds):
+            if not kind and len(paths) > 1:
+                raise Fault(f"{path} is no file of a design (those end with {', '.join(FRONTS)})")
+        for option, of in OF_DESIGNS.items():
+            given = getattr(words, option)
+            if given and not any(kind and FRONTS[kind] in (of or FRONTS.values()) for kind in self.kinds):
+                what = f"so it has no module {given}" if option == "top" else f"and --{option.replace('_', '-')} is for these"
+                raise Fault(f"{self.path} is no design{' in Verilog' if of else ''}, {what}")
 
     def header(self):
         return Header(Lines(self.line, "FILE"))
 
     def circuit(self):
-        """The circuit that was given, with all its names."""
-        return self.judge.circuit(self.file, "FILE")
+        """The circuit that was given, with all its names; where a design has several for one signal, with the outermost."""
+        circuit = self.judge.circuit(self.file, "FILE")
+        if self.design:
+            circuit.names = {place: outermost(name) for place, name in circuit.names.items()}
+        return circuit
 
     def warnings(self):
         """A line of what the file has that nothing is asked about."""
@@ -66,8 +81,9 @@ class Given:
 
     def keep(self, evidence):
         evidence.put(self.name, self.file)
-        if self.design:
-            evidence.put(self.name[:-3] + self.path.rpartition(".")[2], self.given)
+        for i, (kind, file) in enumerate(zip(self.kinds, self.given)):
+            if kind:
+                evidence.put(f"{self.name[:-4]}{f'-{i}' if i else ''}{kind}", file)
 
 
 class Asked:
@@ -99,22 +115,32 @@ class Asked:
         """Further witnesses of what a run shows."""
         return []
 
-    def failing(self, data, bad):
-        """Lines of which assertions fail in a run."""
-        return []
+    def lines(self, shown, circuit, told):
+        """Lines of a run: the latches that are read by what it shows, or that are open at first and matter; the inputs of each step; and which
+        of the latches that are read, and have names, changed."""
+        read = circuit.read_by((circuit.bads or circuit.outputs)[told.bad])
+        yield from shown.lines(told, read | self.opened(circuit, told), changes_of(shown, circuit, told, read))
+
+    def opened(self, circuit, told):
+        """The places of the latches that are open at first, and matter."""
+        return {i for i, reset in enumerate(circuit.resets) if reset > 1 and told.start[i] != "x"}
+
+    def dump(self, circuit, told):
+        """The lines of a value change dump."""
+        return waves.dump(circuit, told.start, told.steps)
 
 
 class Source(Asked):
     """One file, whose bad states are asked about."""
 
     def __init__(self, words, above, judge):
-        self.given, self.path = Given(words.file, words, above, judge), words.file
+        self.given, self.path = Given(words.files, words, above, judge), words.files[0]
         self.name, self.asked, self.is_old = self.given.name, self.given.file, is_old(self.given.line)
-        if self.given.design and not self.given.design.assertions:
+        if self.given.design and not self.given.design.assertions and BLIF not in self.given.kinds:
             raise Fault(f"{self.path}: {self.given.design.top} has no assertion")
         if self.is_old:
             self.name, self.asked = "bads.aag", judge.made("bads", self.asked)
-        self.circuit, self.warnings = self.given.circuit, self.given.warnings
+        self.circuit, self.warnings, self.replay = self.given.circuit, self.given.warnings, None
 
     def about(self):
         """Lines of what the file is, where that isn't seen."""
@@ -126,10 +152,35 @@ class Source(Asked):
         """The line that says what a run shows."""
         return f"a bad state at step {len(tolds[0].steps) - 1}: {shown.place('b', tolds[0].bad)}"
 
-    def failing(self, data, bad):
-        """Lines of the registers that are open at first, and of the assertion that fails in a run."""
-        design = self.given.design
-        return [*self.open_registers(design), *design.failing(data, bad)] if design else []
+    def lines(self, shown, circuit, told):
+        """Lines of a run; of a design, with the values of what the failing assertion reads, as yosys runs it."""
+        design, last = self.given.design, len(told.steps) - 1
+        if design is None or not design.assertions:
+            yield from super().lines(shown, circuit, told)
+            return
+        replay = None
+        try:
+            replay = self.replay = Replay(design, circuit, told)
+        except Fault as why:
+            yield from super().lines(shown, circuit, told)
+            trouble = f"yosys doesn't run it: {why}"
+        else:
+            yield from shown.lines(told, replay.latches | self.opened(circuit, told), replay.changes)
+            trouble = replay.trouble
+        yield from self.open_registers(design)
+        own, text = design.assertion(told.bad)
+        if replay is None:
+            yield from [f"{own} fails", trouble]
+        elif trouble:
+            yield f"{own} fails by the file, but where yosys runs the design {trouble}"
+        else:
+            yield f"{own} fails, as yosys runs it"
+            yield from replay.read(last)
+        yield from [f"it says: {text}"] * bool(text)
+
+    def dump(self, circuit, told):
+        """The lines of a value change dump: of a design that yosys ran, as yosys writes it."""
+        return self.replay.dump.splitlines() if self.replay else super().dump(circuit, told)
 
     def open_registers(self, design):
         """The line of the registers of a design that have any value at first, if there are any."""
@@ -154,15 +205,15 @@ class Pair(Asked):
     name, prefix, safe, so_far, empty = "miter.aag", "miter: ", "equal at every step", "equal", "no output and no bad state property"
 
     def __init__(self, words, above, judge):
-        self.judge, self.path = judge, f"{words.file} and {words.equal}"
-        self.first = Given(words.file, words, above, judge)
-        self.other = Given(words.equal, argparse.Namespace(**{**vars(words), "top": None}), above, judge, "other")
+        self.judge, self.path = judge, f"{words.files[0]} and {words.equal}"
+        self.first = Given(words.files, words, above, judge)
+        self.other = Given([words.equal], argparse.Namespace(**{**vars(words), **of_first(words)}), above, judge, "other")
         try:
             self.asked = judge.made("miter", self.first.file, self.other.file)
         except Fault as why:
             if str(why) != "aigedit: files do not fit":
                 raise
-            raise Fault(misfit([words.file, words.equal], [self.first.circuit(), self.other.circuit()])) from None
+            raise Fault(misfit([words.files[0], words.equal], [self.first.circuit(), self.other.circuit()])) from None
 
     def unsolvable(self, question, proof):
         """That a question has no solution: of a step, that both are equal there."""
@@ -218,9 +269,33 @@ class Pair(Asked):
         evidence.makes(self.name, self.asked, "miter", self.first.name, self.other.name)
 
 
+def of_first(words):
+    """What is of FILE alone where another file is compared with it: its top module, parameters and boxes, and macros where OTHER has none."""
+    alone = {"top": None, "parameter": [], "black_box": []}
+    is_design = kind_of(words.equal, b"")
+    return {**alone, **({} if is_design else {"reset": None, "multiclock": False, "define": [], "include": []})}
+
+
+def changes_of(shown, circuit, told, read):
+    """What latches that are read have in each step, by names, where that changed; nothing of a long run."""
+    if len(told.steps) * len(circuit.gates) > SIMULATED:
+        return {}
+    named, last, found = {i for i in read if f"l{i}" in shown.names}, None, {}
+    for t, values in enumerate(circuit.run(told.start, told.steps)):
+        now = shown.values("l", [values[latch] for latch in circuit.latches], named)
+        found[t] = [it for it in now if it not in (last or now)]
+        last = now
+    return found
+
+
 def counted(number, one, many=None):
     """How many there are of something, unless there is none."""
     return [f"{number} {one if number == 1 else many or one + 's'}"] if number else []
+
+
+def outermost(name):
+    """Of the names of a signal, with spaces between, the one of fewest modules, and of these the shortest."""
+    return min(name.split(b" "), key=lambda it: (it.count(b"."), len(it), it))
 
 
 def is_old(line):

@@ -1,16 +1,28 @@
-"""Designs in Verilog, made files in AIGER form by yosys: assertions become bad state properties, and assumptions constraints.
+"""Designs, made files in AIGER form by yosys: assertions become bad state properties, and assumptions constraints.
 
 The machine is the design that was meant. What nothing says is open: a register without an initial value at first, and in each step a
 net or a bit without a driver and each x. So each gets a free value, an input of the file, before a pass of yosys may choose one."""
+import collections
+import functools
 import os
 import re
 
 from aigprove.netlist import cells_like, cells_of, check_drivers, clock_of, constants, free_names, item_of_x, opened, reached
-from aigprove.netlist import roots_of, stored
-from aigprove.programs import Fault
+from aigprove.netlist import base_of, modules_of, roots_of, stored
+from aigprove.programs import Fault, escaped, plain
+from aigprove.replay import Module
 from aigprove.yosys import Yosys
 
-READ = """read_verilog -formal -sv -I {beside} {source}
+# By the end of a file's name: what reads it. The latches of BLIF have one clock.
+VERILOG = "read_verilog -formal -sv {include} {file}"
+BLIF = ".blif"
+FRONTS = {
+    **dict.fromkeys([".v", ".sv", ".vh", ".svh"], VERILOG),
+    **dict.fromkeys([".il", ".rtlil"], "read_rtlil {file}"),
+    BLIF: "read_blif -wideports {file}\nformalff -clk2ff",
+    ".ys": "script {file}",
+}
+READ = """{fronts}
 write_rtlil {made}/all.il
 hierarchy -check {top}
 write_rtlil {made}/below.il
@@ -32,6 +44,7 @@ chtype -set $ne t:$nex
 memory_collect
 memory_memx
 techmap -map free.v -D ADDRESSES t:$nex
+{edges}
 memory_map -formal
 async2sync
 opt_clean
@@ -39,6 +52,7 @@ setundef -undriven -anyseq
 opt -fine -noff -keepdc
 setattr -unset hdlname w:*
 setattr -set outer 1 w:* w:*.* %d
+write_rtlil whole.il
 opt_clean -purge
 setundef -undriven -undef
 delete t:$anyseq
@@ -46,6 +60,8 @@ setundef -undriven -expose
 write_rtlil free.il
 write_json free.json
 """
+# Registers of any clocks as such of all steps, which compare each clock with its last value.
+EDGES = "clk2fflogic\nchtype -set $eq t:$eqx"
 # While there are gates to be found, a register that is open at first is a cell that no pass looks into.
 WRITE = """read_rtlil free.il
 cd {top}
@@ -79,14 +95,39 @@ module counting (input A, input EN);
   \\{kind} _TECHMAP_REPLACE_ (.A({value}), .EN({enabled}));
 endmodule
 """
-REPLAY = """read_rtlil named.il
+# All names of a net stay, and the hierarchy is that of the design.
+REPLAY = """read_rtlil whole.il
+opt_clean
+setundef -undriven -undef
+delete t:$anyseq
+setundef -undriven -expose
+cd {top}
+{renames}
+cd ..
 {spare}
-sim {clock} -r witness.aiw -map design.aim {top}
+write_rtlil replayed.il
+write_json replayed.json
+"""
+SIMULATE = """read_rtlil replayed.il
+sim {clock} -r witness.aiw -map design.aim -hdlname -vcd run.vcd {top}
 """
 SPARE = "aigprove_clock"
+WIRE = re.compile(r"^  wire .*\\(\S+)$", re.MULTILINE)
+FF = re.compile(r"^  cell \$ff (\S+)\n", re.MULTILINE)
+# How many signs of an assertion's text are printed.
+SPELLED = 200
+STANDARD_INPUT = "-"
+BOX, TOP = (re.compile(rf"^attribute \\{name} 1\n", re.MULTILINE) for name in ["blackbox", "top"])
 ASKED = ("$assert", "$assume")
 KINDS = {"$assert": "assertion", "$assume": "assumption", "$cover": "cover", "$live": "liveness assertion", "$fair": "fairness assumption"}
 WORD = re.compile(r"[A-Za-z_][A-Za-z0-9_$]*")
+PARAMETER = re.compile(r"^  parameter \\(\S+)", re.MULTILINE)
+# By what yosys says: what to do.
+HINTS = {
+    "is not part of the design": "give its file too, or its ports alone, as an empty module",
+    "open include file": "-I FOLDER says where it is",
+    "syntax error": "what yosys doesn't read another front end may: it is taken as an .il file, or by a script of yosys, .ys",
+}
 FAILED = re.compile(r"^Warning: Assert (\S+ \(.*\)) failed\.$", re.MULTILINE)
 
 
@@ -95,13 +136,30 @@ def asked_below(cells, modules):
     return sum(cell.type == "$assert" and cell.module[1:] in modules for cell in cells)
 
 
+class File(collections.namedtuple("File", "path data")):
+    """A file of a design: its path and its bytes."""
+
+    @property
+    def kind(self):
+        return kind_of(self.path, self.data)
+
+
+def kind_of(path, data):
+    """The end of a file's name that says what reads it, or None of one in AIGER form. What standard input has is seen by how it begins."""
+    if path == STANDARD_INPUT:
+        return None if data.startswith((b"aag ", b"aig ")) else ".v"
+    return next((end for end in FRONTS if path.endswith(end)), None)
+
+
 class Design:
     """A design whose file is made in a folder, and what is asked about it."""
 
-    def __init__(self, path, data, words, folder, programs):
+    def __init__(self, files, words, folder, programs):
         if words.top and not WORD.fullmatch(words.top):
             raise Fault(f"{words.top} is no name of a module")
-        self.yosys, self.reset = Yosys(path, data, folder, programs, words.deadline), words.reset
+        self.files, self.words, self.reset = files, words, words.reset
+        self.yosys = Yosys(files, folder, programs, words.deadline)
+        self.yosys.put("defines.v", "".join(f"`define {name} {value}\n" for name, value in words.define))
         self.left_out = self.read(words.top)
         self.top, module = self.free()
         self.clock, self.constants = clock_of(self.top, module), constants(module)
@@ -118,20 +176,61 @@ class Design:
         if not asked_below(every, below) and asked_below(every, reached(every, better)) and WORD.fullmatch(better):
             others = [name for name in roots_of(every) if name != better]
             every, below = self.read_below(f"-top {better}")
+        if self.words.parameter:
+            # Yosys sets parameters of a top module that is named.
+            every, below = self.read_below(f"-top {self.top}{self.parameters()}")
         lines = [f"{name} is a top module too, and not asked about" for name in others]
         return lines + [line for cell in every for line in self.passed_over(cell, cell.module[1:] in below)]
 
+    def script(self, top, made, copies, folders):
+        """The script that reads the design as far as a top module has it."""
+        include = " ".join(f"-I {folder}" for folder in folders)
+        fronts = [FRONTS[file.kind].format(file=copies[file.path], include=include) for file in self.files]
+        if self.words.define:
+            fronts.insert(0, VERILOG.format(file=f"{made}/defines.v", include=""))
+        # A box whose outputs are free is an empty module.
+        fronts += [f"setattr -mod -unset blackbox ={name}" for name in self.words.black_box]
+        return READ.format(fronts="\n".join(fronts), made=made, top=top)
+
     def read_below(self, top):
         """Reads the design as far as a top module has it, and gives all its cells, and the names of the top module and those below."""
-        self.yosys.read(READ, top=top)
+        try:
+            self.yosys.read(functools.partial(self.script, top), self.words.include)
+        except Fault as why:
+            raise type(why)("; ".join([str(why), *(hint for said, hint in HINTS.items() if said in str(why))])) from None
         text = self.yosys.text("below.il")
         if place := item_of_x(text):
             raise Fault(f"{self.yosys.told(place)}: an item of this case is x or z")
-        below = {cell.module.split("\\")[1] for cell in cells_of(text)}
+        modules = modules_of(text)
+        below = {base_of(name) for name in modules}
         if not below:
             raise Fault(f"{self.yosys.path} has no module")
-        self.yosys.put("below.il", opened(text))
+        self.top = next((base_of(name) for name, own in modules.items() if TOP.search(own)), None)
+        self.yosys.put("below.il", opened(self.freed_boxes(text, modules)))
         return list(cells_of(self.yosys.text("all.il"))), below
+
+    def parameters(self):
+        """The words that set parameters of the top module, which has to have them: yosys passes over others."""
+        known = PARAMETER.findall(modules_of(self.yosys.text("all.il")).get(f"\\{self.top}", ""))
+        for name, _ in self.words.parameter:
+            if name not in known:
+                raise Fault(f"{self.top} has no parameter {name}" + (f", but {', '.join(known)}" if known else ""))
+        return "".join(f" -chparam {name} {value}" for name, value in self.words.parameter)
+
+    def freed_boxes(self, text, modules):
+        """The design with modules in the place of black boxes whose outputs are to be free; others that it has are refused."""
+        boxes = {name: own for name, own in modules.items() if BOX.search(own)}
+        known = set(map(base_of, modules))
+        for name in self.words.black_box:
+            if name not in known:
+                raise Fault(f"{name} is no module of the design")
+        for name, own in boxes.items():
+            if base_of(name) in self.words.black_box:
+                text = text.replace(own, BOX.sub("", own))
+            elif re.search(rf"^  cell {re.escape(name)} ", text, re.MULTILINE):
+                why = f"{base_of(name)} is a black box: give its file too, or let its outputs have any values"
+                raise Fault(f"{why} (--black-box {base_of(name)})")
+        return text
 
     def passed_over(self, cell, is_below):
         """A line of an assertion, or another such cell, that isn't asked about: in no module below the top, or of a kind that no bad state
@@ -143,7 +242,7 @@ class Design:
         """Makes inputs of what is free, and gives the name of the top module and what it has."""
         with open(os.path.join(os.path.dirname(__file__), "free.v"), encoding="utf-8") as file:
             self.yosys.put("free.v", file.read())
-        self.yosys.run(FREE)
+        self.yosys.run(FREE, edges=EDGES if self.words.multiclock else "")
         check_drivers(*self.top_of("drawn.json"))
         top, module = self.top_of("free.json")
         if not WORD.fullmatch(top):
@@ -158,8 +257,8 @@ class Design:
         """Writes the file, and gives the name, the place and whether the design has that name for each bad state property's assertion."""
         reset = self.put_reset(module) if self.reset else ""
         clock = f"delete w:{self.clock[0]}\nopt_clean -purge" if self.clock else ""
-        renames = "\n".join(f"rename {old} {new}" for old, new in [*stored(module), *free_names(module)])
-        self.yosys.run(WRITE, top=self.top, renames=renames, clock=clock, reset=reset)
+        self.renames = "\n".join(f"rename {old} {new}" for old, new in [*stored(module), *free_names(module)])
+        self.yosys.run(WRITE, top=self.top, renames=self.renames, clock=clock, reset=reset)
         cells = self.yosys.modules("asserted.json").get(self.top, {"cells": {}})["cells"]
         return [(name, cell["attributes"].get("src", "").partition("|")[0], not cell["hide_name"]) for name, cell in cells.items()]
 
@@ -181,24 +280,46 @@ class Design:
         counted = [f"{count} {what}{'s' * (count != 1)}" for count, what in zip(self.counts, ["assertion", "assumption"])]
         return f"{self.top}: {', '.join(counted)}" + (f", {self.reset}" if self.reset else "")
 
-    def failing(self, witness, bad):
-        """The line of the assertion that a bad state property stands for, and of what yosys finds where it runs a witness on the design."""
+    def assertion(self, bad):
+        """The line of the assertion that a bad state property stands for, and what it is in the design's text."""
         name, place, is_named = self.assertions[bad]
-        own = f"assertion {self.top}{f'.{name}' if is_named else ''} ({self.yosys.told(place)}) fails"
-        try:
-            failed = self.failed(witness)
-        except Fault as why:
-            return [own, f"yosys doesn't run it: {why}"]
-        if any(it.startswith(f"{self.top}.{name} (") for it in failed):
-            return [f"{own}, as yosys runs it"]
-        return [f"{own} by the file, but where yosys runs the design {self.yosys.told(' and '.join(failed)) or 'none'} fails"]
+        return f"assertion {self.top}{f'.{name}' if is_named else ''} ({self.yosys.told(place)})", self.spelled(self.yosys.told(place))
 
-    def failed(self, witness):
-        """The assertions that fail in the last step of a witness, as yosys prints them."""
+    def spelled(self, place):
+        """The lines of the design's files at a place, as one, where they are known: what is counted in a line are signs without macros."""
+        path, _, lines = place.rpartition(":")
+        found = re.fullmatch(r"([0-9]+)\.[0-9]+-([0-9]+)\.[0-9]+", lines)
+        data = next((file.data for file in self.files if plain(os.fsencode(file.path)) == path), None)
+        if not found or data is None:
+            return ""
+        first, last = map(int, found.groups())
+        return " ".join(escaped(line.strip()) for line in data.decode("utf-8", "replace").split("\n")[first - 1:last])[:SPELLED]
+
+    def run(self, told):
+        """Has yosys run a witness on the design: the names of the assertions that fail in the last step, as yosys prints them, and a replay.
+        In the place of x there is 0."""
+        self.replayed()
+        lines = [line.replace("x", "0") + "0" for line in [told.start, *told.steps]]
         # Yosys passes over an empty line, and wants a clock.
-        status, bad, *values, end = witness.decode().splitlines()
-        self.yosys.put("witness.aiw", "\n".join([status, bad, *(f"{line}0" for line in values), end, ""]))
+        self.yosys.put("witness.aiw", "\n".join(["1", f"b{told.bad}", *lines, ".", ""]))
         clock, rising = self.clock or (SPARE, True)
+        printed = self.yosys.run(SIMULATE, clock=f"-clock{'' if rising else 'n'} {clock}", top=self.top)
+        failed = FAILED.findall(printed.rpartition("Simulating cycle ")[2])
+        return list(dict.fromkeys(failed)), self.yosys.text("run.vcd")
+
+    def replayed(self):
+        """Has yosys make the module that it simulates, in which all signals of the design are."""
         spare = "" if self.clock else f"add -input {SPARE} 1"
-        printed = self.yosys.run(REPLAY, clock=f"-clock{'' if rising else 'n'} {clock}", top=self.top, spare=spare)
-        return list(dict.fromkeys(FAILED.findall(printed.rpartition("Simulating cycle ")[2])))
+        self.yosys.run(REPLAY, top=self.top, renames=self.renames, spare=spare)
+        nets = self.top_of("drawn.json")[1]["netnames"]
+        paths = {name: net["attributes"]["hdlname"] for name, net in nets.items() if "hdlname" in net["attributes"]}
+        placed = lambda line: f'  attribute \\hdlname "{paths[line[1]]}"\n{line[0]}' if line[1] in paths else line[0]
+        # Yosys has no first value for a register of all steps, but for one of a clock.
+        clock, rising = self.clock or (SPARE, True)
+        clocked = rf"  cell $dff \1\n    parameter \\CLK_POLARITY 1'{rising:d}\n    connect \\CLK \\{clock}\n"
+        self.yosys.put("replayed.il", FF.sub(clocked, WIRE.sub(placed, self.yosys.text("replayed.il"))))
+
+    @functools.cached_property
+    def module(self):
+        """The module that yosys simulates."""
+        return Module(self.top_of("replayed.json")[1])

@@ -83,7 +83,8 @@ def reached(circuit, start, steps):
 
 
 def of_abc(text, circuit):
-    """The witness that a counterexample of ABC's tells of a file, in either of its forms; None where it tells none.
+    """The first state and the inputs of each step that a counterexample of ABC's tells of a file, in either of its forms; None where it
+    tells none.
 
     The values behind the file's own inputs are those of latches that are open at first, as ABC's `undc` makes them."""
     rows = named_rows(text, circuit) if "@0=" in text else plain_rows(text)
@@ -93,7 +94,7 @@ def of_abc(text, circuit):
     start = ["1" if reset == 1 else "0" for reset in circuit.resets]
     for i, given in zip(opened, rows[0][count:]):
         start[i] = given
-    return reached(circuit, "".join(start), [row[:count] for row in rows])
+    return "".join(start), [row[:count] for row in rows]
 
 
 def plain_rows(text):

@@ -18,25 +18,38 @@ class Late(Fault):
 
 
 class Yosys:
-    """Runs scripts up to a deadline, with a copy of a design in Verilog beside links to what stands beside the design."""
+    """Runs scripts up to a deadline, with copies of a design's files, each beside links to what stands beside the file."""
 
-    def __init__(self, path, data, folder, programs, deadline):
+    def __init__(self, files, folder, programs, deadline):
         if shutil.which("yosys") is None:
-            raise Fault("yosys is not installed, which makes a file of a design in Verilog")
-        self.path, self.folder, self.programs, self.deadline = path, folder, programs, deadline
-        self.beside, entries = os.path.dirname(path) or ".", []
-        with contextlib.suppress(OSError):
-            entries = os.listdir(self.beside)
-        self.name = "design.v"
-        while self.name in entries:
-            self.name = f"_{self.name}"
-        os.mkdir(self.place("source"))
-        for entry in entries:
-            os.symlink(os.path.join(os.path.abspath(self.beside), entry), self.place(f"source/{entry}"))
-        with open(self.place(f"source/{self.name}"), "xb") as out:
-            out.write(data)
+            raise Fault("yosys is not installed, which makes a file of a design")
+        self.path, self.folder, self.programs, self.deadline = files[0].path, folder, programs, deadline
+        self.beside = list(dict.fromkeys(os.path.dirname(file.path) or "." for file in files))
+        for i, path in enumerate(self.beside):
+            self.link(path, self.place(f"{i}/source"))
+        # The path of each file, and where its copy is in the folder.
+        self.copies = {file.path: self.copied(i, file) for i, file in enumerate(files)}
         # What names stand for in what yosys says.
         self.meanings = {}
+
+    def link(self, path, folder):
+        """Makes a folder of links to what a folder has."""
+        os.makedirs(folder)
+        entries = []
+        with contextlib.suppress(OSError):
+            entries = os.listdir(path)
+        for entry in entries:
+            os.symlink(os.path.join(os.path.abspath(path), entry), os.path.join(folder, entry))
+
+    def copied(self, i, file):
+        """The place of a copy of a file, by a name that nothing beside it has."""
+        folder = f"{self.beside.index(os.path.dirname(file.path) or '.')}/source"
+        name = f"design{i or ''}.v"
+        while os.path.lexists(self.place(f"{folder}/{name}")):
+            name = f"_{name}"
+        with open(self.place(f"{folder}/{name}"), "xb") as out:
+            out.write(file.data)
+        return f"{folder}/{name}"
 
     def place(self, name):
         return os.path.join(self.folder, name)
@@ -54,22 +67,24 @@ class Yosys:
         return json.loads(self.text(name))["modules"]
 
     def told(self, said):
-        """What yosys says, with the user's path for its name."""
-        for name, path in self.meanings.items():
-            said = said.replace(name, plain(os.fsencode(path)).replace("\n", "\\x0a"))
+        """What yosys says, with the user's paths for its names."""
+        for name in sorted(self.meanings, key=len, reverse=True):
+            said = said.replace(name, plain(os.fsencode(self.meanings[name])).replace("\n", "\\x0a"))
         return said
 
-    def read(self, script, **words):
-        """Runs a script in the folder where we are, from which relative paths in the design are."""
+    def read(self, script, folders):
+        """Runs a script in the folder where we are, from which relative paths in the design are. The script is a function of where our
+        folder is, the paths of the files' copies, the folders beside them, and those of these folders."""
         with contextlib.ExitStack() as opened:
-            folders = [os.open(path, os.O_PATH | os.O_DIRECTORY) for path in (self.folder, self.beside)]
-            for folder in folders:
-                opened.callback(os.close, folder)
-            made, beside = (f"/proc/self/fd/{folder}" for folder in folders)
-            source = f"{made}/source"
-            self.meanings = {f"{source}/{self.name}": self.path, source: self.beside, beside: self.beside}
-            self.put("script.ys", script.format(made=made, beside=beside, source=f"{source}/{self.name}", **words))
-            return self.printed(["yosys", f"{made}/script.ys"], pass_fds=folders)
+            descriptors = [os.open(path, os.O_PATH | os.O_DIRECTORY) for path in [self.folder, *self.beside, *folders]]
+            for descriptor in descriptors:
+                opened.callback(os.close, descriptor)
+            made, *paths = (f"/proc/self/fd/{descriptor}" for descriptor in descriptors)
+            copies = {path: f"{made}/{copy}" for path, copy in self.copies.items()}
+            sources = {f"{made}/{i}/source": path for i, path in enumerate(self.beside)}
+            self.meanings = {**dict(zip(paths, [*self.beside, *folders])), **sources, **{copy: path for path, copy in copies.items()}}
+            self.put("script.ys", script(made, copies, paths))
+            return self.printed(["yosys", f"{made}/script.ys"], pass_fds=descriptors)
 
     def run(self, script, **words):
         """Runs a script in its own folder."""

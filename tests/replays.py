@@ -1,0 +1,136 @@
+#!/usr/bin/env python3
+"""Compares the runs that bin/aigprove prints of designs, and dumps, with Icarus Verilog: replays.py
+
+Each design is run by Icarus on the inputs of the dump that --vcd wrote. In each step each signal that both have, by its path, has to have the same
+value, and so each value that was printed: behind a bar, at the start, and of what the failing assertion read. What yosys alone has, or Icarus, is
+counted. The designs have first values for all registers and leave nothing open."""
+import collections
+import re
+import subprocess
+import sys
+from pathlib import Path
+
+import harness
+from harness import PROVE, TOP
+
+# The words of aigprove, the words of Icarus, and signals below the top module that have to be in the dump.
+DESIGNS = [
+    (["examples/queue.v"], [], ["full", "popped"]),
+    (["examples/credits.v"], [], ["taken", "given"]),
+    (["tests/verilog/hierarchy.v"], [], ["S0.value", "S0.q", "S1.next", "res", "both"]),
+    (["tests/verilog/counter.v", "tests/verilog/parts/add_one.v", "-Itests/verilog/limits", "-DMORE=1"],
+     ["-Itests/verilog/limits", "-DMORE=1"], ["adder.more", "adder.value"]),
+    (["tests/verilog/states.sv", "--reset", "rst_n=0"], [], []),
+]
+BENCH = """module bench;
+  reg clk = 0;
+  {inputs}
+  {top} dut({ports});
+  initial begin
+    $dumpfile("icarus.vcd");
+    $dumpvars(0, dut);
+{steps}
+    $finish(0);
+  end
+endmodule
+"""
+STEP = "    clk = {clk}; #1 {inputs} #4 clk = 0; #5;\n"
+# Icarus reads no label of an assertion.
+ASSERTION = re.compile(r"(\w+: )?\b(assert|assume)( property)? *\(.*\);")
+VALUE = re.compile(r"(?<=\s)([\w.]+)=(?:(\d+)'h([0-9a-f]+)|([01]))(?=\s|$)")
+
+
+def snapshots(text, phase):
+    """The value of each signal by its path below the top module, in each step, where a step has ten units and is looked at so many behind its
+    begin; and the kinds and widths of the top module's signals."""
+    scopes, names, now, steps, widths, time = [], collections.defaultdict(list), {}, [], {}, 0
+    for words in map(str.split, text.splitlines()):
+        if words[:1] == ["$scope"]:
+            scopes.append(words[2])
+        elif words[:1] == ["$upscope"]:
+            scopes.pop()
+        elif words[:1] == ["$var"]:
+            path = ".".join(it for it in [*scopes[1:], words[4]] if it != "dut")
+            names[words[3]].append(path)
+            widths[path] = int(words[2])
+        elif words and words[0][0] == "#":
+            last, time = time, int(words[0][1:])
+            steps += [dict(now) for t in range(last, time) if t % 10 == phase]
+        elif words and (words[0][0] in "01xb"):
+            value, code = (words[0][1:], words[1]) if words[0][0] == "b" else (words[0][0], words[0][1:])
+            now.update((path, value.lstrip("0") or "0") for path in names.get(code, []))
+    return steps, widths
+
+
+def inputs_of(top, folder):
+    """The names and widths of a design's inputs, but its clock, as Icarus has them in its own text of the design."""
+    text = (folder / "design.vvp").read_text()
+    scope = re.search(rf'^S_\w+ \.scope module, "dut" "{top}".*?(?=^S_\w+ \.scope|\Z)', text, re.M | re.S)[0]
+    ports = re.findall(r'\.port_info \d+ /INPUT (\d+) "(\w+)"', scope)
+    return {name: int(width) for width, name in ports if name != "clk"}
+
+
+def icarus(top, words, sources, run, folder):
+    """What Icarus has in each step, where a design is run on the inputs of a dump."""
+    flags = ["iverilog", "-g2012", "-gno-assertions", *words, "-s", "bench"]
+    (folder / "bench.v").write_text(BENCH.format(top=top, inputs="", ports="", steps=""))
+    harness.output([*flags, "-o", str(folder / "design.vvp"), str(folder / "bench.v"), *sources])
+    inputs = inputs_of(top, folder)
+    steps = ["".join(f"{name} = 'b{values[name]}; " for name in inputs) for values in run]
+    (folder / "bench.v").write_text(BENCH.format(
+        top=top, inputs=" ".join(f"reg [{width - 1}:0] {name};" for name, width in inputs.items()),
+        ports=", ".join(f".{name}({name})" for name in ["clk", *inputs]),
+        steps="".join(STEP.format(clk=int(t > 0), inputs=given) for t, given in enumerate(steps))))
+    harness.output([*flags, "-o", str(folder / "run.vvp"), str(folder / "bench.v"), *sources])
+    subprocess.run(["vvp", "-n", "run.vvp"], cwd=folder, stdout=subprocess.DEVNULL, check=True)
+    return snapshots((folder / "icarus.vcd").read_text(), 4)[0]
+
+
+def printed_values(lines):
+    """The step, the name and the value in base two of each value that was printed, but of inputs."""
+    for line in lines:
+        first = re.match(r"(start:)|steps? (\d+)(?: to \d+)?:|in step (\d+) it reads", line)
+        part = line if first and not first[2] else line.partition("|")[2]
+        for name, _, digits, bit in VALUE.findall(f" {part}") if first else []:
+            yield int(first[2] or first[3] or 0), name, f"{int(digits, 16):b}" if digits else bit
+
+
+def without_assertions(sources, folder):
+    """Copies of sources without their assertions."""
+    for i, source in enumerate(sources):
+        (folder / f"{i}.sv").write_text(ASSERTION.sub("begin end", Path(source).read_text()))
+        yield str(folder / f"{i}.sv")
+
+
+def faults(words, flags, needed, folder):
+    """What is wrong of a design's run, and how many values were compared."""
+    words = [str(TOP / word) if word.endswith((".v", ".sv")) else word.replace("-Itests", f"-I{TOP}/tests") for word in words]
+    flags = [word.replace("-Itests", f"-I{TOP}/tests") for word in flags]
+    sources = [word for word in words if word.endswith((".v", ".sv"))]
+    printed = harness.output([PROVE, "--engine", "steps", "--vcd", str(folder / "run.vcd"), *words], [10]).splitlines()
+    top = printed[0].partition(":")[0]
+    run, _ = snapshots((folder / "run.vcd").read_text(), 0)
+    wanted = icarus(top, flags, list(without_assertions(sources, folder)), run, folder)
+    found = [f"step {t}: {name} is {value}, and {wanted[t][name]} by Icarus" for t, values in enumerate(run) for name, value in values.items()
+             if name in wanted[t] and name != "clk" and value != wanted[t][name]]
+    compared = sum(name in wanted[t] and name != "clk" for t, values in enumerate(run) for name in values)
+    shown = list(printed_values(printed))
+    found += [f"printed: step {t}: {name}={value}, and {wanted[t].get(name)} by Icarus" for t, name, value in shown
+              if not name.endswith(".stored") and wanted[t].get(name) != value]
+    found += [f"{name} isn't in the dump" for name in needed if name not in run[0]]
+    return found, compared, len(shown)
+
+
+def main():
+    tally = harness.Tally()
+    for words, flags, needed in DESIGNS:
+        with harness.new_folder() as folder:
+            found, compared, shown = faults(words, flags, needed, folder)
+            tally.wants(words, ([], True), (found, compared > 20 and shown > 1))
+            print(f"{words[0]}: {compared} values of the dump, {shown} that were printed")
+    return tally.end()
+
+
+if __name__ == "__main__":
+    harness.parser(__doc__).parse_args()
+    sys.exit(main())

@@ -1,0 +1,1 @@
+tests/verilog/parts/add_one.v
