@@ -23,7 +23,7 @@ from harness import TOP
 # The crates whose exported calls are promised, in the order in which they are told.
 CALLS = [
     ("aig and aig_encode", ["aig", "aig_encode"]),
-    ("with the programs", ["aigtool", "aig_commands", "aigcheck"]),
+    ("with the programs", ["aigtool", "aig_commands", "aigcheck", "aig_checks", "aig_edit_commands"]),
     ("with checked answers, witnesses and DIMACS", [
         *("aig_answers", "aig_bounded", "aig_bounded_answers", "aig_edits", "aig_certificates", "aig_refutation"),
         *("aig_witness", "aig_solutions", "aig_dimacs")]),

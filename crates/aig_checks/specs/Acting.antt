@@ -1,4 +1,4 @@
--- Serves private clauses alone.
+-- Part of what is promised.
 -- What the program does with its words. Files are opened as a trait says; of a file that is read it
 -- says the bytes that are left and whether a read failed, and of what is written to the bytes held,
 -- whether a write failed, and whether all of them are in their place.

@@ -1,4 +1,4 @@
--- Serves private clauses alone.
+-- Part of what is promised.
 -- What is told of an error: the path of the file that it is about, and the place where reading that
 -- file stopped.
 use Rattle.std.specs.Prelude.{◌≡◌, ℕ, ◌⊎◌, Bool, List, [], ◌∷◌, ◌++◌, Contains, Option, None, Result, Ok, Err, IfSome, slice_get}

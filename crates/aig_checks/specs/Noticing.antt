@@ -1,4 +1,4 @@
--- Serves private clauses alone.
+-- Part of what is promised.
 -- What is told beside an answer.
 use Rattle.std.specs.Prelude.{◌≡◌, ℕ, true, false, List, Option, codes}
 use Rattle.std.specs.List.{FoldsTo}

@@ -1,4 +1,4 @@
--- Serves private clauses alone.
+-- Part of what is promised.
 -- What a program may be asked of itself.
 use Rattle.std.specs.Prelude.{ℕ, List, codes}
 use Rattle.aig_command_line.specs.declared.about.Question.{Question}

@@ -1,4 +1,4 @@
--- Serves private clauses alone.
+-- Part of what is promised.
 -- Which bytes came of a source.
 use Rattle.std.specs.Prelude.{◌≡◌, ℕ, ◌≤◌, Bool, false, List, length, take, drop, Option, Some, IfSome}
 use Rattle.aig_command_line.specs.Counts.{IsTally, place_of}

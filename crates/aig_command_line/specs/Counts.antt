@@ -1,4 +1,4 @@
--- Serves private clauses alone.
+-- Part of what is promised.
 -- Counts of bytes that came, and the place of the last of them.
 use Rattle.std.specs.Prelude.{◌≡◌, ◌==◌, ℕ, ◌+◌, ◌-◌, Bool, true, false, if◌then◌else◌, List, length, take, get_or, count_by}
 use Rattle.aig_command_line.specs.declared.tally.Measure.{Measure}

@@ -1,4 +1,4 @@
--- Serves private clauses alone.
+-- Part of what is promised.
 -- What is told of a file beside an answer about it.
 use Rattle.std.specs.Prelude.{ℕ, Bool, ◌&&◌, ◌||◌, List, [], ◌∷◌, ◌++◌, Option, Some, None, codes, if◌then◌else◌, nat_lt, slice_get}
 use Rattle.aig_lexer.specs.declared.header.Header.{Header}

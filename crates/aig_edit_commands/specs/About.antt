@@ -1,4 +1,4 @@
--- Serves private clauses alone.
+-- Part of what is promised.
 -- What an error is about: a file, or none, and why reading it stopped.
 use Rattle.std.specs.Prelude.{Some, None}
 use Rattle.aig_edits.specs.declared.edit_error.EditError.{EditError}

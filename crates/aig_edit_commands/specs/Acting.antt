@@ -1,4 +1,4 @@
--- Serves private clauses alone.
+-- Part of what is promised.
 -- What the program does with its words. Files are read as a trait says: what opening the file at a
 -- path may give, the bytes that are left, and whether a read failed. Of what is written to it says
 -- the bytes held, whether a write failed, and whether all of them are in their place.

@@ -14,3 +14,4 @@ mod Solved
 mod Saying
 mod Examples
 mod SolutionExamples
+mod Written

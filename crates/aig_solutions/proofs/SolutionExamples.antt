@@ -1,10 +1,12 @@
 -- What texts of solvers say of four variables, by hand, and what refuses others.
 use Rattle.aig_base.proofs.Words.{◌≡◌, List, [], ◌∷◌, Ok, Err, refl, codes}
+use Rattle.std.specs.Fmt.{digits}
 use Rattle.aig_base.specs.declared.logic.three.Lbool.{Lbool}
 use Rattle.aig_base.specs.declared.logic.three.Lbool.TheVariants.{FALSE, TRUE, NONE}
 use Rattle.aig_solutions.specs.declared.error.SolutionError.TheVariants as errors
 use Rattle.aig_lexer.specs.Digits.{number_after}
 use Rattle.aig_solutions.specs.Reading.{last_answer, lines_after, solution_from, solution_in, take_words, words_from}
+use Rattle.aig_solutions.specs.Written.{rows_text, solution_text}
 
 -- 2 alone is true
 abbrev second : List Lbool
@@ -45,3 +47,19 @@ other_values : (solution_in 4 (codes "v 1 -1 0\n") ≡ Err errors.Clash)
     × (solution_in 4 (codes "s SATISFIABLE\nv1 0\n") ≡ Err errors.Line)
 unfolding solution_from take_words number_after words_from lines_after
 other_values = (refl, refl, refl, refl, refl, refl)
+
+-- ---- as it is written
+
+written : solution_text ((FALSE ∷ TRUE ∷ []) ∷ [] ∷ (NONE ∷ FALSE ∷ []) ∷ [])
+    ≡ codes "s SATISFIABLE\nv -1 2\nv\nv -4\nv 0\n"
+unfolding solution_text rows_text digits
+written = refl
+
+-- variables by their own numbers, and no space after the letter
+unshifted : solution_in 4 (codes "s SATISFIABLE\nv -0 1 -3\nv 0\n") ≡ Err errors.Literal
+unfolding solution_from take_words number_after words_from lines_after
+unshifted = refl
+
+together : solution_in 4 (codes "s SATISFIABLE\nv-1 2\nv 0\n") ≡ Err errors.Line
+unfolding solution_from take_words number_after words_from lines_after
+together = refl

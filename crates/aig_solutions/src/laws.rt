@@ -1,6 +1,7 @@
-//! What the witness of a solution says of the file's machine.
+//! Laws of solvers' answers, and what the witness of a solution says of the file's machine.
 
-ghost use Rattle.std.specs.Prelude.{ℕ, Bool, List, length};
+ghost use Rattle.std.specs.Prelude.{◌≡◌, ◌^◌, ◌<◌, ℕ, Bool, Err, List, Ok, length};
+ghost use Rattle.std.specs.List.{flat_map};
 ghost use Rattle.aig_base.specs.declared.logic.literal.Lit.{Lit};
 ghost use Rattle.aig_base.specs.declared.logic.three.Lbool.{Lbool};
 ghost use Rattle.aig_circuit.specs.Circuit.{Circuit, IsCircuit};
@@ -8,7 +9,10 @@ ghost use Rattle.aig_format.specs.File.{File};
 ghost use Rattle.aig_format.specs.Fits.{Fits};
 ghost use Rattle.aig_runs.specs.Encodes.{Encodes};
 ghost use Rattle.aig_runs.specs.Queries.{IsQueryOf, SatisfiesBoth};
+ghost use Rattle.aig_solutions.specs.declared.error.SolutionError.{SolutionError};
+ghost use Rattle.aig_solutions.specs.Reading.{solution_in};
 ghost use Rattle.aig_solutions.specs.Solutions.{AreValuesOf, IsWitnessIn};
+ghost use Rattle.aig_solutions.specs.Written.{solution_text, unsatisfiable_text};
 ghost use Rattle.aig_witness.specs.Witness.{Witness};
 ghost use Rattle.aig_witness.specs.Machine.{ShowsBad};
 
@@ -24,4 +28,14 @@ pub fn solutions_show()
         → SatisfiesBoth v clauses further → AreValuesOf v (length unrolled.nodes) values
         → IsWitnessIn circuit unrolled k values w
         → ShowsBad f w }
+{}
+
+/// Law: the values are read from a solver's answer that has them, however they are parted into lines; and that there are none from
+/// the answer that says so.
+pub fn solutions_are_read()
+    ensures read { (rows : List (List Lbool)) → length (flat_map (λ row. row) rows) < 2 ^ 32
+        → let values = flat_map (λ row. row) rows in
+        solution_in (length values) (solution_text rows) ≡ Ok values }
+    ensures refused { (variables : ℕ)
+        → solution_in variables unsatisfiable_text ≡ Err SolutionError.Unsatisfiable }
 {}

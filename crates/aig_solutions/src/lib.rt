@@ -13,7 +13,7 @@ mod words;
 
 pub use checked::checked_witness;
 pub use error::SolutionError;
-pub use laws::solutions_show;
+pub use laws::{solutions_are_read, solutions_show};
 pub use places::{HasLeaves, Places};
 pub use reading::read_solution;
 pub use witness::witness_of;
