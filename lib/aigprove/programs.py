@@ -22,7 +22,7 @@ from aigprove.aiger import Fault
 SEALS = fcntl.F_SEAL_WRITE | fcntl.F_SEAL_GROW | fcntl.F_SEAL_SHRINK | fcntl.F_SEAL_SEAL
 SUBREAPER = 36
 # Seconds that an engine may have run longer than another that waits.
-TURN = 0.5
+TURN = 0.25
 # How many times as long as others an engine may run that got further lately, and seconds of its own for which that holds.
 SHARE, LATELY = 2, 2
 # What part of the free bytes of the temporary folder, and of all memory, an engine may write.

@@ -11,7 +11,7 @@ import re
 from aigprove.waves import grouped, words
 
 # How many steps that are equal are printed as one line, at least; and how many lines of a run are printed, at its begin and its end.
-EQUAL, FIRST, LAST = 3, 20, 180
+EQUAL, FIRST, LAST = 3, 10, 50
 PLAIN = re.compile(r"(?![ilb][0-9]+(:|$))[!#-<>-\[\]-~]+")
 
 
@@ -75,7 +75,7 @@ class Shown:
         yield spaced("start:", *self.values("l", told.start, latches))
         steps = []
         for t, inputs in enumerate(told.steps):
-            steps.append(spaced(*self.values("i", inputs), *["|", *changes[t]] * bool(changes.get(t))))
+            steps.append(spaced(*self.values("i", inputs), *["|", *changes.get(t, [])] * bool(changes.get(t))))
         yield from folded(steps)
 
 
