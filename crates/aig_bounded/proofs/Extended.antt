@@ -8,9 +8,7 @@ use Rattle.aig_circuit.proofs.Building.{AddsGates-itself, AddsGates-then, Grows-
 use Rattle.aig_circuit.proofs.Trees.{kind_at-last, kind_at-within}
 use Rattle.aig_bounded.specs.declared.frames.Frames.{Frames}
 use Rattle.aig_bounded.specs.declared.place.Place.{Place}
-use Rattle.aig_bounded.specs.declared.asked.Start.{Start}
-use Rattle.aig_bounded.specs.Asked.{IsFree}
-use Rattle.aig_bounded.specs.Question.{IsPlaceOf, ReadsPlaces}
+use Rattle.aig_bounded.specs.Question.{IsPlace, ReadsPlaces}
 use Rattle.aig_bounded.specs.Frames.{AddsAnds, AreFrames, Extends, IsBefore, Opens}
 
 -- ---- what inputs read
@@ -38,7 +36,6 @@ reads_push (i ∷ is) (q ∷ ps) n p y run h reads =
 pub Extends-itself : (f : Frames) → AreNodes f.nodes.items → Extends f f
 Extends-itself f sound = record {
   limit = refl;
-  start = refl;
   grows = Grows-itself f.nodes.items sound;
   reads = λ y run reads. reads;
 }
@@ -46,7 +43,6 @@ Extends-itself f sound = record {
 pub Extends-then : (old mid new : Frames) → Extends old mid → Extends mid new → Extends old new
 Extends-then old mid new p q = record {
   limit = q.limit ∙ p.limit;
-  start = q.start ∙ p.start;
   grows = Grows-then old.nodes.items mid.nodes.items new.nodes.items p.grows q.grows;
   reads = λ y run reads. p.reads y run (q.reads y run reads);
 }
@@ -54,7 +50,6 @@ Extends-then old mid new p q = record {
 pub Extends-ands : (old new : Frames) → AddsAnds old new → Extends old new
 Extends-ands old new adds = record {
   limit = adds.limit;
-  start = adds.start;
   grows = adds.nodes.grows;
   reads = λ y run reads. reads_same old.inputs.items new.inputs.items old.places.items new.places.items y run adds.inputs adds.places reads;
 }
@@ -73,23 +68,16 @@ pub Extends-opens : (c : Circuit) (t n : ℕ) (old new : Frames) (place : Place)
     → AreFrames c t n old → Opens old new place e → Extends old new
 Extends-opens c t n old new place e are opens = record {
   limit = opens.limit;
-  start = opens.start;
   grows = subst (Grows old.nodes.items) (sym opens.nodes) (Grows-leaf old.nodes.items are.sound);
   reads = λ y run reads. (opened_reads old new place e y run are.count opens reads).0;
 }
 
 -- ---- gates more
 
--- the same starts leave the same latches free
-places_with : (c : Circuit) (old new : Start) (ps : List Place) → new ≡ old
-    → All (IsPlaceOf (IsFree old) c) ps → All (IsPlaceOf (IsFree new) c) ps
-places_with c old new ps same are = subst (λ s. All (IsPlaceOf (IsFree s) c) ps) (sym same) are
-
 pub AddsAnds-itself : (f : Frames) → AreNodes f.nodes.items → AddsAnds f f
 AddsAnds-itself f sound = record {
   nodes = AddsGates-itself f.nodes.items sound;
   limit = refl;
-  start = refl;
   few = λ h. h;
   inputs = refl;
   places = refl;
@@ -100,7 +88,6 @@ pub AddsAnds-then : (old mid new : Frames) → AddsAnds old mid → AddsAnds mid
 AddsAnds-then old mid new p q = record {
   nodes = AddsGates-then old.nodes.items mid.nodes.items new.nodes.items p.nodes q.nodes;
   limit = q.limit ∙ p.limit;
-  start = q.start ∙ p.start;
   few = λ h. omega (arith, q.few (omega (arith, p.few h, p.limit)), p.limit);
   inputs = q.inputs ∙ p.inputs;
   places = q.places ∙ p.places;
@@ -118,7 +105,7 @@ AreFrames-ands c t n old new are adds = record {
   rising = subst (AllPairs (λ m n. m < n)) (sym adds.inputs) are.rising;
   closed = λ m leaf. subst (λ l. Contains l m) (sym adds.inputs) (are.closed m (back m leaf (cases_lt m (length old.nodes.items))));
   count = ap length adds.places ∙ are.count ∙ sym (ap length adds.inputs);
-  places = places_with c old.start new.start new.places.items adds.start (subst (All (IsPlaceOf (IsFree old.start) c)) (sym adds.places) are.places);
+  places = subst (All (IsPlace c)) (sym adds.places) are.places;
   distinct = subst (AllPairs (λ p q. p ≢ q)) (sym adds.places) are.distinct;
   before = subst (All (IsBefore t n)) (sym adds.places) are.before;
 }
@@ -137,7 +124,7 @@ AreFrames-ands c t n old new are adds = record {
 
 module _ (c : Circuit) (t n : ℕ) (old new : Frames) (e : AigEdge) (are : AreFrames c t n old)
     (opens : Opens old new (record { step = t; leaf = n }) e)
-    (is : IsPlaceOf (IsFree old.start) c (record { step = t; leaf = n })) where
+    (is : IsPlace c (record { step = t; leaf = n })) where
   abbrev place : Place
   place = record { step = t; leaf = n }
 
@@ -184,7 +171,7 @@ module _ (c : Circuit) (t n : ℕ) (old new : Frames) (e : AigEdge) (are : AreFr
     rising = subst (AllPairs (λ m n. m < n)) (sym opens.inputs) (all_pairs_push (λ m n. m < n) old.inputs.items (length old.nodes.items) are.rising low);
     closed = λ m leaf. subst (λ l. Contains l m) (sym opens.inputs) (closed m (subst (λ l. IsLeaf l m) opens.nodes leaf) (cases_lt m (length old.nodes.items)));
     count = ap length opens.places ∙ more ∙ sym (ap length opens.inputs);
-    places = places_with c old.start new.start new.places.items opens.start (subst (All (IsPlaceOf (IsFree old.start) c)) (sym opens.places) (All-push (IsPlaceOf (IsFree old.start) c) old.places.items place are.places is));
+    places = subst (All (IsPlace c)) (sym opens.places) (All-push (IsPlace c) old.places.items place are.places is);
     distinct = subst (AllPairs (λ p q. p ≢ q)) (sym opens.places) (all_pairs_push (λ p q. p ≢ q) old.places.items place are.distinct apart);
     before = subst (All (IsBefore t (n + 1))) (sym opens.places) (All-push (IsBefore t (n + 1)) old.places.items place (All-weaker (IsBefore t n) (IsBefore t (n + 1)) later old.places.items are.before) (inr (refl, omega arith)));
   }

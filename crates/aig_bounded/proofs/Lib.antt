@@ -3,9 +3,6 @@ mod Extended
 mod Shown
 mod Stepped
 mod Joined
-mod Differing
-mod Seen
-mod Distinct
 mod Reached
 mod Read
 mod Marked

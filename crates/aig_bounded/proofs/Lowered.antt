@@ -3,7 +3,7 @@ use Rattle.aig_base.proofs.Words.{◌≡◌, ℕ, ◌+◌, ◌<◌, ◌≤◌, B
 use Rattle.std.specs.Prelude.{◌⊎◌, sum, slice_index, take}
 use Rattle.aig_circuit.specs.declared.edge.AigEdge.{AigEdge}
 use Rattle.aig_circuit.specs.declared.node.AigLatch.{AigLatch}
-use Rattle.aig_bounded.specs.Depths.{AreNoDeeper, HasNextDepth, HaveNextDepths, HaveNoDepth, HaveNoLatchDepth, Lowers}
+use Rattle.aig_bounded.specs.Depths.{AreNoDeeper, HasNextDepth, HaveNextDepths, HaveNoDepth, Lowers}
 
 -- depths that aren't lowered are none at all
 pub HaveNoDepth-lower : (es : List AigEdge) (old new : List ℕ) → AreNoDeeper old new
@@ -86,26 +86,6 @@ HaveNoDepth-more es i d ds h within none =
     let lower = AreNoDeeper-set ds m 0 within (omega arith) in
     subst (λ l. HaveNoDepth l (set ds m 0)) (sym (take_more es i d h))
     (All-push (λ (e : AigEdge). get_or (set ds m 0) e.node_id 0 ≡ 0) (take i es) (get_or es i d) (HaveNoDepth-lower (take i es) ds (set ds m 0) lower none)
-    (get_or-set_same ds m 0 0 within))
-
--- ---- latches' leaves
-
-pub HaveNoLatchDepth-lower : (latchs : List AigLatch) (old new : List ℕ) → AreNoDeeper old new
-    → HaveNoLatchDepth latchs old → HaveNoLatchDepth latchs new
-HaveNoLatchDepth-lower latchs old new lower none k d h =
-    omega (arith, lower (get_or latchs k d).input, none k d h)
-
--- the leaves of one latch more have no depth
-pub HaveNoLatchDepth-more : (latchs : List AigLatch) (i : ℕ) (d : AigLatch) (ds : List ℕ)
-    → i < length latchs → (get_or latchs i d).input < length ds
-    → HaveNoLatchDepth (take i latchs) ds
-    → HaveNoLatchDepth (take (i + 1) latchs) (set ds (get_or latchs i d).input 0)
-HaveNoLatchDepth-more latchs i d ds h within none =
-    let m = (get_or latchs i d).input in
-    let lower = AreNoDeeper-set ds m 0 within (omega arith) in
-    subst (λ l. HaveNoLatchDepth l (set ds m 0)) (sym (take_more latchs i d h))
-    (All-push (λ (l : AigLatch). get_or (set ds m 0) l.input 0 ≡ 0) (take i latchs)
-    (get_or latchs i d) (HaveNoLatchDepth-lower (take i latchs) ds (set ds m 0) lower none)
     (get_or-set_same ds m 0 0 within))
 
 -- ---- latches

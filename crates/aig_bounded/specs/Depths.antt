@@ -38,10 +38,6 @@ pub record AreSettled (c : Circuit) (last : ℕ) (depths : List ℕ) : Type 0 wh
 abbrev pub HaveNoDepth : List AigEdge → List ℕ → Type 0
 HaveNoDepth es depths = All (λ e. slice_index depths e.node_id ≡ 0) es
 
--- the leaves of the latches have depth 0
-abbrev pub HaveNoLatchDepth : List AigLatch → List ℕ → Type 0
-HaveNoLatchDepth latchs depths = All (λ latch. slice_index depths latch.input ≡ 0) latchs
-
 -- Depths of all nodes: bad edges and constraints have none, and what is read up to `last` steps
 -- later is no deeper than that.
 pub record AreDepths (c : Circuit) (last : ℕ) (depths : List ℕ) : Type 0 where

@@ -1,24 +1,36 @@
 -- Serves private clauses alone.
 -- The steps of a circuit as nodes of a question.
-use Rattle.std.specs.Prelude.{◌≡◌, ◌≢◌, ℕ, ◌+◌, ◌<◌, ◌≤◌, false, Option, Some, None, List, length, Contains, slice_index, slice_index_or}
+use Rattle.std.specs.Prelude.{zero, suc, Bool, true, ◌&&◌, ◌||◌, ◌≡◌, ◌≢◌, ℕ, ◌+◌, ◌<◌, ◌≤◌, false, Option, Some, None, List, length, Contains, slice_index, slice_index_or}
 use Rattle.aig_circuit.specs.declared.edge.AigEdge.{AigEdge}
 use Rattle.aig_circuit.specs.declared.node.AigLatch.{AigLatch}
 use Rattle.aig_circuit.specs.Edge.{edge_to, inverted_if}
 use Rattle.aig_circuit.specs.Circuit.{Circuit, latch_leaves}
-use Rattle.aig_circuit.specs.Tree.{node_value}
-use Rattle.aig_bounded.specs.declared.asked.Sought.{Sought}
+use Rattle.aig_circuit.specs.Tree.{edge_value, node_value}
+use Rattle.std.specs.List.{list_all, list_any}
 use Rattle.aig_bounded.specs.declared.frames.Frames.{Frames}
 use Rattle.aig_bounded.specs.declared.steps.Sums.{Sums}
-use Rattle.aig_bounded.specs.Asked.{IsFree, reached_to, within_to}
 use Rattle.aig_bounded.specs.Frames.{AreFrames, Extends, Shows}
 
 -- ---- what the steps say
 
+-- every constraint holds at the first so many steps
+abbrev pub within_to : Circuit → (ℕ → ℕ → Bool) → ℕ → Bool
+within_to c run zero = true
+within_to c run (suc t) =
+    within_to c run t && list_all (edge_value c.nodes (run t)) c.properties.constraints
+
+-- a bad state is reached at one of the first so many steps, within the constraints
+abbrev pub reached_to : Circuit → (ℕ → ℕ → Bool) → ℕ → Bool
+reached_to c run zero = false
+reached_to c run (suc t) =
+    reached_to c run t
+    || (within_to c run (suc t) && list_any (edge_value c.nodes (run t)) c.properties.bads)
+
 -- what is known of the first so many steps
-pub record Sum (c : Circuit) (sought : Sought) (t count : ℕ) (f : Frames) (sums : Sums) : Type 0
+pub record Sum (c : Circuit) (t count : ℕ) (f : Frames) (sums : Sums) : Type 0
   where
-    pub within : Shows c t f sums.within (λ run. within_to sought c run count)
-    pub reached : Shows c t f sums.reached (λ run. reached_to sought c run count)
+    pub within : Shows c t f sums.within (λ run. within_to c run count)
+    pub reached : Shows c t f sums.reached (λ run. reached_to c run count)
 
 -- ---- tables
 
@@ -59,7 +71,7 @@ pub record HasStates (c : Circuit) (t : ℕ) (depths : List ℕ) (left : ℕ) (f
   -- and a latch's leaf that has none is open
   pub free : (n : ℕ) → n < length c.nodes → slice_index_or states n None ≡ None
       → (latch : AigLatch) → Contains c.latchs latch → latch.input ≡ n
-      → (t ≡ 0) × IsFree f.start latch
+      → (t ≡ 0) × (latch.init ≡ None)
 
 -- the leaves of the first so many latches have the states that `state` says of the latches, and all
 -- else is as it was

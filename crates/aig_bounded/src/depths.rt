@@ -1,31 +1,25 @@
 //! After how many steps a bad edge or a constraint reads a node.
 
-ghost use Rattle.std.specs.Prelude.{◌≡◌, true, ◌<◌, ◌≤◌, IfOk, All, length, slice_index};
+ghost use Rattle.std.specs.Prelude.{◌≡◌, ◌<◌, ◌≤◌, IfOk, All, length, slice_index};
 ghost use Rattle.aig_circuit.specs.Circuit.{AreNodes};
-ghost use Rattle.aig_bounded.specs.Asked.{tells_apart};
-ghost use Rattle.aig_bounded.specs.Depths.{AreDepths, AreNoDeeper, AreSettled, HasNextDepth, HasOperandDepths, HaveNextDepths, HaveNoDepth, HaveNoLatchDepth, HaveOperandDepths, IsNoDeeperThan, Lowers};
+ghost use Rattle.aig_bounded.specs.Depths.{AreDepths, AreNoDeeper, AreSettled, HasNextDepth, HasOperandDepths, HaveNextDepths, HaveNoDepth, HaveOperandDepths, IsNoDeeperThan, Lowers};
 
-use crate::asked::Sought;
 use aig_base::MemoryError;
 use aig_circuit::{AigEdge, AigLatch, AigNode, AigNodeType, CircuitView};
 use std::alloc::Global;
 
 /// For each node a number of steps after which a bad edge or a constraint reads it, at most `last`; or a greater number,
-/// where none does. Where states are told apart, the latches' leaves are read at each step.
+/// where none does.
 pub(crate) fn depths(
     alloc: Global,
     circuit: &CircuitView<'_>,
-    sought: Sought,
     last: usize,
 ) -> Result<Vec<usize>, MemoryError>
-    ensures depths { IfOk result (λ depths. AreDepths circuit.now last depths.items) }
-    ensures states { IfOk result (λ depths. tells_apart sought ≡ true
-        → HaveNoLatchDepth circuit.now.latchs depths.items) }
+    ensures { IfOk result (λ depths. AreDepths circuit.now last depths.items) }
 {
     let mut depths = vec![in alloc; usize::MAX; circuit.nodes().len()]?;
     clear_depths(&mut depths, circuit.bads());
     clear_depths(&mut depths, circuit.constraints());
-    clear_states(&mut depths, sought, circuit.latchs());
     settle(&mut depths, circuit, last);
     Ok(depths)
 }
@@ -38,28 +32,6 @@ fn clear_depths(depths: &mut [usize], edges: &[AigEdge])
 {
     for edge in edges {
         depths[edge.node_id()] = 0;
-    }
-}
-
-/// Sets the depths of the latches' leaves to 0, where states are told apart.
-fn clear_states(depths: &mut [usize], sought: Sought, latchs: &[AigLatch])
-    requires { All (λ latch. latch.input < length depths.old) latchs.now }
-    ensures none { tells_apart sought ≡ true → HaveNoLatchDepth latchs.now depths.new }
-    ensures lower { AreNoDeeper depths.old depths.new }
-{
-    if sought.tells_apart() {
-        clear_leaves(depths, latchs);
-    }
-}
-
-/// Sets the depths of the latches' leaves to 0.
-fn clear_leaves(depths: &mut [usize], latchs: &[AigLatch])
-    requires { All (λ latch. latch.input < length depths.old) latchs.now }
-    ensures none { HaveNoLatchDepth latchs.now depths.new }
-    ensures lower { AreNoDeeper depths.old depths.new }
-{
-    for latch in latchs {
-        depths[latch.input()] = 0;
     }
 }
 

@@ -5,10 +5,8 @@ ghost use Rattle.aig_circuit.specs.declared.node.AigNodeType.TheVariants.{Leaf};
 ghost use Rattle.aig_circuit.specs.Build.{with_node};
 ghost use Rattle.aig_circuit.specs.Circuit.{AreNodes, Circuit, IsInRange};
 ghost use Rattle.aig_circuit.specs.Tree.{edge_value};
-ghost use Rattle.aig_bounded.specs.Apart.{differ};
 ghost use Rattle.aig_bounded.specs.Frames.{AddsUpTo, AreFrames, Gives, Opens};
 
-use crate::asked::Start;
 use crate::error::BoundedError;
 use crate::gates::Gates;
 use crate::place::Place;
@@ -30,17 +28,14 @@ pub(crate) struct Frames {
     pub(crate) places: Vec<Place>,
     /// How many nodes there may be.
     pub(crate) limit: usize,
-    /// In which states the runs start.
-    pub(crate) start: Start,
 }
 
 impl Frames {
     /// Returns the false node alone.
-    pub(crate) fn new(alloc: Global, limit: usize, start: Start) -> Result<Frames, MemoryError>
+    pub(crate) fn new(alloc: Global, limit: usize) -> Result<Frames, MemoryError>
         requires { 1 ≤ limit }
         ensures frames { IfOk result (λ made. (c : Circuit) → AreFrames c 0 0 made) }
         ensures limit { IfOk result (λ made. made.limit ≡ limit) }
-        ensures start { IfOk result (λ made. made.start ≡ start) }
         ensures one { IfOk result (λ made. length made.nodes.items ≡ 1) }
     {
         let mut nodes = Vec::new(alloc);
@@ -51,7 +46,6 @@ impl Frames {
             inputs: Vec::new(alloc),
             places: Vec::new(alloc),
             limit,
-            start,
         })
     }
 
@@ -65,7 +59,6 @@ impl Frames {
         ensures places { OnOk result (self.new.places.items
             ≡ self.old.places.items ++ place ∷ []) }
         ensures limit { self.new.limit ≡ self.old.limit }
-        ensures start { self.new.start ≡ self.old.start }
     {
         let id = new_leaf_node(&mut self.nodes)?;
         self.inputs.push(id)?;
@@ -147,20 +140,5 @@ impl Frames {
         ensures size { AddsUpTo 1 self.old self.new result }
     {
         Ok(!self.and(!fanin0, !fanin1)?)
-    }
-
-    /// The exclusive or of two edges.
-    pub(crate) fn xor(&mut self, fanin0: AigEdge, fanin1: AigEdge) -> Result<AigEdge, BoundedError>
-        requires sound { AreNodes self.old.nodes.items }
-        requires first { IsInRange self.old.nodes.items fanin0 }
-        requires second { IsInRange self.old.nodes.items fanin1 }
-        ensures gives { IfOk result (Gives (λ y.
-            differ (edge_value self.old.nodes.items y fanin0)
-            (edge_value self.old.nodes.items y fanin1)) self.old self.new) }
-        ensures size { AddsUpTo 3 self.old self.new result }
-    {
-        let first = self.and(fanin0, !fanin1)?;
-        let second = self.and(!fanin0, fanin1)?;
-        self.or(first, second)
     }
 }

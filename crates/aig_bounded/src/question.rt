@@ -5,12 +5,10 @@ ghost use Rattle.aig_circuit.specs.Circuit.{Circuit, IsInRange};
 ghost use Rattle.aig_circuit.specs.declared.edge.AigEdge.{AigEdge};
 ghost use Rattle.aig_circuit.specs.Edges.{HasConstantInit};
 ghost use Rattle.aig_circuit.specs.View.{lists_circuit};
-ghost use Rattle.aig_bounded.specs.Asked.{HasStarts, IsAskedOf, asked_size};
 ghost use Rattle.aig_bounded.specs.Cut.{IsCutOf, IsKeptOf, KeepsReached, marked_places, whole_question};
 ghost use Rattle.aig_bounded.specs.Frames.{AreFrames};
-ghost use Rattle.aig_bounded.specs.Question.{IsQuestion, IsStepQuestion, IsWindowQuestion, question_size, window_question_size};
+ghost use Rattle.aig_bounded.specs.Question.{IsQuestion, question_size};
 
-use crate::asked::{Sought, Start};
 use crate::error::BoundedError;
 use crate::frames::Frames;
 use crate::place::Place;
@@ -18,7 +16,6 @@ use crate::steps::expanded;
 use aig_base::MemoryError;
 use aig_circuit::{AigEdge, CircuitLists, CircuitView, Properties};
 use aig_cone::{coi_refine, fanin_logic_cone, refining_is_circuit, refining_keeps_runs};
-use aig_runs::Window;
 use std::alloc::Global;
 use std::collections::HashMap;
 
@@ -64,107 +61,9 @@ pub fn bounded_question(
     // TooLarge only where the bound of what is made passes the limit.
     ensures large { IsErrOf result BoundedError.TooLarge → limit < question_size circuit.now last }
 {
-    question_of(
-        alloc,
-        circuit,
-        Start::Initial,
-        Sought::Somewhere,
-        last,
-        limit,
-    )
-}
-
-/// Makes one question of one step: whether some bad state is reached at step `last` on a run from an initial state, with every
-/// constraint at each step up to there. What is bad before counts for nothing.
-///
-/// It is made as by `bounded_question`.
-///
-/// # Requirements
-///
-/// Those of `bounded_question`.
-///
-/// # Errors
-///
-/// Those of `bounded_question`.
-pub fn step_question(
-    alloc: Global,
-    circuit: &CircuitView<'_>,
-    last: usize,
-    limit: usize,
-) -> Result<Question, BoundedError>
-    requires starts { All HasConstantInit circuit.now.latchs }
-    requires some { 1 ≤ limit }
-    requires few { limit ≤ 2 ^ 31 }
-    ensures question { IfOk result (λ made. (output : AigEdge)
-        × IsStepQuestion circuit.now last (lists_circuit made.circuit) output made.places.items) }
-    ensures small { IfOk result (λ made. length made.circuit.nodes.items ≤ limit) }
-    // TooLarge only where the bound of what is made passes the limit.
-    ensures large { IsErrOf result BoundedError.TooLarge → limit < question_size circuit.now last }
-{
-    question_of(alloc, circuit, Start::Initial, Sought::Last, last, limit)
-}
-
-/// Makes one question of a window of steps: whether on some run of the steps 0 to `last`, from any state, every constraint
-/// holds at each step, and a bad state is reached at step `last` and at none before. In the distinct form no two of these steps
-/// have the same state, too: some latch has another value. Without latches all states are the same.
-///
-/// It is made as by `bounded_question`, with the latches open at step 0, whatever their initial edges are. With `last` = k + 1
-/// it is the step of an induction over k + 1 steps.
-///
-/// The distinct form makes each latch at each step, whatever reads it. For each of the `(last + 1) * last / 2` pairs of steps it
-/// makes up to four nodes for each latch, and one. So its size and its time grow with the square of `last`.
-///
-/// # Requirements
-///
-/// - `1 <= limit <= 2^31`.
-///
-/// # Errors
-///
-/// - `TooLarge`: more than `limit` nodes are made. Never where the bound `window_question_size` is within the limit: that of
-///   `bounded_question`, and in the distinct form for each pair of steps four for each latch, and one.
-/// - `Memory`: memory was refused.
-pub fn window_question(
-    alloc: Global,
-    circuit: &CircuitView<'_>,
-    form: Window,
-    last: usize,
-    limit: usize,
-) -> Result<Question, BoundedError>
-    requires some { 1 ≤ limit }
-    requires few { limit ≤ 2 ^ 31 }
-    ensures question { IfOk result (λ made. (output : AigEdge)
-        × IsWindowQuestion form circuit.now last
-        (lists_circuit made.circuit) output made.places.items) }
-    ensures small { IfOk result (λ made. length made.circuit.nodes.items ≤ limit) }
-    // TooLarge only where the bound of what is made passes the limit.
-    ensures large { IsErrOf result BoundedError.TooLarge
-        → limit < window_question_size form circuit.now last }
-{
-    question_of(alloc, circuit, Start::Any, Sought::First(form), last, limit)
-}
-
-/// The question of what is sought on runs from these starts.
-fn question_of(
-    alloc: Global,
-    circuit: &CircuitView<'_>,
-    start: Start,
-    sought: Sought,
-    last: usize,
-    limit: usize,
-) -> Result<Question, BoundedError>
-    requires starts { HasStarts start circuit.now }
-    requires some { 1 ≤ limit }
-    requires few { limit ≤ 2 ^ 31 }
-    ensures question { IfOk result (λ made. (output : AigEdge)
-        × IsAskedOf start sought circuit.now last (lists_circuit made.circuit) output
-        made.places.items) }
-    ensures small { IfOk result (λ made. length made.circuit.nodes.items ≤ limit) }
-    ensures large { IsErrOf result BoundedError.TooLarge
-        → limit < asked_size sought circuit.now last }
-{
     refining_is_circuit();
     refining_keeps_runs();
-    let (frames, reached) = expanded(alloc, circuit, start, sought, last, limit)?;
+    let (frames, reached) = expanded(alloc, circuit, last, limit)?;
     let made = cut(alloc, frames, reached)?;
     Ok(made)
 }

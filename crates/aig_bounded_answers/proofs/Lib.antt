@@ -1,5 +1,4 @@
 mod Safe
-mod Inductive
 mod Asked
 mod Names
 mod Saying

@@ -2,7 +2,6 @@ use Rattle.aig_base.proofs.Words.{◌≡◌, ◌+◌, ◌-◌, ◌*◌, length, 
 use Rattle.aig_bounded.specs.Question.{step_size}
 use Rattle.aig_bounded.specs.Steps.{HasStates}
 use Rattle.aig_bounded.proofs.Counted.{AddsUpTo-after, AddsUpTo-stops, some_node, steps_more, steps_within}
-use Rattle.aig_bounded.proofs.Seen.{Sees-later, Sees-none, Sees-step}
 use Rattle.aig_bounded.proofs.Stepped.{StepsSoFar-more, Sum-start, roots_shown}
 use Rattle.aig_bounded.proofs.frames.Frames.add_steps.Goals as goal
 
@@ -10,29 +9,17 @@ pub loop-step-init : goal.loop-step-init
 loop-step-init c = let all : c.args.last ≡ c.args.last - 0 = omega arith in record {
   so_far = record {
     limit = refl;
-    start = refl;
     frames = c.requires.frames;
     known = subst (λ left. HasStates c.args.circuit.now 0 c.args.depths.now left c.args.self.now c.args.states.now) all c.requires.states;
-    sum = Sum-start c.args.circuit.now c.args.sought c.args.self.now c.start-sums.result c.requires.frames.sound c.start-sums.ensures;
+    sum = Sum-start c.args.circuit.now c.args.self.now c.start-sums.result c.requires.frames.sound c.start-sums.ensures;
   };
-  seen = λ apart. Sees-none c.args.circuit.now 0 c.args.self.now c.args.seen.now.items
-      c.requires.seen;
   few = omega arith;
 }
 
 pub loop-step-preserved : goal.loop-step-preserved
 loop-step-preserved c = record {
-  so_far = StepsSoFar-more c.args.circuit.now c.args.sought c.args.last c.loop-step.step c.args.depths.now c.args.self.now c.loop-step.self c.add_nodes.new.self c.add_sums.new.self c.add_nodes.new.images c.loop-step.states c.advance.new.states c.loop-step.sums c.in_ok-sums.sums c.requires.circuit c.loop-step-test.true c.requires.depths
+  so_far = StepsSoFar-more c.args.circuit.now c.args.last c.loop-step.step c.args.depths.now c.args.self.now c.loop-step.self c.add_nodes.new.self c.add_sums.new.self c.add_nodes.new.images c.loop-step.states c.advance.new.states c.loop-step.sums c.in_ok-sums.sums c.requires.circuit c.loop-step-test.true c.requires.depths
       c.in_ok-add_nodes.ensures.shows c.loop-step.invariant.so_far c.in_ok-add_nodes.ensures.extends c.in_ok-sums.ensures.extends c.advance.ensures c.advance.auto.states c.in_ok-sums.ensures.sums c.in_ok-sums.ensures.frames;
-  seen = λ apart.
-      let t = c.loop-step.step in
-      Sees-later c.args.circuit.now t (t + 1) c.add_sums.new.self c.note_states.new.seen.items
-      (Sees-step c.args.circuit.now t (c.args.last - t) c.args.depths.now c.loop-step.self
-      c.add_nodes.new.self c.add_sums.new.self c.add_nodes.new.images c.loop-step.seen.items
-      c.note_states.new.seen.items c.requires.circuit c.in_ok-add_nodes.ensures.extends
-      c.in_ok-sums.ensures.extends (c.requires.leaves apart)
-      c.in_ok-add_nodes.ensures.shows (c.loop-step.invariant.seen apart)
-      (c.in_ok-note_states.ensures apart));
   few = omega (arith, c.loop-step.invariant.few, c.in_ok-add_nodes.ensures.size.few, c.in_ok-sums.ensures.size.few, some_node c.args.circuit.now c.requires.circuit, steps_more c.loop-step.step (step_size c.args.circuit.now));
 }
 

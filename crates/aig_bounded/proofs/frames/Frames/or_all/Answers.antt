@@ -3,8 +3,7 @@ use Rattle.aig_circuit.specs.declared.edge.AigEdge.{AigEdge}
 use Rattle.aig_circuit.specs.Edge.{edge_to}
 use Rattle.aig_bounded.specs.Frames.{Gives}
 use Rattle.aig_bounded.proofs.Counted.{AddsUpTo-done, AddsUpTo-stops}
-use Rattle.aig_bounded.proofs.Differing.{Gives-false}
-use Rattle.aig_bounded.proofs.Joined.{any_true, any_true-more}
+use Rattle.aig_bounded.proofs.Joined.{Gives-false, any_true, any_true-more}
 use Rattle.aig_bounded.proofs.frames.Frames.or_all.Goals as goal
 
 pub loop-edge-init : goal.loop-edge-init

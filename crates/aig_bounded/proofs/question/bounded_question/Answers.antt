@@ -1,12 +1,12 @@
 use Rattle.std.proofs.Common.{arith}
 use Rattle.aig_circuit.specs.View.{lists_circuit}
-use Rattle.aig_bounded.proofs.Cut.{IsAskedOf-cut, small_cut}
-use Rattle.aig_bounded.proofs.question.question_of.Goals as goal
+use Rattle.aig_bounded.proofs.Cut.{IsQuestion-cut, small_cut}
+use Rattle.aig_bounded.proofs.question.bounded_question.Goals as goal
 
 pub returns-clause-question : goal.returns-clause-question
 returns-clause-question c =
     let circuit = c.in_ok-frames.ensures.circuit in
-    IsAskedOf-cut c.args.circuit.now c.args.start c.args.sought c.args.last c.in_ok-frames.frames c.in_ok-frames.reached (lists_circuit c.in_ok-made.made.circuit) c.in_ok-made.made.places.items circuit c.requires.starts c.in_ok-frames.ensures.start c.in_ok-frames.ensures.frames c.in_ok-frames.ensures.shows c.in_ok-made.ensures
+    IsQuestion-cut c.args.circuit.now c.args.last c.in_ok-frames.frames c.in_ok-frames.reached (lists_circuit c.in_ok-made.made.circuit) c.in_ok-made.made.places.items circuit c.requires.starts c.in_ok-frames.ensures.frames c.in_ok-frames.ensures.shows c.in_ok-made.ensures
     c.refining_is_circuit.ensures c.refining_keeps_runs.ensures
 
 pub returns-clause-small : goal.returns-clause-small

@@ -3,21 +3,21 @@ use Rattle.aig_reader.specs.Verdicts.{Accepted}
 use Rattle.aig_bounded_answers.specs.Asking.{verdict_of}
 use Rattle.aig_bounded_answers.proofs.Asked.{AreBelow-further, asked_of, read_circuit, read_closed, read_starts, size_of}
 use Rattle.aig_bounded_answers.proofs.Verdicts.{judged, unread}
-use Rattle.aig_bounded_answers.proofs.clauses.ask_bytes.Goals as goal
+use Rattle.aig_bounded_answers.proofs.clauses.bounded.Goals as goal
 
 pub ask_file-requires-clause-circuit : goal.ask_file-requires-clause-circuit
 ask_file-requires-clause-circuit g c =
-    read_circuit c.args.asked c.args.limit c.args.last c.args.optimize c.in_ok-lists.lists _ _
+    read_circuit c.args.limit c.args.k c.args.optimize c.in_ok-lists.lists _ _
     c.in_ok-lists.ensures.circuit
 
 pub ask_file-requires-clause-closed : goal.ask_file-requires-clause-closed
 ask_file-requires-clause-closed g c =
-    read_closed c.args.asked c.args.limit c.args.last c.args.optimize c.in_ok-lists.lists _ _
+    read_closed c.args.limit c.args.k c.args.optimize c.in_ok-lists.lists _ _
     c.in_ok-lists.ensures.circuit
 
 pub ask_file-requires-clause-starts : goal.ask_file-requires-clause-starts
 ask_file-requires-clause-starts g c =
-    read_starts c.args.asked c.args.limit c.args.last c.args.optimize c.in_ok-lists.lists _ _
+    read_starts c.args.limit c.args.k c.args.optimize c.in_ok-lists.lists _ _
     c.in_ok-lists.ensures.circuit
 
 pub returns-in_err-lists-clause-verdict : goal.returns-in_err-lists-clause-verdict
@@ -38,24 +38,24 @@ pub returns-in_err-made-clause-large : goal.returns-in_err-made-clause-large
 returns-in_err-made-clause-large g c =
     let p = err_from_is_err_and c.from_residual-in_err-made.result
     c.from_residual-in_err-made.ensures.1 in
-    rw (p.1, p.2) (size_of c.args.asked c.args.limit c.args.last c.args.optimize
+    rw (p.1, p.2) (size_of c.args.limit c.args.k c.args.optimize
     c.in_ok-lists.lists _ _
     c.in_ok-lists.ensures.circuit c.in_err-made.field-0.0 c.in_err-made.ensures.said (λ is.
     c.in_err-made.ensures.large (ap Err is)))
 
 pub returns-clause-answer : goal.returns-clause-answer
 returns-clause-answer g c =
-    asked_of c.args.asked c.args.limit c.args.last c.args.optimize c.in_ok-lists.lists _ _
+    asked_of c.args.limit c.args.k c.args.optimize c.in_ok-lists.lists _ _
     c.in_ok-lists.ensures.circuit c.in_ok-made.made c.in_ok-made.ensures.said
     c.in_ok-made.ensures.asks
 
 pub returns-clause-below : goal.returns-clause-below
 returns-clause-below g c =
-    let asked = asked_of c.args.asked c.args.limit c.args.last c.args.optimize
+    let asked = asked_of c.args.limit c.args.k c.args.optimize
     c.in_ok-lists.lists _ _
     c.in_ok-lists.ensures.circuit c.in_ok-made.made c.in_ok-made.ensures.said
     c.in_ok-made.ensures.asks in
-    AreBelow-further c.args.asked asked.file c.args.last c.args.optimize c.in_ok-made.made
+    AreBelow-further asked.file c.args.k c.args.optimize c.in_ok-made.made
     asked.means
 
 pub returns-clause-verdict : goal.returns-clause-verdict
