@@ -8,8 +8,10 @@ use Rattle.aig_circuit.proofs.Building.{AddsGates-itself, AddsGates-then, Grows-
 use Rattle.aig_circuit.proofs.Trees.{kind_at-last, kind_at-within}
 use Rattle.aig_bounded.specs.declared.frames.Frames.{Frames}
 use Rattle.aig_bounded.specs.declared.place.Place.{Place}
+use Rattle.aig_bounded.specs.Gates.{HasGates}
+use Rattle.aig_bounded.proofs.Sharing.{HasGates-leaf}
 use Rattle.aig_bounded.specs.Question.{IsPlace, ReadsPlaces}
-use Rattle.aig_bounded.specs.Frames.{AddsAnds, AreFrames, Extends, IsBefore, Opens}
+use Rattle.aig_bounded.specs.Frames.{AddsAnds, AreFrames, AreShared, Extends, IsBefore, Opens}
 
 -- ---- what inputs read
 
@@ -68,17 +70,27 @@ pub Extends-opens : (c : Circuit) (t n : ℕ) (old new : Frames) (place : Place)
     → AreFrames c t n old → Opens old new place e → Extends old new
 Extends-opens c t n old new place e are opens = record {
   limit = opens.limit;
-  grows = subst (Grows old.nodes.items) (sym opens.nodes) (Grows-leaf old.nodes.items are.sound);
+  grows = subst (Grows old.nodes.items) (sym opens.nodes) (Grows-leaf old.nodes.items are.shared.gates.sound);
   reads = λ y run reads. (opened_reads old new place e y run are.count opens reads).0;
 }
 
 -- ---- gates more
 
-pub AddsAnds-itself : (f : Frames) → AreNodes f.nodes.items → AddsAnds f f
-AddsAnds-itself f sound = record {
-  nodes = AddsGates-itself f.nodes.items sound;
+-- a leaf more leaves all gates in the table
+pub AreShared-opened : (old new : Frames) → new.nodes.items ≡ with_node old.nodes.items Leaf
+    → new.gates ≡ old.gates → new.limit ≡ old.limit → length old.nodes.items < old.limit
+    → AreShared old → AreShared new
+AreShared-opened old new nodes gates limit low shared = record {
+  gates = subst (HasGates new.nodes.items) (sym gates) (subst (λ l. HasGates l old.gates) (sym nodes) (HasGates-leaf old.nodes.items old.gates (Grows-leaf old.nodes.items shared.gates.sound) shared.gates));
+  few = omega (arith, ap length nodes, length-append old.nodes.items (record { node_id = length old.nodes.items; typ = Leaf } ∷ []), low, limit);
+  small = omega (arith, limit, shared.small);
+}
+
+pub AddsAnds-itself : (f : Frames) → AreShared f → AddsAnds f f
+AddsAnds-itself f shared = record {
+  nodes = AddsGates-itself f.nodes.items shared.gates.sound;
   limit = refl;
-  few = λ h. h;
+  shared = shared;
   inputs = refl;
   places = refl;
 }
@@ -88,7 +100,7 @@ pub AddsAnds-then : (old mid new : Frames) → AddsAnds old mid → AddsAnds mid
 AddsAnds-then old mid new p q = record {
   nodes = AddsGates-then old.nodes.items mid.nodes.items new.nodes.items p.nodes q.nodes;
   limit = q.limit ∙ p.limit;
-  few = λ h. omega (arith, q.few (omega (arith, p.few h, p.limit)), p.limit);
+  shared = q.shared;
   inputs = q.inputs ∙ p.inputs;
   places = q.places ∙ p.places;
 }
@@ -99,8 +111,7 @@ leaf_is_no_gate a b e = cc
 pub AreFrames-ands : (c : Circuit) (t n : ℕ) (old new : Frames) → AreFrames c t n old
     → AddsAnds old new → AreFrames c t n new
 AreFrames-ands c t n old new are adds = record {
-  sound = adds.nodes.grows.sound;
-  few = omega (arith, adds.few are.few, adds.limit);
+  shared = adds.shared;
   inputs = subst (All (IsLeaf new.nodes.items)) (sym adds.inputs) (All-weaker (IsLeaf old.nodes.items) (IsLeaf new.nodes.items) kept old.inputs.items are.inputs);
   rising = subst (AllPairs (λ m n. m < n)) (sym adds.inputs) are.rising;
   closed = λ m leaf. subst (λ l. Contains l m) (sym adds.inputs) (are.closed m (back m leaf (cases_lt m (length old.nodes.items))));
@@ -132,7 +143,7 @@ module _ (c : Circuit) (t n : ℕ) (old new : Frames) (e : AigEdge) (are : AreFr
   nodes = with_node old.nodes.items Leaf
 
   abbrev grows : Grows old.nodes.items nodes
-  grows = Grows-leaf old.nodes.items are.sound
+  grows = Grows-leaf old.nodes.items are.shared.gates.sound
 
   leaf_kept : (m : ℕ) → IsLeaf old.nodes.items m → IsLeaf nodes m
   leaf_kept m leaf = Grows-kept old.nodes.items nodes grows m (kind_at-within old.nodes.items m Leaf leaf) ∙ leaf
@@ -165,8 +176,7 @@ module _ (c : Circuit) (t n : ℕ) (old new : Frames) (e : AigEdge) (are : AreFr
 
   pub AreFrames-opens : AreFrames c t (n + 1) new
   AreFrames-opens = record {
-    sound = subst AreNodes (sym opens.nodes) grows.sound;
-    few = omega (arith, opens.few, opens.limit);
+    shared = opens.shared;
     inputs = subst (λ l. All (IsLeaf l) new.inputs.items) (sym opens.nodes) (subst (All (IsLeaf nodes)) (sym opens.inputs) (All-push (IsLeaf nodes) old.inputs.items (length old.nodes.items) (All-weaker (IsLeaf old.nodes.items) (IsLeaf nodes) leaf_kept old.inputs.items are.inputs) (kind_at-last old.nodes.items _)));
     rising = subst (AllPairs (λ m n. m < n)) (sym opens.inputs) (all_pairs_push (λ m n. m < n) old.inputs.items (length old.nodes.items) are.rising low);
     closed = λ m leaf. subst (λ l. Contains l m) (sym opens.inputs) (closed m (subst (λ l. IsLeaf l m) opens.nodes leaf) (cases_lt m (length old.nodes.items)));
@@ -185,8 +195,7 @@ module _ (c : Circuit) (t n : ℕ) (old new : Frames) (e : AigEdge) (are : AreFr
 later_before : (c : Circuit) (t u m n : ℕ) (f : Frames)
     → ((p : Place) → IsBefore t m p → IsBefore u n p) → AreFrames c t m f → AreFrames c u n f
 later_before c t u m n f later are = record {
-  sound = are.sound;
-  few = are.few;
+  shared = are.shared;
   inputs = are.inputs;
   rising = are.rising;
   closed = are.closed;

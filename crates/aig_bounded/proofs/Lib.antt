@@ -8,4 +8,8 @@ mod Read
 mod Marked
 mod Counted
 mod Cut
+mod Sharing
+mod Attained
+mod Exactly
+pub mod Single
 pub mod Witnesses

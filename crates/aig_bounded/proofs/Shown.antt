@@ -7,7 +7,8 @@ use Rattle.aig_circuit.proofs.Words.{edge_to, inverted_if, kind_at, AreNodes, Ci
 use Rattle.aig_circuit.proofs.Trees.{kind_at-last, kind_at-within, node_value-and, node_value-false, node_value-leaf}
 use Rattle.aig_bounded.specs.declared.frames.Frames.{Frames}
 use Rattle.aig_bounded.specs.Frames.{AreFrames, Extends, Gives, Opens, ReadsOff, Shows}
-use Rattle.aig_bounded.specs.Steps.{ShowsNode, image_at, image_in}
+use Rattle.aig_unroll.specs.Frame.{image_at, image_in}
+use Rattle.aig_bounded.specs.Steps.{ShowsNode}
 use Rattle.aig_bounded.proofs.Extended.{Extends-ands, opened_reads}
 
 pub Shows-extends : (c : Circuit) (t : ℕ) (old new : Frames) (e : AigEdge)

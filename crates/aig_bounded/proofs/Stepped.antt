@@ -14,7 +14,8 @@ use Rattle.aig_bounded.specs.Depths.{AreDepths, HaveNoDepth}
 use Rattle.aig_bounded.specs.Frames.{AreFrames, Extends, Gives, Opens, Shows}
 use Rattle.aig_circuit.specs.Edges.{HasConstantInit}
 use Rattle.aig_bounded.specs.Question.{IsPlace}
-use Rattle.aig_bounded.specs.Steps.{HasImages, HasStates, MakesImage, SetsStates, ShowsNode, Sum, image_at, image_in, reached_to, within_to}
+use Rattle.aig_unroll.specs.Frame.{image_at, image_in}
+use Rattle.aig_bounded.specs.Steps.{HasImages, HasStates, MakesImage, SetsStates, ShowsNode, Sum, reached_to, within_to}
 use Rattle.aig_bounded.specs.declared.steps.Sums.{Sums}
 use Rattle.aig_bounded.proofs.Extended.{AreFrames-ands, AreFrames-next_node, AreFrames-opens, Extends-ands, Extends-itself, Extends-opens, Extends-then}
 use Rattle.aig_bounded.proofs.Shown.{Shows-all, Shows-any, Shows-constant, Shows-extends, Shows-false_node, Shows-gate, Shows-image, Shows-join, Shows-later, Shows-leaf, Shows-opened, Shows-same, constant_there, value-constant}
@@ -72,7 +73,7 @@ HasImages-unread c t left i depths f images deep has n h d = by (cases_lt n i)
 -- ---- states
 
 -- the latch of a leaf
-latch_of : (latchs : List AigLatch) (n : ℕ) → Contains (latch_leaves latchs) n
+pub latch_of : (latchs : List AigLatch) (n : ℕ) → Contains (latch_leaves latchs) n
     → (k : ℕ) × (k < length latchs) × ((get_or latchs k no_latch).input ≡ n)
 latch_of latchs n (k, h, is) =
     let within : k < length latchs = omega (arith, length-map latchs (λ (l : AigLatch). l.input)) in
@@ -274,9 +275,9 @@ kind_read nodes read n d k t there same typ is =
 pub makes_false : (c : Circuit) (t id : ℕ) (f : Frames) (e : AigEdge) → AreFrames c t id f
     → kind_at c.nodes id ≡ Some False → e ≡ edge_to 0 false → MakesImage c t id f f e
 makes_false c t id f e are kind is = record {
-  shows = subst (λ x. Shows c t f x (λ run. node_value c.nodes (run t) id)) (sym is) (Shows-false_node c t id f are.sound kind);
+  shows = subst (λ x. Shows c t f x (λ run. node_value c.nodes (run t) id)) (sym is) (Shows-false_node c t id f are.shared.gates.sound kind);
   frames = AreFrames-next_node c t id f are;
-  extends = Extends-itself f are.sound;
+  extends = Extends-itself f are.shared.gates.sound;
 }
 
 pub makes_state : (c : Circuit) (t id : ℕ) (f : Frames) (e : AigEdge) → AreFrames c t id f
@@ -284,7 +285,7 @@ pub makes_state : (c : Circuit) (t id : ℕ) (f : Frames) (e : AigEdge) → AreF
 makes_state c t id f e are kind shows = record {
   shows = Shows-leaf c t id f e kind shows;
   frames = AreFrames-next_node c t id f are;
-  extends = Extends-itself f are.sound;
+  extends = Extends-itself f are.shared.gates.sound;
 }
 
 pub makes_open : (c : Circuit) (t id : ℕ) (old new : Frames) (e : AigEdge) → AreFrames c t id old
@@ -408,7 +409,7 @@ pub ImagesSoFar-none : (c : Circuit) (t left : ℕ) (depths : List ℕ) (f : Fra
 ImagesSoFar-none c t left depths f images are = record {
   has = HasImages-none c t left depths f images;
   frames = are;
-  extends = Extends-itself f are.sound;
+  extends = Extends-itself f are.shared.gates.sound;
 }
 
 pub ImagesSoFar-more : (c : Circuit) (t left i : ℕ) (depths : List ℕ) (old mid new : Frames)
@@ -540,17 +541,17 @@ pub record StepsSoFar (c : Circuit) (last t : ℕ) (depths : List ℕ) (old f : 
   pub known : HasStates c t depths (last - t) f states
   pub sum : Sum c t t f sums
 
-pub StepsSoFar-more : (c : Circuit) (last t : ℕ) (depths : List ℕ) (f f0 f1 f2 : Frames)
+pub StepsSoFar-more : (c : Circuit) (last t : ℕ) (depths : List ℕ) (f f0 f1 : Frames)
     (images : List AigEdge) (old new : List (Option AigEdge)) (before after : Sums) → IsCircuit c
     → t < last → AreDepths c last depths
     → HasImages c t depths (last - t) (length c.nodes) f1 images
-    → StepsSoFar c last t depths f f0 old before → Extends f0 f1 → Extends f1 f2
+    → StepsSoFar c last t depths f f0 old before → Extends f0 f1
     → SetsStates c.latchs (length c.latchs) (λ latch. Some (image_in images latch.next)) old new
-    → length new ≡ length old → Sum c t (t + 1) f2 after → AreFrames c (t + 1) 0 f2
-    → StepsSoFar c last (t + 1) depths f f2 new after
-StepsSoFar-more c last t depths f f0 f1 f2 images old new before after circuit more are has so_far first second sets count sum frames = record {
-  limit = second.limit ∙ first.limit ∙ so_far.limit;
+    → length new ≡ length old → Sum c t (t + 1) f1 after → AreFrames c (t + 1) 0 f1
+    → StepsSoFar c last (t + 1) depths f f1 new after
+StepsSoFar-more c last t depths f f0 f1 images old new before after circuit more are has so_far extends sets count sum frames = record {
+  limit = extends.limit ∙ so_far.limit;
   frames = frames;
-  known = HasStates-extends c (t + 1) (last - (t + 1)) depths f1 f2 new second (HasStates-next c circuit last t more depths are f1 f0 images old new has so_far.known sets count);
-  sum = Sum-later c t (t + 1) f2 after sum;
+  known = HasStates-next c circuit last t more depths are f1 f0 images old new has so_far.known sets count;
+  sum = Sum-later c t (t + 1) f1 after sum;
 }

@@ -1,28 +1,38 @@
 -- Serves private clauses alone.
 -- The nodes of a question while it is made.
-use Rattle.std.specs.Prelude.{◌≡◌, ◌≢◌, ℕ, ◌+◌, ◌<◌, ◌≤◌, ◌++◌, ◌∷◌, [], ◌⊎◌, false, Bool, length, All, AllPairs, Contains, Result, IsErrOf, OnOk}
+use Rattle.std.specs.Prelude.{◌≡◌, ◌≢◌, ℕ, ◌^◌, ◌+◌, ◌<◌, ◌≤◌, ◌++◌, ◌∷◌, [], ◌⊎◌, false, Bool, length, All, AllPairs, Contains, Result, IsErrOf, OnOk}
 use Rattle.aig_circuit.specs.declared.edge.AigEdge.{AigEdge}
 use Rattle.aig_circuit.specs.declared.node.AigNodeType.TheVariants.{Leaf}
 use Rattle.aig_circuit.specs.Edge.{edge_to}
 use Rattle.aig_circuit.specs.Build.{AddsGates, GivesEdge, Grows, with_node}
-use Rattle.aig_circuit.specs.Circuit.{AreNodes, Circuit, IsInRange, IsLeaf}
+use Rattle.aig_circuit.specs.Circuit.{Circuit, IsInRange, IsLeaf}
 use Rattle.aig_circuit.specs.Runs.{IsInitial, IsRun}
 use Rattle.aig_circuit.specs.Tree.{edge_value}
 use Rattle.aig_bounded.specs.declared.error.BoundedError.{BoundedError}
 use Rattle.aig_bounded.specs.declared.error.BoundedError.TheVariants.{TooLarge}
 use Rattle.aig_bounded.specs.declared.frames.Frames.{Frames}
 use Rattle.aig_bounded.specs.declared.place.Place.{Place}
+use Rattle.aig_bounded.specs.Gates.{HasGates}
+use Rattle.aig_bounded.specs.Shared.{Netlist}
 use Rattle.aig_bounded.specs.Question.{IsPlace, ReadsPlaces}
 
 -- the place is at a step before t, or at step t and below node n
 abbrev pub IsBefore : ℕ → ℕ → Place → Type 0
 IsBefore t n p = (p.step < t) ⊎ ((p.step ≡ t) × (p.leaf < n))
 
--- sound nodes, no more than the limit, of which the leaves are inputs at places of c before node n
--- of step t
-pub record AreFrames (c : Circuit) (t n : ℕ) (f : Frames) : Type 0 where
-  pub sound : AreNodes f.nodes.items
+-- the netlist
+abbrev pub net_of : Frames → Netlist
+net_of f = record { nodes = f.nodes.items; inputs = f.inputs.items; places = f.places.items }
+
+-- sound nodes, no more than the limit, of which all gates stand in the table
+pub record AreShared (f : Frames) : Type 0 where
+  pub gates : HasGates f.nodes.items f.gates
   pub few : length f.nodes.items ≤ f.limit
+  pub small : f.limit ≤ 2 ^ 31
+
+-- such nodes, of which the leaves are inputs at places of c before node n of step t
+pub record AreFrames (c : Circuit) (t n : ℕ) (f : Frames) : Type 0 where
+  pub shared : AreShared f
   pub inputs : All (IsLeaf f.nodes.items) f.inputs.items
   pub rising : AllPairs (λ m n. m < n) f.inputs.items
   pub closed : (n : ℕ) → IsLeaf f.nodes.items n → Contains f.inputs.items n
@@ -35,7 +45,7 @@ pub record AreFrames (c : Circuit) (t n : ℕ) (f : Frames) : Type 0 where
 pub record AddsAnds (old new : Frames) : Type 0 where
   pub nodes : AddsGates old.nodes.items new.nodes.items
   pub limit : new.limit ≡ old.limit
-  pub few : length old.nodes.items ≤ old.limit → length new.nodes.items ≤ old.limit
+  pub shared : AreShared new
   pub inputs : new.inputs.items ≡ old.inputs.items
   pub places : new.places.items ≡ old.places.items
 
@@ -49,7 +59,7 @@ pub record Opens (old new : Frames) (place : Place) (e : AigEdge) : Type 0 where
   pub edge : e ≡ edge_to (length old.nodes.items) false
   pub nodes : new.nodes.items ≡ with_node old.nodes.items Leaf
   pub limit : new.limit ≡ old.limit
-  pub few : length new.nodes.items ≤ old.limit
+  pub shared : AreShared new
   pub inputs : new.inputs.items ≡ old.inputs.items ++ length old.nodes.items ∷ []
   pub places : new.places.items ≡ old.places.items ++ place ∷ []
 

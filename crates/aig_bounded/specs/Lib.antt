@@ -1,4 +1,7 @@
 pub mod Question
+pub mod Shared
+pub mod Exact
+pub mod Gates
 pub mod Depths
 pub mod Frames
 pub mod Steps

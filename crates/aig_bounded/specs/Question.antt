@@ -10,6 +10,7 @@ use Rattle.aig_circuit.specs.Circuit.{Circuit, IsCircuit, IsClosed, IsLeaf}
 use Rattle.aig_circuit.specs.Properties.{no_properties}
 use Rattle.aig_circuit.specs.Runs.{IsRun, IsInitial}
 use Rattle.aig_bounded.specs.declared.place.Place.{Place}
+use Rattle.aig_bounded.specs.Exact.{IsExact}
 
 -- ---- places
 
@@ -52,6 +53,8 @@ pub record IsQuestion (c : Circuit) (k : ℕ) (asks : Circuit) (output : AigEdge
   -- and every y is read off such a run
   pub runs : (y : ℕ → Bool) → (run : ℕ → ℕ → Bool) × IsRun c k run × IsInitial c (run 0)
       × ReadsPlaces asks.inputs places y run
+  -- it is this circuit, and no other
+  pub exact : IsExact c k asks places
 
 -- ---- its size
 

@@ -1,6 +1,6 @@
 //! Laws of questions.
 
-ghost use Rattle.std.specs.Prelude.{◌↔◌, ◌≤◌, ℕ, Bool, IsTrue, List};
+ghost use Rattle.std.specs.Prelude.{◌≡◌, ◌↔◌, ◌≤◌, ℕ, Bool, IsTrue, List};
 ghost use Rattle.aig_circuit.specs.declared.edge.AigEdge.{AigEdge};
 ghost use Rattle.aig_circuit.specs.Circuit.{Circuit, IsCircuit};
 ghost use Rattle.aig_circuit.specs.Tree.{edge_value};
@@ -14,4 +14,12 @@ pub fn questions_ask_for_witnesses()
         → IsCircuit c → IsQuestion c k asks output places
         → ((y : ℕ → Bool) × IsTrue (edge_value asks.nodes y output))
         ↔ ((t : ℕ) × (t ≤ k) × HasCircuitWitness c t) }
+{}
+
+/// Law: a question has one circuit, one output and one list of places. So what one process makes of a circuit and a step is what
+/// another makes of them.
+pub fn questions_are_one()
+    ensures { (c one other : Circuit) (k : ℕ) (output out : AigEdge) (places seats : List Place)
+        → IsQuestion c k one output places → IsQuestion c k other out seats
+        → (one ≡ other) × (output ≡ out) × (places ≡ seats) }
 {}

@@ -8,9 +8,10 @@ mod gates;
 mod laws;
 mod place;
 mod question;
+mod seeded;
 mod steps;
 
 pub use error::BoundedError;
-pub use laws::questions_ask_for_witnesses;
+pub use laws::{questions_are_one, questions_ask_for_witnesses};
 pub use place::Place;
 pub use question::{Question, bounded_question};

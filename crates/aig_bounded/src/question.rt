@@ -6,7 +6,7 @@ ghost use Rattle.aig_circuit.specs.declared.edge.AigEdge.{AigEdge};
 ghost use Rattle.aig_circuit.specs.Edges.{HasConstantInit};
 ghost use Rattle.aig_circuit.specs.View.{lists_circuit};
 ghost use Rattle.aig_bounded.specs.Cut.{IsCutOf, IsKeptOf, KeepsReached, marked_places, whole_question};
-ghost use Rattle.aig_bounded.specs.Frames.{AreFrames};
+ghost use Rattle.aig_bounded.specs.Frames.{AreFrames, net_of};
 ghost use Rattle.aig_bounded.specs.Question.{IsQuestion, question_size};
 
 use crate::error::BoundedError;
@@ -74,7 +74,7 @@ fn cut(alloc: Global, frames: Frames, output: AigEdge) -> Result<Question, Memor
     requires there { IsInRange frames.nodes.items output }
     requires few { length frames.nodes.items ≤ 2 ^ 31 }
     ensures { IfOk result
-        (λ made. IsCutOf frames output (lists_circuit made.circuit) made.places.items) }
+        (λ made. IsCutOf (net_of frames) output (lists_circuit made.circuit) made.places.items) }
 {
     let places = kept_places(alloc, &frames, output)?;
     let circuit = kept_circuit(alloc, frames, output)?;
@@ -86,7 +86,7 @@ fn kept_circuit(alloc: Global, frames: Frames, output: AigEdge) -> Result<Circui
     requires frames { (c : Circuit) × (t : ℕ) × AreFrames c t 0 frames }
     requires there { IsInRange frames.nodes.items output }
     requires few { length frames.nodes.items ≤ 2 ^ 31 }
-    ensures { IfOk result (λ made. IsKeptOf (whole_question frames output) (lists_circuit made)) }
+    ensures { IfOk result (λ made. IsKeptOf (whole_question (net_of frames) output) (lists_circuit made)) }
 {
     let lists = frames.into_lists(alloc, output)?;
     let (circuit, _old_numbers) = coi_refine(alloc, &CircuitView::new(&lists))?;
@@ -97,7 +97,7 @@ fn kept_circuit(alloc: Global, frames: Frames, output: AigEdge) -> Result<Circui
 fn kept_places(alloc: Global, frames: &Frames, output: AigEdge) -> Result<Vec<Place>, MemoryError>
     requires frames { (c : Circuit) × (t : ℕ) × AreFrames c t 0 frames.now }
     requires there { IsInRange frames.now.nodes.items output }
-    ensures { IfOk result (λ kept. KeepsReached frames.now output kept.items) }
+    ensures { IfOk result (λ kept. KeepsReached (net_of frames.now) output kept.items) }
 {
     let marks = fanin_logic_cone(alloc, &frames.nodes, &[output])?;
     marked_places(alloc, &marks, &frames.inputs, &frames.places)
@@ -126,7 +126,7 @@ fn marked_places(
 impl Frames {
     /// The circuit of the nodes, with one output.
     fn into_lists(self, alloc: Global, output: AigEdge) -> Result<CircuitLists, MemoryError>
-        ensures { IfOk result (λ lists. lists_circuit lists ≡ whole_question self output) }
+        ensures { IfOk result (λ lists. lists_circuit lists ≡ whole_question (net_of self) output) }
     {
         let mut properties = Properties::new(alloc);
         properties.outputs.push(output)?;

@@ -1,6 +1,6 @@
 //! The steps of a circuit as nodes of a question.
 
-ghost use Rattle.std.specs.Prelude.{◌≡◌, ◌+◌, ◌-◌, ◌*◌, ◌<◌, ◌≤◌, ◌&&◌, ℕ, true, false, None, Some, IfOk, IfSome, IsErrOf, OnOk, List, [], All, length, min, slice_index_or};
+ghost use Rattle.std.specs.Prelude.{Bool, map, ◌^◌, ◌≡◌, ◌+◌, ◌-◌, ◌*◌, ◌<◌, ◌≤◌, ◌&&◌, ℕ, true, false, None, Some, IfOk, IfSome, IsErrOf, OnOk, List, [], All, length, min, slice_index_or};
 ghost use Rattle.std.specs.List.{list_all, list_any};
 ghost use Rattle.aig_circuit.specs.Circuit.{AreNodes, IsCircuit, IsInRange, IsLeaf};
 ghost use Rattle.aig_circuit.specs.Edge.{edge_to};
@@ -10,13 +10,18 @@ ghost use Rattle.aig_circuit.specs.Tree.{edge_value};
 ghost use Rattle.aig_bounded.specs.declared.frames.Frames.{Frames};
 ghost use Rattle.aig_bounded.specs.Question.{IsPlace, question_size, step_size};
 ghost use Rattle.aig_bounded.specs.Depths.{AreDepths};
-ghost use Rattle.aig_bounded.specs.Frames.{AddsUpTo, AreFrames, Extends, Gives, Shows};
-ghost use Rattle.aig_bounded.specs.Steps.{HasImages, HasStates, MakesImage, SetsStates, ShowsNode, Sum, image_in, reached_to};
+ghost use Rattle.aig_bounded.specs.Exact.{ReadsExactly, false_net, frame_to, node_image, reached_in, states_at, steps_to, with_checks};
+ghost use Rattle.aig_bounded.specs.Shared.{made_in, shared_ands, shared_ors};
+ghost use Rattle.aig_circuit.specs.Node.{kind_at};
+ghost use Rattle.aig_bounded.specs.Frames.{AddsUpTo, AreFrames, AreShared, Extends, Gives, Shows, net_of};
+ghost use Rattle.aig_unroll.specs.Frame.{image_in};
+ghost use Rattle.aig_bounded.specs.Steps.{HasImages, HasStates, IsFrame, IsStep, MakesImage, SetsStates, ShowsNode, Sum, checks_of, is_read, reached_to};
 
 use crate::depths::depths;
 use crate::error::BoundedError;
 use crate::frames::Frames;
 use crate::place::Place;
+use crate::seeded::Seeded;
 use aig_base::MemoryError;
 use aig_circuit::{AigEdge, AigLatch, AigNodeType, CircuitView};
 use std::alloc::Global;
@@ -72,6 +77,9 @@ impl Frames {
         requires free { IsLeaf circuit.now.nodes id → slice_index_or states.now id None ≡ None
             → IsPlace circuit.now (record { step = step; leaf = id }) }
         ensures makes { IfOk result (MakesImage circuit.now step id self.old self.new) }
+        ensures exact { IfOk result (λ e. made_in (net_of self.new) e
+            ≡ node_image (slice_index_or states.now id None) images.now
+            (record { step = step; leaf = id }) (kind_at circuit.now.nodes id) (net_of self.old)) }
         ensures size { AddsUpTo (min id 1) self.old self.new result }
     {
         match *circuit.nodes()[id].typ() {
@@ -104,6 +112,9 @@ impl Frames {
         requires states { HasStates circuit.now step depths.now left self.old states.now }
         ensures shows { OnOk result (HasImages circuit.now step depths.now left
             (length circuit.now.nodes) self.new images.new) }
+        ensures exact { OnOk result (let read = is_read depths.now left in IsFrame read
+            (frame_to circuit.now step read (λ n. slice_index_or states.now n None)
+            (net_of self.old) (length circuit.now.nodes)) self.new images.new) }
         ensures frames { OnOk result (AreFrames circuit.now (step + 1) 0 self.new) }
         ensures extends { OnOk result (Extends self.old self.new) }
         ensures size { AddsUpTo (length circuit.now.nodes - 1) self.old self.new result }
@@ -124,7 +135,7 @@ impl Frames {
         edges: &[AigEdge],
         images: &[AigEdge],
     ) -> Result<AigEdge, BoundedError>
-        requires sound { AreNodes self.old.nodes.items }
+        requires shared { AreShared self.old }
         requires first { IsInRange self.old.nodes.items first }
         requires edges { All (λ e. e.node_id < length images.now) edges.now }
         requires images { All (λ e.
@@ -132,6 +143,9 @@ impl Frames {
         ensures gives { IfOk result (Gives (λ y. edge_value self.old.nodes.items y first
             && list_all (λ e. edge_value self.old.nodes.items y (image_in images.now e)) edges.now)
             self.old self.new) }
+        ensures exact { IfOk result (λ e. made_in (net_of self.new) e
+            ≡ shared_ands (made_in (net_of self.old) first)
+            (map (image_in images.now) edges.now)) }
         ensures size { AddsUpTo (length edges.now) self.old self.new result }
     {
         let mut all = first;
@@ -143,13 +157,16 @@ impl Frames {
 
     /// The or of the images of edges.
     fn or_all(&mut self, edges: &[AigEdge], images: &[AigEdge]) -> Result<AigEdge, BoundedError>
-        requires sound { AreNodes self.old.nodes.items }
+        requires shared { AreShared self.old }
         requires edges { All (λ e. e.node_id < length images.now) edges.now }
         requires images { All (λ e.
             IsInRange self.old.nodes.items (image_in images.now e)) edges.now }
         ensures gives { IfOk result (Gives (λ y. list_any
             (λ e. edge_value self.old.nodes.items y (image_in images.now e)) edges.now)
             self.old self.new) }
+        ensures exact { IfOk result (λ e. made_in (net_of self.new) e
+            ≡ shared_ors (made_in (net_of self.old) (edge_to 0 false))
+            (map (image_in images.now) edges.now)) }
         ensures size { AddsUpTo (length edges.now) self.old self.new result }
     {
         let mut any = AigEdge::constant(false);
@@ -175,6 +192,8 @@ impl Frames {
             circuit.now.properties.constraints }
         requires sums { Sum circuit.now step step self.old sums }
         ensures sums { IfOk result (Sum circuit.now step (step + 1) self.new) }
+        ensures exact { IfOk result (λ after. checks_of self.new after
+            ≡ with_checks circuit.now images.now (checks_of self.old sums)) }
         ensures frames { OnOk result (AreFrames circuit.now (step + 1) 0 self.new) }
         ensures extends { OnOk result (Extends self.old self.new) }
         ensures size { AddsUpTo (length circuit.now.properties.bads
@@ -187,32 +206,37 @@ impl Frames {
         Ok(Sums { within, reached })
     }
 
-    /// Adds the last step, and returns the edge that is true where a bad state is reached.
-    fn add_last(
+    /// Adds a step, of which something is read in the steps that are left, and returns what is known of all so far.
+    fn add_step(
         &mut self,
         circuit: &CircuitView<'_>,
         depths: &[usize],
-        last: usize,
+        left: usize,
+        step: usize,
         images: &mut [AigEdge],
         states: &[Option<AigEdge>],
         sums: Sums,
-    ) -> Result<AigEdge, BoundedError>
+    ) -> Result<Sums, BoundedError>
         requires circuit { IsCircuit circuit.now }
+        requires frames { AreFrames circuit.now step 0 self.old }
         requires table { length images.old ≡ length circuit.now.nodes }
-        requires depths { AreDepths circuit.now last depths.now }
-        requires frames { AreFrames circuit.now last 0 self.old }
-        requires states { HasStates circuit.now last depths.now 0 self.old states.now }
-        requires sums { Sum circuit.now last last self.old sums }
-        ensures shows { IfOk result (λ e.
-            Shows circuit.now last self.new e
-            (λ run. reached_to circuit.now run (last + 1))) }
-        ensures frames { OnOk result (AreFrames circuit.now (last + 1) 0 self.new) }
-        ensures limit { OnOk result (self.new.limit ≡ self.old.limit) }
+        requires depths { AreDepths circuit.now (left + step) depths.now }
+        requires states { HasStates circuit.now step depths.now left self.old states.now }
+        requires sums { Sum circuit.now step step self.old sums }
+        ensures sums { IfOk result (Sum circuit.now step (step + 1) self.new) }
+        ensures shows { OnOk result (HasImages circuit.now step depths.now left
+            (length circuit.now.nodes) self.new images.new) }
+        ensures exact { IfOk result (λ after. let read = is_read depths.now left in IsStep read
+            (frame_to circuit.now step read (λ n. slice_index_or states.now n None)
+            (net_of self.old) (length circuit.now.nodes)) circuit.now sums images.new
+            (checks_of self.new after)) }
+        ensures frames { OnOk result (AreFrames circuit.now (step + 1) 0 self.new) }
+        ensures extends { OnOk result (Extends self.old self.new) }
         ensures size { AddsUpTo (step_size circuit.now) self.old self.new result }
     {
-        self.add_nodes(circuit, depths, 0, last, images, states)?;
-        let all = self.add_sums(circuit, images, last, sums)?;
-        Ok(all.reached)
+        self.add_nodes(circuit, depths, left, step, images, states)?;
+        let after = self.add_sums(circuit, images, step, sums)?;
+        Ok(after)
     }
 
     /// Adds the steps 0 to `last`, and returns the edge that is true where a bad state is reached.
@@ -229,20 +253,25 @@ impl Frames {
         requires table { length images.old ≡ length circuit.now.nodes }
         requires depths { AreDepths circuit.now last depths.now }
         requires states { HasStates circuit.now 0 depths.now last self.old states.old }
+        requires net { net_of self.old ≡ false_net }
+        requires constants { (n : ℕ) → slice_index_or states.old n None
+            ≡ states_at circuit.now [] 0 n }
         ensures shows { IfOk result (λ e.
             Shows circuit.now last self.new e
             (λ run. reached_to circuit.now run (last + 1))) }
+        ensures exact { IfOk result (λ e. made_in (net_of self.new) e
+            ≡ reached_in (steps_to (is_read depths.now) circuit.now last (last + 1))) }
         ensures frames { OnOk result (AreFrames circuit.now (last + 1) 0 self.new) }
         ensures limit { OnOk result (self.new.limit ≡ self.old.limit) }
         ensures size { AddsUpTo ((last + 1) * step_size circuit.now) self.old self.new result }
     {
         let mut sums = Sums::start();
         for step in 0..last {
-            self.add_nodes(circuit, depths, last - step, step, images, states)?;
-            sums = self.add_sums(circuit, images, step, sums)?;
+            sums = self.add_step(circuit, depths, last - step, step, images, states, sums)?;
             advance(circuit, images, states);
         }
-        self.add_last(circuit, depths, last, images, states, sums)
+        let all = self.add_step(circuit, depths, 0, last, images, states, sums)?;
+        Ok(all.reached)
     }
 }
 
@@ -265,8 +294,10 @@ fn start_states(
     circuit: &CircuitView<'_>,
 ) -> Result<Vec<Option<AigEdge>>, MemoryError>
     requires { All HasConstantInit circuit.now.latchs }
-    ensures { IfOk result (λ states. (depths : List ℕ) (left : ℕ) (f : Frames)
+    ensures has { IfOk result (λ states. (depths : List ℕ) (left : ℕ) (f : Frames)
         → AreNodes f.nodes.items → HasStates circuit.now 0 depths left f states.items) }
+    ensures exact { IfOk result (λ states. (n : ℕ) → slice_index_or states.items n None
+        ≡ states_at circuit.now [] 0 n) }
 {
     let mut states = vec![in alloc; None; circuit.nodes().len()]?;
     for latch in circuit.latchs() {
@@ -291,18 +322,24 @@ pub(crate) fn expanded(
 ) -> Result<(Frames, AigEdge), BoundedError>
     requires starts { All HasConstantInit circuit.now.latchs }
     requires some { 1 ≤ limit }
+    requires few { limit ≤ 2 ^ 31 }
     ensures shows { IfOk result (λ made. Shows circuit.now last made.0 made.1
         (λ run. reached_to circuit.now run (last + 1))) }
+    ensures exact { IfOk result (λ made. (read : ℕ → ℕ → Bool) × ReadsExactly circuit.now last read
+        × (made_in (net_of made.0) made.1 ≡ reached_in (steps_to read circuit.now last (last + 1)))) }
     ensures frames { IfOk result (λ made. AreFrames circuit.now (last + 1) 0 made.0) }
     ensures limit { IfOk result (λ made. made.0.limit ≡ limit) }
     ensures large { IsErrOf result BoundedError.TooLarge → limit < question_size circuit.now last }
     ensures circuit { IsCircuit circuit.now }
 {
     let count = circuit.nodes().len();
+    if last == usize::MAX {
+        return Err(BoundedError::TooLarge);
+    }
     let depths = depths(alloc, circuit, last)?;
     let mut images = blank_images(alloc, count)?;
     let mut states = start_states(alloc, circuit)?;
-    let mut frames = Frames::new(alloc, limit)?;
+    let mut frames = Frames::new(alloc, limit, Seeded::of(circuit))?;
     let output = frames.add_steps(circuit, &depths, last, &mut images, &mut states)?;
     Ok((frames, output))
 }

@@ -25,6 +25,7 @@ use Rattle.aig_bounded_answers.specs.Asking.{AsksBounded, IsAskedWithin, Refuses
 use Rattle.aig_bounded_answers.specs.Encoded.{IsEncoded, IsEncodedQuestion, IsSaidOfBads}
 use Rattle.aig_bounded_answers.specs.Naming.{IsNamed}
 use Rattle.aig_bounded_answers.specs.Solving.{WitnessWithin}
+use Rattle.aig_bounded_answers.proofs.Single.{refused_same}
 use Rattle.aig_bounded_answers.proofs.Verdicts.{count_of}
 use Rattle.aig_bounded_answers.specs.declared.naming.Named.{Named}
 use Rattle.aig_bounded.specs.declared.question.Question.{Question}
@@ -104,10 +105,12 @@ module _ (limit k : ℕ) (optimize : Bool) (lists : CircuitLists) (old new : Opt
     bytes = read.bytes;
     holds = (read.holds, bads_of limit k optimize lists old new read some);
     means = (
-      made,
-      asks_file limit k optimize lists old new read made is,
-      subst (λ n. RefusesAnswer text refused n made e) (count_of
-          read.file lists read.means) refusal,
+      (made, asks_file limit k optimize lists old new read made is),
+      λ other asks. refused_same read.file k optimize made other
+          (asks_file limit k optimize lists old new read made is) asks text refused
+          (length read.file.properties.bads) e
+          (subst (λ n. RefusesAnswer text refused n made e) (count_of
+          read.file lists read.means) refusal),
     );
     taken = read.taken;
   }

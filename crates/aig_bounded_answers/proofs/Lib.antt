@@ -1,4 +1,5 @@
 mod Safe
+mod Single
 mod Asked
 mod Names
 mod Saying

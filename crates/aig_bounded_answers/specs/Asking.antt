@@ -123,11 +123,14 @@ pub record TellsOfProof {P : Type 0} (left : P → Option (List ℕ)) (made : Bo
   pub settled : IsSettled made → (result ≡ Ok tt) × (rest ≡ p)
   pub shown : ¬ IsSettled made → ShowsProof made (left p) result
 
--- the same of the clauses of a question of the file
+-- the file has a question, and it is told so of the clauses of each: of those that any call gives or
+-- prints, as there is one (`bounded_clauses_are_one`)
 abbrev pub AnswersProof : {P : Type 0} → (P → Option (List ℕ)) → ℕ → Bool → P → P → File
     → Result Unit BoundedAnswerError → Type 0
 AnswersProof left k optimize p rest f result =
-    (made : BoundedClauses) × AsksBounded f k optimize made × TellsOfProof left made p rest result
+    ((made : BoundedClauses) × AsksBounded f k optimize made)
+    × ((made : BoundedClauses) → AsksBounded f k optimize made
+    → TellsOfProof left made p rest result)
 
 -- ---- a solver's answer
 
@@ -160,11 +163,12 @@ RefusesAnswer text failed bads made solutions.NoBad =
     (values : List Lbool) × AreSaid text made values × (bads ≤ 2 ^ 32 → ¬ AreSolution made values)
 RefusesAnswer text failed bads made e = GivesSolution text (length made.clauses) failed (Err e)
 
--- the same of the clauses of a question of the file
+-- the file has a question, and the answer is refused so with the clauses of each
 abbrev pub RefusesSolution : Option (List ℕ) → Bool → ℕ → Bool → File → SolutionError → Type 0
 RefusesSolution text failed k optimize f e =
-    (made : BoundedClauses) × AsksBounded f k optimize made
-    × RefusesAnswer text failed (length f.properties.bads) made e
+    ((made : BoundedClauses) × AsksBounded f k optimize made)
+    × ((made : BoundedClauses) → AsksBounded f k optimize made
+    → RefusesAnswer text failed (length f.properties.bads) made e)
 
 -- a refusal of a solver's answer is of a file that was read
 abbrev pub TellsOfSolution : ℕ → ℕ → Bool → Option (List ℕ) → Option (List ℕ) → Option (List ℕ)

@@ -3,6 +3,7 @@
 ghost use Rattle.std.specs.Prelude.{◌≡◌, ◌↔◌, ◌++◌, ℕ, Bool, false, All};
 ghost use Rattle.aig_base.specs.Formula.{IsSatisfiable, clauses_in};
 ghost use Rattle.aig_circuit.specs.Edge.{edge_to};
+ghost use Rattle.aig_circuit.specs.View.{lists_circuit};
 ghost use Rattle.aig_format.specs.File.{File};
 ghost use Rattle.aig_format.specs.Fits.{Fits};
 ghost use Rattle.aig_runs.specs.Queries.{IsSafeTo};
@@ -19,4 +20,16 @@ pub fn refuted_questions_are_safe()
         → Fits f limit → AsksBounded f k optimize made
         → All (λ e. e ≡ edge_to 0 false) made.question.circuit.properties.outputs.items
         → IsSafeTo f k }
+{}
+
+/// Law: a file's question has one list of clauses and one further clause, and its inputs stand at one list of places. So a proof of
+/// the clauses that one process prints, and a solver's answer to them, are judged by the clauses that another makes.
+pub fn bounded_clauses_are_one()
+    ensures clauses { (f : File) (k : ℕ) (optimize : Bool) (one other : BoundedClauses)
+        → AsksBounded f k optimize one → AsksBounded f k optimize other
+        → (one.clauses ≡ other.clauses) × (one.further ≡ other.further) }
+    ensures places { (f : File) (k : ℕ) (optimize : Bool) (one other : BoundedClauses)
+        → AsksBounded f k optimize one → AsksBounded f k optimize other
+        → (lists_circuit one.question.circuit ≡ lists_circuit other.question.circuit)
+        × (one.question.places.items ≡ other.question.places.items) }
 {}

@@ -14,6 +14,6 @@ mod values;
 pub use checking::check_bounded;
 pub use clauses::{BoundedClauses, bounded};
 pub use error::BoundedAnswerError;
-pub use laws::refuted_questions_are_safe;
+pub use laws::{bounded_clauses_are_one, refuted_questions_are_safe};
 pub use naming::Named;
 pub use solving::bounded_witness;

@@ -4,6 +4,7 @@ use Rattle.aig_base.proofs.Words.{length-replicate}
 use Rattle.aig_circuit.specs.declared.node.AigLatch.{AigLatch}
 use Rattle.aig_circuit.specs.declared.node.AigNode.{AigNode}
 use Rattle.aig_bounded.specs.Steps.{SetsStates}
+use Rattle.aig_bounded.proofs.Exactly.{states_set}
 use Rattle.aig_bounded.proofs.Stepped.{HasStates-start, SetsStates-more, SetsStates-none, SetsStates-whole, leaf_there, no_latch, none_alone, none_there, the_none}
 use Rattle.aig_bounded.proofs.steps.start_states.Goals as goal
 
@@ -32,9 +33,16 @@ loop-latch-preserved c =
       set = rw (c.init.ensures, c.input.ensures) more;
     }
 
-pub returns : goal.returns
-returns c = λ depths left f sound.
+pub returns-clause-has : goal.returns-clause-has
+returns-clause-has c = λ depths left f sound.
     let count = length c.args.circuit.now.nodes in
     HasStates-start c.args.circuit.now c.latchs-latch-items.ensures.circuit c.requires left depths f sound (replicate count the_none) c.loop-latch.states.items (none_there count)
     (SetsStates-whole c.latchs-latch-items.result.now c.args.circuit.now.latchs (λ (latch : AigLatch). latch.init) (replicate count the_none) c.loop-latch.states.items c.loop-latch.latch-index c.loop-latch-test.false c.latchs-latch-items.ensures.value c.loop-latch.invariant.set)
     c.loop-latch.invariant.count
+
+pub returns-clause-exact : goal.returns-clause-exact
+returns-clause-exact c = λ n.
+    let count = length c.args.circuit.now.nodes in
+    states_set c.args.circuit.now.latchs (λ (latch : AigLatch). latch.init) (replicate count the_none) c.loop-latch.states.items
+    (SetsStates-whole c.latchs-latch-items.result.now c.args.circuit.now.latchs (λ (latch : AigLatch). latch.init) (replicate count the_none) c.loop-latch.states.items c.loop-latch.latch-index c.loop-latch-test.false c.latchs-latch-items.ensures.value c.loop-latch.invariant.set) n
+    (λ gone. none_there count n)

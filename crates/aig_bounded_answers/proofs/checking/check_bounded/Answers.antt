@@ -3,6 +3,7 @@ use Rattle.aig_reader.specs.Verdicts.{Judges}
 use Rattle.aig_refutation.specs.declared.error.RefutationError.TheVariants as RefutationError
 use Rattle.aig_bounded_answers.specs.Asking.{bounded_verdict}
 use Rattle.aig_bounded.specs.Question.{question_size}
+use Rattle.aig_bounded_answers.proofs.Single.{told_same}
 use Rattle.aig_bounded_answers.proofs.Verdicts.{no_proof, proof_own, proof_small, proof_taken, question_of_check, untaken_question}
 use Rattle.aig_bounded_answers.proofs.checking.check_bounded.Goals as goal
 
@@ -74,9 +75,8 @@ returns-clause-shown g c = λ taken.
       bytes = o.bytes;
       holds = o.holds;
       means = (
-        c.in_ok-made.made,
-        o.means,
-        c.refute.ensures.told,
+        (c.in_ok-made.made, o.means),
+        λ other asks. told_same o.file c.args.k c.args.optimize c.in_ok-made.made other o.means asks _ _ _ _ c.refute.ensures.told,
       );
       taken = o.taken;
     }

@@ -1,5 +1,6 @@
 use Rattle.std.proofs.Common.{◌+◌}
-use Rattle.aig_bounded.specs.Frames.{AreFrames, Extends}
+use Rattle.aig_bounded.specs.Frames.{AreFrames, Extends, net_of}
+use Rattle.aig_bounded.proofs.Exactly.{checks_made}
 use Rattle.aig_bounded.specs.Steps.{Sum}
 use Rattle.aig_bounded.proofs.Stepped.{all_more}
 use Rattle.aig_bounded.proofs.frames.Frames.add_sums.Goals as goal
@@ -22,3 +23,8 @@ returns-clause-frames c = (made c).1
 
 pub returns-clause-extends : goal.returns-clause-extends
 returns-clause-extends c = (made c).2
+
+pub returns-clause-exact : goal.returns-clause-exact
+returns-clause-exact c =
+    checks_made c.args.circuit.now c.args.images.now (net_of c.args.self.now) (net_of c.and_all.new.self) (net_of c.or_all.new.self) (net_of c.and.new.self) (net_of c.or.new.self) c.args.sums.within c.args.sums.reached c.in_ok-within.within c.in_ok-bad.bad c.in_ok-now.now c.in_ok-reached.reached
+    (rw c.constraints.ensures.value at c.in_ok-within.ensures.exact) (rw c.bads.ensures.value at c.in_ok-bad.ensures.exact) c.in_ok-now.ensures.exact c.in_ok-reached.ensures.exact
