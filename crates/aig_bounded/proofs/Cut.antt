@@ -3,7 +3,7 @@ use Rattle.aig_base.proofs.Words.{◌≡◌, ◌≢◌, ℕ, zero, suc, ◌+◌,
 use Rattle.std.specs.Ordering.{nat_cmp}
 use Rattle.aig_circuit.specs.declared.edge.AigEdge.{AigEdge}
 use Rattle.aig_circuit.specs.declared.node.AigNodeType.TheVariants.{False, Leaf}
-use Rattle.aig_circuit.proofs.Words.{kind_at, Circuit, IsCircuit, IsClosed, IsInRange, IsLatch, IsLeaf, DependsOn, IsFanin, IsInCone, IsReached, root, step, is_in, position_of, renumbered_edge, IsRun, edge_value}
+use Rattle.aig_circuit.proofs.Words.{kind_at, Circuit, IsCircuit, IsClosed, IsInRange, IsLatch, IsLeaf, DependsOn, IsFanin, IsInCone, IsReached, root, step, is_in, position_of, renumbered_edge, IsInitial, IsRun, edge_value}
 use Rattle.aig_circuit.proofs.Trees.{kind_at-within}
 use Rattle.aig_circuit.proofs.Values.{edge_value_by_leaves}
 use Rattle.aig_renumber.proofs.Kept.{is_in-back, is_in-there}
@@ -13,13 +13,13 @@ use Rattle.aig_cone.proofs.Keeping.{Numbers-kept, S, kept-few, reached_within}
 use Rattle.aig_cone.specs.Refine.{AreKept, CutsRuns, cut_to, refined, refining_roots}
 use Rattle.aig_bounded.specs.declared.frames.Frames.{Frames}
 use Rattle.aig_bounded.specs.declared.place.Place.{Place}
-use Rattle.aig_bounded.specs.declared.asked.Sought.{Sought}
-use Rattle.aig_bounded.specs.declared.asked.Start.{Start}
-use Rattle.aig_bounded.specs.Asked.{HasStarts, IsAskedOf, IsFree, IsStart, sought_to}
-use Rattle.aig_bounded.specs.Question.{IsPlaceOf, ReadsPlaces}
-use Rattle.aig_bounded.specs.Frames.{AreFrames, IsBefore, Shows}
+use Rattle.aig_bounded.specs.Steps.{reached_to}
+use Rattle.aig_circuit.specs.Edges.{HasConstantInit}
+use Rattle.aig_bounded.specs.Exact.{IsExact}
+use Rattle.aig_bounded.specs.Question.{IsPlace, IsQuestion, ReadsPlaces}
+use Rattle.aig_bounded.specs.Frames.{AreFrames, IsBefore, Shows, net_of}
 use Rattle.aig_bounded.specs.Cut.{IsCutOf, KeepsReached, marked_places, whole_question}
-use Rattle.aig_bounded.proofs.Reached.{sought_is}
+use Rattle.aig_bounded.proofs.Reached.{reached_reaches}
 use Rattle.aig_bounded.proofs.Read.{run_of, zip_all}
 
 -- ---- places that are kept
@@ -195,12 +195,12 @@ contains_filter t (m ∷ ns) n has pass =
 
 module _ (c : Circuit) (u n : ℕ) (f : Frames) (output : AigEdge) (are : AreFrames c u n f)
     (there : IsInRange f.nodes.items output) where
-  nothing_named : (m : ℕ) → IsTrue (contains_key (whole_question f output).names m) → ⊥
+  nothing_named : (m : ℕ) → IsTrue (contains_key (whole_question (net_of f) output).names m) → ⊥
   nothing_named m h = false≢true (sym (ap is_some (get-empty nat_cmp m)) ∙ h)
 
-  pub IsCircuit-whole : IsCircuit (whole_question f output)
+  pub IsCircuit-whole : IsCircuit (whole_question (net_of f) output)
   IsCircuit-whole = record {
-    nodes = are.sound;
+    nodes = are.shared.gates.sound;
     inputs = are.inputs;
     inputs_distinct = λ i j d h l e. omega (arith, are.rising i j d h l, e);
     latchs = All-nil (IsLatch f.nodes.items);
@@ -218,15 +218,16 @@ module _ (c : Circuit) (u n : ℕ) (f : Frames) (output : AigEdge) (are : AreFra
 
 -- ---- the cut
 
-module _ (c : Circuit) (sought : Sought) (k : ℕ) (f : Frames) (output : AigEdge)
-    (circuit : IsCircuit c) (starts : HasStarts f.start c) (are : AreFrames c (k + 1) 0 f)
-    (shows : Shows c k f output (λ run. sought_to sought c run k)) (places : List Place)
-    (keeps : KeepsReached f output places) (kept : List ℕ)
-    (are_kept : AreKept (whole_question f output) kept)
-    (is_made : IsCircuit (refined kept (whole_question f output)))
-    (cuts : CutsRuns (whole_question f output) (refined kept (whole_question f output)) kept) where
+module _ (c : Circuit) (k : ℕ) (f : Frames) (output : AigEdge)
+    (circuit : IsCircuit c) (starts : All HasConstantInit c.latchs) (are : AreFrames c (k + 1) 0 f)
+    (shows : Shows c k f output (λ run. reached_to c run (k + 1))) (places : List Place)
+    (keeps : KeepsReached (net_of f) output places) (kept : List ℕ)
+    (are_kept : AreKept (whole_question (net_of f) output) kept)
+    (is_made : IsCircuit (refined kept (whole_question (net_of f) output)))
+    (cuts : CutsRuns (whole_question (net_of f) output) (refined kept (whole_question (net_of f) output)) kept)
+    (exact : IsExact c k (refined kept (whole_question (net_of f) output)) places) where
   abbrev whole : Circuit
-  whole = whole_question f output
+  whole = whole_question (net_of f) output
 
   abbrev made : Circuit
   made = refined kept whole
@@ -256,7 +257,7 @@ module _ (c : Circuit) (sought : Sought) (k : ℕ) (f : Frames) (output : AigEdg
 
   leaf_not_first : (n : ℕ) → IsLeaf f.nodes.items n → n ≢ 0
   leaf_not_first n leaf zero_is =
-      differ (same_Some _ _ (sym leaf ∙ ap (kind_at f.nodes.items) zero_is ∙ are.sound.false_first))
+      differ (same_Some _ _ (sym leaf ∙ ap (kind_at f.nodes.items) zero_is ∙ are.shared.gates.sound.false_first))
     where
       differ : Leaf ≡ False → ⊥
       differ e = cc
@@ -314,10 +315,10 @@ module _ (c : Circuit) (sought : Sought) (k : ℕ) (f : Frames) (output : AigEdg
 
   -- ---- its value
 
-  value : (run : ℕ → ℕ → Bool) (y : ℕ → Bool) → IsRun c k run → IsStart f.start c (run 0)
+  value : (run : ℕ → ℕ → Bool) (y : ℕ → Bool) → IsRun c k run → IsInitial c (run 0)
       → ReadsPlaces made.inputs places y run
       → edge_value made.nodes y (renumbered_edge number output)
-      ≡ sought_to sought c run k
+      ≡ reached_to c run (k + 1)
   value run y is start reads =
       edge_value_by_leaves made.nodes is_made.nodes.ordered y (cut_to kept x) leaves (renumbered_edge number output)
       ∙ sym (cuts.properties x).outputs.0
@@ -340,14 +341,14 @@ module _ (c : Circuit) (sought : Sought) (k : ℕ) (f : Frames) (output : AigEdg
   low p (inl less) = omega (arith, less)
   low p (inr both) = absurd (omega (arith, both.1))
 
-  are_places : All (IsPlaceOf (IsFree f.start) c) places
-  are_places = subst (All (IsPlaceOf (IsFree f.start) c)) (sym keeps.exact) (all_marked (IsPlaceOf (IsFree f.start) c) keeps.marks f.inputs.items f.places.items are.places)
+  are_places : All (IsPlace c) places
+  are_places = subst (All (IsPlace c)) (sym keeps.exact) (all_marked (IsPlace c) keeps.marks f.inputs.items f.places.items are.places)
 
   distinct : AllPairs (λ p q. p ≢ q) places
   distinct = subst (AllPairs (λ p q. p ≢ q)) (sym keeps.exact) (pairs_marked keeps.marks f.inputs.items f.places.items are.distinct)
 
-  pub IsAskedOf-refined : IsAskedOf f.start sought c k made (renumbered_edge number output) places
-  IsAskedOf-refined = record {
+  pub IsQuestion-refined : IsQuestion c k made (renumbered_edge number output) places
+  IsQuestion-refined = record {
     circuit = is_made;
     closed = closed;
     latchs = refl;
@@ -357,35 +358,34 @@ module _ (c : Circuit) (sought : Sought) (k : ℕ) (f : Frames) (output : AigEdg
     distinct = distinct;
     value = λ run y is start reads.
         let same = value run y is start reads in
-        let either = sought_is c run sought k in
+        let either = reached_reaches c run k in
         (λ h. either.0 (sym same ∙ h), λ r. same ∙ either.1 r);
-    runs = λ y. run_of c circuit f.start starts made.inputs places y k same_length distinct are_places;
+    runs = λ y. run_of c circuit starts made.inputs places y k same_length distinct are_places;
+    exact = exact;
   }
 
 -- the question of what is cut
-pub IsAskedOf-cut : (c : Circuit) (start : Start) (sought : Sought) (k : ℕ) (f : Frames)
-    (output : AigEdge) (new : Circuit) (places : List Place) → IsCircuit c → HasStarts start c
-    → f.start ≡ start → AreFrames c (k + 1) 0 f
-    → Shows c k f output (λ run. sought_to sought c run k) → IsCutOf f output new places
+pub IsQuestion-cut : (c : Circuit) (k : ℕ) (f : Frames) (output : AigEdge) (new : Circuit)
+    (places : List Place) → IsCircuit c → All HasConstantInit c.latchs → AreFrames c (k + 1) 0 f
+    → Shows c k f output (λ run. reached_to c run (k + 1)) → IsCutOf (net_of f) output new places
     → ((d : Circuit) (kept : List ℕ) → IsCircuit d → AreKept d kept → IsCircuit (refined kept d))
     → ((d : Circuit) (kept : List ℕ) → IsCircuit d → AreKept d kept
     → CutsRuns d (refined kept d) kept)
-    → (e : AigEdge) × IsAskedOf start sought c k new e places
-IsAskedOf-cut c start sought k f output new places circuit starts from are shows cut makes cuts =
-    let whole = whole_question f output in
+    → IsExact c k new places → (e : AigEdge) × IsQuestion c k new e places
+IsQuestion-cut c k f output new places circuit starts are shows cut makes cuts exact =
+    let whole = whole_question (net_of f) output in
     let is = IsCircuit-whole c (k + 1) 0 f output are shows.there in
     let e = renumbered_edge (position_of cut.nodes.kept) output in
-    let all = IsAskedOf-refined c sought k f output circuit (subst (λ s. HasStarts s c) (sym from) starts) are shows places cut.keeps cut.nodes.kept cut.nodes.are_kept (makes whole cut.nodes.kept is cut.nodes.are_kept) (cuts whole cut.nodes.kept is cut.nodes.are_kept) in
-    let made = subst (λ d. IsAskedOf f.start sought c k d e places) (sym cut.nodes.exact) all in
-    (e, subst (λ s. IsAskedOf s sought c k new e places) from made)
+    let all = IsQuestion-refined c k f output circuit starts are shows places cut.keeps cut.nodes.kept cut.nodes.are_kept (makes whole cut.nodes.kept is cut.nodes.are_kept) (cuts whole cut.nodes.kept is cut.nodes.are_kept) (subst (λ d. IsExact c k d places) cut.nodes.exact exact) in
+    (e, subst (λ d. IsQuestion c k d e places) (sym cut.nodes.exact) all)
 
 -- it has no more nodes than there may be
 pub small_cut : (c : Circuit) (u n : ℕ) (f : Frames) (output : AigEdge) (new : Circuit)
     (places : List Place) → AreFrames c u n f → IsInRange f.nodes.items output
-    → IsCutOf f output new places → length new.nodes ≤ f.limit
+    → IsCutOf (net_of f) output new places → length new.nodes ≤ f.limit
 small_cut c u n f output new places are there cut =
-    let whole = whole_question f output in
+    let whole = whole_question (net_of f) output in
     let is = IsCircuit-whole c u n f output are there in
     let kept = cut.nodes.kept in
     let few = kept-few whole kept is cut.nodes.are_kept in
-    omega (arith, length-nodes_in_order f.nodes.items (position_of kept) 0 kept, few, are.few, ap (λ (d : Circuit). length d.nodes) cut.nodes.exact)
+    omega (arith, length-nodes_in_order f.nodes.items (position_of kept) 0 kept, few, are.shared.few, ap (λ (d : Circuit). length d.nodes) cut.nodes.exact)

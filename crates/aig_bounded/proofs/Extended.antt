@@ -8,10 +8,10 @@ use Rattle.aig_circuit.proofs.Building.{AddsGates-itself, AddsGates-then, Grows-
 use Rattle.aig_circuit.proofs.Trees.{kind_at-last, kind_at-within}
 use Rattle.aig_bounded.specs.declared.frames.Frames.{Frames}
 use Rattle.aig_bounded.specs.declared.place.Place.{Place}
-use Rattle.aig_bounded.specs.declared.asked.Start.{Start}
-use Rattle.aig_bounded.specs.Asked.{IsFree}
-use Rattle.aig_bounded.specs.Question.{IsPlaceOf, ReadsPlaces}
-use Rattle.aig_bounded.specs.Frames.{AddsAnds, AreFrames, Extends, IsBefore, Opens}
+use Rattle.aig_bounded.specs.Gates.{HasGates}
+use Rattle.aig_bounded.proofs.Sharing.{HasGates-leaf}
+use Rattle.aig_bounded.specs.Question.{IsPlace, ReadsPlaces}
+use Rattle.aig_bounded.specs.Frames.{AddsAnds, AreFrames, AreShared, Extends, IsBefore, Opens}
 
 -- ---- what inputs read
 
@@ -38,7 +38,6 @@ reads_push (i ∷ is) (q ∷ ps) n p y run h reads =
 pub Extends-itself : (f : Frames) → AreNodes f.nodes.items → Extends f f
 Extends-itself f sound = record {
   limit = refl;
-  start = refl;
   grows = Grows-itself f.nodes.items sound;
   reads = λ y run reads. reads;
 }
@@ -46,7 +45,6 @@ Extends-itself f sound = record {
 pub Extends-then : (old mid new : Frames) → Extends old mid → Extends mid new → Extends old new
 Extends-then old mid new p q = record {
   limit = q.limit ∙ p.limit;
-  start = q.start ∙ p.start;
   grows = Grows-then old.nodes.items mid.nodes.items new.nodes.items p.grows q.grows;
   reads = λ y run reads. p.reads y run (q.reads y run reads);
 }
@@ -54,7 +52,6 @@ Extends-then old mid new p q = record {
 pub Extends-ands : (old new : Frames) → AddsAnds old new → Extends old new
 Extends-ands old new adds = record {
   limit = adds.limit;
-  start = adds.start;
   grows = adds.nodes.grows;
   reads = λ y run reads. reads_same old.inputs.items new.inputs.items old.places.items new.places.items y run adds.inputs adds.places reads;
 }
@@ -73,24 +70,27 @@ pub Extends-opens : (c : Circuit) (t n : ℕ) (old new : Frames) (place : Place)
     → AreFrames c t n old → Opens old new place e → Extends old new
 Extends-opens c t n old new place e are opens = record {
   limit = opens.limit;
-  start = opens.start;
-  grows = subst (Grows old.nodes.items) (sym opens.nodes) (Grows-leaf old.nodes.items are.sound);
+  grows = subst (Grows old.nodes.items) (sym opens.nodes) (Grows-leaf old.nodes.items are.shared.gates.sound);
   reads = λ y run reads. (opened_reads old new place e y run are.count opens reads).0;
 }
 
 -- ---- gates more
 
--- the same starts leave the same latches free
-places_with : (c : Circuit) (old new : Start) (ps : List Place) → new ≡ old
-    → All (IsPlaceOf (IsFree old) c) ps → All (IsPlaceOf (IsFree new) c) ps
-places_with c old new ps same are = subst (λ s. All (IsPlaceOf (IsFree s) c) ps) (sym same) are
+-- a leaf more leaves all gates in the table
+pub AreShared-opened : (old new : Frames) → new.nodes.items ≡ with_node old.nodes.items Leaf
+    → new.gates ≡ old.gates → new.limit ≡ old.limit → length old.nodes.items < old.limit
+    → AreShared old → AreShared new
+AreShared-opened old new nodes gates limit low shared = record {
+  gates = subst (HasGates new.nodes.items) (sym gates) (subst (λ l. HasGates l old.gates) (sym nodes) (HasGates-leaf old.nodes.items old.gates (Grows-leaf old.nodes.items shared.gates.sound) shared.gates));
+  few = omega (arith, ap length nodes, length-append old.nodes.items (record { node_id = length old.nodes.items; typ = Leaf } ∷ []), low, limit);
+  small = omega (arith, limit, shared.small);
+}
 
-pub AddsAnds-itself : (f : Frames) → AreNodes f.nodes.items → AddsAnds f f
-AddsAnds-itself f sound = record {
-  nodes = AddsGates-itself f.nodes.items sound;
+pub AddsAnds-itself : (f : Frames) → AreShared f → AddsAnds f f
+AddsAnds-itself f shared = record {
+  nodes = AddsGates-itself f.nodes.items shared.gates.sound;
   limit = refl;
-  start = refl;
-  few = λ h. h;
+  shared = shared;
   inputs = refl;
   places = refl;
 }
@@ -100,8 +100,7 @@ pub AddsAnds-then : (old mid new : Frames) → AddsAnds old mid → AddsAnds mid
 AddsAnds-then old mid new p q = record {
   nodes = AddsGates-then old.nodes.items mid.nodes.items new.nodes.items p.nodes q.nodes;
   limit = q.limit ∙ p.limit;
-  start = q.start ∙ p.start;
-  few = λ h. omega (arith, q.few (omega (arith, p.few h, p.limit)), p.limit);
+  shared = q.shared;
   inputs = q.inputs ∙ p.inputs;
   places = q.places ∙ p.places;
 }
@@ -112,13 +111,12 @@ leaf_is_no_gate a b e = cc
 pub AreFrames-ands : (c : Circuit) (t n : ℕ) (old new : Frames) → AreFrames c t n old
     → AddsAnds old new → AreFrames c t n new
 AreFrames-ands c t n old new are adds = record {
-  sound = adds.nodes.grows.sound;
-  few = omega (arith, adds.few are.few, adds.limit);
+  shared = adds.shared;
   inputs = subst (All (IsLeaf new.nodes.items)) (sym adds.inputs) (All-weaker (IsLeaf old.nodes.items) (IsLeaf new.nodes.items) kept old.inputs.items are.inputs);
   rising = subst (AllPairs (λ m n. m < n)) (sym adds.inputs) are.rising;
   closed = λ m leaf. subst (λ l. Contains l m) (sym adds.inputs) (are.closed m (back m leaf (cases_lt m (length old.nodes.items))));
   count = ap length adds.places ∙ are.count ∙ sym (ap length adds.inputs);
-  places = places_with c old.start new.start new.places.items adds.start (subst (All (IsPlaceOf (IsFree old.start) c)) (sym adds.places) are.places);
+  places = subst (All (IsPlace c)) (sym adds.places) are.places;
   distinct = subst (AllPairs (λ p q. p ≢ q)) (sym adds.places) are.distinct;
   before = subst (All (IsBefore t n)) (sym adds.places) are.before;
 }
@@ -137,7 +135,7 @@ AreFrames-ands c t n old new are adds = record {
 
 module _ (c : Circuit) (t n : ℕ) (old new : Frames) (e : AigEdge) (are : AreFrames c t n old)
     (opens : Opens old new (record { step = t; leaf = n }) e)
-    (is : IsPlaceOf (IsFree old.start) c (record { step = t; leaf = n })) where
+    (is : IsPlace c (record { step = t; leaf = n })) where
   abbrev place : Place
   place = record { step = t; leaf = n }
 
@@ -145,7 +143,7 @@ module _ (c : Circuit) (t n : ℕ) (old new : Frames) (e : AigEdge) (are : AreFr
   nodes = with_node old.nodes.items Leaf
 
   abbrev grows : Grows old.nodes.items nodes
-  grows = Grows-leaf old.nodes.items are.sound
+  grows = Grows-leaf old.nodes.items are.shared.gates.sound
 
   leaf_kept : (m : ℕ) → IsLeaf old.nodes.items m → IsLeaf nodes m
   leaf_kept m leaf = Grows-kept old.nodes.items nodes grows m (kind_at-within old.nodes.items m Leaf leaf) ∙ leaf
@@ -178,13 +176,12 @@ module _ (c : Circuit) (t n : ℕ) (old new : Frames) (e : AigEdge) (are : AreFr
 
   pub AreFrames-opens : AreFrames c t (n + 1) new
   AreFrames-opens = record {
-    sound = subst AreNodes (sym opens.nodes) grows.sound;
-    few = omega (arith, opens.few, opens.limit);
+    shared = opens.shared;
     inputs = subst (λ l. All (IsLeaf l) new.inputs.items) (sym opens.nodes) (subst (All (IsLeaf nodes)) (sym opens.inputs) (All-push (IsLeaf nodes) old.inputs.items (length old.nodes.items) (All-weaker (IsLeaf old.nodes.items) (IsLeaf nodes) leaf_kept old.inputs.items are.inputs) (kind_at-last old.nodes.items _)));
     rising = subst (AllPairs (λ m n. m < n)) (sym opens.inputs) (all_pairs_push (λ m n. m < n) old.inputs.items (length old.nodes.items) are.rising low);
     closed = λ m leaf. subst (λ l. Contains l m) (sym opens.inputs) (closed m (subst (λ l. IsLeaf l m) opens.nodes leaf) (cases_lt m (length old.nodes.items)));
     count = ap length opens.places ∙ more ∙ sym (ap length opens.inputs);
-    places = places_with c old.start new.start new.places.items opens.start (subst (All (IsPlaceOf (IsFree old.start) c)) (sym opens.places) (All-push (IsPlaceOf (IsFree old.start) c) old.places.items place are.places is));
+    places = subst (All (IsPlace c)) (sym opens.places) (All-push (IsPlace c) old.places.items place are.places is);
     distinct = subst (AllPairs (λ p q. p ≢ q)) (sym opens.places) (all_pairs_push (λ p q. p ≢ q) old.places.items place are.distinct apart);
     before = subst (All (IsBefore t (n + 1))) (sym opens.places) (All-push (IsBefore t (n + 1)) old.places.items place (All-weaker (IsBefore t n) (IsBefore t (n + 1)) later old.places.items are.before) (inr (refl, omega arith)));
   }
@@ -198,8 +195,7 @@ module _ (c : Circuit) (t n : ℕ) (old new : Frames) (e : AigEdge) (are : AreFr
 later_before : (c : Circuit) (t u m n : ℕ) (f : Frames)
     → ((p : Place) → IsBefore t m p → IsBefore u n p) → AreFrames c t m f → AreFrames c u n f
 later_before c t u m n f later are = record {
-  sound = are.sound;
-  few = are.few;
+  shared = are.shared;
   inputs = are.inputs;
   rising = are.rising;
   closed = are.closed;

@@ -1,13 +1,33 @@
 -- Edges that are joined one after another.
-use Rattle.aig_base.proofs.Words.{◌≡◌, ℕ, ◌+◌, ◌<◌, Bool, ◌&&◌, ◌||◌, List, [], length, get_or, take, sym, ap, ◌∙◌, and_assoc, and-true, list_all, list_any}
+use Rattle.aig_base.proofs.Words.{◌≡◌, ℕ, ◌+◌, ◌<◌, Bool, false, ◌&&◌, ◌||◌, List, [], length, get_or, take, sym, ap, subst, ◌∙◌, and_assoc, and-true, list_all, list_any}
 use Rattle.std.proofs.lemmas.List.Folds.{list_all_more, list_any_more}
 use Rattle.aig_circuit.specs.declared.edge.AigEdge.{AigEdge}
-use Rattle.aig_circuit.proofs.Words.{AreNodes, IsInRange, edge_value}
+use Rattle.aig_circuit.proofs.Words.{IsInRange, edge_to, edge_value}
+use Rattle.aig_circuit.proofs.Joining.{GivesEdge-same}
 use Rattle.aig_bounded.specs.declared.frames.Frames.{Frames}
-use Rattle.aig_bounded.specs.Frames.{AddsAnds, Gives}
-use Rattle.aig_bounded.specs.Steps.{image_in}
-use Rattle.aig_bounded.proofs.Differing.{Gives-itself, Gives-then}
-use Rattle.aig_bounded.proofs.Extended.{AddsAnds-itself}
+use Rattle.aig_bounded.specs.Frames.{AddsAnds, AreShared, Gives}
+use Rattle.aig_unroll.specs.Frame.{image_in}
+use Rattle.aig_bounded.proofs.Extended.{AddsAnds-itself, AddsAnds-then}
+use Rattle.aig_bounded.proofs.Shown.{constant_there, value-constant}
+
+-- what is given after other gates
+Gives-then : (v w : (ℕ → Bool) → Bool) (old mid new : Frames) (e : AigEdge)
+    → AddsAnds old mid → Gives w mid new e → ((y : ℕ → Bool) → w y ≡ v y) → Gives v old new e
+Gives-then v w old mid new e adds gives same = record {
+  edge = GivesEdge-same new.nodes.items e same gives.edge;
+  adds = AddsAnds-then old mid new adds gives.adds;
+}
+
+-- the constant false
+pub Gives-false : (f : Frames) (e : AigEdge) → AreShared f → e ≡ edge_to 0 false
+    → Gives (λ y. false) f f e
+Gives-false f e shared is = subst (Gives (λ y. false) f f) (sym is) (record {
+  edge = record {
+    there = constant_there f.nodes.items false shared.gates.sound;
+    value = λ y. value-constant f.nodes.items shared.gates.sound y false;
+  };
+  adds = AddsAnds-itself f shared;
+})
 
 -- the value of an edge's image
 abbrev pub image_value : Frames → List AigEdge → (ℕ → Bool) → AigEdge → Bool
@@ -22,10 +42,13 @@ all_true f images first es y =
 abbrev pub any_true : Frames → List AigEdge → List AigEdge → (ℕ → Bool) → Bool
 any_true f images es y = list_any (image_value f images y) es
 
-pub all_true-none : (f : Frames) (images : List AigEdge) (first : AigEdge) → AreNodes f.nodes.items
+pub all_true-none : (f : Frames) (images : List AigEdge) (first : AigEdge) → AreShared f
     → IsInRange f.nodes.items first → Gives (all_true f images first []) f f first
-all_true-none f images first sound there =
-    Gives-then _ _ f f f first (AddsAnds-itself f sound) (Gives-itself f first sound there) (λ y. sym (and-true _))
+all_true-none f images first shared there =
+    record {
+      edge = record { there = there; value = λ y. sym (and-true _) };
+      adds = AddsAnds-itself f shared;
+    }
 
 module _ (old mid new : Frames) (images es : List AigEdge) (i : ℕ) (d so_far e image : AigEdge)
     (within : i < length es) (is_image : image ≡ image_in images (get_or es i d))

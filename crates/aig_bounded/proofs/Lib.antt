@@ -3,12 +3,13 @@ mod Extended
 mod Shown
 mod Stepped
 mod Joined
-mod Differing
-mod Seen
-mod Distinct
 mod Reached
 mod Read
 mod Marked
 mod Counted
 mod Cut
+mod Sharing
+mod Attained
+mod Exactly
+pub mod Single
 pub mod Witnesses

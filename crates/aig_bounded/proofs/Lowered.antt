@@ -3,7 +3,10 @@ use Rattle.aig_base.proofs.Words.{◌≡◌, ℕ, ◌+◌, ◌<◌, ◌≤◌, B
 use Rattle.std.specs.Prelude.{◌⊎◌, sum, slice_index, take}
 use Rattle.aig_circuit.specs.declared.edge.AigEdge.{AigEdge}
 use Rattle.aig_circuit.specs.declared.node.AigLatch.{AigLatch}
-use Rattle.aig_bounded.specs.Depths.{AreNoDeeper, HasNextDepth, HaveNextDepths, HaveNoDepth, HaveNoLatchDepth, Lowers}
+use Rattle.aig_circuit.specs.declared.node.AigNode.{AigNode}
+use Rattle.aig_circuit.specs.declared.node.AigNodeType.TheVariants.{And}
+use Rattle.aig_circuit.proofs.Trees.{kind_at-within}
+use Rattle.aig_bounded.specs.Depths.{AreNoDeeper, HasNextDepth, HasOperandDepths, HaveNextDepths, HaveNoDepth, HaveOperandDepths, Lowers}
 
 -- depths that aren't lowered are none at all
 pub HaveNoDepth-lower : (es : List AigEdge) (old new : List ℕ) → AreNoDeeper old new
@@ -88,26 +91,6 @@ HaveNoDepth-more es i d ds h within none =
     (All-push (λ (e : AigEdge). get_or (set ds m 0) e.node_id 0 ≡ 0) (take i es) (get_or es i d) (HaveNoDepth-lower (take i es) ds (set ds m 0) lower none)
     (get_or-set_same ds m 0 0 within))
 
--- ---- latches' leaves
-
-pub HaveNoLatchDepth-lower : (latchs : List AigLatch) (old new : List ℕ) → AreNoDeeper old new
-    → HaveNoLatchDepth latchs old → HaveNoLatchDepth latchs new
-HaveNoLatchDepth-lower latchs old new lower none k d h =
-    omega (arith, lower (get_or latchs k d).input, none k d h)
-
--- the leaves of one latch more have no depth
-pub HaveNoLatchDepth-more : (latchs : List AigLatch) (i : ℕ) (d : AigLatch) (ds : List ℕ)
-    → i < length latchs → (get_or latchs i d).input < length ds
-    → HaveNoLatchDepth (take i latchs) ds
-    → HaveNoLatchDepth (take (i + 1) latchs) (set ds (get_or latchs i d).input 0)
-HaveNoLatchDepth-more latchs i d ds h within none =
-    let m = (get_or latchs i d).input in
-    let lower = AreNoDeeper-set ds m 0 within (omega arith) in
-    subst (λ l. HaveNoLatchDepth l (set ds m 0)) (sym (take_more latchs i d h))
-    (All-push (λ (l : AigLatch). get_or (set ds m 0) l.input 0 ≡ 0) (take i latchs)
-    (get_or latchs i d) (HaveNoLatchDepth-lower (take i latchs) ds (set ds m 0) lower none)
-    (get_or-set_same ds m 0 0 within))
-
 -- ---- latches
 
 -- one latch more is lowered
@@ -121,3 +104,30 @@ lowers_one_more latchs i d last old mid new first second h p q =
     (λ both. subst (λ ls. HaveNextDepths ls last old) (sym (take_more latchs i d h))
     (All-push (λ (l : AigLatch). HasNextDepth l last old) (take i latchs) (get_or latchs i d) both.0 both.1))
     (Lowers-then (HaveNextDepths (take i latchs) last) (HasNextDepth (get_or latchs i d) last) old mid new first second p q)
+
+-- ---- gates
+
+-- the gates from a lower one on
+pub lowers_one_less : (nodes : List AigNode) (last id low : ℕ) (old mid new : List ℕ)
+    (first second : Bool) → id ≤ low + 1
+    → Lowers (λ ds. (n : ℕ) → id ≤ n → n < length nodes → HasOperandDepths nodes last n ds) old mid first
+    → Lowers (HasOperandDepths nodes last low) mid new second
+    → Lowers (λ ds. (n : ℕ) → low ≤ n → n < length nodes → HasOperandDepths nodes last n ds) old new (first || second)
+lowers_one_less nodes last id low old mid new first second less p q =
+    Lowers-weaker (λ ds. ((n : ℕ) → id ≤ n → n < length nodes → HasOperandDepths nodes last n ds) × HasOperandDepths nodes last low ds)
+    (λ ds. (n : ℕ) → low ≤ n → n < length nodes → HasOperandDepths nodes last n ds) old new (first || second)
+    (λ both n h l. at both n h l (cases_lt low n))
+    (Lowers-then (λ ds. (n : ℕ) → id ≤ n → n < length nodes → HasOperandDepths nodes last n ds) (HasOperandDepths nodes last low) old mid new first second p q)
+  where
+    at : ((n : ℕ) → id ≤ n → n < length nodes → HasOperandDepths nodes last n old) × HasOperandDepths nodes last low old
+        → (n : ℕ) → low ≤ n → n < length nodes → (low < n) ⊎ (n ≤ low) → HasOperandDepths nodes last n old
+    at both n h l (inl more) = both.0 n (omega (arith, more, less)) l
+    at both n h l (inr no_more) = let one : low ≡ n = omega (arith, h, no_more) in subst (λ m. HasOperandDepths nodes last m old) one both.1
+
+-- and so all
+pub lowers_all : (nodes : List AigNode) (last id : ℕ) (old new : List ℕ) (lowered : Bool) → id ≡ 0
+    → Lowers (λ ds. (n : ℕ) → id ≤ n → n < length nodes → HasOperandDepths nodes last n ds) old new lowered
+    → Lowers (HaveOperandDepths nodes last) old new lowered
+lowers_all nodes last id old new lowered none p =
+    Lowers-weaker (λ ds. (n : ℕ) → id ≤ n → n < length nodes → HasOperandDepths nodes last n ds) (HaveOperandDepths nodes last) old new lowered
+    (λ all n m fanin. all n (omega (arith, none)) (kind_at-within nodes n (And fanin.0 fanin.1) fanin.2) m fanin) p

@@ -2,12 +2,10 @@
 use Rattle.aig_base.proofs.Words.{◌≡◌, ◌≢◌, ℕ, zero, suc, ◌<◌, Bool, true, false, ◌&&◌, cond, eqb, Option, Some, None, List, [], ◌∷◌, length, get_or, add-one, refl, sym, ap, ◌∙◌, arith, All, AllPairs, Contains, IfSome, AllZip, eq-eqb, eqb-true, false≢true, same_Some, get_or-map, length-map}
 use Rattle.aig_circuit.specs.declared.edge.AigEdge.{AigEdge}
 use Rattle.aig_circuit.specs.declared.node.AigLatch.{AigLatch}
-use Rattle.aig_circuit.proofs.Words.{edge_to, Circuit, IsCircuit, latch_leaves, IsRun, edge_value}
+use Rattle.aig_circuit.specs.Edges.{HasConstantInit}
+use Rattle.aig_circuit.proofs.Words.{edge_to, Circuit, IsCircuit, latch_leaves, IsInitial, IsRun, edge_value}
 use Rattle.aig_bounded.specs.declared.place.Place.{Place}
-use Rattle.aig_bounded.specs.declared.asked.Start.{Start}
-use Rattle.aig_bounded.specs.declared.asked.Start.TheVariants.{Any, Initial}
-use Rattle.aig_bounded.specs.Asked.{HasStarts, IsFree, IsStart, first_state}
-use Rattle.aig_bounded.specs.Question.{IsPlaceOf, ReadsPlaces}
+use Rattle.aig_bounded.specs.Question.{IsPlace, ReadsPlaces}
 use Rattle.aig_bounded.proofs.Shown.{value-constant}
 
 -- ---- places
@@ -124,7 +122,7 @@ latch_at-back (l ∷ ls) n latch is = by (latch_at-back ls n latch) (eqb l.input
 
 -- ---- the run
 
-module _ (c : Circuit) (circuit : IsCircuit c) (from : Start) (starts : HasStarts from c)
+module _ (c : Circuit) (circuit : IsCircuit c) (starts : All HasConstantInit c.latchs)
     (inputs : List ℕ) (places : List Place) (y : ℕ → Bool) where
   -- a leaf's value at the start: a latch's constant, or what the input there has
   starting : ℕ → Option AigEdge → Bool
@@ -133,7 +131,7 @@ module _ (c : Circuit) (circuit : IsCircuit c) (from : Start) (starts : HasStart
 
   start_of : ℕ → Option AigLatch → Bool
   start_of n None = at_place inputs places y 0 n
-  start_of n (Some latch) = starting n (first_state from latch)
+  start_of n (Some latch) = starting n latch.init
 
   -- a leaf's value at a later step, after these values: a latch's next edge, or what the input there has
   after : (ℕ → Bool) → ℕ → ℕ → Option AigLatch → Bool
@@ -160,30 +158,20 @@ module _ (c : Circuit) (circuit : IsCircuit c) (from : Start) (starts : HasStart
       sym (ap (edge_value c.nodes (built 0)) same) ∙ value-constant c.nodes circuit.nodes (built 0) e.compl ∙ sym (is e refl)
 
   built_state : (k : ℕ) (d : AigLatch) (e : AigEdge) → k < length c.latchs
-      → first_state from (get_or c.latchs k d) ≡ Some e
+      → (get_or c.latchs k d).init ≡ Some e
       → built 0 (get_or c.latchs k d).input ≡ e.compl
   unfolding built start_of starting
   built_state k d e h is =
       let latch = get_or c.latchs k d in
       ap (start_of latch.input) (latch_at-found c.latchs k d h circuit.latchs_distinct) ∙ ap (starting latch.input) is
 
-  starts_by : (s : Start) → HasStarts s c
-      → ((k : ℕ) (d : AigLatch) (e : AigEdge) → k < length c.latchs
-      → first_state s (get_or c.latchs k d) ≡ Some e
-      → built 0 (get_or c.latchs k d).input ≡ e.compl)
-      → IsStart s c (built 0)
-  starts_by Initial are state = λ i d h.
+  built_starts : IsInitial c (built 0)
+  built_starts i d h =
       let latch = get_or c.latchs i d in
-      start_is latch.input latch.init (are i d h) (built 0 latch.input) (λ e is. state i d e h is)
-  starts_by Any are state = tt
-
-  -- a free latch has no constant at the start
-  no_state : (s : Start) (latch : AigLatch) → IsFree s latch → first_state s latch ≡ None
-  no_state Initial latch free = free
-  no_state Any latch free = refl
+      start_is latch.input latch.init (starts i d h) (built 0 latch.input) (λ e is. built_state i d e h is)
 
   -- at a place the run has the input's value
-  built_at : (p : Place) → IsPlaceOf (IsFree from) c p → built p.step p.leaf ≡ at_place inputs places y p.step p.leaf
+  built_at : (p : Place) → IsPlace c p → built p.step p.leaf ≡ at_place inputs places y p.step p.leaf
   unfolding built start_of starting after
   built_at p is = by (latch_at c.latchs p.leaf) refl p.step refl
     where
@@ -194,21 +182,21 @@ module _ (c : Circuit) (circuit : IsCircuit c) (from : Start) (starts : HasStart
       by (Some latch) found zero step =
           let back = latch_at-back c.latchs p.leaf latch found in
           let start = is.start latch back.0 back.1 in
-          ap (start_of p.leaf) found ∙ ap (starting p.leaf) (no_state from latch start.1)
+          ap (start_of p.leaf) found ∙ ap (starting p.leaf) start.1
       by (Some latch) found (suc t) step =
           let back = latch_at-back c.latchs p.leaf latch found in
           let start = is.start latch back.0 back.1 in
           absurd (omega (arith, start.0, step))
 
   built_reads : length places ≡ length inputs → AllPairs (λ p q. p ≢ q) places
-      → All (IsPlaceOf (IsFree from) c) places → ReadsPlaces inputs places y built
+      → All (IsPlace c) places → ReadsPlaces inputs places y built
   built_reads same differ are =
       zip_all (λ n p. y n ≡ built p.step p.leaf) inputs places same (λ j d e h.
       sym (built_at (get_or places j e) (are j e (omega arith)) ∙ at_place-found inputs places y j d e same h differ))
 
   -- so there is a run that has y at the places
   pub run_of : (last : ℕ) → length places ≡ length inputs → AllPairs (λ p q. p ≢ q) places
-      → All (IsPlaceOf (IsFree from) c) places
-      → (run : ℕ → ℕ → Bool) × IsRun c last run × IsStart from c (run 0)
+      → All (IsPlace c) places
+      → (run : ℕ → ℕ → Bool) × IsRun c last run × IsInitial c (run 0)
       × ReadsPlaces inputs places y run
-  run_of last same differ are = (built, built_is_run last, starts_by from starts built_state, built_reads same differ are)
+  run_of last same differ are = (built, built_is_run last, built_starts, built_reads same differ are)

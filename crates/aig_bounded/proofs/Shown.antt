@@ -1,26 +1,21 @@
 -- Edges that have a value on each run.
-use Rattle.aig_base.proofs.Words.{◌≡◌, ℕ, ◌+◌, Bool, true, false, ◌&&◌, ◌||◌, List, [], ◌∷◌, get_or, length, Some, refl, sym, ap, subst, ◌∙◌, suc, arith, All, list_all, list_any}
+use Rattle.aig_base.proofs.Words.{◌≡◌, ℕ, ◌+◌, Bool, true, false, ◌&&◌, ◌||◌, List, [], ◌∷◌, get_or, length, Some, refl, sym, ap, ◌∙◌, suc, arith, All, list_all, list_any}
 use Rattle.aig_circuit.specs.declared.edge.AigEdge.{AigEdge}
 use Rattle.aig_circuit.specs.declared.node.AigNode.{AigNode}
 use Rattle.aig_circuit.specs.declared.node.AigNodeType.TheVariants.{And, False, Leaf}
-use Rattle.aig_circuit.proofs.Words.{edge_to, inverted_if, kind_at, AreNodes, Circuit, IsCircuit, IsInRange, IsRun, edge_value, node_value}
+use Rattle.aig_circuit.proofs.Words.{edge_to, inverted_if, kind_at, AreNodes, Circuit, IsCircuit, IsInRange, IsInitial, IsRun, edge_value, node_value}
 use Rattle.aig_circuit.proofs.Trees.{kind_at-last, kind_at-within, node_value-and, node_value-false, node_value-leaf}
 use Rattle.aig_bounded.specs.declared.frames.Frames.{Frames}
-use Rattle.aig_bounded.specs.Asked.{IsStart}
 use Rattle.aig_bounded.specs.Frames.{AreFrames, Extends, Gives, Opens, ReadsOff, Shows}
-use Rattle.aig_bounded.specs.Steps.{ShowsNode, image_at, image_in}
+use Rattle.aig_unroll.specs.Frame.{image_at, image_in}
+use Rattle.aig_bounded.specs.Steps.{ShowsNode}
 use Rattle.aig_bounded.proofs.Extended.{Extends-ands, opened_reads}
-
--- a start of the new nodes' runs is one of the old ones'
-pub started : (c : Circuit) (old new : Frames) (run : ℕ → ℕ → Bool) → new.start ≡ old.start
-    → IsStart new.start c (run 0) → IsStart old.start c (run 0)
-started c old new run same start = subst (λ s. IsStart s c (run 0)) same start
 
 pub Shows-extends : (c : Circuit) (t : ℕ) (old new : Frames) (e : AigEdge)
     (v : (ℕ → ℕ → Bool) → Bool) → Extends old new → Shows c t old e v → Shows c t new e v
 Shows-extends c t old new e v extends s = record {
   there = omega (arith, s.there, extends.grows.longer);
-  shown = λ y run is start reads. extends.grows.values y e s.there ∙ s.shown y run is (started c old new run extends.start start) (extends.reads y run reads);
+  shown = λ y run is start reads. extends.grows.values y e s.there ∙ s.shown y run is start (extends.reads y run reads);
 }
 
 pub Shows-same : (c : Circuit) (t : ℕ) (f : Frames) (e : AigEdge) (v w : (ℕ → ℕ → Bool) → Bool)
@@ -76,9 +71,8 @@ Shows-join c t join old new a b e v w shows_a shows_b gives = record {
   there = gives.edge.there;
   shown = λ y run is start reads.
       let before = (Extends-ands old new gives.adds).reads y run reads in
-      let from = started c old new run gives.adds.start start in
-      gives.edge.value y ∙ ap (λ x. join x (edge_value old.nodes.items y b)) (shows_a.shown y run is from before)
-      ∙ ap (join (v run)) (shows_b.shown y run is from before);
+      gives.edge.value y ∙ ap (λ x. join x (edge_value old.nodes.items y b)) (shows_a.shown y run is start before)
+      ∙ ap (join (v run)) (shows_b.shown y run is start before);
 }
 
 -- ---- images
@@ -158,7 +152,7 @@ any_same p q (e ∷ es) all =
 module _ (c : Circuit) (t : ℕ) (old new : Frames) (images es : List AigEdge) (e : AigEdge)
     (shows : All (λ f. ShowsNode c t old images f.node_id) es) where
   -- the image of each has its value
-  each : (y : ℕ → Bool) (run : ℕ → ℕ → Bool) → IsRun c t run → IsStart old.start c (run 0)
+  each : (y : ℕ → Bool) (run : ℕ → ℕ → Bool) → IsRun c t run → IsInitial c (run 0)
       → ReadsOff old y run
       → All (λ f. edge_value old.nodes.items y (image_in images f) ≡ edge_value c.nodes (run t) f) es
   each y run is start reads k d h =
@@ -172,8 +166,7 @@ module _ (c : Circuit) (t : ℕ) (old new : Frames) (images es : List AigEdge) (
     there = gives.edge.there;
     shown = λ y run is start reads.
         let before = (Extends-ands old new gives.adds).reads y run reads in
-        let from = started c old new run gives.adds.start start in
-        gives.edge.value y ∙ both_same _ _ _ _ (s.shown y run is from before) (all_same _ _ es (each y run is from before));
+        gives.edge.value y ∙ both_same _ _ _ _ (s.shown y run is start before) (all_same _ _ es (each y run is start before));
   }
 
   pub Shows-any : Gives (λ y. list_any (λ f. edge_value old.nodes.items y (image_in images f)) es)
@@ -183,5 +176,5 @@ module _ (c : Circuit) (t : ℕ) (old new : Frames) (images es : List AigEdge) (
     there = gives.edge.there;
     shown = λ y run is start reads.
         let before = (Extends-ands old new gives.adds).reads y run reads in
-        gives.edge.value y ∙ any_same _ _ es (each y run is (started c old new run gives.adds.start start) before);
+        gives.edge.value y ∙ any_same _ _ es (each y run is start before);
   }

@@ -1,5 +1,5 @@
 -- The tables of one step, and what the steps say.
-use Rattle.aig_base.proofs.Words.{◌≡◌, ◌≢◌, ◌⊎◌, ℕ, zero, suc, ◌+◌, ◌-◌, ◌<◌, ◌≤◌, Bool, true, false, ◌&&◌, Option, Some, None, Result, Ok, Err, List, length, get_or, set, add-one, get_or-set_other, get_or-set_same, refl, sym, ap, subst, ◌∙◌, inl, inr, arith, list_all, list_any, cases_lt, same_Some, get_or-map, get_or_default, length-map}
+use Rattle.aig_base.proofs.Words.{◌≡◌, ◌≢◌, ◌⊎◌, ℕ, zero, suc, ◌+◌, ◌-◌, ◌<◌, ◌≤◌, Bool, true, false, ◌&&◌, ◌||◌, Option, Some, None, Result, Ok, Err, List, length, get_or, set, add-one, get_or-set_other, get_or-set_same, refl, sym, ap, subst, ◌∙◌, inl, inr, arith, list_all, list_any, cases_lt, same_Some, get_or-map, get_or_default, length-map}
 use Rattle.std.specs.Prelude.{All, AllPairs, Contains, IfOk, IfSome, OnOk, replicate, slice_index}
 use Rattle.aig_circuit.specs.declared.edge.AigEdge.{AigEdge}
 use Rattle.aig_circuit.specs.declared.node.AigLatch.{AigLatch}
@@ -9,15 +9,13 @@ use Rattle.aig_circuit.specs.declared.node.AigNodeType.TheVariants.{And, False, 
 use Rattle.aig_circuit.proofs.Words.{kind_at, IsFanin, edge_to, AreNodes, Circuit, IsCircuit, IsInRange, IsLatch, IsLeaf, latch_leaves, is_in, edge_value, node_value}
 use Rattle.aig_circuit.proofs.Trees.{kind_at-read, kind_at-within}
 use Rattle.aig_renumber.proofs.Kept.{is_in-back, is_in-there}
-use Rattle.aig_bounded.specs.declared.asked.Sought.{Sought}
-use Rattle.aig_bounded.specs.declared.asked.Start.{Start}
-use Rattle.aig_bounded.specs.declared.asked.Start.TheVariants.{Any, Initial}
 use Rattle.aig_bounded.specs.declared.frames.Frames.{Frames}
 use Rattle.aig_bounded.specs.Depths.{AreDepths, HaveNoDepth}
 use Rattle.aig_bounded.specs.Frames.{AreFrames, Extends, Gives, Opens, Shows}
-use Rattle.aig_bounded.specs.Asked.{HasStarts, IsFree, IsStart, first_state, next_reached, next_within, reached_to, within_to}
-use Rattle.aig_bounded.specs.Question.{IsPlaceOf}
-use Rattle.aig_bounded.specs.Steps.{HasImages, HasStates, MakesImage, SetsStates, ShowsNode, Sum, image_at, image_in}
+use Rattle.aig_circuit.specs.Edges.{HasConstantInit}
+use Rattle.aig_bounded.specs.Question.{IsPlace}
+use Rattle.aig_unroll.specs.Frame.{image_at, image_in}
+use Rattle.aig_bounded.specs.Steps.{HasImages, HasStates, MakesImage, SetsStates, ShowsNode, Sum, reached_to, within_to}
 use Rattle.aig_bounded.specs.declared.steps.Sums.{Sums}
 use Rattle.aig_bounded.proofs.Extended.{AreFrames-ands, AreFrames-next_node, AreFrames-opens, Extends-ands, Extends-itself, Extends-opens, Extends-then}
 use Rattle.aig_bounded.proofs.Shown.{Shows-all, Shows-any, Shows-constant, Shows-extends, Shows-false_node, Shows-gate, Shows-image, Shows-join, Shows-later, Shows-leaf, Shows-opened, Shows-same, constant_there, value-constant}
@@ -75,7 +73,7 @@ HasImages-unread c t left i depths f images deep has n h d = by (cases_lt n i)
 -- ---- states
 
 -- the latch of a leaf
-latch_of : (latchs : List AigLatch) (n : ℕ) → Contains (latch_leaves latchs) n
+pub latch_of : (latchs : List AigLatch) (n : ℕ) → Contains (latch_leaves latchs) n
     → (k : ℕ) × (k < length latchs) × ((get_or latchs k no_latch).input ≡ n)
 latch_of latchs n (k, h, is) =
     let within : k < length latchs = omega (arith, length-map latchs (λ (l : AigLatch). l.input)) in
@@ -102,7 +100,7 @@ HasStates-extends c t left depths old new states extends has = record {
   count = has.count;
   set = λ n e h is d. Shows-extends c t old new e (λ run. run t n) extends (has.set n e h is d);
   others = has.others;
-  free = λ n h is latch among input. let free = has.free n h is latch among input in (free.0, subst (λ s. IsFree s latch) (sym extends.start) free.1);
+  free = λ n h is latch among input. has.free n h is latch among input;
 }
 
 -- what was set is of a latch
@@ -172,10 +170,10 @@ module _ (c : Circuit) (circuit : IsCircuit c) (last t : ℕ) (more : t < last) 
       differ e h = cc
 
 -- the states of the start
-module _ (c : Circuit) (circuit : IsCircuit c) (from : Start) (starts : HasStarts from c) (left : ℕ)
-    (depths : List ℕ) (f : Frames) (sound : AreNodes f.nodes.items) (is_from : f.start ≡ from)
+module _ (c : Circuit) (circuit : IsCircuit c) (starts : All HasConstantInit c.latchs) (left : ℕ)
+    (depths : List ℕ) (f : Frames) (sound : AreNodes f.nodes.items)
     (old new : List (Option AigEdge)) (none : (n : ℕ) → get_or old n None ≡ None)
-    (sets : SetsStates c.latchs (length c.latchs) (first_state from) old new)
+    (sets : SetsStates c.latchs (length c.latchs) (λ latch. latch.init) old new)
     (count : length new ≡ length c.nodes) where
   start_value : (run : ℕ → ℕ → Bool) (leaf : ℕ) (init : Option AigEdge) (e : AigEdge)
       → IfSome init (λ x. edge_value c.nodes (run 0) x ≡ run 0 leaf) → init ≡ Some e
@@ -189,45 +187,27 @@ module _ (c : Circuit) (circuit : IsCircuit c) (from : Start) (starts : HasStart
       let zero_is : e.node_id ≡ 0 = subst (λ o. IfSome o (λ x. x.node_id ≡ 0)) is holds in
       ap (λ n. edge_to n e.compl) (sym zero_is)
 
-  -- a state is the constant that the latch has at a start
-  is_state : (s : Start) → HasStarts s c → (k : ℕ) → k < length c.latchs → (e : AigEdge)
-      → first_state s (get_or c.latchs k no_latch) ≡ Some e
-      → (edge_to 0 e.compl ≡ e)
-      × ((run : ℕ → ℕ → Bool) → IsStart s c (run 0)
-      → edge_value c.nodes (run 0) e ≡ run 0 (get_or c.latchs k no_latch).input)
-  is_state Initial are k h e is =
-      let latch = get_or c.latchs k no_latch in
-      (is_constant latch.init e (are k no_latch h) is, λ run start. start_value run latch.input latch.init e (start k no_latch h) is)
-  is_state Any are k h e is = absurd (differ is)
-    where
-      differ : None ≡ Some e → ⊥
-      differ h = cc
-
   start_set : (n : ℕ) (e : AigEdge) → n < length c.nodes → get_or new n None ≡ Some e
       → get_or depths n 0 ≤ left → Shows c 0 f e (λ run. run 0 n)
   start_set n e h is d =
-      let found = set_latch c (first_state from) old new sets (λ n gone. none n) n e is in
-      let state = is_state from starts found.0 found.1 e found.3 in
-      subst (λ x. Shows c 0 f x (λ run. run 0 n)) state.0 (record {
+      let found = set_latch c (λ latch. latch.init) old new sets (λ n gone. none n) n e is in
+      let latch = get_or c.latchs found.0 no_latch in
+      let constant = is_constant latch.init e (starts found.0 no_latch found.1) found.3 in
+      subst (λ x. Shows c 0 f x (λ run. run 0 n)) constant (record {
         there = constant_there f.nodes.items e.compl sound;
         shown = λ y run is start reads.
             value-constant f.nodes.items sound y e.compl ∙ sym (value-constant c.nodes circuit.nodes (run 0) e.compl)
-            ∙ ap (edge_value c.nodes (run 0)) state.0 ∙ state.1 run (subst (λ s. IsStart s c (run 0)) is_from start) ∙ ap (run 0) found.2;
+            ∙ ap (edge_value c.nodes (run 0)) constant ∙ start_value run latch.input latch.init e (start found.0 no_latch found.1) found.3 ∙ ap (run 0) found.2;
       })
-
-  -- a latch that has no state is free
-  is_free : (s : Start) (latch : AigLatch) → first_state s latch ≡ None → IsFree s latch
-  is_free Initial latch is = is
-  is_free Any latch is = tt
 
   pub HasStates-start : HasStates c 0 depths left f new
   HasStates-start = record {
     count = count;
     set = start_set;
-    others = stays c (first_state from) old new sets (λ n gone. none n);
+    others = stays c (λ latch. latch.init) old new sets (λ n gone. none n);
     free = λ n h is latch among input. (
       refl,
-      subst (λ s. IsFree s latch) (sym is_from) (is_free from latch (sym (latch_set c (first_state from) old new sets (λ n gone. none n) latch among) ∙ ap (λ m. get_or new m None) input ∙ is)),
+      sym (latch_set c (λ latch. latch.init) old new sets (λ n gone. none n) latch among) ∙ ap (λ m. get_or new m None) input ∙ is,
     );
   }
 
@@ -295,9 +275,9 @@ kind_read nodes read n d k t there same typ is =
 pub makes_false : (c : Circuit) (t id : ℕ) (f : Frames) (e : AigEdge) → AreFrames c t id f
     → kind_at c.nodes id ≡ Some False → e ≡ edge_to 0 false → MakesImage c t id f f e
 makes_false c t id f e are kind is = record {
-  shows = subst (λ x. Shows c t f x (λ run. node_value c.nodes (run t) id)) (sym is) (Shows-false_node c t id f are.sound kind);
+  shows = subst (λ x. Shows c t f x (λ run. node_value c.nodes (run t) id)) (sym is) (Shows-false_node c t id f are.shared.gates.sound kind);
   frames = AreFrames-next_node c t id f are;
-  extends = Extends-itself f are.sound;
+  extends = Extends-itself f are.shared.gates.sound;
 }
 
 pub makes_state : (c : Circuit) (t id : ℕ) (f : Frames) (e : AigEdge) → AreFrames c t id f
@@ -305,12 +285,12 @@ pub makes_state : (c : Circuit) (t id : ℕ) (f : Frames) (e : AigEdge) → AreF
 makes_state c t id f e are kind shows = record {
   shows = Shows-leaf c t id f e kind shows;
   frames = AreFrames-next_node c t id f are;
-  extends = Extends-itself f are.sound;
+  extends = Extends-itself f are.shared.gates.sound;
 }
 
 pub makes_open : (c : Circuit) (t id : ℕ) (old new : Frames) (e : AigEdge) → AreFrames c t id old
     → kind_at c.nodes id ≡ Some Leaf
-    → IsPlaceOf (IsFree old.start) c (record { step = t; leaf = id })
+    → IsPlace c (record { step = t; leaf = id })
     → Opens old new (record { step = t; leaf = id }) e → MakesImage c t id old new e
 makes_open c t id old new e are kind is opens = record {
   shows = Shows-leaf c t id new e kind (Shows-opened c t id old new e are opens);
@@ -370,7 +350,7 @@ known_of c t left n depths f states h d has =
 pub place_of : (c : Circuit) (t left n : ℕ) (depths : List ℕ) (f : Frames)
     (states : List (Option AigEdge)) → n < length c.nodes → IsLeaf c.nodes n
     → get_or states n None ≡ None → HasStates c t depths left f states
-    → IsPlaceOf (IsFree f.start) c (record { step = t; leaf = n })
+    → IsPlace c (record { step = t; leaf = n })
 place_of c t left n depths f states h leaf is has = record {
   leaf = leaf;
   start = λ latch among input. has.free n h is latch among input;
@@ -429,7 +409,7 @@ pub ImagesSoFar-none : (c : Circuit) (t left : ℕ) (depths : List ℕ) (f : Fra
 ImagesSoFar-none c t left depths f images are = record {
   has = HasImages-none c t left depths f images;
   frames = are;
-  extends = Extends-itself f are.sound;
+  extends = Extends-itself f are.shared.gates.sound;
 }
 
 pub ImagesSoFar-more : (c : Circuit) (t left i : ℕ) (depths : List ℕ) (old mid new : Frames)
@@ -461,27 +441,27 @@ roots_shown c t left depths f images es there none has k d h =
 
 -- ---- what the steps say
 
-pub Sum-start : (c : Circuit) (sought : Sought) (f : Frames) (sums : Sums)
+pub Sum-start : (c : Circuit) (f : Frames) (sums : Sums)
     → AreNodes f.nodes.items
-    → sums ≡ record { within = edge_to 0 true; reached = edge_to 0 false } → Sum c sought 0 0 f sums
-Sum-start c sought f sums sound is = subst (Sum c sought 0 0 f) (sym is) (record {
-  within = Shows-constant c 0 f true (λ run. within_to sought c run 0) sound (λ run. refl);
-  reached = Shows-constant c 0 f false (λ run. reached_to sought c run 0) sound (λ run. refl);
+    → sums ≡ record { within = edge_to 0 true; reached = edge_to 0 false } → Sum c 0 0 f sums
+Sum-start c f sums sound is = subst (Sum c 0 0 f) (sym is) (record {
+  within = Shows-constant c 0 f true (λ run. within_to c run 0) sound (λ run. refl);
+  reached = Shows-constant c 0 f false (λ run. reached_to c run 0) sound (λ run. refl);
 })
 
-pub Sum-later : (c : Circuit) (sought : Sought) (t count : ℕ) (f : Frames) (sums : Sums)
-    → Sum c sought t count f sums → Sum c sought (t + 1) count f sums
-Sum-later c sought t count f sums sum = record {
-  within = Shows-later c t f sums.within (λ run. within_to sought c run count) sum.within;
-  reached = Shows-later c t f sums.reached (λ run. reached_to sought c run count) sum.reached;
+pub Sum-later : (c : Circuit) (t count : ℕ) (f : Frames) (sums : Sums)
+    → Sum c t count f sums → Sum c (t + 1) count f sums
+Sum-later c t count f sums sum = record {
+  within = Shows-later c t f sums.within (λ run. within_to c run count) sum.within;
+  reached = Shows-later c t f sums.reached (λ run. reached_to c run count) sum.reached;
 }
 
 -- with one step more
-module _ (c : Circuit) (sought : Sought) (t : ℕ) (images : List AigEdge) (f0 f1 f2 f3 f4 : Frames)
-    (sums more : Sums) (within bad now : AigEdge)
+module _ (c : Circuit) (t : ℕ) (images : List AigEdge) (f0 f1 f2 f3 f4 : Frames)
+    (sums : Sums) (within bad now reached : AigEdge)
     (constraints : All (λ e. ShowsNode c t f0 images e.node_id) c.properties.constraints)
     (bads : All (λ e. ShowsNode c t f0 images e.node_id) c.properties.bads)
-    (sum : Sum c sought t t f0 sums)
+    (sum : Sum c t t f0 sums)
     (gives1 : Gives (λ y. edge_value f0.nodes.items y sums.within
     && list_all (λ e. edge_value f0.nodes.items y (image_in images e)) c.properties.constraints)
     f0 f1 within)
@@ -489,13 +469,11 @@ module _ (c : Circuit) (sought : Sought) (t : ℕ) (images : List AigEdge) (f0 f
     c.properties.bads) f1 f2 bad)
     (gives3 : Gives (λ y. edge_value f2.nodes.items y within && edge_value f2.nodes.items y bad)
     f2 f3 now)
-    (gives4 : Gives (λ y. next_within sought (edge_value f3.nodes.items y within)
-    (edge_value f3.nodes.items y bad)) f3 f4 more.within)
-    (gives5 : Gives (λ y. next_reached sought (edge_value f3.nodes.items y sums.reached)
-    (edge_value f3.nodes.items y now)) f3 f4 more.reached) where
+    (gives4 : Gives (λ y. edge_value f3.nodes.items y sums.reached
+    || edge_value f3.nodes.items y now) f3 f4 reached) where
   abbrev is_within : (ℕ → ℕ → Bool) → Bool
   is_within run =
-      within_to sought c run t
+      within_to c run t
       && list_all (edge_value c.nodes (run t)) c.properties.constraints
 
   abbrev is_bad : (ℕ → ℕ → Bool) → Bool
@@ -511,7 +489,7 @@ module _ (c : Circuit) (sought : Sought) (t : ℕ) (images : List AigEdge) (f0 f
   extends3 = Extends-ands f2 f3 gives3.adds
 
   shows1 : Shows c t f1 within is_within
-  shows1 = Shows-all c t f0 f1 images c.properties.constraints within constraints sums.within (λ run. within_to sought c run t) sum.within gives1
+  shows1 = Shows-all c t f0 f1 images c.properties.constraints within constraints sums.within (λ run. within_to c run t) sum.within gives1
 
   bads1 : All (λ e. ShowsNode c t f1 images e.node_id) c.properties.bads
   bads1 k d h = Shows-extends c t f0 f1 _ _ extends1 (bads k d h)
@@ -528,51 +506,52 @@ module _ (c : Circuit) (sought : Sought) (t : ℕ) (images : List AigEdge) (f0 f
   extends03 : Extends f0 f3
   extends03 = Extends-then f0 f2 f3 (Extends-then f0 f1 f2 extends1 extends2) extends3
 
-  shows4 : Shows c t f4 more.within (λ run. next_within sought (is_within run) (is_bad run))
-  shows4 = Shows-join c t (next_within sought) f3 f4 within bad more.within is_within is_bad (Shows-extends c t f2 f3 within is_within extends3 within2) (Shows-extends c t f2 f3 bad is_bad extends3 shows2) gives4
+  extends4 : Extends f3 f4
+  extends4 = Extends-ands f3 f4 gives4.adds
 
-  shows5 : Shows c t f4 more.reached (λ run. next_reached sought (reached_to sought c run t) (is_within run && is_bad run))
-  shows5 = Shows-join c t (next_reached sought) f3 f4 sums.reached now more.reached (λ run. reached_to sought c run t) (λ run. is_within run && is_bad run) (Shows-extends c t f0 f3 sums.reached (λ run. reached_to sought c run t) extends03 sum.reached) shows3 gives5
+  shows4 : Shows c t f4 reached (λ run. reached_to c run t || (is_within run && is_bad run))
+  shows4 = Shows-join c t (λ x y. x || y) f3 f4 sums.reached now reached (λ run. reached_to c run t) (λ run. is_within run && is_bad run) (Shows-extends c t f0 f3 sums.reached (λ run. reached_to c run t) extends03 sum.reached) shows3 gives4
 
-  pub Sum-more : Sum c sought t (t + 1) f4 more
+  abbrev more : Sums
+  more = record { within = within; reached = reached }
+
+  pub Sum-more : Sum c t (t + 1) f4 more
   Sum-more = record {
-    within = Shows-same c t f4 more.within (λ run. next_within sought (is_within run) (is_bad run)) (λ run. within_to sought c run (t + 1)) (λ run. sym (ap (within_to sought c run) (add-one t))) shows4;
-    reached = Shows-same c t f4 more.reached (λ run. next_reached sought (reached_to sought c run t) (is_within run && is_bad run)) (λ run. reached_to sought c run (t + 1)) (λ run. sym (ap (reached_to sought c run) (add-one t))) shows5;
+    within = Shows-same c t f4 within is_within (λ run. within_to c run (t + 1)) (λ run. sym (ap (within_to c run) (add-one t))) (Shows-extends c t f2 f4 within is_within (Extends-then f2 f3 f4 extends3 extends4) within2);
+    reached = Shows-same c t f4 reached (λ run. reached_to c run t || (is_within run && is_bad run)) (λ run. reached_to c run (t + 1)) (λ run. sym (ap (reached_to c run) (add-one t))) shows4;
   }
 
   Extends-more : Extends f0 f4
-  Extends-more = Extends-then f0 f3 f4 extends03 (Extends-ands f3 f4 gives4.adds)
+  Extends-more = Extends-then f0 f3 f4 extends03 extends4
 
   AreFrames-more : (u n : ℕ) → AreFrames c u n f0 → AreFrames c u n f4
   AreFrames-more u n are =
       AreFrames-ands c u n f3 f4 (AreFrames-ands c u n f2 f3 (AreFrames-ands c u n f1 f2 (AreFrames-ands c u n f0 f1 are gives1.adds) gives2.adds) gives3.adds) gives4.adds
 
   pub all_more : (u n : ℕ) → AreFrames c u n f0
-      → Sum c sought t (t + 1) f4 more × AreFrames c u n f4 × Extends f0 f4
+      → Sum c t (t + 1) f4 more × AreFrames c u n f4 × Extends f0 f4
   all_more u n are = (Sum-more, AreFrames-more u n are, Extends-more)
 
 -- ---- the steps, one after another
 
-pub record StepsSoFar (c : Circuit) (sought : Sought) (last t : ℕ) (depths : List ℕ) (old f : Frames)
+pub record StepsSoFar (c : Circuit) (last t : ℕ) (depths : List ℕ) (old f : Frames)
     (states : List (Option AigEdge)) (sums : Sums) : Type 0 where
   pub limit : f.limit ≡ old.limit
-  pub start : f.start ≡ old.start
   pub frames : AreFrames c t 0 f
   pub known : HasStates c t depths (last - t) f states
-  pub sum : Sum c sought t t f sums
+  pub sum : Sum c t t f sums
 
-pub StepsSoFar-more : (c : Circuit) (sought : Sought) (last t : ℕ) (depths : List ℕ) (f f0 f1 f2 : Frames)
+pub StepsSoFar-more : (c : Circuit) (last t : ℕ) (depths : List ℕ) (f f0 f1 : Frames)
     (images : List AigEdge) (old new : List (Option AigEdge)) (before after : Sums) → IsCircuit c
     → t < last → AreDepths c last depths
     → HasImages c t depths (last - t) (length c.nodes) f1 images
-    → StepsSoFar c sought last t depths f f0 old before → Extends f0 f1 → Extends f1 f2
+    → StepsSoFar c last t depths f f0 old before → Extends f0 f1
     → SetsStates c.latchs (length c.latchs) (λ latch. Some (image_in images latch.next)) old new
-    → length new ≡ length old → Sum c sought t (t + 1) f2 after → AreFrames c (t + 1) 0 f2
-    → StepsSoFar c sought last (t + 1) depths f f2 new after
-StepsSoFar-more c sought last t depths f f0 f1 f2 images old new before after circuit more are has so_far first second sets count sum frames = record {
-  limit = second.limit ∙ first.limit ∙ so_far.limit;
-  start = second.start ∙ first.start ∙ so_far.start;
+    → length new ≡ length old → Sum c t (t + 1) f1 after → AreFrames c (t + 1) 0 f1
+    → StepsSoFar c last (t + 1) depths f f1 new after
+StepsSoFar-more c last t depths f f0 f1 images old new before after circuit more are has so_far extends sets count sum frames = record {
+  limit = extends.limit ∙ so_far.limit;
   frames = frames;
-  known = HasStates-extends c (t + 1) (last - (t + 1)) depths f1 f2 new second (HasStates-next c circuit last t more depths are f1 f0 images old new has so_far.known sets count);
-  sum = Sum-later c sought t (t + 1) f2 after sum;
+  known = HasStates-next c circuit last t more depths are f1 f0 images old new has so_far.known sets count;
+  sum = Sum-later c t (t + 1) f1 after sum;
 }

@@ -4,9 +4,8 @@ use Rattle.aig_circuit.specs.declared.edge.AigEdge.{AigEdge}
 use Rattle.aig_circuit.specs.declared.node.AigLatch.{AigLatch}
 use Rattle.aig_circuit.proofs.Words.{Circuit, IsCircuit, IsInitial, IsRun, edge_value}
 use Rattle.aig_runs.specs.CircuitQueries.{HasCircuitWitness, IsCircuitWitness}
-use Rattle.aig_runs.specs.declared.window.Window.{Window}
 use Rattle.aig_bounded.specs.declared.place.Place.{Place}
-use Rattle.aig_bounded.specs.Question.{Asks, HasNoInit, IsQuestion, IsStepQuestion, IsWindowQuestion, Reaches, ReachesAt, ReachesFirstBy}
+use Rattle.aig_bounded.specs.Question.{IsQuestion, Reaches}
 use Rattle.aig_bounded.proofs.Cut.{place_value, reads_whole}
 use Rattle.aig_bounded.proofs.Read.{latch_at, latch_at-found, zip_length}
 
@@ -73,34 +72,28 @@ module _ (c : Circuit) (circuit : IsCircuit c) (t : ℕ) (run : ℕ → ℕ → 
 
 -- ---- what a question asks for
 
-module _ (IsFree : AigLatch → Type 0) (IsStart : (ℕ → Bool) → Type 0)
-    (IsSought : (ℕ → ℕ → Bool) → Type 0) (c : Circuit) (last : ℕ) (asks : Circuit)
-    (output : AigEdge) (places : List Place)
-    (is : Asks IsFree IsStart IsSought c last asks output places) where
+module _ (c : Circuit) (k : ℕ) (asks : Circuit) (output : AigEdge) (places : List Place)
+    (circuit : IsCircuit c) (is : IsQuestion c k asks output places) where
   counted : length places ≡ length asks.inputs
   counted = let run = is.runs (λ n. false) in zip_length _ asks.inputs places run.3
 
-  sought_of : (y : ℕ → Bool) → IsTrue (edge_value asks.nodes y output)
-      → (run : ℕ → ℕ → Bool) × IsRun c last run × IsStart (run 0) × IsSought run
-  sought_of y holds =
+  reached_of : (y : ℕ → Bool) → IsTrue (edge_value asks.nodes y output)
+      → (run : ℕ → ℕ → Bool) × IsRun c k run × IsInitial c (run 0) × Reaches c k run
+  reached_of y holds =
       let run = is.runs y in
       (run.0, run.1, run.2, (is.value run.0 y run.1 run.2 run.3).0 holds)
 
-  holds_on : (run : ℕ → ℕ → Bool) → IsRun c last run → IsStart (run 0) → IsSought run
+  holds_on : (run : ℕ → ℕ → Bool) → IsRun c k run → IsInitial c (run 0) → Reaches c k run
       → (y : ℕ → Bool) × IsTrue (edge_value asks.nodes y output)
-  holds_on run moves start sought =
+  holds_on run moves start reaches =
       let y = place_value [] [] (λ n. n) (λ n. false) run asks.inputs places in
       let reads = reads_whole [] [] (λ n. n) (λ n. false) run asks.inputs places counted is.circuit.inputs_distinct in
-      (y, (is.value run y moves start reads).1 sought)
+      (y, (is.value run y moves start reads).1 reaches)
 
--- ---- questions and witnesses
-
-module _ (c : Circuit) (k : ℕ) (asks : Circuit) (output : AigEdge) (places : List Place)
-    (circuit : IsCircuit c) (is : IsQuestion c k asks output places) where
   forth : ((y : ℕ → Bool) × IsTrue (edge_value asks.nodes y output))
       → (t : ℕ) × (t ≤ k) × HasCircuitWitness c t
   forth (y, holds) =
-      let found = sought_of HasNoInit (IsInitial c) (Reaches c k) c k asks output places is y holds in
+      let found = reached_of y holds in
       let reaches = found.3 in (
         reaches.step,
         reaches.within,
@@ -127,57 +120,8 @@ module _ (c : Circuit) (k : ℕ) (asks : Circuit) (output : AigEdge) (places : L
         constraints = λ s l. subst (λ (x : ℕ → Bool). All (λ (e : AigEdge). IsTrue (edge_value c.nodes x e)) c.properties.constraints) (sym (same s l)) (w.constraints s l);
         bad = subst (λ (x : ℕ → Bool). IsTrue (list_any (edge_value c.nodes x) c.properties.bads)) (sym (same t (omega arith))) w.bad;
       } in
-      holds_on HasNoInit (IsInitial c) (Reaches c k) c k asks output places is all (longer_is_run c circuit t run w.is_run k) start reaches
+      holds_on all (longer_is_run c circuit t run w.is_run k) start reaches
 
   pub question_asks : ((y : ℕ → Bool) × IsTrue (edge_value asks.nodes y output))
       ↔ ((t : ℕ) × (t ≤ k) × HasCircuitWitness c t)
   question_asks = (forth, λ (t, h, w). back t h w.0 w.1)
-
--- ---- questions of one step
-
-pub step_asks : (c : Circuit) (last : ℕ) (asks : Circuit) (output : AigEdge) (places : List Place)
-    → IsStepQuestion c last asks output places
-    → ((y : ℕ → Bool) × IsTrue (edge_value asks.nodes y output)) ↔ HasCircuitWitness c last
-step_asks c last asks output places is = (forth_step, back_step)
-  where
-    forth_step : ((y : ℕ → Bool) × IsTrue (edge_value asks.nodes y output))
-        → HasCircuitWitness c last
-    forth_step (y, holds) =
-        let found = sought_of HasNoInit (IsInitial c) (ReachesAt c last) c last asks output places
-        is y holds in
-        let reaches = found.3 in (
-          found.0,
-          record {
-            is_run = found.1;
-            start = found.2;
-            constraints = reaches.constraints;
-            bad = reaches.bad;
-          },
-        )
-
-    back_step : HasCircuitWitness c last → (y : ℕ → Bool) × IsTrue (edge_value asks.nodes y output)
-    back_step (run, w) =
-        let reaches : ReachesAt c last run = record { constraints = w.constraints; bad = w.bad } in
-        holds_on HasNoInit (IsInitial c) (ReachesAt c last) c last asks output places is run
-        w.is_run w.start reaches
-
--- ---- questions and windows
-
-pub window_asks : (form : Window) (c : Circuit) (last : ℕ) (asks : Circuit) (output : AigEdge)
-    (places : List Place) → IsWindowQuestion form c last asks output places
-    → ((y : ℕ → Bool) × IsTrue (edge_value asks.nodes y output))
-    ↔ ((run : ℕ → ℕ → Bool) × IsRun c last run × ReachesFirstBy form c last run)
-window_asks form c last asks output places is = (forth_window, back_window)
-  where
-    forth_window : ((y : ℕ → Bool) × IsTrue (edge_value asks.nodes y output))
-        → (run : ℕ → ℕ → Bool) × IsRun c last run × ReachesFirstBy form c last run
-    forth_window (y, holds) =
-        let found = sought_of (λ latch. Unit {0}) (λ values. Unit {0}) (ReachesFirstBy form c last)
-        c last asks output places is y holds in
-        (found.0, found.1, found.3)
-
-    back_window : ((run : ℕ → ℕ → Bool) × IsRun c last run × ReachesFirstBy form c last run)
-        → (y : ℕ → Bool) × IsTrue (edge_value asks.nodes y output)
-    back_window (run, moves, reaches) =
-        holds_on (λ latch. Unit {0}) (λ values. Unit {0}) (ReachesFirstBy form c last) c last asks
-        output places is run moves tt reaches

@@ -1,5 +1,5 @@
--- Serves private clauses alone.
--- The question of the nodes that its output reaches.
+-- Part of what is promised.
+-- The question of the nodes that its output reaches. (Cone of influence.)
 use Rattle.std.specs.Prelude.{◌≡◌, ℕ, Bool, false, if◌then◌else◌, List, [], ◌∷◌, slice_index_or}
 use Rattle.std.specs.FinMap.{empty}
 use Rattle.aig_circuit.specs.declared.edge.AigEdge.{AigEdge}
@@ -7,15 +7,15 @@ use Rattle.aig_circuit.specs.Circuit.{Circuit}
 use Rattle.aig_circuit.specs.Properties.{no_properties}
 use Rattle.aig_circuit.specs.Reach.{IsFanin, IsReached, MarksExactly}
 use Rattle.aig_cone.specs.Refine.{AreKept, refined}
-use Rattle.aig_bounded.specs.declared.frames.Frames.{Frames}
+use Rattle.aig_bounded.specs.Shared.{Netlist}
 use Rattle.aig_bounded.specs.declared.place.Place.{Place}
 
 -- the circuit of all nodes, with one output
-abbrev pub whole_question : Frames → AigEdge → Circuit
-whole_question f output =
+abbrev pub whole_question : Netlist → AigEdge → Circuit
+whole_question net output =
     record {
-      nodes = f.nodes.items;
-      inputs = f.inputs.items;
+      nodes = net.nodes;
+      inputs = net.inputs;
       latchs = [];
       properties = record no_properties { outputs = output ∷ [] };
       names = empty;
@@ -30,11 +30,11 @@ marked_places marks (n ∷ ns) (p ∷ ps) =
     else marked_places marks ns ps
 
 -- the places of the inputs that the output reaches
-pub record KeepsReached (f : Frames) (output : AigEdge) (kept : List Place) : Type 0 where
+pub record KeepsReached (net : Netlist) (output : AigEdge) (kept : List Place) : Type 0 where
   pub marks : List Bool
-  pub reached : MarksExactly f.nodes.items
-      (IsReached (IsFanin f.nodes.items) (output.node_id ∷ [])) marks
-  pub exact : kept ≡ marked_places marks f.inputs.items f.places.items
+  pub reached : MarksExactly net.nodes
+      (IsReached (IsFanin net.nodes) (output.node_id ∷ [])) marks
+  pub exact : kept ≡ marked_places marks net.inputs net.places
 
 -- the circuit of what the properties reach
 pub record IsKeptOf (old new : Circuit) : Type 0 where
@@ -43,7 +43,7 @@ pub record IsKeptOf (old new : Circuit) : Type 0 where
   pub exact : new ≡ refined kept old
 
 -- the circuit of what the output reaches, with the places of its inputs
-pub record IsCutOf (f : Frames) (output : AigEdge) (made : Circuit) (places : List Place)
+pub record IsCutOf (net : Netlist) (output : AigEdge) (made : Circuit) (places : List Place)
     : Type 0 where
-  pub nodes : IsKeptOf (whole_question f output) made
-  pub keeps : KeepsReached f output places
+  pub nodes : IsKeptOf (whole_question net output) made
+  pub keeps : KeepsReached net output places

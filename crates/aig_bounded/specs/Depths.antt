@@ -6,6 +6,7 @@ use Rattle.aig_circuit.specs.declared.node.AigNode.{AigNode}
 use Rattle.aig_circuit.specs.declared.node.AigLatch.{AigLatch}
 use Rattle.aig_circuit.specs.Circuit.{Circuit}
 use Rattle.aig_circuit.specs.Reach.{IsFanin}
+use Rattle.aig_bounded.specs.Exact.{IsRead}
 
 -- node n is no deeper than this depth, unless that is greater than `last`
 abbrev pub IsNoDeeperThan : ℕ → ℕ → ℕ → List ℕ → Type 0
@@ -38,9 +39,10 @@ pub record AreSettled (c : Circuit) (last : ℕ) (depths : List ℕ) : Type 0 wh
 abbrev pub HaveNoDepth : List AigEdge → List ℕ → Type 0
 HaveNoDepth es depths = All (λ e. slice_index depths e.node_id ≡ 0) es
 
--- the leaves of the latches have depth 0
-abbrev pub HaveNoLatchDepth : List AigLatch → List ℕ → Type 0
-HaveNoLatchDepth latchs depths = All (λ latch. slice_index depths latch.input ≡ 0) latchs
+-- each depth up to `last` is a number of steps in which its node is read
+abbrev pub AreRead : Circuit → ℕ → List ℕ → Type 0
+AreRead c last depths =
+    (n : ℕ) → n < length depths → slice_index depths n ≤ last → IsRead c (slice_index depths n) n
 
 -- Depths of all nodes: bad edges and constraints have none, and what is read up to `last` steps
 -- later is no deeper than that.
@@ -49,6 +51,7 @@ pub record AreDepths (c : Circuit) (last : ℕ) (depths : List ℕ) : Type 0 whe
   pub bads : HaveNoDepth c.properties.bads depths
   pub constraints : HaveNoDepth c.properties.constraints depths
   pub settled : AreSettled c last depths
+  pub read : AreRead c last depths
 
 -- no depth is greater than before
 abbrev pub AreNoDeeper : List ℕ → List ℕ → Type 0

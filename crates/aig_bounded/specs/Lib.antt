@@ -1,6 +1,7 @@
 pub mod Question
-pub mod Apart
-pub mod Asked
+pub mod Shared
+pub mod Exact
+pub mod Gates
 pub mod Depths
 pub mod Frames
 pub mod Steps

@@ -1,36 +1,64 @@
 -- Serves private clauses alone.
 -- The steps of a circuit as nodes of a question.
-use Rattle.std.specs.Prelude.{◌≡◌, ◌≢◌, ℕ, ◌+◌, ◌<◌, ◌≤◌, false, Option, Some, None, List, length, Contains, slice_index, slice_index_or}
+use Rattle.std.specs.Prelude.{zero, suc, Bool, true, ◌&&◌, ◌||◌, ◌≡◌, ◌≢◌, ℕ, ◌+◌, ◌<◌, ◌≤◌, false, Option, Some, None, List, length, Contains, nat_le, slice_index, slice_index_or}
 use Rattle.aig_circuit.specs.declared.edge.AigEdge.{AigEdge}
 use Rattle.aig_circuit.specs.declared.node.AigLatch.{AigLatch}
-use Rattle.aig_circuit.specs.Edge.{edge_to, inverted_if}
 use Rattle.aig_circuit.specs.Circuit.{Circuit, latch_leaves}
-use Rattle.aig_circuit.specs.Tree.{node_value}
-use Rattle.aig_bounded.specs.declared.asked.Sought.{Sought}
+use Rattle.aig_circuit.specs.Tree.{edge_value, node_value}
+use Rattle.std.specs.List.{list_all, list_any}
+use Rattle.aig_unroll.specs.Frame.{image_at}
 use Rattle.aig_bounded.specs.declared.frames.Frames.{Frames}
 use Rattle.aig_bounded.specs.declared.steps.Sums.{Sums}
-use Rattle.aig_bounded.specs.Asked.{IsFree, reached_to, within_to}
-use Rattle.aig_bounded.specs.Frames.{AreFrames, Extends, Shows}
+use Rattle.aig_bounded.specs.Exact.{Checks, Frame, with_checks}
+use Rattle.aig_bounded.specs.Frames.{AreFrames, Extends, Shows, net_of}
+
+-- ---- what is made
+
+-- node n is read at most `left` steps later, by these depths
+abbrev pub is_read : List ℕ → ℕ → ℕ → Bool
+is_read depths left n = nat_le (slice_index depths n) left
+
+-- the frame's netlist, and its images of the nodes that are read
+pub record IsFrame (read : ℕ → Bool) (frame : Frame) (f : Frames) (images : List AigEdge) : Type 0
+  where
+    pub net : net_of f ≡ frame.net
+    pub same : (n : ℕ) → n < length frame.images → read n ≡ true
+        → image_at images n ≡ image_at frame.images n
+
+-- the checks that these edges say
+abbrev pub checks_of : Frames → Sums → Checks
+checks_of f sums = record { net = net_of f; within = sums.within; reached = sums.reached }
+
+-- with the frame the step is made, and the checks are those with one step more
+pub record IsStep (read : ℕ → Bool) (frame : Frame) (c : Circuit) (sums : Sums)
+    (images : List AigEdge) (checks : Checks) : Type 0 where
+  pub exact : checks ≡ with_checks c frame.images
+      (record { net = frame.net; within = sums.within; reached = sums.reached })
+  pub same : (n : ℕ) → n < length frame.images → read n ≡ true
+      → image_at images n ≡ image_at frame.images n
 
 -- ---- what the steps say
 
+-- every constraint holds at the first so many steps
+abbrev pub within_to : Circuit → (ℕ → ℕ → Bool) → ℕ → Bool
+within_to c run zero = true
+within_to c run (suc t) =
+    within_to c run t && list_all (edge_value c.nodes (run t)) c.properties.constraints
+
+-- a bad state is reached at one of the first so many steps, within the constraints
+abbrev pub reached_to : Circuit → (ℕ → ℕ → Bool) → ℕ → Bool
+reached_to c run zero = false
+reached_to c run (suc t) =
+    reached_to c run t
+    || (within_to c run (suc t) && list_any (edge_value c.nodes (run t)) c.properties.bads)
+
 -- what is known of the first so many steps
-pub record Sum (c : Circuit) (sought : Sought) (t count : ℕ) (f : Frames) (sums : Sums) : Type 0
+pub record Sum (c : Circuit) (t count : ℕ) (f : Frames) (sums : Sums) : Type 0
   where
-    pub within : Shows c t f sums.within (λ run. within_to sought c run count)
-    pub reached : Shows c t f sums.reached (λ run. reached_to sought c run count)
+    pub within : Shows c t f sums.within (λ run. within_to c run count)
+    pub reached : Shows c t f sums.reached (λ run. reached_to c run count)
 
 -- ---- tables
-
--- the image of node n
-abbrev pub image_at : List AigEdge → ℕ → AigEdge
-image_at images n = slice_index_or images n (edge_to 0 false)
-
--- the image of an edge: that of its node, inverted as the edge is
-abbrev pub image_in : List AigEdge → AigEdge → AigEdge
-image_in images e =
-    let image = image_at images e.node_id in
-    edge_to image.node_id (inverted_if e.compl image.compl)
 
 -- the image of node n has the node's value at step t
 abbrev pub ShowsNode : Circuit → ℕ → Frames → List AigEdge → ℕ → Type 0
@@ -59,7 +87,7 @@ pub record HasStates (c : Circuit) (t : ℕ) (depths : List ℕ) (left : ℕ) (f
   -- and a latch's leaf that has none is open
   pub free : (n : ℕ) → n < length c.nodes → slice_index_or states n None ≡ None
       → (latch : AigLatch) → Contains c.latchs latch → latch.input ≡ n
-      → (t ≡ 0) × IsFree f.start latch
+      → (t ≡ 0) × (latch.init ≡ None)
 
 -- the leaves of the first so many latches have the states that `state` says of the latches, and all
 -- else is as it was

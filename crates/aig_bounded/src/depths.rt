@@ -1,33 +1,38 @@
 //! After how many steps a bad edge or a constraint reads a node.
 
-ghost use Rattle.std.specs.Prelude.{◌≡◌, true, ◌<◌, ◌≤◌, IfOk, All, length, slice_index};
-ghost use Rattle.aig_circuit.specs.Circuit.{AreNodes};
-ghost use Rattle.aig_bounded.specs.Asked.{tells_apart};
-ghost use Rattle.aig_bounded.specs.Depths.{AreDepths, AreNoDeeper, AreSettled, HasNextDepth, HasOperandDepths, HaveNextDepths, HaveNoDepth, HaveNoLatchDepth, HaveOperandDepths, IsNoDeeperThan, Lowers};
+ghost use Rattle.std.specs.Prelude.{◌≡◌, ◌<◌, ◌≤◌, ◌-◌, ◌^◌, ℕ, IfOk, All, Contains, length, slice_index};
+ghost use Rattle.aig_circuit.specs.Circuit.{AreNodes, Circuit};
+ghost use Rattle.aig_bounded.specs.Exact.{IsRead};
+ghost use Rattle.aig_bounded.specs.Depths.{AreDepths, AreNoDeeper, AreRead, AreSettled, HasNextDepth, HasOperandDepths, HaveNextDepths, HaveNoDepth, HaveOperandDepths, IsNoDeeperThan, Lowers};
 
-use crate::asked::Sought;
 use aig_base::MemoryError;
 use aig_circuit::{AigEdge, AigLatch, AigNode, AigNodeType, CircuitView};
 use std::alloc::Global;
 
 /// For each node a number of steps after which a bad edge or a constraint reads it, at most `last`; or a greater number,
-/// where none does. Where states are told apart, the latches' leaves are read at each step.
+/// where none does.
 pub(crate) fn depths(
     alloc: Global,
     circuit: &CircuitView<'_>,
-    sought: Sought,
     last: usize,
 ) -> Result<Vec<usize>, MemoryError>
-    ensures depths { IfOk result (λ depths. AreDepths circuit.now last depths.items) }
-    ensures states { IfOk result (λ depths. tells_apart sought ≡ true
-        → HaveNoLatchDepth circuit.now.latchs depths.items) }
+    requires { last < 2 ^ 64 - 1 }
+    ensures { IfOk result (λ depths. AreDepths circuit.now last depths.items) }
 {
     let mut depths = vec![in alloc; usize::MAX; circuit.nodes().len()]?;
-    clear_depths(&mut depths, circuit.bads());
-    clear_depths(&mut depths, circuit.constraints());
-    clear_states(&mut depths, sought, circuit.latchs());
-    settle(&mut depths, circuit, last);
+    find_depths(&mut depths, circuit, last);
     Ok(depths)
+}
+
+/// Finds the depths of all nodes, where none is known yet.
+fn find_depths(depths: &mut [usize], circuit: &CircuitView<'_>, last: usize)
+    requires table { length depths.old ≡ length circuit.now.nodes }
+    requires unread { AreRead circuit.now last depths.old }
+    ensures { AreDepths circuit.now last depths.new }
+{
+    clear_depths(depths, circuit.bads());
+    clear_depths(depths, circuit.constraints());
+    settle(depths, circuit, last);
 }
 
 /// Sets the depths of the nodes of edges to 0.
@@ -35,31 +40,11 @@ fn clear_depths(depths: &mut [usize], edges: &[AigEdge])
     requires { All (λ e. e.node_id < length depths.old) edges.now }
     ensures none { HaveNoDepth edges.now depths.new }
     ensures lower { AreNoDeeper depths.old depths.new }
+    ensures read { (c : Circuit) (last : ℕ) → All (λ e. IsRead c 0 e.node_id) edges.now
+        → AreRead c last depths.old → AreRead c last depths.new }
 {
     for edge in edges {
         depths[edge.node_id()] = 0;
-    }
-}
-
-/// Sets the depths of the latches' leaves to 0, where states are told apart.
-fn clear_states(depths: &mut [usize], sought: Sought, latchs: &[AigLatch])
-    requires { All (λ latch. latch.input < length depths.old) latchs.now }
-    ensures none { tells_apart sought ≡ true → HaveNoLatchDepth latchs.now depths.new }
-    ensures lower { AreNoDeeper depths.old depths.new }
-{
-    if sought.tells_apart() {
-        clear_leaves(depths, latchs);
-    }
-}
-
-/// Sets the depths of the latches' leaves to 0.
-fn clear_leaves(depths: &mut [usize], latchs: &[AigLatch])
-    requires { All (λ latch. latch.input < length depths.old) latchs.now }
-    ensures none { HaveNoLatchDepth latchs.now depths.new }
-    ensures lower { AreNoDeeper depths.old depths.new }
-{
-    for latch in latchs {
-        depths[latch.input()] = 0;
     }
 }
 
@@ -68,6 +53,7 @@ fn settle(depths: &mut [usize], circuit: &CircuitView<'_>, last: usize)
     requires { length depths.old ≡ length circuit.now.nodes }
     ensures settled { AreSettled circuit.now last depths.new }
     ensures lower { AreNoDeeper depths.old depths.new }
+    ensures read { AreRead circuit.now last depths.old → AreRead circuit.now last depths.new }
 {
     let mut lowered = true;
     while lowered {
@@ -78,7 +64,8 @@ fn settle(depths: &mut [usize], circuit: &CircuitView<'_>, last: usize)
 /// Lowers the depths of operands and of next edges' nodes once. Returns whether any was too great.
 fn lower_all(depths: &mut [usize], circuit: &CircuitView<'_>, last: usize) -> bool
     requires { length depths.old ≡ length circuit.now.nodes }
-    ensures { Lowers (AreSettled circuit.now last) depths.old depths.new result }
+    ensures lowers { Lowers (AreSettled circuit.now last) depths.old depths.new result }
+    ensures read { AreRead circuit.now last depths.old → AreRead circuit.now last depths.new }
 {
     let by_gates = lower_operands(depths, circuit.nodes(), last);
     let by_latches = lower_next(depths, circuit.latchs(), last);
@@ -90,7 +77,9 @@ fn lower_all(depths: &mut [usize], circuit: &CircuitView<'_>, last: usize) -> bo
 fn lower_operands(depths: &mut [usize], nodes: &[AigNode], last: usize) -> bool
     requires sound { AreNodes nodes.now }
     requires table { length depths.old ≡ length nodes.now }
-    ensures { Lowers (HaveOperandDepths nodes.now last) depths.old depths.new result }
+    ensures lowers { Lowers (HaveOperandDepths nodes.now last) depths.old depths.new result }
+    ensures read { (c : Circuit) → c.nodes ≡ nodes.now
+        → AreRead c last depths.old → AreRead c last depths.new }
 {
     let mut lowered = false;
     for id in (0..nodes.len()).rev() {
@@ -104,7 +93,9 @@ fn lower_gate(depths: &mut [usize], nodes: &[AigNode], id: usize, last: usize) -
     requires sound { AreNodes nodes.now }
     requires table { length depths.old ≡ length nodes.now }
     requires there { id < length nodes.now }
-    ensures { Lowers (HasOperandDepths nodes.now last id) depths.old depths.new result }
+    ensures lowers { Lowers (HasOperandDepths nodes.now last id) depths.old depths.new result }
+    ensures read { (c : Circuit) → c.nodes ≡ nodes.now
+        → AreRead c last depths.old → AreRead c last depths.new }
 {
     match *nodes[id].typ() {
         AigNodeType::And(fanin0, fanin1) => {
@@ -121,7 +112,9 @@ fn lower_gate(depths: &mut [usize], nodes: &[AigNode], id: usize, last: usize) -
 fn lower_next(depths: &mut [usize], latchs: &[AigLatch], last: usize) -> bool
     requires { All (λ latch. (latch.input < length depths.old)
         × (latch.next.node_id < length depths.old)) latchs.now }
-    ensures { Lowers (HaveNextDepths latchs.now last) depths.old depths.new result }
+    ensures lowers { Lowers (HaveNextDepths latchs.now last) depths.old depths.new result }
+    ensures read { (c : Circuit) → c.latchs ≡ latchs.now
+        → AreRead c last depths.old → AreRead c last depths.new }
 {
     let mut lowered = false;
     for latch in latchs {
@@ -135,7 +128,9 @@ fn lower_next(depths: &mut [usize], latchs: &[AigLatch], last: usize) -> bool
 fn lower_latch(depths: &mut [usize], latch: &AigLatch, last: usize) -> bool
     requires leaf { latch.now.input < length depths.old }
     requires next { latch.now.next.node_id < length depths.old }
-    ensures { Lowers (HasNextDepth latch.now last) depths.old depths.new result }
+    ensures lowers { Lowers (HasNextDepth latch.now last) depths.old depths.new result }
+    ensures read { (c : Circuit) → Contains c.latchs latch.now
+        → AreRead c last depths.old → AreRead c last depths.new }
 {
     let depth = depths[latch.input()];
     depth < last && lower(depths, latch.next().node_id(), depth + 1, last)
@@ -144,7 +139,9 @@ fn lower_latch(depths: &mut [usize], latch: &AigLatch, last: usize) -> bool
 /// Lowers the depth of a node to this one, if it is at most `last`. Returns whether it was greater.
 fn lower(depths: &mut [usize], id: usize, depth: usize, last: usize) -> bool
     requires { id < length depths.old }
-    ensures { Lowers (IsNoDeeperThan id depth last) depths.old depths.new result }
+    ensures lowers { Lowers (IsNoDeeperThan id depth last) depths.old depths.new result }
+    ensures read { (c : Circuit) → (depth ≤ last → IsRead c depth id)
+        → AreRead c last depths.old → AreRead c last depths.new }
 {
     if depth > last || depths[id] <= depth {
         return false;

@@ -1,57 +1,59 @@
 //! The nodes of a question while it is made.
 
-ghost use Rattle.std.specs.Prelude.{◌≡◌, ◌≤◌, ◌++◌, ◌∷◌, [], ◌&&◌, ◌||◌, IfOk, OnOk, length};
-ghost use Rattle.aig_circuit.specs.declared.node.AigNodeType.TheVariants.{Leaf};
+ghost use Rattle.std.specs.Prelude.{◌≡◌, ◌≤◌, ◌++◌, ◌∷◌, [], ◌^◌, ◌&&◌, ◌||◌, IfOk, OnOk, length};
+ghost use Rattle.aig_circuit.specs.declared.node.AigNodeType.TheVariants.{False, Leaf};
 ghost use Rattle.aig_circuit.specs.Build.{with_node};
 ghost use Rattle.aig_circuit.specs.Circuit.{AreNodes, Circuit, IsInRange};
 ghost use Rattle.aig_circuit.specs.Tree.{edge_value};
-ghost use Rattle.aig_bounded.specs.Apart.{differ};
-ghost use Rattle.aig_bounded.specs.Frames.{AddsUpTo, AreFrames, Gives, Opens};
+ghost use Rattle.aig_bounded.specs.Shared.{made_in, shared_and, shared_or};
+ghost use Rattle.aig_bounded.specs.Frames.{AddsUpTo, AreFrames, AreShared, Gives, Opens, net_of};
 
-use crate::asked::Start;
 use crate::error::BoundedError;
-use crate::gates::Gates;
+use crate::gates::shared_and_node;
 use crate::place::Place;
+use crate::seeded::Seeded;
 use aig_base::MemoryError;
-use aig_build::{new_and_node, new_leaf_node};
+use aig_build::new_leaf_node;
 use aig_circuit::{AigEdge, AigNode, false_node};
 use std::alloc::Global;
+use std::collections::HashMap;
 
 /// The nodes of a question while it is made, with its inputs and their places.
 #[derive(Drop)]
 pub(crate) struct Frames {
     /// The nodes.
     pub(crate) nodes: Vec<AigNode>,
-    /// The gates among them.
-    gates: Gates,
+    /// The numbers of the gates among them, by the literals of their operands.
+    gates: HashMap<(u32, u32), u32, Seeded>,
     /// The leaves among them, in rising number.
     pub(crate) inputs: Vec<usize>,
     /// Their places.
     pub(crate) places: Vec<Place>,
     /// How many nodes there may be.
     pub(crate) limit: usize,
-    /// In which states the runs start.
-    pub(crate) start: Start,
 }
 
 impl Frames {
     /// Returns the false node alone.
-    pub(crate) fn new(alloc: Global, limit: usize, start: Start) -> Result<Frames, MemoryError>
-        requires { 1 ≤ limit }
+    pub(crate) fn new(alloc: Global, limit: usize, seeded: Seeded) -> Result<Frames, MemoryError>
+        requires some { 1 ≤ limit }
+        requires few { limit ≤ 2 ^ 31 }
         ensures frames { IfOk result (λ made. (c : Circuit) → AreFrames c 0 0 made) }
         ensures limit { IfOk result (λ made. made.limit ≡ limit) }
-        ensures start { IfOk result (λ made. made.start ≡ start) }
-        ensures one { IfOk result (λ made. length made.nodes.items ≡ 1) }
+        ensures net { IfOk result (λ made. net_of made ≡ record {
+          nodes = record { node_id = 0; typ = False } ∷ [];
+          inputs = [];
+          places = [];
+        }) }
     {
         let mut nodes = Vec::new(alloc);
         nodes.push(false_node())?;
         Ok(Frames {
             nodes,
-            gates: Gates::new(alloc)?,
+            gates: HashMap::with_hasher(alloc, seeded),
             inputs: Vec::new(alloc),
             places: Vec::new(alloc),
             limit,
-            start,
         })
     }
 
@@ -65,7 +67,7 @@ impl Frames {
         ensures places { OnOk result (self.new.places.items
             ≡ self.old.places.items ++ place ∷ []) }
         ensures limit { self.new.limit ≡ self.old.limit }
-        ensures start { self.new.start ≡ self.old.start }
+        ensures gates { self.new.gates ≡ self.old.gates }
     {
         let id = new_leaf_node(&mut self.nodes)?;
         self.inputs.push(id)?;
@@ -75,92 +77,46 @@ impl Frames {
 
     /// Adds a leaf, which is the input of this place.
     pub(crate) fn open(&mut self, place: Place) -> Result<AigEdge, BoundedError>
-        requires { AreNodes self.old.nodes.items }
+        requires { AreShared self.old }
         ensures opens { IfOk result (Opens self.old self.new place) }
         ensures size { AddsUpTo 1 self.old self.new result }
     {
-        let id = self.new_input(place)?;
-        if self.nodes.len() > self.limit {
+        if self.nodes.len() >= self.limit {
             return Err(BoundedError::TooLarge);
         }
+        let id = self.new_input(place)?;
         Ok(AigEdge::from(id))
     }
 
-    /// The and of two edges: what they fold to, a gate that is there, or a new one.
+    /// The and of two edges: what they fold to, the gate that is there, or a new one.
     pub(crate) fn and(&mut self, fanin0: AigEdge, fanin1: AigEdge) -> Result<AigEdge, BoundedError>
-        requires sound { AreNodes self.old.nodes.items }
+        requires shared { AreShared self.old }
         requires first { IsInRange self.old.nodes.items fanin0 }
         requires second { IsInRange self.old.nodes.items fanin1 }
         ensures gives { IfOk result (Gives (λ y. edge_value self.old.nodes.items y fanin0
             && edge_value self.old.nodes.items y fanin1) self.old self.new) }
+        ensures exact { IfOk result
+            (λ e. made_in (net_of self.new) e ≡ shared_and (net_of self.old) fanin0 fanin1) }
         ensures size { AddsUpTo 1 self.old self.new result }
     {
-        if fanin1 < fanin0 {
-            self.and_in_order(fanin1, fanin0)
-        } else {
-            self.and_in_order(fanin0, fanin1)
-        }
-    }
-
-    /// The and of two edges of which the first isn't greater.
-    fn and_in_order(&mut self, fanin0: AigEdge, fanin1: AigEdge) -> Result<AigEdge, BoundedError>
-        requires sound { AreNodes self.old.nodes.items }
-        requires first { IsInRange self.old.nodes.items fanin0 }
-        requires second { IsInRange self.old.nodes.items fanin1 }
-        ensures gives { IfOk result (Gives (λ y. edge_value self.old.nodes.items y fanin0
-            && edge_value self.old.nodes.items y fanin1) self.old self.new) }
-        ensures size { AddsUpTo 1 self.old self.new result }
-    {
-        if let Some(n) = self.gates.find(&self.nodes, fanin0, fanin1) {
-            return Ok(AigEdge::from(n));
-        }
-        self.add_and(fanin0, fanin1)
-    }
-
-    /// The and of two edges: what they fold to, or a new gate.
-    fn add_and(&mut self, fanin0: AigEdge, fanin1: AigEdge) -> Result<AigEdge, BoundedError>
-        requires sound { AreNodes self.old.nodes.items }
-        requires first { IsInRange self.old.nodes.items fanin0 }
-        requires second { IsInRange self.old.nodes.items fanin1 }
-        ensures gives { IfOk result (Gives (λ y. edge_value self.old.nodes.items y fanin0
-            && edge_value self.old.nodes.items y fanin1) self.old self.new) }
-        ensures size { AddsUpTo 1 self.old self.new result }
-    {
-        let before = self.nodes.len();
-        let edge = new_and_node(&mut self.nodes, fanin0, fanin1)?;
+        let edge = shared_and_node(&mut self.nodes, &mut self.gates, fanin0, fanin1)?;
         if self.nodes.len() > self.limit {
             return Err(BoundedError::TooLarge);
-        }
-        if self.nodes.len() > before {
-            self.gates.put(&self.nodes, before)?;
         }
         Ok(edge)
     }
 
     /// The or of two edges.
     pub(crate) fn or(&mut self, fanin0: AigEdge, fanin1: AigEdge) -> Result<AigEdge, BoundedError>
-        requires sound { AreNodes self.old.nodes.items }
+        requires shared { AreShared self.old }
         requires first { IsInRange self.old.nodes.items fanin0 }
         requires second { IsInRange self.old.nodes.items fanin1 }
         ensures gives { IfOk result (Gives (λ y. edge_value self.old.nodes.items y fanin0
             || edge_value self.old.nodes.items y fanin1) self.old self.new) }
+        ensures exact { IfOk result
+            (λ e. made_in (net_of self.new) e ≡ shared_or (net_of self.old) fanin0 fanin1) }
         ensures size { AddsUpTo 1 self.old self.new result }
     {
         Ok(!self.and(!fanin0, !fanin1)?)
-    }
-
-    /// The exclusive or of two edges.
-    pub(crate) fn xor(&mut self, fanin0: AigEdge, fanin1: AigEdge) -> Result<AigEdge, BoundedError>
-        requires sound { AreNodes self.old.nodes.items }
-        requires first { IsInRange self.old.nodes.items fanin0 }
-        requires second { IsInRange self.old.nodes.items fanin1 }
-        ensures gives { IfOk result (Gives (λ y.
-            differ (edge_value self.old.nodes.items y fanin0)
-            (edge_value self.old.nodes.items y fanin1)) self.old self.new) }
-        ensures size { AddsUpTo 3 self.old self.new result }
-    {
-        let first = self.and(fanin0, !fanin1)?;
-        let second = self.and(!fanin0, fanin1)?;
-        self.or(first, second)
     }
 }

@@ -5,12 +5,10 @@ ghost use Rattle.aig_circuit.specs.Circuit.{Circuit, IsInRange};
 ghost use Rattle.aig_circuit.specs.declared.edge.AigEdge.{AigEdge};
 ghost use Rattle.aig_circuit.specs.Edges.{HasConstantInit};
 ghost use Rattle.aig_circuit.specs.View.{lists_circuit};
-ghost use Rattle.aig_bounded.specs.Asked.{HasStarts, IsAskedOf, asked_size};
 ghost use Rattle.aig_bounded.specs.Cut.{IsCutOf, IsKeptOf, KeepsReached, marked_places, whole_question};
-ghost use Rattle.aig_bounded.specs.Frames.{AreFrames};
-ghost use Rattle.aig_bounded.specs.Question.{IsQuestion, IsStepQuestion, IsWindowQuestion, question_size, window_question_size};
+ghost use Rattle.aig_bounded.specs.Frames.{AreFrames, net_of};
+ghost use Rattle.aig_bounded.specs.Question.{IsQuestion, question_size};
 
-use crate::asked::{Sought, Start};
 use crate::error::BoundedError;
 use crate::frames::Frames;
 use crate::place::Place;
@@ -18,7 +16,6 @@ use crate::steps::expanded;
 use aig_base::MemoryError;
 use aig_circuit::{AigEdge, CircuitLists, CircuitView, Properties};
 use aig_cone::{coi_refine, fanin_logic_cone, refining_is_circuit, refining_keeps_runs};
-use aig_runs::Window;
 use std::alloc::Global;
 use std::collections::HashMap;
 
@@ -64,107 +61,9 @@ pub fn bounded_question(
     // TooLarge only where the bound of what is made passes the limit.
     ensures large { IsErrOf result BoundedError.TooLarge → limit < question_size circuit.now last }
 {
-    question_of(
-        alloc,
-        circuit,
-        Start::Initial,
-        Sought::Somewhere,
-        last,
-        limit,
-    )
-}
-
-/// Makes one question of one step: whether some bad state is reached at step `last` on a run from an initial state, with every
-/// constraint at each step up to there. What is bad before counts for nothing.
-///
-/// It is made as by `bounded_question`.
-///
-/// # Requirements
-///
-/// Those of `bounded_question`.
-///
-/// # Errors
-///
-/// Those of `bounded_question`.
-pub fn step_question(
-    alloc: Global,
-    circuit: &CircuitView<'_>,
-    last: usize,
-    limit: usize,
-) -> Result<Question, BoundedError>
-    requires starts { All HasConstantInit circuit.now.latchs }
-    requires some { 1 ≤ limit }
-    requires few { limit ≤ 2 ^ 31 }
-    ensures question { IfOk result (λ made. (output : AigEdge)
-        × IsStepQuestion circuit.now last (lists_circuit made.circuit) output made.places.items) }
-    ensures small { IfOk result (λ made. length made.circuit.nodes.items ≤ limit) }
-    // TooLarge only where the bound of what is made passes the limit.
-    ensures large { IsErrOf result BoundedError.TooLarge → limit < question_size circuit.now last }
-{
-    question_of(alloc, circuit, Start::Initial, Sought::Last, last, limit)
-}
-
-/// Makes one question of a window of steps: whether on some run of the steps 0 to `last`, from any state, every constraint
-/// holds at each step, and a bad state is reached at step `last` and at none before. In the distinct form no two of these steps
-/// have the same state, too: some latch has another value. Without latches all states are the same.
-///
-/// It is made as by `bounded_question`, with the latches open at step 0, whatever their initial edges are. With `last` = k + 1
-/// it is the step of an induction over k + 1 steps.
-///
-/// The distinct form makes each latch at each step, whatever reads it. For each of the `(last + 1) * last / 2` pairs of steps it
-/// makes up to four nodes for each latch, and one. So its size and its time grow with the square of `last`.
-///
-/// # Requirements
-///
-/// - `1 <= limit <= 2^31`.
-///
-/// # Errors
-///
-/// - `TooLarge`: more than `limit` nodes are made. Never where the bound `window_question_size` is within the limit: that of
-///   `bounded_question`, and in the distinct form for each pair of steps four for each latch, and one.
-/// - `Memory`: memory was refused.
-pub fn window_question(
-    alloc: Global,
-    circuit: &CircuitView<'_>,
-    form: Window,
-    last: usize,
-    limit: usize,
-) -> Result<Question, BoundedError>
-    requires some { 1 ≤ limit }
-    requires few { limit ≤ 2 ^ 31 }
-    ensures question { IfOk result (λ made. (output : AigEdge)
-        × IsWindowQuestion form circuit.now last
-        (lists_circuit made.circuit) output made.places.items) }
-    ensures small { IfOk result (λ made. length made.circuit.nodes.items ≤ limit) }
-    // TooLarge only where the bound of what is made passes the limit.
-    ensures large { IsErrOf result BoundedError.TooLarge
-        → limit < window_question_size form circuit.now last }
-{
-    question_of(alloc, circuit, Start::Any, Sought::First(form), last, limit)
-}
-
-/// The question of what is sought on runs from these starts.
-fn question_of(
-    alloc: Global,
-    circuit: &CircuitView<'_>,
-    start: Start,
-    sought: Sought,
-    last: usize,
-    limit: usize,
-) -> Result<Question, BoundedError>
-    requires starts { HasStarts start circuit.now }
-    requires some { 1 ≤ limit }
-    requires few { limit ≤ 2 ^ 31 }
-    ensures question { IfOk result (λ made. (output : AigEdge)
-        × IsAskedOf start sought circuit.now last (lists_circuit made.circuit) output
-        made.places.items) }
-    ensures small { IfOk result (λ made. length made.circuit.nodes.items ≤ limit) }
-    ensures large { IsErrOf result BoundedError.TooLarge
-        → limit < asked_size sought circuit.now last }
-{
     refining_is_circuit();
     refining_keeps_runs();
-    let (frames, reached) = expanded(alloc, circuit, start, sought, last, limit)?;
+    let (frames, reached) = expanded(alloc, circuit, last, limit)?;
     let made = cut(alloc, frames, reached)?;
     Ok(made)
 }
@@ -175,7 +74,7 @@ fn cut(alloc: Global, frames: Frames, output: AigEdge) -> Result<Question, Memor
     requires there { IsInRange frames.nodes.items output }
     requires few { length frames.nodes.items ≤ 2 ^ 31 }
     ensures { IfOk result
-        (λ made. IsCutOf frames output (lists_circuit made.circuit) made.places.items) }
+        (λ made. IsCutOf (net_of frames) output (lists_circuit made.circuit) made.places.items) }
 {
     let places = kept_places(alloc, &frames, output)?;
     let circuit = kept_circuit(alloc, frames, output)?;
@@ -187,7 +86,7 @@ fn kept_circuit(alloc: Global, frames: Frames, output: AigEdge) -> Result<Circui
     requires frames { (c : Circuit) × (t : ℕ) × AreFrames c t 0 frames }
     requires there { IsInRange frames.nodes.items output }
     requires few { length frames.nodes.items ≤ 2 ^ 31 }
-    ensures { IfOk result (λ made. IsKeptOf (whole_question frames output) (lists_circuit made)) }
+    ensures { IfOk result (λ made. IsKeptOf (whole_question (net_of frames) output) (lists_circuit made)) }
 {
     let lists = frames.into_lists(alloc, output)?;
     let (circuit, _old_numbers) = coi_refine(alloc, &CircuitView::new(&lists))?;
@@ -198,7 +97,7 @@ fn kept_circuit(alloc: Global, frames: Frames, output: AigEdge) -> Result<Circui
 fn kept_places(alloc: Global, frames: &Frames, output: AigEdge) -> Result<Vec<Place>, MemoryError>
     requires frames { (c : Circuit) × (t : ℕ) × AreFrames c t 0 frames.now }
     requires there { IsInRange frames.now.nodes.items output }
-    ensures { IfOk result (λ kept. KeepsReached frames.now output kept.items) }
+    ensures { IfOk result (λ kept. KeepsReached (net_of frames.now) output kept.items) }
 {
     let marks = fanin_logic_cone(alloc, &frames.nodes, &[output])?;
     marked_places(alloc, &marks, &frames.inputs, &frames.places)
@@ -227,7 +126,7 @@ fn marked_places(
 impl Frames {
     /// The circuit of the nodes, with one output.
     fn into_lists(self, alloc: Global, output: AigEdge) -> Result<CircuitLists, MemoryError>
-        ensures { IfOk result (λ lists. lists_circuit lists ≡ whole_question self output) }
+        ensures { IfOk result (λ lists. lists_circuit lists ≡ whole_question (net_of self) output) }
     {
         let mut properties = Properties::new(alloc);
         properties.outputs.push(output)?;

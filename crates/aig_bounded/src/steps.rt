@@ -1,24 +1,27 @@
 //! The steps of a circuit as nodes of a question.
 
-ghost use Rattle.std.specs.Prelude.{◌≡◌, ◌+◌, ◌-◌, ◌*◌, ◌<◌, ◌≤◌, ◌&&◌, ℕ, true, false, None, Some, IfOk, IfSome, IsErrOf, OnOk, List, [], All, length, min, slice_index_or};
+ghost use Rattle.std.specs.Prelude.{Bool, map, ◌^◌, ◌≡◌, ◌+◌, ◌-◌, ◌*◌, ◌<◌, ◌≤◌, ◌&&◌, ℕ, true, false, None, Some, IfOk, IfSome, IsErrOf, OnOk, List, [], All, length, min, slice_index_or};
 ghost use Rattle.std.specs.List.{list_all, list_any};
 ghost use Rattle.aig_circuit.specs.Circuit.{AreNodes, IsCircuit, IsInRange, IsLeaf};
 ghost use Rattle.aig_circuit.specs.Edge.{edge_to};
+ghost use Rattle.aig_circuit.specs.Edges.{HasConstantInit};
 ghost use Rattle.aig_circuit.specs.Reach.{IsFanin};
 ghost use Rattle.aig_circuit.specs.Tree.{edge_value};
 ghost use Rattle.aig_bounded.specs.declared.frames.Frames.{Frames};
-ghost use Rattle.aig_bounded.specs.Asked.{HasStarts, IsFree, apart_size, asked_size, first_state, next_reached, next_within, reached_to, sought_to, tells_apart};
-ghost use Rattle.aig_bounded.specs.Question.{IsPlaceOf, step_size};
-ghost use Rattle.aig_bounded.specs.Depths.{AreDepths, HaveNoLatchDepth};
-ghost use Rattle.aig_bounded.specs.Frames.{AddsUpTo, AreFrames, Extends, Gives, Sees, Shows};
-ghost use Rattle.aig_bounded.specs.Steps.{HasImages, HasStates, MakesImage, SetsStates, ShowsNode, Sum, image_in};
+ghost use Rattle.aig_bounded.specs.Question.{IsPlace, question_size, step_size};
+ghost use Rattle.aig_bounded.specs.Depths.{AreDepths};
+ghost use Rattle.aig_bounded.specs.Exact.{ReadsExactly, false_net, frame_to, node_image, reached_in, states_at, steps_to, with_checks};
+ghost use Rattle.aig_bounded.specs.Shared.{made_in, shared_ands, shared_ors};
+ghost use Rattle.aig_circuit.specs.Node.{kind_at};
+ghost use Rattle.aig_bounded.specs.Frames.{AddsUpTo, AreFrames, AreShared, Extends, Gives, Shows, net_of};
+ghost use Rattle.aig_unroll.specs.Frame.{image_in};
+ghost use Rattle.aig_bounded.specs.Steps.{HasImages, HasStates, IsFrame, IsStep, MakesImage, SetsStates, ShowsNode, Sum, checks_of, is_read, reached_to};
 
-use crate::apart::note_states;
-use crate::asked::{Sought, Start};
 use crate::depths::depths;
 use crate::error::BoundedError;
 use crate::frames::Frames;
 use crate::place::Place;
+use crate::seeded::Seeded;
 use aig_base::MemoryError;
 use aig_circuit::{AigEdge, AigLatch, AigNodeType, CircuitView};
 use std::alloc::Global;
@@ -26,9 +29,9 @@ use std::alloc::Global;
 /// What is known of the steps so far.
 #[derive(Clone, Copy)]
 pub(crate) struct Sums {
-    /// Every constraint holds at each of them, and what is sought can still come.
+    /// Every constraint holds at each of them.
     pub(crate) within: AigEdge,
-    /// What is sought is reached at one of them.
+    /// A bad state is reached at one of them, within the constraints.
     pub(crate) reached: AigEdge,
 }
 
@@ -72,8 +75,11 @@ impl Frames {
         requires known { IfSome (slice_index_or states.now id None) (λ e.
             Shows circuit.now step self.old e (λ run. run step id)) }
         requires free { IsLeaf circuit.now.nodes id → slice_index_or states.now id None ≡ None
-            → IsPlaceOf (IsFree self.old.start) circuit.now (record { step = step; leaf = id }) }
+            → IsPlace circuit.now (record { step = step; leaf = id }) }
         ensures makes { IfOk result (MakesImage circuit.now step id self.old self.new) }
+        ensures exact { IfOk result (λ e. made_in (net_of self.new) e
+            ≡ node_image (slice_index_or states.now id None) images.now
+            (record { step = step; leaf = id }) (kind_at circuit.now.nodes id) (net_of self.old)) }
         ensures size { AddsUpTo (min id 1) self.old self.new result }
     {
         match *circuit.nodes()[id].typ() {
@@ -106,6 +112,9 @@ impl Frames {
         requires states { HasStates circuit.now step depths.now left self.old states.now }
         ensures shows { OnOk result (HasImages circuit.now step depths.now left
             (length circuit.now.nodes) self.new images.new) }
+        ensures exact { OnOk result (let read = is_read depths.now left in IsFrame read
+            (frame_to circuit.now step read (λ n. slice_index_or states.now n None)
+            (net_of self.old) (length circuit.now.nodes)) self.new images.new) }
         ensures frames { OnOk result (AreFrames circuit.now (step + 1) 0 self.new) }
         ensures extends { OnOk result (Extends self.old self.new) }
         ensures size { AddsUpTo (length circuit.now.nodes - 1) self.old self.new result }
@@ -126,7 +135,7 @@ impl Frames {
         edges: &[AigEdge],
         images: &[AigEdge],
     ) -> Result<AigEdge, BoundedError>
-        requires sound { AreNodes self.old.nodes.items }
+        requires shared { AreShared self.old }
         requires first { IsInRange self.old.nodes.items first }
         requires edges { All (λ e. e.node_id < length images.now) edges.now }
         requires images { All (λ e.
@@ -134,6 +143,9 @@ impl Frames {
         ensures gives { IfOk result (Gives (λ y. edge_value self.old.nodes.items y first
             && list_all (λ e. edge_value self.old.nodes.items y (image_in images.now e)) edges.now)
             self.old self.new) }
+        ensures exact { IfOk result (λ e. made_in (net_of self.new) e
+            ≡ shared_ands (made_in (net_of self.old) first)
+            (map (image_in images.now) edges.now)) }
         ensures size { AddsUpTo (length edges.now) self.old self.new result }
     {
         let mut all = first;
@@ -145,13 +157,16 @@ impl Frames {
 
     /// The or of the images of edges.
     fn or_all(&mut self, edges: &[AigEdge], images: &[AigEdge]) -> Result<AigEdge, BoundedError>
-        requires sound { AreNodes self.old.nodes.items }
+        requires shared { AreShared self.old }
         requires edges { All (λ e. e.node_id < length images.now) edges.now }
         requires images { All (λ e.
             IsInRange self.old.nodes.items (image_in images.now e)) edges.now }
         ensures gives { IfOk result (Gives (λ y. list_any
             (λ e. edge_value self.old.nodes.items y (image_in images.now e)) edges.now)
             self.old self.new) }
+        ensures exact { IfOk result (λ e. made_in (net_of self.new) e
+            ≡ shared_ors (made_in (net_of self.old) (edge_to 0 false))
+            (map (image_in images.now) edges.now)) }
         ensures size { AddsUpTo (length edges.now) self.old self.new result }
     {
         let mut any = AigEdge::constant(false);
@@ -161,53 +176,10 @@ impl Frames {
         Ok(any)
     }
 
-    /// What is known with one step more, where every constraint holds up to it where `within` does, some bad edge at it
-    /// where `bad` does, and both where `now` does.
-    fn next_sums(
-        &mut self,
-        sought: Sought,
-        reached: AigEdge,
-        within: AigEdge,
-        bad: AigEdge,
-        now: AigEdge,
-    ) -> Result<Sums, BoundedError>
-        requires sound { AreNodes self.old.nodes.items }
-        requires reached { IsInRange self.old.nodes.items reached }
-        requires within { IsInRange self.old.nodes.items within }
-        requires bad { IsInRange self.old.nodes.items bad }
-        requires now { IsInRange self.old.nodes.items now }
-        ensures within { IfOk result (λ sums. Gives (λ y. next_within sought
-            (edge_value self.old.nodes.items y within) (edge_value self.old.nodes.items y bad))
-            self.old self.new sums.within) }
-        ensures reached { IfOk result (λ sums. Gives (λ y. next_reached sought
-            (edge_value self.old.nodes.items y reached) (edge_value self.old.nodes.items y now))
-            self.old self.new sums.reached) }
-        ensures size { AddsUpTo 1 self.old self.new result }
-    {
-        match sought {
-            Sought::Somewhere => {
-                let reached = self.or(reached, now)?;
-                Ok(Sums { within, reached })
-            }
-            Sought::Last => Ok(Sums {
-                within,
-                reached: now,
-            }),
-            Sought::First(_form) => {
-                let within = self.and(within, !bad)?;
-                Ok(Sums {
-                    within,
-                    reached: now,
-                })
-            }
-        }
-    }
-
     /// What is known of the steps with one more, of which these are the images.
     fn add_sums(
         &mut self,
         circuit: &CircuitView<'_>,
-        sought: Sought,
         images: &[AigEdge],
         step: usize,
         sums: Sums,
@@ -218,8 +190,10 @@ impl Frames {
             circuit.now.properties.bads }
         requires constraints { All (λ e. ShowsNode circuit.now step self.old images.now e.node_id)
             circuit.now.properties.constraints }
-        requires sums { Sum circuit.now sought step step self.old sums }
-        ensures sums { IfOk result (Sum circuit.now sought step (step + 1) self.new) }
+        requires sums { Sum circuit.now step step self.old sums }
+        ensures sums { IfOk result (Sum circuit.now step (step + 1) self.new) }
+        ensures exact { IfOk result (λ after. checks_of self.new after
+            ≡ with_checks circuit.now images.now (checks_of self.old sums)) }
         ensures frames { OnOk result (AreFrames circuit.now (step + 1) 0 self.new) }
         ensures extends { OnOk result (Extends self.old self.new) }
         ensures size { AddsUpTo (length circuit.now.properties.bads
@@ -228,117 +202,76 @@ impl Frames {
         let within = self.and_all(sums.within, circuit.constraints(), images)?;
         let bad = self.or_all(circuit.bads(), images)?;
         let now = self.and(within, bad)?;
-        let more = self.next_sums(sought, sums.reached, within, bad, now)?;
-        Ok(more)
+        let reached = self.or(sums.reached, now)?;
+        Ok(Sums { within, reached })
     }
 
-    /// Adds the last step, and returns the edge that is true where what is sought is reached.
-    fn add_last(
+    /// Adds a step, of which something is read in the steps that are left, and returns what is known of all so far.
+    fn add_step(
         &mut self,
         circuit: &CircuitView<'_>,
-        sought: Sought,
         depths: &[usize],
-        last: usize,
+        left: usize,
+        step: usize,
         images: &mut [AigEdge],
         states: &[Option<AigEdge>],
-        seen: &mut Vec<AigEdge>,
         sums: Sums,
-    ) -> Result<AigEdge, BoundedError>
+    ) -> Result<Sums, BoundedError>
         requires circuit { IsCircuit circuit.now }
+        requires frames { AreFrames circuit.now step 0 self.old }
         requires table { length images.old ≡ length circuit.now.nodes }
-        requires depths { AreDepths circuit.now last depths.now }
-        requires leaves { tells_apart sought ≡ true
-            → HaveNoLatchDepth circuit.now.latchs depths.now }
-        requires seen { tells_apart sought ≡ true
-            → Sees circuit.now last last self.old seen.old.items }
-        requires frames { AreFrames circuit.now last 0 self.old }
-        requires states { HasStates circuit.now last depths.now 0 self.old states.now }
-        requires sums { Sum circuit.now sought last last self.old sums }
-        ensures shows { IfOk result (λ e.
-            Shows circuit.now last self.new e
-            (λ run. reached_to sought circuit.now run (last + 1))) }
-        ensures seen { OnOk result (tells_apart sought ≡ true
-            → Sees circuit.now last (last + 1) self.new seen.new.items) }
-        ensures frames { OnOk result (AreFrames circuit.now (last + 1) 0 self.new) }
-        ensures limit { OnOk result (self.new.limit ≡ self.old.limit) }
-        ensures start { OnOk result (self.new.start ≡ self.old.start) }
+        requires depths { AreDepths circuit.now (left + step) depths.now }
+        requires states { HasStates circuit.now step depths.now left self.old states.now }
+        requires sums { Sum circuit.now step step self.old sums }
+        ensures sums { IfOk result (Sum circuit.now step (step + 1) self.new) }
+        ensures shows { OnOk result (HasImages circuit.now step depths.now left
+            (length circuit.now.nodes) self.new images.new) }
+        ensures exact { IfOk result (λ after. let read = is_read depths.now left in IsStep read
+            (frame_to circuit.now step read (λ n. slice_index_or states.now n None)
+            (net_of self.old) (length circuit.now.nodes)) circuit.now sums images.new
+            (checks_of self.new after)) }
+        ensures frames { OnOk result (AreFrames circuit.now (step + 1) 0 self.new) }
+        ensures extends { OnOk result (Extends self.old self.new) }
         ensures size { AddsUpTo (step_size circuit.now) self.old self.new result }
     {
-        self.add_nodes(circuit, depths, 0, last, images, states)?;
-        let all = self.add_sums(circuit, sought, images, last, sums)?;
-        note_states(circuit, sought, images, seen)?;
-        Ok(all.reached)
+        self.add_nodes(circuit, depths, left, step, images, states)?;
+        let after = self.add_sums(circuit, images, step, sums)?;
+        Ok(after)
     }
 
-    /// Adds the steps 0 to `last`, and returns the edge that is true where what is sought is reached. Notes the states of the
-    /// steps, where they are told apart.
+    /// Adds the steps 0 to `last`, and returns the edge that is true where a bad state is reached.
     fn add_steps(
         &mut self,
         circuit: &CircuitView<'_>,
-        sought: Sought,
         depths: &[usize],
         last: usize,
         images: &mut [AigEdge],
         states: &mut [Option<AigEdge>],
-        seen: &mut Vec<AigEdge>,
     ) -> Result<AigEdge, BoundedError>
         requires circuit { IsCircuit circuit.now }
         requires frames { AreFrames circuit.now 0 0 self.old }
         requires table { length images.old ≡ length circuit.now.nodes }
         requires depths { AreDepths circuit.now last depths.now }
-        requires leaves { tells_apart sought ≡ true
-            → HaveNoLatchDepth circuit.now.latchs depths.now }
-        requires seen { seen.old.items ≡ [] }
         requires states { HasStates circuit.now 0 depths.now last self.old states.old }
+        requires net { net_of self.old ≡ false_net }
+        requires constants { (n : ℕ) → slice_index_or states.old n None
+            ≡ states_at circuit.now [] 0 n }
         ensures shows { IfOk result (λ e.
             Shows circuit.now last self.new e
-            (λ run. reached_to sought circuit.now run (last + 1))) }
-        ensures seen { OnOk result (tells_apart sought ≡ true
-            → Sees circuit.now last (last + 1) self.new seen.new.items) }
+            (λ run. reached_to circuit.now run (last + 1))) }
+        ensures exact { IfOk result (λ e. made_in (net_of self.new) e
+            ≡ reached_in (steps_to (is_read depths.now) circuit.now last (last + 1))) }
         ensures frames { OnOk result (AreFrames circuit.now (last + 1) 0 self.new) }
         ensures limit { OnOk result (self.new.limit ≡ self.old.limit) }
-        ensures start { OnOk result (self.new.start ≡ self.old.start) }
         ensures size { AddsUpTo ((last + 1) * step_size circuit.now) self.old self.new result }
     {
         let mut sums = Sums::start();
         for step in 0..last {
-            self.add_nodes(circuit, depths, last - step, step, images, states)?;
-            sums = self.add_sums(circuit, sought, images, step, sums)?;
-            note_states(circuit, sought, images, seen)?;
+            sums = self.add_step(circuit, depths, last - step, step, images, states, sums)?;
             advance(circuit, images, states);
         }
-        self.add_last(circuit, sought, depths, last, images, states, seen, sums)
-    }
-
-    /// Adds the steps 0 to `last`, and returns the edge that is true where the run is as sought.
-    fn add_asked(
-        &mut self,
-        alloc: Global,
-        circuit: &CircuitView<'_>,
-        sought: Sought,
-        depths: &[usize],
-        last: usize,
-        images: &mut [AigEdge],
-        states: &mut [Option<AigEdge>],
-    ) -> Result<AigEdge, BoundedError>
-        requires circuit { IsCircuit circuit.now }
-        requires frames { AreFrames circuit.now 0 0 self.old }
-        requires table { length images.old ≡ length circuit.now.nodes }
-        requires depths { AreDepths circuit.now last depths.now }
-        requires leaves { tells_apart sought ≡ true
-            → HaveNoLatchDepth circuit.now.latchs depths.now }
-        requires states { HasStates circuit.now 0 depths.now last self.old states.old }
-        ensures shows { IfOk result (λ e.
-            Shows circuit.now last self.new e (λ run. sought_to sought circuit.now run last)) }
-        ensures frames { OnOk result (AreFrames circuit.now (last + 1) 0 self.new) }
-        ensures limit { OnOk result (self.new.limit ≡ self.old.limit) }
-        ensures start { OnOk result (self.new.start ≡ self.old.start) }
-        ensures size { AddsUpTo ((last + 1) * step_size circuit.now
-            + apart_size (tells_apart sought) circuit.now last) self.old self.new result }
-    {
-        let mut seen = Vec::new(alloc);
-        let reached = self.add_steps(circuit, sought, depths, last, images, states, &mut seen)?;
-        self.tell_apart(circuit, sought, reached, &seen, last)
+        let all = self.add_step(circuit, depths, 0, last, images, states, sums)?;
+        Ok(all.reached)
     }
 }
 
@@ -355,30 +288,20 @@ fn advance(circuit: &CircuitView<'_>, images: &[AigEdge], states: &mut [Option<A
     }
 }
 
-/// The state of a latch at the start: constant where runs start in its initial edge, and else open.
-fn first_state(start: Start, latch: &AigLatch) -> Option<AigEdge>
-    ensures { result ≡ first_state start latch.now }
-{
-    match start {
-        Start::Initial => latch.init(),
-        Start::Any => None,
-    }
-}
-
-/// The states of latches at the start.
+/// The states of latches at the start: the constants that they have there. The others are open.
 fn start_states(
     alloc: Global,
     circuit: &CircuitView<'_>,
-    start: Start,
 ) -> Result<Vec<Option<AigEdge>>, MemoryError>
-    requires { HasStarts start circuit.now }
-    ensures { IfOk result (λ states. (depths : List ℕ) (left : ℕ) (f : Frames)
-        → AreNodes f.nodes.items → f.start ≡ start
-        → HasStates circuit.now 0 depths left f states.items) }
+    requires { All HasConstantInit circuit.now.latchs }
+    ensures has { IfOk result (λ states. (depths : List ℕ) (left : ℕ) (f : Frames)
+        → AreNodes f.nodes.items → HasStates circuit.now 0 depths left f states.items) }
+    ensures exact { IfOk result (λ states. (n : ℕ) → slice_index_or states.items n None
+        ≡ states_at circuit.now [] 0 n) }
 {
     let mut states = vec![in alloc; None; circuit.nodes().len()]?;
     for latch in circuit.latchs() {
-        states[latch.input()] = first_state(start, latch);
+        states[latch.input()] = latch.init();
     }
     Ok(states)
 }
@@ -390,39 +313,33 @@ fn blank_images(alloc: Global, count: usize) -> Result<Vec<AigEdge>, MemoryError
     Ok(vec![in alloc; AigEdge::constant(false); count]?)
 }
 
-/// The nodes of the steps 0 to `last`, and the edge that is true where the run is as sought.
+/// The nodes of the steps 0 to `last`, and the edge that is true where a bad state is reached.
 pub(crate) fn expanded(
     alloc: Global,
     circuit: &CircuitView<'_>,
-    start: Start,
-    sought: Sought,
     last: usize,
     limit: usize,
 ) -> Result<(Frames, AigEdge), BoundedError>
-    requires starts { HasStarts start circuit.now }
+    requires starts { All HasConstantInit circuit.now.latchs }
     requires some { 1 ≤ limit }
+    requires few { limit ≤ 2 ^ 31 }
     ensures shows { IfOk result (λ made. Shows circuit.now last made.0 made.1
-        (λ run. sought_to sought circuit.now run last)) }
+        (λ run. reached_to circuit.now run (last + 1))) }
+    ensures exact { IfOk result (λ made. (read : ℕ → ℕ → Bool) × ReadsExactly circuit.now last read
+        × (made_in (net_of made.0) made.1 ≡ reached_in (steps_to read circuit.now last (last + 1)))) }
     ensures frames { IfOk result (λ made. AreFrames circuit.now (last + 1) 0 made.0) }
     ensures limit { IfOk result (λ made. made.0.limit ≡ limit) }
-    ensures start { IfOk result (λ made. made.0.start ≡ start) }
-    ensures large { IsErrOf result BoundedError.TooLarge
-        → limit < asked_size sought circuit.now last }
+    ensures large { IsErrOf result BoundedError.TooLarge → limit < question_size circuit.now last }
     ensures circuit { IsCircuit circuit.now }
 {
     let count = circuit.nodes().len();
-    let depths = depths(alloc, circuit, sought, last)?;
+    if last == usize::MAX {
+        return Err(BoundedError::TooLarge);
+    }
+    let depths = depths(alloc, circuit, last)?;
     let mut images = blank_images(alloc, count)?;
-    let mut states = start_states(alloc, circuit, start)?;
-    let mut frames = Frames::new(alloc, limit, start)?;
-    let output = frames.add_asked(
-        alloc,
-        circuit,
-        sought,
-        &depths,
-        last,
-        &mut images,
-        &mut states,
-    )?;
+    let mut states = start_states(alloc, circuit)?;
+    let mut frames = Frames::new(alloc, limit, Seeded::of(circuit))?;
+    let output = frames.add_steps(circuit, &depths, last, &mut images, &mut states)?;
     Ok((frames, output))
 }

@@ -16,51 +16,23 @@ use Rattle.aig_witness.specs.declared.witness.Witness as witnesses
 use Rattle.aig_witness.specs.Machine.{ShowsBad}
 use Rattle.aig_witness.specs.Shown.{IsKnownWitness}
 use Rattle.aig_witness.specs.Witness.{Witness, said_by}
+use Rattle.aig_bounded.specs.Question.{IsQuestion, question_size}
 use Rattle.aig_bounded.specs.declared.error.BoundedError.TheVariants.{TooLarge}
-use Rattle.aig_bounded.specs.declared.place.Place.{Place}
-use Rattle.aig_bounded_answers.specs.declared.questions.Asked.{Asked}
-use Rattle.aig_bounded_answers.specs.declared.questions.Asked.TheVariants.{Reached, Step, Window}
 use Rattle.aig_bounded_answers.specs.declared.error.BoundedAnswerError.{BoundedAnswerError}
 use Rattle.aig_bounded_answers.specs.declared.error.BoundedAnswerError.TheVariants as errors
 use Rattle.aig_bounded_answers.specs.declared.clauses.BoundedClauses.{BoundedClauses}
-use Rattle.aig_bounded_answers.specs.Asking.{AsksBy, IsAskedWithin, RefusesAnswer, RefusesSolution, TellsOfSize, verdict_of}
-use Rattle.aig_bounded_answers.specs.Encoded.{IsEncoded, IsEncodedQuestion, IsQuestionBy, IsSaidOfBads, size_by}
+use Rattle.aig_bounded_answers.specs.Asking.{AsksBounded, IsAskedWithin, RefusesAnswer, RefusesSolution, TellsOfSize, verdict_of}
+use Rattle.aig_bounded_answers.specs.Encoded.{IsEncoded, IsEncodedQuestion, IsSaidOfBads}
 use Rattle.aig_bounded_answers.specs.Naming.{IsNamed}
 use Rattle.aig_bounded_answers.specs.Solving.{WitnessWithin}
+use Rattle.aig_bounded_answers.proofs.Single.{refused_same}
 use Rattle.aig_bounded_answers.proofs.Verdicts.{count_of}
 use Rattle.aig_bounded_answers.specs.declared.naming.Named.{Named}
 use Rattle.aig_bounded.specs.declared.question.Question.{Question}
 
--- ---- of every question
-
--- what all questions have
-pub record IsPlain (c asks : Circuit) (output : AigEdge) (places : List Place) : Type 0 where
-  pub circuit : IsCircuit asks
-  pub properties : asks.properties ≡ record no_properties { outputs = output ∷ [] }
-  pub leaves : All (λ p. IsLeaf c.nodes p.leaf) places
-
-pub plain_of : (asked : Asked) (last : ℕ) (c asks : Circuit) (output : AigEdge)
-    (places : List Place) → IsQuestionBy asked last c asks output places
-    → IsPlain c asks output places
-plain_of Reached last c asks output places is = record {
-  circuit = is.circuit;
-  properties = is.properties;
-  leaves = λ i d h. (is.are_places i d h).leaf;
-}
-plain_of Step last c asks output places is = record {
-  circuit = is.circuit;
-  properties = is.properties;
-  leaves = λ i d h. (is.are_places i d h).leaf;
-}
-plain_of (Window form) last c asks output places is = record {
-  circuit = is.circuit;
-  properties = is.properties;
-  leaves = λ i d h. (is.are_places i d h).leaf;
-}
-
 -- ---- of a file
 
-module _ (asked : Asked) (limit k : ℕ) (optimize : Bool) (lists : CircuitLists)
+module _ (limit k : ℕ) (optimize : Bool) (lists : CircuitLists)
     (old new : Option (List ℕ))
     (read : IsReadAs (λ bytes. Accepts bytes limit) AreListsOf old new lists) where
   pub read_circuit : IsCircuit (lists_circuit lists)
@@ -79,11 +51,11 @@ module _ (asked : Asked) (limit k : ℕ) (optimize : Bool) (lists : CircuitLists
 
   -- the question is one of the file
   asks_file : (made : BoundedClauses)
-      → IsEncodedQuestion asked (lists_circuit lists) k optimize made
-      → AsksBy (IsQuestionBy asked k) read.file optimize made
+      → IsEncodedQuestion (lists_circuit lists) k optimize made
+      → AsksBounded read.file k optimize made
   asks_file made e = record {
     output = e.output;
-    asks = subst (λ c. IsQuestionBy asked k c (lists_circuit made.question.circuit) e.output
+    asks = subst (λ c. IsQuestion c k (lists_circuit made.question.circuit) e.output
         made.question.places.items) read.means e.asks;
     named = subst (λ c. AllZip (IsNamed c) made.question.places.items made.named.items) read.means
         e.named;
@@ -91,13 +63,12 @@ module _ (asked : Asked) (limit k : ℕ) (optimize : Bool) (lists : CircuitLists
     fixes = e.encoded.fixes;
     satisfied = e.encoded.satisfied;
     exact = e.encoded.exact ∙ ap (λ (p : Properties AigEdge). unit_clauses p.outputs)
-        (plain_of asked k (lists_circuit lists) (lists_circuit made.question.circuit) e.output
-        made.question.places.items e.asks).properties;
+        e.asks.properties;
   }
 
   pub asked_of : (made : BoundedClauses) → lists.properties.bads.items ≢ []
-      → IsEncodedQuestion asked (lists_circuit lists) k optimize made
-      → IsReadAs (IsAskedWithin limit) (λ f. AsksBy (IsQuestionBy asked k) f optimize) old new made
+      → IsEncodedQuestion (lists_circuit lists) k optimize made
+      → IsReadAs (IsAskedWithin limit) (λ f. AsksBounded f k optimize) old new made
   asked_of made some is = record {
     file = read.file;
     bytes = read.bytes;
@@ -108,13 +79,13 @@ module _ (asked : Asked) (limit k : ℕ) (optimize : Bool) (lists : CircuitLists
 
   -- a question that is too large is one of the file
   pub size_of : (e : BoundedAnswerError) → IsSaidOfBads lists.properties.bads.items (verdict_of e)
-      → (e ≡ errors.Question TooLarge → limit < size_by asked k (lists_circuit lists))
-      → TellsOfSize limit (size_by asked k) old new e
+      → (e ≡ errors.Question TooLarge → limit < question_size (lists_circuit lists) k)
+      → TellsOfSize limit (λ c. question_size c k) old new e
   size_of (errors.Question TooLarge) some large = record {
     file = read.file;
     bytes = read.bytes;
     holds = (read.holds, bads_of some);
-    means = subst (λ c. limit < size_by asked k c) read.means (large refl);
+    means = subst (λ c. limit < question_size c k) read.means (large refl);
     taken = read.taken;
   }
   size_of e some large = tt
@@ -126,18 +97,20 @@ module _ (limit k : ℕ) (optimize : Bool) (lists : CircuitLists) (old new : Opt
   pub refusal_of : (text : Option (List ℕ)) (refused : Bool) (made : BoundedClauses) (e :
       SolutionError)
       → lists.properties.bads.items ≢ []
-      → IsEncodedQuestion Reached (lists_circuit lists) k optimize made
+      → IsEncodedQuestion (lists_circuit lists) k optimize made
       → RefusesAnswer text refused (length lists.properties.bads.items) made e
       → IsReadAs (IsAskedWithin limit) (RefusesSolution text refused k optimize) old new e
   refusal_of text refused made e some is refusal = record {
     file = read.file;
     bytes = read.bytes;
-    holds = (read.holds, bads_of Reached limit k optimize lists old new read some);
+    holds = (read.holds, bads_of limit k optimize lists old new read some);
     means = (
-      made,
-      asks_file Reached limit k optimize lists old new read made is,
-      subst (λ n. RefusesAnswer text refused n made e) (count_of
-          read.file lists read.means) refusal,
+      (made, asks_file limit k optimize lists old new read made is),
+      λ other asks. refused_same read.file k optimize made other
+          (asks_file limit k optimize lists old new read made is) asks text refused
+          (length read.file.properties.bads) e
+          (subst (λ n. RefusesAnswer text refused n made e) (count_of
+          read.file lists read.means) refusal),
     );
     taken = read.taken;
   }
@@ -152,7 +125,7 @@ module _ (limit k : ℕ) (optimize : Bool) (lists : CircuitLists) (old new : Opt
   shown_of law w some known = record {
     file = read.file;
     bytes = read.bytes;
-    holds = (read.holds, bads_of Reached limit k optimize lists old new read some);
+    holds = (read.holds, bads_of limit k optimize lists old new read some);
     means = (
       law read.file limit (said_by w) read.holds.1 (subst (λ c. IsKnownWitness c (said_by
           w)) read.means known.0),
@@ -162,13 +135,12 @@ module _ (limit k : ℕ) (optimize : Bool) (lists : CircuitLists) (old new : Opt
   }
 
 -- the further clause is of variables that are there
-pub AreBelow-further : (asked : Asked) (f : File) (k : ℕ) (optimize : Bool) (made : BoundedClauses)
-    → AsksBy (IsQuestionBy asked k) f optimize made → AreBelow (length made.clauses) made.further
-AreBelow-further asked f k optimize made is =
+pub AreBelow-further : (f : File) (k : ℕ) (optimize : Bool) (made : BoundedClauses)
+    → AsksBounded f k optimize made → AreBelow (length made.clauses) made.further
+AreBelow-further f k optimize made is =
     let asks = lists_circuit made.question.circuit in
-    let plain = plain_of asked k (circuit_of f) asks is.output made.question.places.items is.asks in
     let outputs = subst (λ (p : Properties AigEdge). All (IsInRange asks.nodes) p.outputs)
-    plain.properties plain.circuit.properties.outputs in
+    is.asks.properties is.asks.circuit.properties.outputs in
     let there : is.output.node_id < length asks.nodes = outputs 0 is.output (omega arith) in
     let count : length made.clauses ≡ length asks.nodes = is.has_clauses.count in
     let below : variable_of (lit_of is.output) < length made.clauses = omega (
@@ -183,14 +155,14 @@ AreBelow-further asked f k optimize made is =
     variable_of lit < length made.clauses)) ((lit_of is.output ∷ []) ∷ []) (literal, tt))
 
 -- a question with its clauses
-pub encoded_question : (asked : Asked) (c : Circuit) (k : ℕ) (optimize : Bool) (q : Question)
+pub encoded_question : (c : Circuit) (k : ℕ) (optimize : Bool) (q : Question)
     (made : BoundedClauses) (named : List Named)
-    → (e : AigEdge) × IsQuestionBy asked k c (lists_circuit q.circuit) e q.places.items
+    → (e : AigEdge) × IsQuestion c k (lists_circuit q.circuit) e q.places.items
     → AllZip (IsNamed c) q.places.items named
-    → IsEncoded q named optimize made → IsEncodedQuestion asked c k optimize made
-encoded_question asked c k optimize q made named asks names encoded = record {
+    → IsEncoded q named optimize made → IsEncodedQuestion c k optimize made
+encoded_question c k optimize q made named asks names encoded = record {
   output = asks.0;
-  asks = subst (λ (x : Question). IsQuestionBy asked k c (lists_circuit x.circuit) asks.0
+  asks = subst (λ (x : Question). IsQuestion c k (lists_circuit x.circuit) asks.0
       x.places.items)
       (sym encoded.same) asks.1;
   named = subst (λ (x : Question). AllZip (IsNamed c) x.places.items made.named.items) (sym

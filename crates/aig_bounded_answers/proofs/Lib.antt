@@ -1,5 +1,5 @@
 mod Safe
-mod Inductive
+mod Single
 mod Asked
 mod Names
 mod Saying

@@ -11,17 +11,12 @@ use Rattle.aig_cnf.specs.Cnf.{FixesRoots, IsFixed, edge_in}
 use Rattle.aig_format.proofs.Words.{circuit_of, File, Fits}
 use Rattle.aig_format.proofs.Circuits.{IsCircuit-of_file}
 use Rattle.aig_runs.specs.Queries.{IsSafeTo}
-use Rattle.aig_runs.specs.Safety.{IsSafeAt}
 use Rattle.aig_runs.proofs.SafeSteps.{safe_is}
 use Rattle.aig_runs.proofs.Witnesses.{witness_back, witness_forth}
 use Rattle.aig_format_laws.specs.Nodes.{values_over}
-use Rattle.aig_bounded.proofs.Witnesses.{question_asks, step_asks}
+use Rattle.aig_bounded.proofs.Witnesses.{question_asks}
 use Rattle.aig_bounded_answers.specs.declared.clauses.BoundedClauses.{BoundedClauses}
-use Rattle.aig_bounded_answers.specs.declared.questions.Asked.TheVariants.{Reached, Step}
-use Rattle.aig_bounded_answers.specs.Asking.{AsksBounded, AsksBy, AsksStepBounded}
-use Rattle.aig_bounded_answers.proofs.Asked.{IsPlain, plain_of}
-use Rattle.aig_bounded.specs.declared.place.Place.{Place}
-use Rattle.aig_bounded.specs.Question.{IsQuestion, IsStepQuestion}
+use Rattle.aig_bounded_answers.specs.Asking.{AsksBounded}
 use Rattle.aig_runs.specs.CircuitQueries.{HasCircuitWitness}
 
 and_first : (a b : Bool) → (a && b) ≡ true → a ≡ true
@@ -84,10 +79,8 @@ output_holds asks made output fixes properties exact literals v h =
 
 -- ---- refuted clauses
 
-module _ (IsAsked : Circuit → Circuit → AigEdge → List Place → Type 0) (f : File) (optimize : Bool)
-    (made : BoundedClauses) (is : AsksBy IsAsked f optimize made)
-    (plain : IsPlain (circuit_of f) (lists_circuit made.question.circuit) is.output
-    made.question.places.items)
+module _ (f : File) (k : ℕ) (optimize : Bool) (made : BoundedClauses)
+    (is : AsksBounded f k optimize made)
     (literals : (v : ℕ → Bool) (e : AigEdge) → literal_value v (lit_of e) ≡ edge_in v e) where
   abbrev asks : Circuit
   asks = lists_circuit made.question.circuit
@@ -111,25 +104,25 @@ module _ (IsAsked : Circuit → Circuit → AigEdge → List Place → Type 0) (
       → (y : ℕ → Bool) × IsTrue (edge_value asks.nodes y is.output)
   true_where (v, h) = (
     v,
-    output_holds asks made is.output is.fixes plain.properties is.exact literals v h,
+    output_holds asks made is.output is.fixes is.asks.properties is.exact literals v h,
   )
 
   -- the question's output is never true
   abbrev Never : Type 0
   Never = (y : ℕ → Bool) → IsTrue (edge_value asks.nodes y is.output) → ⊥
 
-  pub refuted_never : (¬ IsSatisfiable (clauses_in made.clauses ++ made.further)) ↔ Never
+  refuted_never : (¬ IsSatisfiable (clauses_in made.clauses ++ made.further)) ↔ Never
   refuted_never = (
     λ none y holds. none (satisfied_where y holds),
     λ never s. let y = true_where s in never y.0 y.1,
   )
 
-  pub folded_never : All (λ e. e ≡ edge_to 0 false) asks.properties.outputs → Never
+  folded_never : All (λ e. e ≡ edge_to 0 false) asks.properties.outputs → Never
   folded_never all y holds =
       let outputs = subst (λ (p : Properties AigEdge). All (λ e. e ≡ edge_to 0 false) p.outputs)
-      plain.properties all in
+      is.asks.properties all in
       let false_is : is.output ≡ edge_to 0 false = outputs 0 is.output (omega arith) in
-      false≢true (sym (node_value-false asks.nodes y 0 plain.circuit.nodes.false_first) ∙ sym (ap
+      false≢true (sym (node_value-false asks.nodes y 0 is.asks.circuit.nodes.false_first) ∙ sym (ap
       (edge_value asks.nodes y) false_is) ∙ holds)
 
 -- ---- a bad state that is reached
@@ -162,55 +155,11 @@ module _ (f : File) (limit k : ℕ) (optimize : Bool) (made : BoundedClauses) (f
       let x = reached.2.0 in
       (safe_is f k).1 safe t reached.1 (values_over f x, witness_back f limit t x fits reached.2.1)
 
-  plain : IsPlain (circuit_of f) question is.output made.question.places.items
-  plain = plain_of Reached k (circuit_of f) question is.output made.question.places.items is.asks
-
   pub refuted_is_safe : (¬ IsSatisfiable (clauses_in made.clauses ++ made.further)) ↔ IsSafeTo f k
   refuted_is_safe =
-      let never = refuted_never (λ c. IsQuestion c k) f optimize made is plain literals in
+      let never = refuted_never f k optimize made is literals in
       (λ none. safe_where (never.0 none), λ safe. never.1 (none_where safe))
 
   pub folded_is_safe : All (λ e. e ≡ edge_to 0 false) question.properties.outputs → IsSafeTo f k
   folded_is_safe all =
-      safe_where (folded_never (λ c. IsQuestion c k) f optimize made is plain literals all)
-
--- ---- a bad state at one step
-
-module _ (f : File) (limit k : ℕ) (optimize : Bool) (made : BoundedClauses) (fits : Fits f limit)
-    (is : AsksStepBounded f k optimize made)
-    (literals : (v : ℕ → Bool) (e : AigEdge) → literal_value v (lit_of e) ≡ edge_in v e) where
-  abbrev step_question : Circuit
-  step_question = lists_circuit made.question.circuit
-
-  step_asked : ((y : ℕ → Bool) × IsTrue (edge_value step_question.nodes y is.output))
-      ↔ HasCircuitWitness (circuit_of f) k
-  step_asked = step_asks (circuit_of f) k step_question is.output made.question.places.items is.asks
-
-  safe_at_where : ((y : ℕ → Bool) → IsTrue (edge_value step_question.nodes y is.output) → ⊥)
-      → IsSafeAt f k
-  safe_at_where none w =
-      let x = witness_forth f limit k w.0 fits w.1 in
-      let y = step_asked.1 (x.0, x.1) in
-      none y.0 y.1
-
-  where_safe_at : IsSafeAt f k → (y : ℕ → Bool)
-      → IsTrue (edge_value step_question.nodes y is.output) → ⊥
-  where_safe_at safe y holds =
-      let reached = step_asked.0 (y, holds) in
-      safe (values_over f reached.0, witness_back f limit k reached.0 fits reached.1)
-
-  step_plain : IsPlain (circuit_of f) step_question is.output made.question.places.items
-  step_plain = plain_of Step k (circuit_of f) step_question is.output made.question.places.items
-      is.asks
-
-  pub refuted_step_is_safe : (¬ IsSatisfiable (clauses_in made.clauses ++ made.further))
-      ↔ IsSafeAt f k
-  refuted_step_is_safe =
-      let never = refuted_never (λ c. IsStepQuestion c k) f optimize made is step_plain literals in
-      (λ none. safe_at_where (never.0 none), λ safe. never.1 (where_safe_at safe))
-
-  pub folded_step_is_safe : All (λ e. e ≡ edge_to 0 false) step_question.properties.outputs
-      → IsSafeAt f k
-  folded_step_is_safe all =
-      safe_at_where (folded_never (λ c. IsStepQuestion c k) f optimize made is step_plain literals
-      all)
+      safe_where (folded_never f k optimize made is literals all)

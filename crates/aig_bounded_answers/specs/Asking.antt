@@ -23,10 +23,8 @@ use Rattle.aig_refutation.specs.Checking.{Shows}
 use Rattle.aig_solutions.specs.declared.error.SolutionError.{SolutionError}
 use Rattle.aig_solutions.specs.declared.error.SolutionError.TheVariants as solutions
 use Rattle.aig_solutions.specs.Reading.{GivesSolution, solution_in}
-use Rattle.aig_runs.specs.declared.window.Window.{Window}
 use Rattle.aig_bounded.specs.declared.error.BoundedError.TheVariants.{TooLarge}
-use Rattle.aig_bounded.specs.declared.place.Place.{Place}
-use Rattle.aig_bounded.specs.Question.{IsQuestion, IsStepQuestion, IsWindowQuestion}
+use Rattle.aig_bounded.specs.Question.{IsQuestion}
 use Rattle.aig_bounded_answers.specs.declared.clauses.BoundedClauses.{BoundedClauses}
 use Rattle.aig_bounded_answers.specs.declared.error.BoundedAnswerError.{BoundedAnswerError}
 use Rattle.aig_bounded_answers.specs.declared.error.BoundedAnswerError.TheVariants as errors
@@ -38,11 +36,11 @@ use Rattle.aig_bounded_answers.specs.Naming.{IsNamed}
 abbrev pub IsAskedWithin : ℕ → List ℕ → File → Type 0
 IsAskedWithin limit bytes f = Accepts bytes limit f × (f.properties.bads ≢ [])
 
--- The clauses of a question of the file's circuit, and the one that its output is true.
-pub record AsksBy (IsAsked : Circuit → Circuit → AigEdge → List Place → Type 0) (f : File)
-    (optimize : Bool) (made : BoundedClauses) : Type 0 where
+-- The clauses of the question whether the file's circuit reaches a bad state up to step k, and the
+-- one that its output is true.
+pub record AsksBounded (f : File) (k : ℕ) (optimize : Bool) (made : BoundedClauses) : Type 0 where
   pub output : AigEdge
-  pub asks : IsAsked (circuit_of f) (lists_circuit made.question.circuit) output
+  pub asks : IsQuestion (circuit_of f) k (lists_circuit made.question.circuit) output
       made.question.places.items
   -- what stands at these places, one for one
   pub named : AllZip (IsNamed (circuit_of f)) made.question.places.items made.named.items
@@ -51,21 +49,6 @@ pub record AsksBy (IsAsked : Circuit → Circuit → AigEdge → List Place → 
   pub fixes : FixesRoots (lists_circuit made.question.circuit) made.clauses
   pub satisfied : NodeValuesSatisfy (lists_circuit made.question.circuit) made.clauses
   pub exact : made.further ≡ (lit_of output ∷ []) ∷ []
-
--- the question is whether a bad state is reached up to step k
-abbrev pub AsksBounded : File → ℕ → Bool → BoundedClauses → Type 0
-AsksBounded f k optimize made = AsksBy (λ c. IsQuestion c k) f optimize made
-
--- the question is whether one is reached at step k, whatever is bad before
-abbrev pub AsksStepBounded : File → ℕ → Bool → BoundedClauses → Type 0
-AsksStepBounded f k optimize made = AsksBy (λ c. IsStepQuestion c k) f optimize made
-
--- the question is whether one is reached, from any state, at step k + 1 first, on a run at which
--- the
--- form looks
-abbrev pub AsksWindowBounded : Window → File → ℕ → Bool → BoundedClauses → Type 0
-AsksWindowBounded form f k optimize made =
-    AsksBy (λ c. IsWindowQuestion form c (k + 1)) f optimize made
 
 -- the question's output is the constant false
 abbrev pub IsSettled : BoundedClauses → Type 0
@@ -140,29 +123,14 @@ pub record TellsOfProof {P : Type 0} (left : P → Option (List ℕ)) (made : Bo
   pub settled : IsSettled made → (result ≡ Ok tt) × (rest ≡ p)
   pub shown : ¬ IsSettled made → ShowsProof made (left p) result
 
--- the same of the clauses of a question of the file
-abbrev pub AnswersProofBy : {P : Type 0} → (Circuit → Circuit → AigEdge → List Place → Type 0)
-    → (P → Option (List ℕ)) → Bool → P → P → File → Result Unit BoundedAnswerError → Type 0
-AnswersProofBy IsAsked left optimize p rest f result =
-    (made : BoundedClauses) × AsksBy IsAsked f optimize made × TellsOfProof left made p rest result
-
--- whether a bad state is reached up to step k
+-- the file has a question, and it is told so of the clauses of each: of those that any call gives or
+-- prints, as there is one (`bounded_clauses_are_one`)
 abbrev pub AnswersProof : {P : Type 0} → (P → Option (List ℕ)) → ℕ → Bool → P → P → File
     → Result Unit BoundedAnswerError → Type 0
 AnswersProof left k optimize p rest f result =
-    AnswersProofBy (λ c. IsQuestion c k) left optimize p rest f result
-
--- whether one is reached at step k
-abbrev pub AnswersStepProof : {P : Type 0} → (P → Option (List ℕ)) → ℕ → Bool → P → P → File
-    → Result Unit BoundedAnswerError → Type 0
-AnswersStepProof left k optimize p rest f result =
-    AnswersProofBy (λ c. IsStepQuestion c k) left optimize p rest f result
-
--- whether one is reached, from any state, at step k + 1 first, on a run at which the form looks
-abbrev pub AnswersWindowProof : {P : Type 0} → (P → Option (List ℕ)) → Window → ℕ → Bool → P → P
-    → File → Result Unit BoundedAnswerError → Type 0
-AnswersWindowProof left form k optimize p rest f result =
-    AnswersProofBy (λ c. IsWindowQuestion form c (k + 1)) left optimize p rest f result
+    ((made : BoundedClauses) × AsksBounded f k optimize made)
+    × ((made : BoundedClauses) → AsksBounded f k optimize made
+    → TellsOfProof left made p rest result)
 
 -- ---- a solver's answer
 
@@ -195,11 +163,12 @@ RefusesAnswer text failed bads made solutions.NoBad =
     (values : List Lbool) × AreSaid text made values × (bads ≤ 2 ^ 32 → ¬ AreSolution made values)
 RefusesAnswer text failed bads made e = GivesSolution text (length made.clauses) failed (Err e)
 
--- the same of the clauses of a question of the file
+-- the file has a question, and the answer is refused so with the clauses of each
 abbrev pub RefusesSolution : Option (List ℕ) → Bool → ℕ → Bool → File → SolutionError → Type 0
 RefusesSolution text failed k optimize f e =
-    (made : BoundedClauses) × AsksBounded f k optimize made
-    × RefusesAnswer text failed (length f.properties.bads) made e
+    ((made : BoundedClauses) × AsksBounded f k optimize made)
+    × ((made : BoundedClauses) → AsksBounded f k optimize made
+    → RefusesAnswer text failed (length f.properties.bads) made e)
 
 -- a refusal of a solver's answer is of a file that was read
 abbrev pub TellsOfSolution : ℕ → ℕ → Bool → Option (List ℕ) → Option (List ℕ) → Option (List ℕ)

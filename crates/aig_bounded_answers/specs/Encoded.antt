@@ -2,7 +2,6 @@
 -- The names of leaves, and the clauses of a question.
 use Rattle.std.specs.Prelude.{◌≡◌, ◌≢◌, ℕ, Bool, false, Some, List, [], ◌++◌, ◌⊎◌, slice_index_or}
 use Rattle.std.specs.List.{AllZip}
-use Rattle.aig_base.specs.Formula.{IsSatisfiable, clauses_in}
 use Rattle.aig_circuit.specs.declared.edge.AigEdge.{AigEdge}
 use Rattle.aig_circuit.specs.Circuit.{Circuit}
 use Rattle.aig_circuit.specs.View.{lists_circuit}
@@ -10,14 +9,9 @@ use Rattle.aig_cnf.specs.Cnf.{FixesRoots, HasClauses, NodeValuesSatisfy}
 use Rattle.aig_reader.specs.Verdicts.{Accepted, NoBads, Short, Verdict}
 use Rattle.aig_runs.specs.Queries.{unit_clauses}
 use Rattle.aig_bounded.specs.declared.question.Question.{Question}
-use Rattle.aig_bounded.specs.declared.place.Place.{Place}
-use Rattle.aig_bounded.specs.Question.{IsQuestion, IsStepQuestion, IsWindowQuestion, question_size, window_question_size}
-use Rattle.aig_bounded_answers.specs.declared.questions.Asked.{Asked}
-use Rattle.aig_bounded_answers.specs.declared.questions.Asked.TheVariants.{Reached, Step, Window}
+use Rattle.aig_bounded.specs.Question.{IsQuestion}
 use Rattle.aig_bounded_answers.specs.declared.clauses.BoundedClauses.{BoundedClauses}
 use Rattle.aig_bounded_answers.specs.declared.naming.Named.{Named}
-use Rattle.aig_format.specs.File.{File}
-use Rattle.aig_bounded_answers.specs.Asking.{AsksBy, IsSettled}
 use Rattle.aig_bounded_answers.specs.Naming.{IsNamed, leaf_of}
 
 -- ---- names
@@ -41,32 +35,14 @@ pub record IsEncoded (q : Question) (named : List Named) (optimize : Bool) (made
   pub satisfied : NodeValuesSatisfy (lists_circuit q.circuit) made.clauses
   pub exact : made.further ≡ unit_clauses (lists_circuit q.circuit).properties.outputs
 
--- the circuit asks this of the runs of c of the steps 0 to last
-abbrev pub IsQuestionBy : Asked → ℕ → Circuit → Circuit → AigEdge → List Place → Type 0
-IsQuestionBy Reached last c = IsQuestion c last
-IsQuestionBy Step last c = IsStepQuestion c last
-IsQuestionBy (Window form) last c = IsWindowQuestion form c last
-
--- how many nodes are made for it at most
-abbrev pub size_by : Asked → ℕ → Circuit → ℕ
-size_by Reached last c = question_size c last
-size_by Step last c = question_size c last
-size_by (Window form) last c = window_question_size form c last
-
 -- a question of the circuit, with its clauses
-pub record IsEncodedQuestion (asked : Asked) (c : Circuit) (last : ℕ) (optimize : Bool)
+pub record IsEncodedQuestion (c : Circuit) (last : ℕ) (optimize : Bool)
     (made : BoundedClauses) : Type 0 where
   pub output : AigEdge
-  pub asks : IsQuestionBy asked last c (lists_circuit made.question.circuit) output
+  pub asks : IsQuestion c last (lists_circuit made.question.circuit) output
       made.question.places.items
   pub named : AllZip (IsNamed c) made.question.places.items made.named.items
   pub encoded : IsEncoded made.question made.named.items optimize made
-
--- the clauses of a question of the file are settled, or can't be satisfied
-abbrev pub IsRefuted : (Circuit → Circuit → AigEdge → List Place → Type 0) → File → Bool → Type 0
-IsRefuted IsAsked f optimize =
-    (made : BoundedClauses) × AsksBy IsAsked f optimize made
-    × (IsSettled made ⊎ (¬ IsSatisfiable (clauses_in made.clauses ++ made.further)))
 
 -- ---- verdicts
 

@@ -4,24 +4,16 @@ ghost use Rattle.std.specs.Prelude.{◌≡◌, ◌≢◌, ◌+◌, ◌<◌, ◌�
 ghost use Rattle.aig_base.specs.Formula.{IsSatisfiable, clauses_in};
 ghost use Rattle.aig_reader.specs.Reading.{IsReadAs};
 ghost use Rattle.aig_reader.specs.Verdicts.{Accepted, Judges, verdict_by};
-ghost use Rattle.aig_runs.specs.Induction.{IsKInductive};
 ghost use Rattle.aig_runs.specs.Queries.{IsSafeTo};
-ghost use Rattle.aig_runs.specs.Safety.{IsSafeAt};
-ghost use Rattle.aig_bounded.specs.Question.{question_size, window_question_size};
+ghost use Rattle.aig_bounded.specs.Question.{question_size};
 ghost use Rattle.aig_bounded_answers.specs.declared.error.BoundedAnswerError.TheVariants as errors;
-ghost use Rattle.aig_bounded_answers.specs.Encoded.{IsQuestionBy, IsRefuted, size_by};
-ghost use Rattle.aig_bounded_answers.specs.Asking.{AnswersProof, AnswersProofBy, AnswersStepProof, AnswersWindowProof, IsAskedWithin, IsOfCheck, IsSettled, TellsOfProof, TellsOfSize, bounded_verdict, verdict_of};
+ghost use Rattle.aig_bounded_answers.specs.Asking.{AnswersProof, IsAskedWithin, IsOfCheck, IsSettled, TellsOfProof, TellsOfSize, bounded_verdict, verdict_of};
 
-use crate::clauses::{BoundedClauses, ask_bytes};
+use crate::clauses::{BoundedClauses, bounded};
 use crate::error::BoundedAnswerError;
-use crate::laws::{
-    refuted_questions_are_safe, refuted_step_questions_are_safe,
-    refuted_window_questions_are_inductive,
-};
-use crate::questions::Asked;
+use crate::laws::refuted_questions_are_safe;
 use aig_base::Source;
 use aig_refutation::{RefutationError, check_refutation};
-use aig_runs::{Window, inductive_windows_are_safe};
 use std::alloc::Global;
 
 /// Checks a proof that the clauses of a question can't be satisfied, unless the question is settled. The one error is that of
@@ -43,37 +35,6 @@ fn refute<P: Source>(
     }
     check_refutation(alloc, &made.clauses, &made.further, proof)?;
     Ok(())
-}
-
-/// Reads a circuit from the bytes of an AIGER file, and checks a proof that the clauses of its question for the steps 0 to
-/// `last` can't be satisfied.
-fn check_asked<R: Source, P: Source>(
-    alloc: Global,
-    r: &mut R,
-    asked: Asked,
-    limit: usize,
-    last: usize,
-    optimize: bool,
-    proof: &mut P,
-) -> Result<(), BoundedAnswerError>
-    requires some { 1 ≤ limit }
-    requires few { limit ≤ 2 ^ 31 }
-    ensures answer { IfOk result (IsReadAs (IsAskedWithin limit)
-        (λ f _. IsRefuted (IsQuestionBy asked last) f optimize) (R.left r.old) (R.left r.new)) }
-    ensures verdict { Judges bounded_verdict limit (R.left r.old) (R.left r.new) (R.failed r.new)
-        (verdict_by verdict_of result) }
-    ensures own { IfErr result IsOfCheck }
-    ensures large { IfErr result
-        (TellsOfSize limit (size_by asked last) (R.left r.old) (R.left r.new)) }
-    ensures unread { verdict_by verdict_of result ≢ Accepted → proof.new ≡ proof.old }
-    ensures stream { IsErrOf result (BoundedAnswerError.Refutation RefutationError.Stream)
-        → IsTrue (P.failed proof.new) }
-    ensures shown { verdict_by verdict_of result ≡ Accepted → IsReadAs (IsAskedWithin limit)
-        (AnswersProofBy (IsQuestionBy asked last) P.left optimize proof.old proof.new)
-        (R.left r.old) (R.left r.new) result }
-{
-    let made = ask_bytes(alloc, r, asked, limit, last, optimize)?;
-    refute(alloc, &made, proof)
 }
 
 /// Reads a circuit from the bytes of an AIGER file, and checks a proof, in the LRAT or the DRAT format, that the clauses of
@@ -114,92 +75,6 @@ pub fn check_bounded<R: Source, P: Source>(
         (R.left r.old) (R.left r.new) result }
 {
     refuted_questions_are_safe();
-    check_asked(alloc, r, Asked::Reached, limit, k, optimize, proof)
-}
-
-/// Reads a circuit from the bytes of an AIGER file, and checks a proof, in the LRAT or the DRAT format, that the clauses of
-/// `step_bounded` can't be satisfied: then no run from an initial state, with every constraint up to step `k`, has a bad state at
-/// step `k`. Requires `1 <= limit <= 2^31`.
-///
-/// The clauses and the proof are as those of `check_bounded`.
-pub fn check_step_bounded<R: Source, P: Source>(
-    alloc: Global,
-    r: &mut R,
-    limit: usize,
-    k: usize,
-    optimize: bool,
-    proof: &mut P,
-) -> Result<(), BoundedAnswerError>
-    requires some { 1 ≤ limit }
-    requires few { limit ≤ 2 ^ 31 }
-    // The bytes that were read are a file within the limit, with a bad literal, whose machine reaches no bad state at step k.
-    ensures answer { IfOk result (IsReadAs (IsAskedWithin limit) (λ f _. IsSafeAt f k)
-        (R.left r.old) (R.left r.new)) }
-    // A file is refused exactly where it isn't within the limit or has no bad literal, and a refusal says why.
-    ensures verdict { Judges bounded_verdict limit (R.left r.old) (R.left r.new) (R.failed r.new)
-        (verdict_by verdict_of result) }
-    ensures own { IfErr result IsOfCheck }
-    // A question is too large only where its bound passes the limit.
-    ensures large { IfErr result (TellsOfSize limit (λ c. question_size c k)
-        (R.left r.old) (R.left r.new)) }
-    // The proof is read only where the file is taken.
-    ensures unread { verdict_by verdict_of result ≢ Accepted → proof.new ≡ proof.old }
-    // Stream only where a read of the proof failed in this call.
-    ensures stream { IsErrOf result (BoundedAnswerError.Refutation RefutationError.Stream)
-        → IsTrue (P.failed proof.new) }
-    // Where the file is taken, the clauses of its step's question are settled, and nothing is read of the proof, or the result is
-    // what the bytes of the proof show of them.
-    ensures shown { verdict_by verdict_of result ≡ Accepted
-        → IsReadAs (IsAskedWithin limit) (AnswersStepProof P.left k optimize proof.old proof.new)
-        (R.left r.old) (R.left r.new) result }
-{
-    refuted_step_questions_are_safe();
-    check_asked(alloc, r, Asked::Step, limit, k, optimize, proof)
-}
-
-/// Reads a circuit from the bytes of an AIGER file, and checks a proof, in the LRAT or the DRAT format, that the clauses of
-/// `window_bounded` can't be satisfied: then no window of `k + 2` steps, from any state, reaches a bad state first at its end; in
-/// the distinct form none on which no state comes twice. Where `check_bounded` takes a proof for the steps 0 to `k`, no bad state
-/// is ever reached. Requires `1 <= limit <= 2^31` and `k < 2^32`.
-///
-/// The clauses and the proof are as those of `check_bounded`.
-pub fn check_window_bounded<R: Source, P: Source>(
-    alloc: Global,
-    r: &mut R,
-    limit: usize,
-    k: usize,
-    optimize: bool,
-    form: Window,
-    proof: &mut P,
-) -> Result<(), BoundedAnswerError>
-    requires some { 1 ≤ limit }
-    requires few { limit ≤ 2 ^ 31 }
-    requires steps { k < 2 ^ 32 }
-    // The bytes that were read are a file within the limit, with a bad literal, whose windows of this form are inductive; so its
-    // machine is safe at each step, where it is up to step k.
-    ensures answer { IfOk result (IsReadAs (IsAskedWithin limit)
-        (λ f _. IsKInductive form f k × (IsSafeTo f k → (n : ℕ) → IsSafeTo f n))
-        (R.left r.old) (R.left r.new)) }
-    // A file is refused exactly where it isn't within the limit or has no bad literal, and a refusal says why.
-    ensures verdict { Judges bounded_verdict limit (R.left r.old) (R.left r.new) (R.failed r.new)
-        (verdict_by verdict_of result) }
-    ensures own { IfErr result IsOfCheck }
-    // A question is too large only where its bound passes the limit.
-    ensures large { IfErr result (TellsOfSize limit
-        (λ c. window_question_size form c (k + 1)) (R.left r.old) (R.left r.new)) }
-    // The proof is read only where the file is taken.
-    ensures unread { verdict_by verdict_of result ≢ Accepted → proof.new ≡ proof.old }
-    // Stream only where a read of the proof failed in this call.
-    ensures stream { IsErrOf result (BoundedAnswerError.Refutation RefutationError.Stream)
-        → IsTrue (P.failed proof.new) }
-    // Where the file is taken, the clauses of its window's question are settled, and nothing is read of the proof, or the result
-    // is what the bytes of the proof show of them.
-    ensures shown { verdict_by verdict_of result ≡ Accepted
-        → IsReadAs (IsAskedWithin limit)
-        (AnswersWindowProof P.left form k optimize proof.old proof.new) (R.left r.old)
-        (R.left r.new) result }
-{
-    refuted_window_questions_are_inductive();
-    inductive_windows_are_safe();
-    check_asked(alloc, r, Asked::Window(form), limit, k + 1, optimize, proof)
+    let made = bounded(alloc, r, limit, k, optimize)?;
+    refute(alloc, &made, proof)
 }

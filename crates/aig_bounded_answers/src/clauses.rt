@@ -1,6 +1,6 @@
 //! The clauses of a bounded check.
 
-ghost use Rattle.std.specs.Prelude.{◌≡◌, ◌↔◌, ◌+◌, ◌<◌, ◌≤◌, ◌^◌, All, IfErr, IfOk, IsErrOf, IsTrue, length};
+ghost use Rattle.std.specs.Prelude.{◌≡◌, ◌↔◌, ◌<◌, ◌≤◌, ◌^◌, All, IfErr, IfOk, IsErrOf, IsTrue, length};
 ghost use Rattle.aig_base.specs.Clauses.{AreBelow};
 ghost use Rattle.aig_circuit.specs.Circuit.{IsCircuit, IsClosed};
 ghost use Rattle.aig_circuit.specs.Edges.{HasConstantInit};
@@ -8,19 +8,18 @@ ghost use Rattle.aig_runs.specs.Queries.{unit_clauses};
 ghost use Rattle.aig_circuit.specs.View.{lists_circuit};
 ghost use Rattle.aig_reader.specs.Reading.{IsReadAs};
 ghost use Rattle.aig_reader.specs.Verdicts.{Judges, verdict_by};
-ghost use Rattle.aig_bounded.specs.Question.{question_size, window_question_size};
-ghost use Rattle.aig_bounded_answers.specs.Asking.{AsksBounded, AsksBy, AsksStepBounded, AsksWindowBounded, IsAskedWithin, IsOfQuestion, IsSettled, TellsOfSize, bounded_verdict, verdict_of};
-ghost use Rattle.aig_bounded_answers.specs.Encoded.{IsEncoded, IsEncodedQuestion, IsQuestionBy, IsSaidOfBads, size_by};
+ghost use Rattle.aig_bounded.specs.Question.{question_size};
+ghost use Rattle.aig_bounded_answers.specs.Asking.{AsksBounded, IsAskedWithin, IsOfQuestion, IsSettled, TellsOfSize, bounded_verdict, verdict_of};
+ghost use Rattle.aig_bounded_answers.specs.Encoded.{IsEncoded, IsEncodedQuestion, IsSaidOfBads};
 
 use crate::error::BoundedAnswerError;
 use crate::naming::{Named, name_places};
-use crate::questions::{Asked, question_of};
 use aig_base::{DagCnf, LitVvec, MemoryError, Source};
-use aig_bounded::{BoundedError, Question};
+use aig_bounded::{BoundedError, Question, bounded_question};
 use aig_circuit::{CircuitLists, CircuitView};
 use aig_cnf::encode;
 use aig_reader::read;
-use aig_runs::{Window, push_units};
+use aig_runs::push_units;
 use std::alloc::Global;
 
 /// The clauses of a bounded check.
@@ -87,7 +86,6 @@ fn clauses_of(
 fn ask(
     alloc: Global,
     circuit: &CircuitView<'_>,
-    asked: Asked,
     limit: usize,
     last: usize,
     optimize: bool,
@@ -96,10 +94,10 @@ fn ask(
     requires starts { All HasConstantInit circuit.now.latchs }
     requires some { 1 ≤ limit }
     requires few { limit ≤ 2 ^ 31 }
-    ensures asks { IfOk result (IsEncodedQuestion asked circuit.now last optimize) }
-    ensures large { IsErrOf result BoundedError.TooLarge → limit < size_by asked last circuit.now }
+    ensures asks { IfOk result (IsEncodedQuestion circuit.now last optimize) }
+    ensures large { IsErrOf result BoundedError.TooLarge → limit < question_size circuit.now last }
 {
-    let question = question_of(alloc, circuit, asked, last, limit)?;
+    let question = bounded_question(alloc, circuit, last, limit)?;
     let named = name_places(alloc, circuit, &question.places)?;
     let made = clauses_of(alloc, question, named, optimize)?;
     Ok(made)
@@ -109,7 +107,6 @@ fn ask(
 pub(crate) fn ask_file(
     alloc: Global,
     lists: &CircuitLists,
-    asked: Asked,
     limit: usize,
     last: usize,
     optimize: bool,
@@ -119,48 +116,16 @@ pub(crate) fn ask_file(
     requires starts { All HasConstantInit lists.now.latchs.items }
     requires some { 1 ≤ limit }
     requires few { limit ≤ 2 ^ 31 }
-    ensures asks { IfOk result (IsEncodedQuestion asked (lists_circuit lists.now) last optimize) }
+    ensures asks { IfOk result (IsEncodedQuestion (lists_circuit lists.now) last optimize) }
     ensures said { IsSaidOfBads lists.now.properties.bads.items (verdict_by verdict_of result) }
     ensures own { IfErr result IsOfQuestion }
     ensures large { IsErrOf result (BoundedAnswerError.Question BoundedError.TooLarge)
-        → limit < size_by asked last (lists_circuit lists.now) }
+        → limit < question_size (lists_circuit lists.now) last }
 {
     if lists.properties.bads.is_empty() {
         return Err(BoundedAnswerError::NoBads);
     }
-    let made = ask(
-        alloc,
-        &CircuitView::new(lists),
-        asked,
-        limit,
-        last,
-        optimize,
-    )?;
-    Ok(made)
-}
-
-/// Reads a circuit from the bytes of an AIGER file, and makes the clauses of its question for the steps 0 to `last`.
-pub(crate) fn ask_bytes<R: Source>(
-    alloc: Global,
-    r: &mut R,
-    asked: Asked,
-    limit: usize,
-    last: usize,
-    optimize: bool,
-) -> Result<BoundedClauses, BoundedAnswerError>
-    requires some { 1 ≤ limit }
-    requires few { limit ≤ 2 ^ 31 }
-    ensures answer { IfOk result (IsReadAs (IsAskedWithin limit)
-        (λ f. AsksBy (IsQuestionBy asked last) f optimize) (R.left r.old) (R.left r.new)) }
-    ensures below { IfOk result (λ made. AreBelow (length made.clauses) made.further) }
-    ensures verdict { Judges bounded_verdict limit (R.left r.old) (R.left r.new) (R.failed r.new)
-        (verdict_by verdict_of result) }
-    ensures own { IfErr result IsOfQuestion }
-    ensures large { IfErr result
-        (TellsOfSize limit (size_by asked last) (R.left r.old) (R.left r.new)) }
-{
-    let lists = read(alloc, r, limit)?;
-    let made = ask_file(alloc, &lists, asked, limit, last, optimize)?;
+    let made = ask(alloc, &CircuitView::new(lists), limit, last, optimize)?;
     Ok(made)
 }
 
@@ -190,69 +155,7 @@ pub fn bounded<R: Source>(
     ensures large { IfErr result (TellsOfSize limit (λ c. question_size c k)
         (R.left r.old) (R.left r.new)) }
 {
-    ask_bytes(alloc, r, Asked::Reached, limit, k, optimize)
-}
-
-/// Reads a circuit from the bytes of an AIGER file, and makes the clauses of one question about one step: whether some bad state
-/// is reached at step `k` on a run from an initial state, with every constraint at each step up to there. What is bad before
-/// counts for nothing.
-///
-/// The clauses are as those of `bounded`, and so are the refusals. Requires `1 <= limit <= 2^31`.
-pub fn step_bounded<R: Source>(
-    alloc: Global,
-    r: &mut R,
-    limit: usize,
-    k: usize,
-    optimize: bool,
-) -> Result<BoundedClauses, BoundedAnswerError>
-    requires some { 1 ≤ limit }
-    requires few { limit ≤ 2 ^ 31 }
-    // The bytes that were read are a file within the limit, with a bad literal, and the clauses are those of its step's question.
-    ensures answer { IfOk result (IsReadAs (IsAskedWithin limit) (λ f. AsksStepBounded f k optimize)
-        (R.left r.old) (R.left r.new)) }
-    // The further clause is of variables that are there.
-    ensures below { IfOk result (λ made. AreBelow (length made.clauses) made.further) }
-    // A file is refused exactly where it isn't within the limit or has no bad literal, and a refusal says why.
-    ensures verdict { Judges bounded_verdict limit (R.left r.old) (R.left r.new) (R.failed r.new)
-        (verdict_by verdict_of result) }
-    ensures own { IfErr result IsOfQuestion }
-    // A question is too large only where its bound passes the limit.
-    ensures large { IfErr result (TellsOfSize limit (λ c. question_size c k)
-        (R.left r.old) (R.left r.new)) }
-{
-    ask_bytes(alloc, r, Asked::Step, limit, k, optimize)
-}
-
-/// Reads a circuit from the bytes of an AIGER file, and makes the clauses of one question about windows of `k + 2` steps:
-/// whether on some run of the steps 0 to `k + 1`, from any state, every constraint holds at each step, and a bad state is
-/// reached at step `k + 1` and at none before; in the distinct form no two of these steps have the same state. It is the step of
-/// an induction over `k + 1` steps.
-///
-/// The clauses are as those of `bounded`, and so are the refusals. In the distinct form the question grows with the square of `k`
-/// (`aig_bounded::window_question`). Requires `1 <= limit <= 2^31` and `k < 2^32`.
-pub fn window_bounded<R: Source>(
-    alloc: Global,
-    r: &mut R,
-    limit: usize,
-    k: usize,
-    optimize: bool,
-    form: Window,
-) -> Result<BoundedClauses, BoundedAnswerError>
-    requires some { 1 ≤ limit }
-    requires few { limit ≤ 2 ^ 31 }
-    requires steps { k < 2 ^ 32 }
-    // The bytes that were read are a file within the limit, with a bad literal, and the clauses are those of its window's question.
-    ensures answer { IfOk result (IsReadAs (IsAskedWithin limit)
-        (λ f. AsksWindowBounded form f k optimize) (R.left r.old) (R.left r.new)) }
-    // The further clause is of variables that are there.
-    ensures below { IfOk result (λ made. AreBelow (length made.clauses) made.further) }
-    // A file is refused exactly where it isn't within the limit or has no bad literal, and a refusal says why.
-    ensures verdict { Judges bounded_verdict limit (R.left r.old) (R.left r.new) (R.failed r.new)
-        (verdict_by verdict_of result) }
-    ensures own { IfErr result IsOfQuestion }
-    // A question is too large only where its bound passes the limit.
-    ensures large { IfErr result (TellsOfSize limit (λ c. window_question_size form c (k + 1))
-        (R.left r.old) (R.left r.new)) }
-{
-    ask_bytes(alloc, r, Asked::Window(form), limit, k + 1, optimize)
+    let lists = read(alloc, r, limit)?;
+    let made = ask_file(alloc, &lists, limit, k, optimize)?;
+    Ok(made)
 }

@@ -10,14 +10,12 @@ ghost use Rattle.aig_witness.specs.Machine.{ShowsBad};
 ghost use Rattle.aig_witness.specs.Shown.{IsKnownWitness};
 ghost use Rattle.aig_witness.specs.Witness.{said_by};
 ghost use Rattle.aig_bounded.specs.Question.{question_size};
-ghost use Rattle.aig_bounded_answers.specs.declared.questions.Asked.TheVariants.{Reached};
 ghost use Rattle.aig_bounded_answers.specs.Asking.{AreSolution, IsAskedWithin, IsOfWitness, RefusesAnswer, TellsOfSize, TellsOfSolution, bounded_verdict, verdict_of};
 ghost use Rattle.aig_bounded_answers.specs.Encoded.{IsEncodedQuestion};
 ghost use Rattle.aig_bounded_answers.specs.Solving.{WitnessWithin};
 
 use crate::clauses::{BoundedClauses, ask_file};
 use crate::error::BoundedAnswerError;
-use crate::questions::Asked;
 use crate::simulating::find_bad;
 use crate::values::said_values;
 use aig_base::{Lbool, MemoryError, Source};
@@ -40,7 +38,7 @@ fn witness_of(
     requires closed { IsClosed (lists_circuit lists.now) }
     requires starts { All HasConstantInit lists.now.latchs.items }
     requires asks { (optimize : Bool)
-        × IsEncodedQuestion Reached (lists_circuit lists.now) k optimize made.now }
+        × IsEncodedQuestion (lists_circuit lists.now) k optimize made.now }
     ensures known { IfOk result (λ found. IfSome found
         (λ w. WitnessWithin (lists_circuit lists.now) k (said_by w))) }
     ensures none { IfOk result (λ found. IfNone found
@@ -67,7 +65,7 @@ fn solve<P: Source>(
     requires closed { IsClosed (lists_circuit lists.now) }
     requires starts { All HasConstantInit lists.now.latchs.items }
     requires asks { (optimize : Bool)
-        × IsEncodedQuestion Reached (lists_circuit lists.now) k optimize made.now }
+        × IsEncodedQuestion (lists_circuit lists.now) k optimize made.now }
     ensures known { IfOk result (λ w. WitnessWithin (lists_circuit lists.now) k (said_by w)) }
     ensures refusal { IfErr result (RefusesAnswer (P.left solution.old) (P.failed solution.new)
         (length lists.now.properties.bads.items) made.now) }
@@ -121,7 +119,7 @@ pub fn bounded_witness<R: Source, P: Source>(
 {
     known_witnesses_show();
     let lists = read(alloc, r, limit)?;
-    let made = ask_file(alloc, &lists, Asked::Reached, limit, k, optimize)?;
+    let made = ask_file(alloc, &lists, limit, k, optimize)?;
     let witness = solve(alloc, &lists, &made, k, solution)?;
     Ok(witness)
 }

@@ -154,8 +154,8 @@ module _ (k : ℕ) (optimize : Bool) (limit : ℕ) (bytes text : List ℕ) (stat
           f.1,
           (
             made.0,
-            made.1,
-            bounded_unfailed (Some text) text_failed _ made.0 e high made.2,
+            λ other asks. bounded_unfailed (Some text) text_failed _ other e high
+                (made.1 other asks),
           ),
         ),
       )

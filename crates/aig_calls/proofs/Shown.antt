@@ -141,10 +141,10 @@ module _ {P : Type 0} {left : P → Option (List ℕ)} (k : ℕ) (optimize : Boo
         f.0,
         f.1,
         subst (λ text. TellsProof text k optimize f.0 result) is (record {
-          made = told.0;
-          asks = told.1;
-          settled = λ settled. (told.2.settled settled).0;
-          shown = told.2.shown;
+          made = told.0.0;
+          asks = told.0.1;
+          settled = λ other asks settled. ((told.1 other asks).settled settled).0;
+          shown = λ other asks. (told.1 other asks).shown;
         }),
       )
 

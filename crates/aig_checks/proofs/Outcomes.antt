@@ -223,4 +223,4 @@ module _ (k limit : ℕ) (optimize : Bool) (old new given : Option (List ℕ)) (
 pub proof_told : {P : Type 0} {left : P → Option (List ℕ)} {limit k : ℕ} {optimize : Bool} {old new : Option (List ℕ)} {p used : P} {result : Result Unit BoundedAnswerError}
     → IsReadAs (IsAskedWithin limit) (AnswersProof left k optimize p used) old new result
     → IsReadAs (IsAskedWithin limit) (TellsProof (left p) k optimize) old new result
-proof_told read = read_again read (λ bytes f holds told. record { made = told.0; asks = told.1; settled = λ settled. (told.2.settled settled).0; shown = told.2.shown })
+proof_told read = read_again read (λ bytes f holds told. record { made = told.0.0; asks = told.0.1; settled = λ other asks settled. ((told.1 other asks).settled settled).0; shown = λ other asks. (told.1 other asks).shown })

@@ -59,14 +59,16 @@ pub record IsSettledTo (k : ℕ) (optimize : Bool) (f : File) : Type 0 where
 
 -- ---- proofs
 
--- A question of the file that is settled needs no proof, and of any other it is told what the bytes
--- of the proof show of its clauses.
+-- The file has a question. One that is settled needs no proof, and of any other it is told what the
+-- bytes of the proof show of its clauses; so of the clauses of each, as any process prints them.
 pub record TellsProof (given : Option (List ℕ)) (k : ℕ) (optimize : Bool) (f : File)
     (result : Result Unit BoundedAnswerError) : Type 0 where
   pub made : BoundedClauses
   pub asks : AsksBounded f k optimize made
-  pub settled : IsSettled made → result ≡ Ok tt
-  pub shown : ¬ IsSettled made → ShowsProof made given result
+  pub settled : (other : BoundedClauses) → AsksBounded f k optimize other → IsSettled other
+      → result ≡ Ok tt
+  pub shown : (other : BoundedClauses) → AsksBounded f k optimize other → ¬ IsSettled other
+      → ShowsProof other given result
 
 -- ---- witnesses
 

@@ -4,7 +4,6 @@ ghost use Rattle.std.specs.Prelude.{◌≤◌, ◌^◌, IfOk, length};
 
 mod answers;
 mod binary_proofs;
-mod bounded;
 mod certificates;
 mod examples;
 mod streams;

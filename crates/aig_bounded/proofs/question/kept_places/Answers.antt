@@ -4,7 +4,7 @@ use Rattle.aig_bounded.proofs.Stepped.{if_ok}
 use Rattle.aig_bounded.proofs.question.kept_places.Goals as goal
 
 pub fanin_logic_cone-requires-clause-sound : goal.fanin_logic_cone-requires-clause-sound
-fanin_logic_cone-requires-clause-sound c = rw c.deref.ensures.value c.requires.frames.2.sound
+fanin_logic_cone-requires-clause-sound c = rw c.deref.ensures.value c.requires.frames.2.shared.gates.sound
 
 pub fanin_logic_cone-requires-clause-there : goal.fanin_logic_cone-requires-clause-there
 fanin_logic_cone-requires-clause-there c =

@@ -1,6 +1,6 @@
 use Rattle.std.proofs.Common.{◌<◌, Some, length, get_or, arith}
 use Rattle.aig_circuit.specs.declared.node.AigLatch.{AigLatch}
-use Rattle.aig_bounded.specs.Steps.{image_in}
+use Rattle.aig_unroll.specs.Frame.{image_in}
 use Rattle.aig_bounded.proofs.Stepped.{SetsStates-more, SetsStates-whole, leaf_there, no_latch}
 use Rattle.aig_bounded.proofs.steps.advance.Goals as goal
 

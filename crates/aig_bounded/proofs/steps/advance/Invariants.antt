@@ -1,6 +1,7 @@
 use Rattle.std.proofs.Common.{Some}
 use Rattle.aig_circuit.specs.declared.node.AigLatch.{AigLatch}
-use Rattle.aig_bounded.specs.Steps.{SetsStates, image_in}
+use Rattle.aig_unroll.specs.Frame.{image_in}
+use Rattle.aig_bounded.specs.Steps.{SetsStates}
 use Rattle.aig_bounded.proofs.steps.advance.Given as goal
 
 abbrev pub invariant-loop-latch : goal.invariant-loop-latch

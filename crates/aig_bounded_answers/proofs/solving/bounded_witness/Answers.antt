@@ -1,6 +1,5 @@
 use Rattle.aig_base.proofs.Words.{Err, ap, err_from_is_err_and}
 use Rattle.aig_reader.specs.Verdicts.{Accepted}
-use Rattle.aig_bounded_answers.specs.declared.questions.Asked.TheVariants.{Reached}
 use Rattle.aig_bounded_answers.specs.Asking.{verdict_of}
 use Rattle.aig_bounded_answers.proofs.Asked.{read_circuit, read_closed, read_starts, refusal_of, shown_of, size_of}
 use Rattle.aig_bounded_answers.proofs.Verdicts.{judged, refused_own}
@@ -8,32 +7,32 @@ use Rattle.aig_bounded_answers.proofs.solving.bounded_witness.Goals as goal
 
 pub ask_file-requires-clause-circuit : goal.ask_file-requires-clause-circuit
 ask_file-requires-clause-circuit g c =
-    read_circuit Reached c.args.limit c.args.k c.args.optimize c.in_ok-lists.lists _ _
+    read_circuit c.args.limit c.args.k c.args.optimize c.in_ok-lists.lists _ _
     c.in_ok-lists.ensures.circuit
 
 pub ask_file-requires-clause-closed : goal.ask_file-requires-clause-closed
 ask_file-requires-clause-closed g c =
-    read_closed Reached c.args.limit c.args.k c.args.optimize c.in_ok-lists.lists _ _
+    read_closed c.args.limit c.args.k c.args.optimize c.in_ok-lists.lists _ _
     c.in_ok-lists.ensures.circuit
 
 pub ask_file-requires-clause-starts : goal.ask_file-requires-clause-starts
 ask_file-requires-clause-starts g c =
-    read_starts Reached c.args.limit c.args.k c.args.optimize c.in_ok-lists.lists _ _
+    read_starts c.args.limit c.args.k c.args.optimize c.in_ok-lists.lists _ _
     c.in_ok-lists.ensures.circuit
 
 pub solve-requires-clause-circuit : goal.solve-requires-clause-circuit
 solve-requires-clause-circuit g c =
-    read_circuit Reached c.args.limit c.args.k c.args.optimize c.in_ok-lists.lists _ _
+    read_circuit c.args.limit c.args.k c.args.optimize c.in_ok-lists.lists _ _
     c.in_ok-lists.ensures.circuit
 
 pub solve-requires-clause-closed : goal.solve-requires-clause-closed
 solve-requires-clause-closed g c =
-    read_closed Reached c.args.limit c.args.k c.args.optimize c.in_ok-lists.lists _ _
+    read_closed c.args.limit c.args.k c.args.optimize c.in_ok-lists.lists _ _
     c.in_ok-lists.ensures.circuit
 
 pub solve-requires-clause-starts : goal.solve-requires-clause-starts
 solve-requires-clause-starts g c =
-    read_starts Reached c.args.limit c.args.k c.args.optimize c.in_ok-lists.lists _ _
+    read_starts c.args.limit c.args.k c.args.optimize c.in_ok-lists.lists _ _
     c.in_ok-lists.ensures.circuit
 
 pub solve-requires-clause-asks : goal.solve-requires-clause-asks
@@ -51,7 +50,7 @@ pub returns-in_err-made-clause-large : goal.returns-in_err-made-clause-large
 returns-in_err-made-clause-large g c =
     let p = err_from_is_err_and c.from_residual-in_err-made.result
     c.from_residual-in_err-made.ensures.1 in
-    rw (p.1, p.2) (size_of Reached c.args.limit c.args.k c.args.optimize c.in_ok-lists.lists _ _
+    rw (p.1, p.2) (size_of c.args.limit c.args.k c.args.optimize c.in_ok-lists.lists _ _
     c.in_ok-lists.ensures.circuit c.in_err-made.field-0.0 c.in_err-made.ensures.said (λ is.
     c.in_err-made.ensures.large (ap Err is)))
 

@@ -1,6 +1,10 @@
-use Rattle.aig_base.proofs.Words.{◌≡◌, ◌+◌, ◌-◌, ◌<◌, ◌≤◌, ℕ, length, ap, subst, ◌∙◌, arith, min, err_from_is_err_and}
+use Rattle.aig_base.proofs.Words.{◌≡◌, None, le-leb, ◌+◌, ◌-◌, ◌<◌, ◌≤◌, ℕ, length, ap, subst, ◌∙◌, arith, min, err_from_is_err_and}
 use Rattle.std.proofs.Math.Nat.{min-le_left, min-le_right}
-use Rattle.aig_bounded.specs.Steps.{HasImages}
+use Rattle.aig_bounded.specs.Exact.{frame_to}
+use Rattle.aig_bounded.specs.Frames.{net_of}
+use Rattle.aig_bounded.specs.Steps.{HasImages, IsFrame, is_read}
+use Rattle.std.specs.Prelude.{slice_index, slice_index_or}
+use Rattle.aig_bounded.proofs.Exactly.{IsFrame-more, IsFrame-none, IsFrame-unread, operands_read, unread_at}
 use Rattle.aig_bounded.proofs.Counted.{AddsUpTo-done, AddsUpTo-stops}
 use Rattle.aig_bounded.proofs.Extended.{AreFrames-next_step}
 use Rattle.aig_bounded.proofs.Stepped.{HasStates-extends, ImagesSoFar-more, ImagesSoFar-none, ImagesSoFar-unread, known_of, operands_shown, place_of}
@@ -14,6 +18,7 @@ pub loop-id-init : goal.loop-id-init
 loop-id-init c =
     record {
       so_far = ImagesSoFar-none c.args.circuit.now c.args.step c.args.left c.args.depths.now c.args.self.now c.args.images.now c.requires.frames;
+      exact = IsFrame-none c.args.circuit.now c.args.step (is_read c.args.depths.now c.args.left) (λ n. slice_index_or c.args.states.now n None) c.args.self.now c.args.images.now;
       few = omega arith;
     }
 
@@ -26,11 +31,14 @@ loop-id-preserved c =
       | then-depths-id+in_ok-image w ↦
           rw (w.self-is, w.images-is) (record {
             so_far = ImagesSoFar-more circuit c.args.step c.args.left i c.args.depths.now c.args.self.now c.loop-id.self w.image.new.self c.loop-id.images w.in_ok-image.image within w.in_ok-image.ensures.makes c.loop-id.invariant.so_far;
+            exact = IsFrame-more circuit c.args.step (is_read c.args.depths.now c.args.left) (λ n. slice_index_or c.args.states.now n None) (net_of c.args.self.now) i c.loop-id.self w.image.new.self c.loop-id.images c.loop-id.invariant.exact w.in_ok-image.image within (le-leb (slice_index c.args.depths.now i) c.args.left w.if-depths-id.true)
+                (λ a b kind. operands_read circuit c.args.left i (c.args.left + c.args.step) c.args.depths.now a b c.nodes-id-end.ensures.circuit c.requires.depths (omega arith) w.if-depths-id.true kind) w.in_ok-image.ensures.exact;
             few = omega (arith, w.in_ok-image.ensures.size.few, c.loop-id.invariant.few, min-le_left i 1, min-le_right i 1);
           })
       | else-depths-id w ↦
           rw (w.self-is, w.images-is) (record {
             so_far = ImagesSoFar-unread circuit c.args.step c.args.left i c.args.depths.now c.args.self.now c.loop-id.self c.loop-id.images w.if-depths-id.false c.loop-id.invariant.so_far;
+            exact = IsFrame-unread circuit c.args.step (is_read c.args.depths.now c.args.left) (λ n. slice_index_or c.args.states.now n None) (net_of c.args.self.now) i c.loop-id.self c.loop-id.self c.loop-id.images c.loop-id.invariant.exact (unread_at c.args.depths.now i c.args.left w.if-depths-id.false);
             few = omega (arith, c.loop-id.invariant.few);
           })
     ]
@@ -56,6 +64,12 @@ pub returns-clause-shows : goal.returns-clause-shows
 returns-clause-shows c =
     let all : c.loop-id.id ≡ length c.args.circuit.now.nodes = reaches c.loop-id.id (length c.nodes-id-end.result.now) c.loop-id.auto.id-end c.loop-id-test.false ∙ ap length c.nodes-id-end.ensures.value in
     subst (λ n. HasImages c.args.circuit.now c.args.step c.args.depths.now c.args.left n c.loop-id.self c.loop-id.images) all c.loop-id.invariant.so_far.has
+
+pub returns-clause-exact : goal.returns-clause-exact
+returns-clause-exact c =
+    let all : c.loop-id.id ≡ length c.args.circuit.now.nodes = reaches c.loop-id.id (length c.nodes-id-end.result.now) c.loop-id.auto.id-end c.loop-id-test.false ∙ ap length c.nodes-id-end.ensures.value in
+    let read = is_read c.args.depths.now c.args.left in
+    subst (λ n. IsFrame read (frame_to c.args.circuit.now c.args.step read (λ m. slice_index_or c.args.states.now m None) (net_of c.args.self.now) n) c.loop-id.self c.loop-id.images) all c.loop-id.invariant.exact
 
 pub returns-clause-frames : goal.returns-clause-frames
 returns-clause-frames c = AreFrames-next_step c.args.circuit.now c.args.step c.loop-id.id c.loop-id.self c.loop-id.invariant.so_far.frames

@@ -1,66 +1,59 @@
-use Rattle.aig_base.proofs.Words.{◌≡◌, ◌+◌, ◌-◌, ◌*◌, length, refl, ap, subst, ◌∙◌, arith, err_from_is_err_and}
+use Rattle.aig_base.proofs.Words.{◌≡◌, ◌+◌, ◌-◌, ◌*◌, refl, ap, subst, arith, err_from_is_err_and}
 use Rattle.aig_bounded.specs.Question.{step_size}
-use Rattle.aig_bounded.specs.Steps.{HasStates}
-use Rattle.aig_bounded.proofs.Counted.{AddsUpTo-after, AddsUpTo-stops, some_node, steps_more, steps_within}
-use Rattle.aig_bounded.proofs.Seen.{Sees-later, Sees-none, Sees-step}
-use Rattle.aig_bounded.proofs.Stepped.{StepsSoFar-more, Sum-start, roots_shown}
+use Rattle.aig_bounded.specs.Steps.{HasStates, checks_of}
+use Rattle.aig_bounded.proofs.Counted.{AddsUpTo-done, AddsUpTo-stops, steps_more, steps_within}
+use Rattle.aig_bounded.proofs.Exactly.{MadeSoFar, MadeSoFar-more, MadeSoFar-none, next_checks, reached_made}
+use Rattle.aig_bounded.proofs.Stepped.{StepsSoFar-more, Sum-start}
 use Rattle.aig_bounded.proofs.frames.Frames.add_steps.Goals as goal
 
 pub loop-step-init : goal.loop-step-init
 loop-step-init c = let all : c.args.last ≡ c.args.last - 0 = omega arith in record {
   so_far = record {
     limit = refl;
-    start = refl;
     frames = c.requires.frames;
     known = subst (λ left. HasStates c.args.circuit.now 0 c.args.depths.now left c.args.self.now c.args.states.now) all c.requires.states;
-    sum = Sum-start c.args.circuit.now c.args.sought c.args.self.now c.start-sums.result c.requires.frames.sound c.start-sums.ensures;
+    sum = Sum-start c.args.circuit.now c.args.self.now c.start-sums.result c.requires.frames.shared.gates.sound c.start-sums.ensures;
   };
-  seen = λ apart. Sees-none c.args.circuit.now 0 c.args.self.now c.args.seen.now.items
-      c.requires.seen;
+  made = MadeSoFar-none c.args.circuit.now c.args.last c.args.depths.now c.args.self.now c.start-sums.result c.args.states.now c.requires.net c.start-sums.ensures c.requires.constants;
   few = omega arith;
 }
 
 pub loop-step-preserved : goal.loop-step-preserved
 loop-step-preserved c = record {
-  so_far = StepsSoFar-more c.args.circuit.now c.args.sought c.args.last c.loop-step.step c.args.depths.now c.args.self.now c.loop-step.self c.add_nodes.new.self c.add_sums.new.self c.add_nodes.new.images c.loop-step.states c.advance.new.states c.loop-step.sums c.in_ok-sums.sums c.requires.circuit c.loop-step-test.true c.requires.depths
-      c.in_ok-add_nodes.ensures.shows c.loop-step.invariant.so_far c.in_ok-add_nodes.ensures.extends c.in_ok-sums.ensures.extends c.advance.ensures c.advance.auto.states c.in_ok-sums.ensures.sums c.in_ok-sums.ensures.frames;
-  seen = λ apart.
-      let t = c.loop-step.step in
-      Sees-later c.args.circuit.now t (t + 1) c.add_sums.new.self c.note_states.new.seen.items
-      (Sees-step c.args.circuit.now t (c.args.last - t) c.args.depths.now c.loop-step.self
-      c.add_nodes.new.self c.add_sums.new.self c.add_nodes.new.images c.loop-step.seen.items
-      c.note_states.new.seen.items c.requires.circuit c.in_ok-add_nodes.ensures.extends
-      c.in_ok-sums.ensures.extends (c.requires.leaves apart)
-      c.in_ok-add_nodes.ensures.shows (c.loop-step.invariant.seen apart)
-      (c.in_ok-note_states.ensures apart));
-  few = omega (arith, c.loop-step.invariant.few, c.in_ok-add_nodes.ensures.size.few, c.in_ok-sums.ensures.size.few, some_node c.args.circuit.now c.requires.circuit, steps_more c.loop-step.step (step_size c.args.circuit.now));
+  so_far = StepsSoFar-more c.args.circuit.now c.args.last c.loop-step.step c.args.depths.now c.args.self.now c.loop-step.self c.add_step.new.self c.add_step.new.images c.loop-step.states c.advance.new.states c.loop-step.sums c.in_ok-sums.sums c.requires.circuit c.loop-step-test.true c.requires.depths
+      c.in_ok-sums.ensures.shows c.loop-step.invariant.so_far c.in_ok-sums.ensures.extends c.advance.ensures c.advance.auto.states c.in_ok-sums.ensures.sums c.in_ok-sums.ensures.frames;
+  made = MadeSoFar-more c.args.circuit.now (c.args.last - c.loop-step.step) c.args.last c.loop-step.step c.args.depths.now refl c.loop-step.self c.loop-step.sums c.loop-step.states c.loop-step.invariant.made c.add_step.new.images (checks_of c.add_step.new.self c.in_ok-sums.sums) c.in_ok-sums.ensures.exact
+      c.requires.circuit c.requires.depths c.loop-step-test.true c.loop-step.invariant.so_far.known.others c.advance.new.states c.advance.ensures c.add_step.new.self c.in_ok-sums.sums refl;
+  few = omega (arith, c.loop-step.invariant.few, c.in_ok-sums.ensures.size.few, steps_more c.loop-step.step (step_size c.args.circuit.now));
 }
 
-pub add_sums-requires-clause-bads : goal.add_sums-requires-clause-bads
-add_sums-requires-clause-bads c =
-    roots_shown c.args.circuit.now c.loop-step.step (c.args.last - c.loop-step.step) c.args.depths.now c.add_nodes.new.self c.add_nodes.new.images c.args.circuit.now.properties.bads c.requires.circuit.properties.bads c.requires.depths.bads c.in_ok-add_nodes.ensures.shows
-
-pub add_sums-requires-clause-constraints : goal.add_sums-requires-clause-constraints
-add_sums-requires-clause-constraints c =
-    roots_shown c.args.circuit.now c.loop-step.step (c.args.last - c.loop-step.step) c.args.depths.now c.add_nodes.new.self c.add_nodes.new.images c.args.circuit.now.properties.constraints c.requires.circuit.properties.constraints c.requires.depths.constraints c.in_ok-add_nodes.ensures.shows
-
-pub returns-in_err-add_nodes-clause-size : goal.returns-in_err-add_nodes-clause-size
-returns-in_err-add_nodes-clause-size c =
-    let p = err_from_is_err_and c.from_residual.result c.from_residual.ensures.1 in
+pub returns-clause-exact : goal.returns-clause-exact
+returns-clause-exact c =
     let circuit = c.args.circuit.now in
-    let size = step_size circuit in
-    rw (p.1, p.2) (AddsUpTo-stops ((c.args.last + 1) * size) (length circuit.nodes - 1) c.args.self.now c.loop-step.self c.add_nodes.new.self c.in_err-add_nodes.field-0.0 c.loop-step.invariant.so_far.limit (omega (arith, c.loop-step.invariant.few, steps_within c.loop-step.step c.args.last size c.loop-step-test.true)) c.in_err-add_nodes.ensures.size)
+    let last = c.args.last in
+    let depths = c.args.depths.now in
+    let is : c.loop-step.step ≡ last = omega (arith, c.loop-step-test.false, c.loop-step.auto) in
+    let none : 0 ≡ last - last = omega arith in
+    let made = subst (λ t. MadeSoFar circuit last t depths c.loop-step.self c.loop-step.sums c.loop-step.states) is c.loop-step.invariant.made in
+    let after = checks_of c.add_step-2.new.self c.in_ok-all.all in
+    reached_made circuit last depths c.add_step-2.new.self c.in_ok-all.all after refl
+    (next_checks circuit 0 last last depths none c.loop-step.self c.loop-step.sums c.loop-step.states made c.add_step-2.new.images after c.in_ok-all.ensures.exact)
 
 pub returns-in_err-sums-clause-size : goal.returns-in_err-sums-clause-size
 returns-in_err-sums-clause-size c =
-    let p = err_from_is_err_and c.from_residual-in_err-sums.result c.from_residual-in_err-sums.ensures.1 in
-    let circuit = c.args.circuit.now in
-    let size = step_size circuit in
-    let more = length circuit.properties.bads + length circuit.properties.constraints + 2 in
-    rw (p.1, p.2) (AddsUpTo-stops ((c.args.last + 1) * size) more c.args.self.now c.add_nodes.new.self c.add_sums.new.self c.in_err-sums.field-0.0 (c.in_ok-add_nodes.ensures.extends.limit ∙ c.loop-step.invariant.so_far.limit) (omega (arith, c.loop-step.invariant.few, c.in_ok-add_nodes.ensures.size.few, some_node circuit c.requires.circuit, steps_within c.loop-step.step c.args.last size c.loop-step-test.true)) c.in_err-sums.ensures.size)
+    let p = err_from_is_err_and c.from_residual.result c.from_residual.ensures.1 in
+    let size = step_size c.args.circuit.now in
+    rw (p.1, p.2) (AddsUpTo-stops ((c.args.last + 1) * size) size c.args.self.now c.loop-step.self c.add_step.new.self c.in_err-sums.field-0.0 c.loop-step.invariant.so_far.limit (omega (arith, c.loop-step.invariant.few, steps_within c.loop-step.step c.args.last size c.loop-step-test.true)) c.in_err-sums.ensures.size)
+
+pub returns-in_err-all-clause-size : goal.returns-in_err-all-clause-size
+returns-in_err-all-clause-size c =
+    let p = err_from_is_err_and c.from_residual-in_err-all.result c.from_residual-in_err-all.ensures.1 in
+    let size = step_size c.args.circuit.now in
+    let is : c.loop-step.step ≡ c.args.last = omega (arith, c.loop-step-test.false, c.loop-step.auto) in
+    rw (p.1, p.2) (AddsUpTo-stops ((c.args.last + 1) * size) size c.args.self.now c.loop-step.self c.add_step-2.new.self c.in_err-all.field-0.0 c.loop-step.invariant.so_far.limit (omega (arith, c.loop-step.invariant.few, ap (λ t. t * size) is, steps_more c.args.last size)) c.in_err-all.ensures.size)
 
 pub returns-clause-size : goal.returns-clause-size
 returns-clause-size c =
     let size = step_size c.args.circuit.now in
-    let last : c.loop-step.step ≡ c.args.last = omega (arith, c.loop-step-test.false, c.loop-step.auto) in
-    AddsUpTo-after ((c.args.last + 1) * size) size c.args.self.now c.loop-step.self c.add_last.new.self c.add_last.result c.loop-step.invariant.so_far.limit (omega (arith, c.loop-step.invariant.few, ap (λ t. t * size) last, steps_more c.args.last size)) c.add_last.ensures.size
+    let is : c.loop-step.step ≡ c.args.last = omega (arith, c.loop-step-test.false, c.loop-step.auto) in
+    AddsUpTo-done ((c.args.last + 1) * size) c.args.self.now c.add_step-2.new.self c.in_ok-all.all.reached (omega (arith, c.loop-step.invariant.few, c.in_ok-all.ensures.size.few, ap (λ t. t * size) is, steps_more c.args.last size))

@@ -1,14 +1,18 @@
-use Rattle.aig_base.proofs.Words.{false, ap, length, subst, arith, take_all, err_from_is_err_and}
+use Rattle.aig_base.proofs.Words.{◌≡◌, false, map, refl, ap, length, subst, arith, take_all, err_from_is_err_and}
 use Rattle.aig_circuit.specs.declared.edge.AigEdge.{AigEdge}
 use Rattle.aig_circuit.specs.Edge.{edge_to}
-use Rattle.aig_bounded.specs.Frames.{Gives}
+use Rattle.aig_unroll.specs.Frame.{image_in}
+use Rattle.aig_bounded.specs.Frames.{Gives, net_of}
+use Rattle.aig_bounded.specs.Shared.{made_in, shared_ands}
+use Rattle.aig_bounded.proofs.Exactly.{ands-more}
 use Rattle.aig_bounded.proofs.Counted.{AddsUpTo-done, AddsUpTo-stops}
 use Rattle.aig_bounded.proofs.Joined.{all_true, all_true-more, all_true-none}
 use Rattle.aig_bounded.proofs.frames.Frames.and_all.Goals as goal
 
 pub loop-edge-init : goal.loop-edge-init
 loop-edge-init c = record {
-  so_far = all_true-none c.args.self.now c.args.images.now c.args.first c.requires.sound c.requires.first;
+  so_far = all_true-none c.args.self.now c.args.images.now c.args.first c.requires.shared c.requires.first;
+  exact = refl;
   few = omega arith;
 }
 
@@ -18,11 +22,12 @@ loop-edge-preserved c =
     let i = c.loop-edge.edge-index in
     record {
       so_far = all_true-more c.args.self.now c.loop-edge.self c.and.new.self c.args.images.now c.args.edges.now i d c.loop-edge.all c.in_ok-all.all c.image_of.result c.loop-edge-test.true c.image_of.ensures (c.requires.images i d c.loop-edge-test.true) c.args.first c.loop-edge.invariant.so_far c.in_ok-all.ensures.gives;
+      exact = ands-more (net_of c.args.self.now) (net_of c.loop-edge.self) (net_of c.and.new.self) c.args.images.now c.args.edges.now i d c.loop-edge.all c.in_ok-all.all c.image_of.result c.loop-edge-test.true c.image_of.ensures (made_in (net_of c.args.self.now) c.args.first) c.loop-edge.invariant.exact c.in_ok-all.ensures.exact;
       few = omega (arith, c.in_ok-all.ensures.size.few, c.loop-edge.invariant.few);
     }
 
-pub and-requires-clause-sound : goal.and-requires-clause-sound
-and-requires-clause-sound c = c.loop-edge.invariant.so_far.adds.nodes.grows.sound
+pub and-requires-clause-shared : goal.and-requires-clause-shared
+and-requires-clause-shared c = c.loop-edge.invariant.so_far.adds.shared
 
 pub and-requires-clause-first : goal.and-requires-clause-first
 and-requires-clause-first c = c.loop-edge.invariant.so_far.edge.there
@@ -30,6 +35,11 @@ and-requires-clause-first c = c.loop-edge.invariant.so_far.edge.there
 pub and-requires-clause-second : goal.and-requires-clause-second
 and-requires-clause-second c =
     omega (arith, c.requires.images c.loop-edge.edge-index (edge_to 0 false) c.loop-edge-test.true, c.loop-edge.invariant.so_far.adds.nodes.grows.longer, ap (λ (e : AigEdge). e.node_id) c.image_of.ensures)
+
+pub returns-clause-exact : goal.returns-clause-exact
+returns-clause-exact c =
+    let whole = take_all c.loop-edge.edge-index c.args.edges.now c.loop-edge-test.false in
+    subst (λ es. made_in (net_of c.loop-edge.self) c.loop-edge.all ≡ shared_ands (made_in (net_of c.args.self.now) c.args.first) (map (image_in c.args.images.now) es)) whole c.loop-edge.invariant.exact
 
 pub returns-clause-gives : goal.returns-clause-gives
 returns-clause-gives c =
