@@ -211,7 +211,7 @@ class Pair(Asked):
         try:
             self.asked = judge.made("miter", self.first.file, self.other.file)
         except Fault as why:
-            if str(why) != "aigedit: files do not fit":
+            if not str(why).startswith("aigedit: files do not fit: "):
                 raise
             raise Fault(misfit([words.files[0], words.equal], [self.first.circuit(), self.other.circuit()])) from None
 

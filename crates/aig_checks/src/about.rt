@@ -181,7 +181,7 @@ fn about_pair(error: PairError) -> About
     match error {
         PairError::Read(error) => about_read(Subject::File, error),
         PairError::Other(error) => about_read(Subject::Other, error),
-        PairError::Misfit => whole(Subject::Other),
+        PairError::Misfit(_) => whole(Subject::Other),
         PairError::TooLarge => whole(Subject::File),
         PairError::Memory | PairError::Write => NOTHING,
     }

@@ -37,7 +37,7 @@ about_edit e = whole subjects.File
 abbrev pub about_pair : PairError → About
 about_pair (pair.Read e) = about_read subjects.File e
 about_pair (pair.Other e) = about_read subjects.Other e
-about_pair pair.Misfit = whole subjects.Other
+about_pair (pair.Misfit m) = whole subjects.Other
 about_pair pair.TooLarge = whole subjects.File
 about_pair pair.Memory = nothing
 about_pair pair.Write = nothing

@@ -5,22 +5,30 @@ use Rattle.aig_circuit.specs.declared.view.CircuitLists.{CircuitLists}
 use Rattle.aig_format.proofs.Words.{IsReadAgain, circuit_of, edge_of, file_of, latch_of, File, Accepts, node_of_variable, FitsFormat}
 use Rattle.aig_format.specs.declared.FileKind.TheVariants.{Text}
 use Rattle.aig_format.proofs.Circuits.{IsCircuit-of_file}
-use Rattle.aig_join.proofs.Files.{HasLeavesOf-files, HaveSameCounts-files}
 use Rattle.aig_join.proofs.Written.{written-certified, written-miter}
 use Rattle.aig_reader.specs.Verdicts.{Accepted, verdict_by}
 use Rattle.aig_edits.specs.declared.error.PairError.{PairError}
 use Rattle.aig_edits.specs.declared.error.PairError.TheVariants as errors
 use Rattle.aig_edits.specs.declared.pairing.Pairing.{Pairing}
 use Rattle.aig_edits.specs.declared.pairing.Pairing.TheVariants.{Certificate, Merge, Miter}
-use Rattle.aig_edits.specs.Joints.{DoFit, IsJoint, IsJointOf, IsOwn, Joins, ShowsOf, first_verdict, second_verdict}
+use Rattle.aig_edits.specs.Joints.{DoFit, IsJoint, IsJointOf, IsMisfit, IsOwn, Joins, counted, ShowsOf, first_verdict, second_verdict}
 use Rattle.aig_edits.proofs.MergedFiles.{written-merged}
-use Rattle.aig_edits.specs.Parts.{AreListsOfBoth, CanPair, IsJoinOf}
+use Rattle.aig_edits.specs.Parts.{AreListsOfBoth, CanPair, IsJoinOf, counted_circuit}
 
 -- ---- counts
 
 -- as many inputs, and latches, as lines
 inputs-of : (f : File) → length (circuit_of f).inputs ≡ length f.inputs
 inputs-of f = length-map f.inputs (λ (e : ℕ). node_of_variable f (e / 2))
+
+counted-of : (f : File) → counted_circuit (circuit_of f) ≡ counted f
+counted-of f =
+    rw (
+      length-map f.inputs (λ (e : ℕ). node_of_variable f (e / 2)),
+      length-map f.latches (latch_of f),
+      length-map f.properties.outputs (edge_of f),
+      length-map f.properties.bads (edge_of f),
+    ) refl
 
 fits_back : (pairing : Pairing) (f g : File) → CanPair pairing (circuit_of f) (circuit_of g)
     → DoFit pairing f g
@@ -43,12 +51,6 @@ fits_back Merge f g can = tt
 
 module _ (limit : ℕ) (low : limit ≤ 2 ^ 31) (f g : File) (bytes others : List ℕ)
     (is : Accepts bytes limit f) (also : Accepts others limit g) where
-  fits_forth : (pairing : Pairing) → DoFit pairing f g
-      → CanPair pairing (circuit_of f) (circuit_of g)
-  fits_forth Miter fit = HaveSameCounts-files f g fit
-  fits_forth Certificate fit = HasLeavesOf-files f g limit limit 0 is.1 also.1 fit
-  fits_forth Merge fit = tt
-
   -- ---- the circuit
 
   -- its text is a file, which shows what it should
@@ -80,7 +82,9 @@ module _ (limit : ℕ) (low : limit ≤ 2 ^ 31) (f g : File) (bytes others : Lis
   joins : (pairing : Pairing) (made : Result CircuitLists PairError)
       → IsJoinOf pairing (circuit_of f) (circuit_of g) made → Joins pairing f g made
   joins pairing (Ok lists) told = joint_of pairing (lists_circuit lists) told.0 told.1 told.3
-  joins pairing (Err errors.Misfit) told = λ fit. told (fits_forth pairing fit)
+  joins pairing (Err (errors.Misfit m)) told =
+      subst (λ b. IsMisfit pairing (counted f) b m) (counted-of g)
+      (subst (λ a. IsMisfit pairing a (counted_circuit (circuit_of g)) m) (counted-of f) told)
   joins pairing (Err errors.TooLarge) told = (fits_back pairing f g told.0, told.1)
   joins pairing (Err errors.Memory) told = fits_back pairing f g told
   joins pairing (Err (errors.Read e)) told = absurd told

@@ -1,6 +1,7 @@
 pub mod Reading
 pub mod MergedFiles
 pub mod JointFiles
+pub mod Misfits
 pub mod Printed
 pub mod Edited
 pub mod EditedFiles

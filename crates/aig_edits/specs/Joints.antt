@@ -1,6 +1,6 @@
 -- Part of what is promised.
 -- What is made of two files: the joint circuit of theirs, and its text.
-use Rattle.std.specs.Prelude.{◌≡◌, ◌≢◌, ℕ, ◌↔◌, ◌⊎◌, length, Bool, false, List, Option, Result, Ok, Err}
+use Rattle.std.specs.Prelude.{◌≡◌, ◌≢◌, ℕ, ◌<◌, ◌≤◌, ◌↔◌, ◌⊎◌, length, Bool, false, List, Option, Result, Ok, Err}
 use Rattle.std.specs.Io.KnownBytes.{Appends}
 use Rattle.aig_circuit.specs.Circuit.{Circuit}
 use Rattle.aig_circuit.specs.View.{lists_circuit}
@@ -21,8 +21,40 @@ use Rattle.aig_reader.specs.Verdicts.{Accepted, Verdict, verdict_of}
 use Rattle.aig_runs.specs.Queries.{IsSafeTo}
 use Rattle.aig_edits.specs.declared.error.PairError.{PairError}
 use Rattle.aig_edits.specs.declared.error.PairError.TheVariants as errors
+use Rattle.aig_edits.specs.declared.misfit.Misfit.{Misfit}
+use Rattle.aig_edits.specs.declared.misfit.Misfit.TheVariants as misfits
 use Rattle.aig_edits.specs.declared.pairing.Pairing.{Pairing}
 use Rattle.aig_edits.specs.declared.pairing.Pairing.TheVariants.{Certificate, Merge, Miter}
+
+-- ---- counts
+
+-- how many inputs, latches, outputs and bad literals there are
+pub record Counted : Type 0 where
+  pub inputs : ℕ
+  pub latches : ℕ
+  pub outputs : ℕ
+  pub bads : ℕ
+
+-- those of a file
+abbrev pub counted : File → Counted
+counted f = record {
+  inputs = length f.inputs;
+  latches = length f.latches;
+  outputs = length f.properties.outputs;
+  bads = length f.properties.bads;
+}
+
+-- the first counts that don't fit: those before fit, and these are the numbers of both
+abbrev pub IsMisfit : Pairing → Counted → Counted → Misfit → Type 0
+IsMisfit Miter a b (misfits.Inputs m n) = (m ≡ a.inputs) × (n ≡ b.inputs) × (m ≢ n)
+IsMisfit Miter a b (misfits.Outputs m n) =
+    (a.inputs ≡ b.inputs) × (m ≡ a.outputs) × (n ≡ b.outputs) × (m ≢ n)
+IsMisfit Miter a b (misfits.Bads m n) =
+    (a.inputs ≡ b.inputs) × (a.outputs ≡ b.outputs) × (m ≡ a.bads) × (n ≡ b.bads) × (m ≢ n)
+IsMisfit Certificate a b (misfits.Inputs m n) = (m ≡ a.inputs) × (n ≡ b.inputs) × (n < m)
+IsMisfit Certificate a b (misfits.Latches m n) =
+    (a.inputs ≤ b.inputs) × (m ≡ a.latches) × (n ≡ b.latches) × (n < m)
+IsMisfit pairing a b m = ⊥
 
 -- ---- the joint circuit
 
@@ -77,7 +109,7 @@ IsOwn e = Unit {0}
 
 -- why there is no joint circuit of two files
 abbrev pub IsRefusalOf : Pairing → File → File → PairError → Type 0
-IsRefusalOf pairing f g errors.Misfit = ¬ DoFit pairing f g
+IsRefusalOf pairing f g (errors.Misfit m) = IsMisfit pairing (counted f) (counted g) m
 IsRefusalOf pairing f g errors.TooLarge =
     DoFit pairing f g
     × ((m : Circuit) × IsJoint pairing (circuit_of f) (circuit_of g) m × ¬ FitsFormat m)

@@ -1,6 +1,6 @@
 -- Serves private clauses alone.
 -- What the parts of a call on two files do.
-use Rattle.std.specs.Prelude.{Result, Ok, Err}
+use Rattle.std.specs.Prelude.{length, Option, None, Some, Result, Ok, Err}
 use Rattle.aig_circuit.specs.Circuit.{Circuit, IsCircuit}
 use Rattle.aig_circuit.specs.View.{lists_circuit}
 use Rattle.aig_circuit.specs.declared.view.CircuitLists.{CircuitLists}
@@ -13,7 +13,8 @@ use Rattle.aig_edits.specs.declared.error.PairError.{PairError}
 use Rattle.aig_edits.specs.declared.error.PairError.TheVariants as errors
 use Rattle.aig_edits.specs.declared.pairing.Pairing.{Pairing}
 use Rattle.aig_edits.specs.declared.pairing.Pairing.TheVariants.{Certificate, Merge, Miter}
-use Rattle.aig_edits.specs.Joints.{IsJoint}
+use Rattle.aig_edits.specs.declared.misfit.Misfit.{Misfit}
+use Rattle.aig_edits.specs.Joints.{Counted, IsJoint, IsMisfit}
 
 -- the lists of both were read, and there is no other error
 abbrev pub AreListsOfBoth : File → File → Result (CircuitLists × CircuitLists) PairError → Type 0
@@ -26,12 +27,30 @@ CanPair Miter a b = HaveSameCounts a b
 CanPair Certificate a b = HasLeavesOf b a
 CanPair Merge a b = Unit {0}
 
+-- the counts of a circuit
+abbrev pub counted_circuit : Circuit → Counted
+counted_circuit c = record {
+  inputs = length c.inputs;
+  latches = length c.latchs;
+  outputs = length c.properties.outputs;
+  bads = length c.properties.bads;
+}
+
+-- the first counts that don't fit
+abbrev pub AreMisfit : Pairing → Circuit → Circuit → Misfit → Type 0
+AreMisfit pairing a b m = IsMisfit pairing (counted_circuit a) (counted_circuit b) m
+
+-- these are the first counts that don't fit, if there are any
+abbrev pub MayMisfit : Pairing → Circuit → Circuit → Option Misfit → Type 0
+MayMisfit pairing a b (Some m) = AreMisfit pairing a b m
+MayMisfit pairing a b None = CanPair pairing a b
+
 -- the lists are those of the joint circuit, if the counts fit
 abbrev pub IsPaired : Pairing → Circuit → Circuit → Result CircuitLists PairError → Type 0
 IsPaired pairing a b (Ok lists) =
     CanPair pairing a b × IsJoint pairing a b (lists_circuit lists)
     × IsCircuit (lists_circuit lists)
-IsPaired pairing a b (Err errors.Misfit) = ¬ CanPair pairing a b
+IsPaired pairing a b (Err (errors.Misfit m)) = AreMisfit pairing a b m
 IsPaired pairing a b (Err errors.Memory) = CanPair pairing a b
 IsPaired pairing a b (Err e) = ⊥
 
@@ -40,7 +59,7 @@ abbrev pub IsJoinOf : Pairing → Circuit → Circuit → Result CircuitLists Pa
 IsJoinOf pairing a b (Ok lists) =
     CanPair pairing a b × IsJoint pairing a b (lists_circuit lists)
     × IsCircuit (lists_circuit lists) × FitsFormat (lists_circuit lists)
-IsJoinOf pairing a b (Err errors.Misfit) = ¬ CanPair pairing a b
+IsJoinOf pairing a b (Err (errors.Misfit m)) = AreMisfit pairing a b m
 IsJoinOf pairing a b (Err errors.TooLarge) =
     CanPair pairing a b × ((m : Circuit) × IsJoint pairing a b m × ¬ FitsFormat m)
 IsJoinOf pairing a b (Err errors.Memory) = CanPair pairing a b

@@ -3,6 +3,7 @@
 ghost use Rattle.std.specs.Prelude.{◌≡◌};
 ghost use Rattle.aig_edits.specs.declared.error.PairError.TheVariants as errors;
 
+use crate::misfit::Misfit;
 use aig_base::{MemoryError, StreamFault};
 use aig_reader::ReadError;
 use thiserror::Error;
@@ -17,8 +18,8 @@ pub enum PairError {
     #[error("other file: {0}")]
     Other(ReadError),
     /// The counts of the files' inputs, latches, outputs or bad literals don't fit.
-    #[error("files do not fit")]
-    Misfit,
+    #[error("files do not fit: {0}")]
+    Misfit(Misfit),
     /// The joint circuit is too large for the format.
     #[error("too large for the format")]
     TooLarge,

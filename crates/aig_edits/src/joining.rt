@@ -10,20 +10,21 @@ ghost use Rattle.aig_edits.specs.declared.pairing.Pairing.TheVariants.{Certifica
 
 use crate::error::PairError;
 use crate::format::fits_format;
+use crate::misfit::{certificate_misfit, miter_misfit};
 use crate::pairing::Pairing;
 use crate::pairs::read_pair;
 use aig_base::Source;
 use aig_change::{merge, merging_is_circuit, merging_pairs_runs};
 use aig_circuit::{CircuitLists, CircuitView};
-use aig_join::{certified_by, has_leaves_of, have_same_counts, miter};
+use aig_join::{certified_by, miter};
 use std::alloc::Global;
 
 /// The miter of two circuits, if they fit.
 fn miter_of(first: &CircuitView<'_>, second: &CircuitView<'_>) -> Result<CircuitLists, PairError>
     ensures { IsPaired Miter first.now second.now result }
 {
-    if !have_same_counts(first, second) {
-        return Err(PairError::Misfit);
+    if let Some(misfit) = miter_misfit(first, second) {
+        return Err(PairError::Misfit(misfit));
     }
     Ok(miter(first, second)?)
 }
@@ -35,8 +36,8 @@ fn certificate_of(
 ) -> Result<CircuitLists, PairError>
     ensures { IsPaired Certificate first.now second.now result }
 {
-    if !has_leaves_of(second, first) {
-        return Err(PairError::Misfit);
+    if let Some(misfit) = certificate_misfit(first, second) {
+        return Err(PairError::Misfit(misfit));
     }
     Ok(certified_by(first, second)?)
 }

@@ -3,7 +3,7 @@
 use aig_answers::AnswerError;
 use aig_base::FromRead;
 use aig_certificates::{CertificateError, check_certified, check_equal};
-use aig_edits::PairError;
+use aig_edits::{Misfit, PairError};
 use aig_refutation::RefutationError;
 use std::alloc::Global;
 
@@ -86,7 +86,8 @@ fn takes_proofs_of_equal_ands_in_their_setting_alone(rt: HostRuntime) {
 #[test]
 fn refuses_files_that_do_not_fit(rt: HostRuntime) {
     let alloc = rt.alloc();
-    let misfit = CertificateError::Pair(PairError::Misfit);
-    assert!(rt; equal(alloc, true, b"aag 1 1 0 1 0\n2\n2\n", b"0\n") == Some(misfit));
-    assert!(rt; equal(alloc, true, b"aag 2 2 0 0 0\n2\n4\n", b"0\n") == Some(misfit));
+    let inputs = CertificateError::Pair(PairError::Misfit(Misfit::Inputs(2, 1)));
+    let outputs = CertificateError::Pair(PairError::Misfit(Misfit::Outputs(1, 0)));
+    assert!(rt; equal(alloc, true, b"aag 1 1 0 1 0\n2\n2\n", b"0\n") == Some(inputs));
+    assert!(rt; equal(alloc, true, b"aag 2 2 0 0 0\n2\n4\n", b"0\n") == Some(outputs));
 }
