@@ -15,14 +15,15 @@ const SIZE: usize = 1 << 14;
 /// Pulls bytes until there are this many, or the source ends, and returns how many there are.
 fn pull_front<R: Source>(r: &mut R, bytes: &mut [u8], count: usize) -> Result<usize, StreamFault>
     requires { count ≤ length bytes.old }
-    ensures bound { IfOk result (λ n. n ≤ length bytes.new) }
+    ensures bound { IfOk result (λ n. n ≤ count) }
+    ensures room { OnOk result (count ≤ length bytes.new) }
     ensures moved { IfOk result (λ n. Consumes (R.left r.old) (R.left r.new) (take n bytes.new)) }
     ensures enough { IfOk result (λ n. n < count → IsAtEnd (R.left r.new)) }
     ensures failed { OnErr result (R.failed r.new ≡ true) }
 {
     let mut end = 0;
     while end < count {
-        let pulled = r.pull(&mut bytes[end..])?;
+        let pulled = r.pull(&mut bytes[end..count])?;
         if pulled == 0 {
             break;
         }
@@ -91,6 +92,7 @@ impl InputBuffer {
         requires none { self.old ≡ [] }
         requires room { count ≤ SIZE }
         ensures moved { OnOk result (Consumes (R.left r.old) (R.left r.new) self.new) }
+        ensures few { OnOk result (length self.new ≤ count) }
         ensures enough { OnOk result (length self.new < count → IsAtEnd (R.left r.new)) }
         ensures failed { OnErr result (R.failed r.new ≡ true) }
     {

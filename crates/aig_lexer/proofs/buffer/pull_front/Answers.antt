@@ -32,15 +32,16 @@ pub loop-end-preserved : goal.loop-end-preserved
 loop-end-preserved g c =
     let at = c.loop-end.end in
     let bytes = c.loop-end.bytes in
-    let room = length bytes - at in
+    let count = c.args.count in
+    let room = count - at in
+    let inside : at ≤ length bytes = omega (arith, c.loop-end.invariant.bound, c.loop-end.invariant.room) in
     let n = c.in_ok-pulled.pulled in
     let new = c.pull.new.buf in
     let left = g.R.Source.left in
-    let front = part_written at room n bytes new c.loop-end.invariant.bound
-    c.in_ok-pulled.ensures.bound in
+    let front = part_written at room n bytes new inside c.in_ok-pulled.ensures.bound in
     record {
-      bound = room_written at room n bytes new c.loop-end.invariant.bound
-          c.in_ok-pulled.ensures.bound;
+      bound = omega (arith, c.in_ok-pulled.ensures.bound);
+      room = omega (arith, room_written at room (length new) bytes new inside (omega arith));
       moved = subst (Consumes (left c.args.r.now) (left c.pull.new.self)) (sym front)
           (Consumes-trans (left c.args.r.now) (left c.loop-end.r) (left c.pull.new.self)
           (take at bytes) (take n new) c.loop-end.invariant.moved c.in_ok-pulled.ensures.moved);

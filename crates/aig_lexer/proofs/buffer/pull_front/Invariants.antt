@@ -3,7 +3,8 @@ use Rattle.aig_lexer.proofs.buffer.pull_front.Given as goal
 
 abbrev pub invariant-loop-end : goal.invariant-loop-end
 invariant-loop-end g l = record {
-  bound : l.end ≤ length l.bytes;
+  bound : l.end ≤ l.count;
+  room : l.count ≤ length l.bytes;
   moved : Consumes (g.R.Source.left l.fn.r) (g.R.Source.left l.r) (take l.end l.bytes);
 }
 
