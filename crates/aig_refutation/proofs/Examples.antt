@@ -8,13 +8,14 @@ use Rattle.aig_refutation.specs.declared.error.RefutationError.TheVariants as er
 use Rattle.aig_refutation.specs.declared.error.RefutationError.{RefutationError}
 use Rattle.aig_refutation.specs.Checking.{IsInConflict, IsPlainOutcome, Shows}
 use Rattle.aig_format.specs.Parse.{parse_groups}
+use Rattle.aig_format.specs.Written.{delta_of}
 use Rattle.aig_refutation.specs.Binary.{binary_script, binary_steps_in, groups_in}
 use Rattle.aig_refutation.specs.Forms.{is_binary, plain_steps_in, steps_in}
 use Rattle.aig_refutation.specs.Proofs.{Script, after_clause, after_first, after_number, after_word, clause_from, clause_in, ended, line_in, numbers_from, numbers_in, plain_of, script_if, script_of}
 use Rattle.aig_refutation.specs.Propagation.{is_rup}
 use Rattle.aig_refutation.specs.Steps.{Adds, Deletes, Drops, Learns, PlainStep, Refute, Step, is_refutation, without_one}
 use Rattle.aig_refutation.specs.Text.{digits_after, lines_after, number_in, word_at, word_in, words_after, words_of}
-use Rattle.aig_refutation.specs.Written.{proof_text}
+use Rattle.aig_refutation.specs.Written.{binary_text, plain_text, proof_text}
 use Rattle.aig_refutation.proofs.Plainly.{refutation_taken}
 
 -- a variable, and its inverse
@@ -279,3 +280,27 @@ hints_first : steps_in 2 (codes "5 1 2 0 1 0\n") ≡ Some (record {
 })
 unfolding script_if script_of words_of words_after word_at lines_after line_in word_in number_in digits_after after_first after_number after_word clause_from clause_in after_clause numbers_from numbers_in ended
 hints_first = refl
+
+-- in DRAT, and in binary the bytes of the description above
+written_plain : plain_text (Learns (plain 0 ∷ inverted 1 ∷ []) ∷ Drops (plain 0 ∷ []) ∷ Learns [] ∷ []) ≡ codes "1 -2 0\nd 1 0\n0\n"
+unfolding digits
+written_plain = refl
+
+written_binary : binary_text (Drops (inverted 62 ∷ inverted 8192 ∷ []) ∷ Learns (plain 128 ∷ inverted 8190 ∷ []) ∷ []) ≡ described
+unfolding delta_of
+written_binary = refl
+
+-- variables by their own numbers, and the two kinds of literals exchanged: other literals are read
+unshifted_binary : binary_steps_in 2 (97 ∷ 2 ∷ 0 ∷ []) ≡ record {
+  steps = Learns (plain 0 ∷ []) ∷ [];
+  fault = errors.Unfinished;
+}
+unfolding groups_in binary_script parse_groups
+unshifted_binary = refl
+
+exchanged_binary : binary_steps_in 2 (97 ∷ 3 ∷ 0 ∷ []) ≡ record {
+  steps = Learns (inverted 0 ∷ []) ∷ [];
+  fault = errors.Unfinished;
+}
+unfolding groups_in binary_script parse_groups
+exchanged_binary = refl

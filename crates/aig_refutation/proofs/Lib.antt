@@ -38,3 +38,4 @@ mod WrittenProofs
 mod WrittenPlain
 mod WrittenBinary
 mod Turned
+mod Ordered

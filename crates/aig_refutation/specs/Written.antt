@@ -1,11 +1,12 @@
 -- Part of what laws say, and of no promise of a call.
 -- The texts of proofs, as solvers write them. (LRAT: Cruz-Filipe, Heule, Hunt, Kaufmann and
 -- Schneider-Kamp, 2017. DRAT: Wetzler, Heule and Hunt, 2014.)
-use Rattle.std.specs.Prelude.{ℕ, ◌+◌, ◌*◌, ◌^◌, ◌<◌, if◌then◌else◌, List, [], ◌∷◌, ◌++◌, All, codes, decimal}
-use Rattle.std.specs.List.{flat_map}
+use Rattle.std.specs.Prelude.{◌≡◌, ℕ, ◌+◌, ◌*◌, ◌^◌, ◌<◌, true, false, if◌then◌else◌, List, [], ◌∷◌, ◌++◌, Ok, All, codes, decimal}
+use Rattle.std.specs.List.{flat_map, list_all}
 use Rattle.aig_base.specs.declared.logic.literal.Lit.{Lit}
 use Rattle.aig_base.specs.Clauses.{is_positive, variable_of}
 use Rattle.aig_format.specs.Written.{delta_of}
+use Rattle.aig_refutation.specs.Checking.{Live, deleted, is_named, is_too_large, is_used, with_clause}
 use Rattle.aig_refutation.specs.Steps.{Step, Adds, Deletes, PlainStep, Drops, Learns}
 
 -- ---- what a text can say
@@ -28,6 +29,18 @@ IsStep variables (Deletes numbers) = All IsNumber numbers
 abbrev pub IsPlainStep : ℕ → PlainStep → Type 0
 IsPlainStep variables (Learns clause) = IsClause variables clause
 IsPlainStep variables (Drops clause) = IsClause variables clause
+
+-- the numbers of steps are in order: hints and deletions name clauses that are there, and that of a
+-- clause is a new one that doesn't skip too many
+abbrev pub AreInOrder : Live → List Step → Type 0
+AreInOrder live [] = Unit {0}
+AreInOrder live (Adds number clause hints ∷ steps) =
+    (list_all (is_named live) hints ≡ true)
+    × (is_used live number ≡ false)
+    × (is_too_large live number ≡ false)
+    × AreInOrder (with_clause live number clause) steps
+AreInOrder live (Deletes numbers ∷ steps) =
+    (next : Live) × (deleted live numbers ≡ Ok next) × AreInOrder next steps
 
 -- ---- words
 

@@ -9,7 +9,7 @@ ghost use Rattle.aig_refutation.specs.Checking.{IsPlainOutcome, Shows, all_live,
 ghost use Rattle.aig_refutation.specs.Forms.{is_binary, plain_steps_in, steps_in, telling};
 ghost use Rattle.aig_refutation.specs.Propagation.{is_rup};
 ghost use Rattle.aig_refutation.specs.Steps.{Drops, Learns, PlainStep, Refute, Step, is_refutation};
-ghost use Rattle.aig_refutation.specs.Written.{IsNumber, IsPlainStep, IsStep, as_read, binary_text, plain_text, proof_text, step_bytes};
+ghost use Rattle.aig_refutation.specs.Written.{AreInOrder, IsNumber, IsPlainStep, IsStep, as_read, binary_text, plain_text, proof_text, step_bytes};
 
 /// Law: a clause that follows by reverse unit propagation is true wherever the clauses are among
 /// which its hints are looked up.
@@ -104,4 +104,12 @@ pub fn written_plain_proofs_are_taken()
         → are_all_in variables clauses ≡ true → Refute clauses steps
         → Shows variables clauses (Some (binary_text steps)) (Err e)
         → (e ≡ RefutationError.Memory) ⊎ (e ≡ RefutationError.Stream) }
+{}
+
+/// Law: steps that refute clauses can all be taken, up to the empty clause, where their numbers are in order.
+pub fn ordered_refutations_are_taken()
+    ensures { (variables : ℕ) (clauses : List (List Lit)) (steps : List Step)
+        (fault : RefutationError) → All (IsStep variables) steps
+        → AreInOrder (all_live clauses) steps → IsTrue (is_refutation clauses steps)
+        → outcome variables (all_live clauses) steps fault ≡ Ok tt }
 {}

@@ -20,10 +20,10 @@ mod words;
 pub use check::check_refutation;
 pub use error::RefutationError;
 pub use laws::{
-    binary_proofs_are_read, plain_proofs_are_read, plain_refutations_are_taken,
-    plainly_refuted_clauses_are_unsatisfiable, proofs_are_read, refuted_clauses_are_unsatisfiable,
-    rup_clauses_are_implied, shown_clauses_are_unsatisfiable, written_plain_proofs_are_taken,
-    written_proofs_are_taken,
+    binary_proofs_are_read, ordered_refutations_are_taken, plain_proofs_are_read,
+    plain_refutations_are_taken, plainly_refuted_clauses_are_unsatisfiable, proofs_are_read,
+    refuted_clauses_are_unsatisfiable, rup_clauses_are_implied, shown_clauses_are_unsatisfiable,
+    written_plain_proofs_are_taken, written_proofs_are_taken,
 };
 pub use marks::Marks;
 pub use propagation::{Reading, is_rup};

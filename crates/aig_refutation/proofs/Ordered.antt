@@ -1,0 +1,138 @@
+-- Steps that refute clauses are taken, where their numbers are in order.
+use Rattle.aig_base.proofs.Words.{◌≡◌, ℕ, ◌+◌, ◌<◌, ◌==◌, nat_lt, Bool, true, false, ◌||◌, not, cond, List, [], ◌∷◌, length, Option, Some, None, Result, Ok, Err, refl, sym, ap, ◌∙◌, arith, nat_tests, eqb-true, ne_eqb, AllByRecursion, All, recursion_from_All, and_parts, fold, fun_ext, list_any, lookup, false≢true}
+use Rattle.aig_base.specs.declared.logic.literal.Lit.{Lit}
+use Rattle.aig_base.specs.Clauses.{variable_of}
+use Rattle.aig_refutation.specs.declared.error.RefutationError.{RefutationError}
+use Rattle.aig_refutation.specs.declared.error.RefutationError.TheVariants as errors
+use Rattle.aig_refutation.specs.Checking.{Live, added, all_live, are_in, clause_at, deleted, is_named, outcome, taken, with_clause, with_next, without_clause}
+use Rattle.aig_refutation.specs.Propagation.{is_rup}
+use Rattle.aig_refutation.specs.Steps.{Step, Adds, Deletes, is_empty, is_refutation, numbered, refutes, without}
+use Rattle.aig_refutation.specs.Written.{AreInOrder, IsStep}
+
+-- the clause of a number
+abbrev found : List (ℕ × List Lit) → ℕ → Option (List Lit)
+found clauses n = lookup (λ m. n == m) clauses
+
+-- the clauses that are there have the same numbers
+abbrev AreFound : List (ℕ × List Lit) → Live → Type 0
+AreFound clauses live = (n : ℕ) → found clauses n ≡ clause_at live n
+
+-- ---- deletions
+
+abbrev is_among : List ℕ → ℕ → Bool
+is_among numbers n = list_any (λ k. k == n) numbers
+
+found-without : (numbers : List ℕ) (clauses : List (ℕ × List Lit)) (n : ℕ) → found (without numbers clauses) n ≡ cond (is_among numbers n) None (found clauses n)
+found-without numbers [] n = none (is_among numbers n) None refl
+  where
+    none : (b : Bool) (o : Option (List Lit)) → o ≡ None → o ≡ cond b None o
+    none true o is = is
+    none false o is = refl
+found-without numbers (entry ∷ clauses) n = by (is_among numbers entry.0) (n == entry.0) refl refl (found-without numbers clauses n)
+  where
+    same : (c : Bool) → (n == entry.0) ≡ true → is_among numbers entry.0 ≡ c → is_among numbers n ≡ c
+    same c f e = ap (is_among numbers) (eqb-true n entry.0 f) ∙ e
+
+    by : (b c : Bool) → is_among numbers entry.0 ≡ b → (n == entry.0) ≡ c → found (without numbers clauses) n ≡ cond (is_among numbers n) None (found clauses n)
+        → found (cond (not b) (entry ∷ without numbers clauses) (without numbers clauses)) n ≡ cond (is_among numbers n) None (cond c (Some entry.1) (found clauses n))
+    by true true e f later = later ∙ rw (same true f e) refl
+    by true false e f later = later
+    by false true e f later = rw (f, same false f e) refl
+    by false false e f later = rw f later
+
+clause_at-deleted : (numbers : List ℕ) (live next : Live) → deleted live numbers ≡ Ok next → (n : ℕ) → clause_at next n ≡ cond (is_among numbers n) None (clause_at live n)
+unfolding deleted
+clause_at-deleted [] live next is n = let same : live ≡ next = cc in ap (λ (l : Live). clause_at l n) (sym same)
+clause_at-deleted (m ∷ numbers) live next is n = by (is_named live m) (λ e. clause_at-deleted numbers (without_clause live m) next e n) is
+  where
+    either : (a b : Bool) (o : Option (List Lit)) → cond b None (cond (a || false) None o) ≡ cond (a || b) None o
+    either true true o = refl
+    either true false o = refl
+    either false true o = refl
+    either false false o = refl
+
+    by : (b : Bool) → (deleted (without_clause live m) numbers ≡ Ok next → clause_at next n ≡ cond (is_among numbers n) None (clause_at (without_clause live m) n))
+        → cond b (deleted (without_clause live m) numbers) (Err errors.Unnamed) ≡ Ok next → clause_at next n ≡ cond ((m == n) || is_among numbers n) None (clause_at live n)
+    by true later e =
+        later e ∙ ap (λ o. cond (is_among numbers n) None o) (found-without (m ∷ []) live.clauses n) ∙ either (m == n) (is_among numbers n) (clause_at live n)
+    by false later e = absurd cc
+
+found_deleted : (numbers : List ℕ) (clauses : List (ℕ × List Lit)) (live next : Live) → AreFound clauses live → deleted live numbers ≡ Ok next → AreFound (without numbers clauses) next
+found_deleted numbers clauses live next are is n =
+    found-without numbers clauses n ∙ ap (λ o. cond (is_among numbers n) None o) (are n) ∙ sym (clause_at-deleted numbers live next is n)
+
+-- ---- the clauses at first
+
+abbrev or_else : Option (List Lit) → Option (List Lit) → Option (List Lit)
+or_else (Some clause) other = Some clause
+or_else None other = other
+
+found_below : (clauses : List (List Lit)) (k n : ℕ) → n < k → found (numbered k clauses) n ≡ None
+found_below [] k n below = refl
+found_below (clause ∷ clauses) k n below = rw (ne_eqb n k (λ e. omega arith), found_below clauses (k + 1) n (omega arith)) refl
+
+clause_at-numbered : (clauses : List (List Lit)) (live : Live) (n : ℕ) → clause_at (fold with_next live clauses) n ≡ or_else (found (numbered (length live.used + 1) clauses) n) (clause_at live n)
+clause_at-numbered [] live n = refl
+clause_at-numbered (clause ∷ clauses) live n =
+    clause_at-numbered clauses (with_next live clause) n
+    ∙ ap (λ (k : ℕ). or_else (found (numbered (k + 1) clauses) n) (clause_at (with_next live clause) n)) longer
+    ∙ by (n == length live.used + 1) refl
+  where
+    longer : length (with_next live clause).used ≡ length live.used + 1
+    longer = omega arith
+
+    by : (b : Bool) → (n == length live.used + 1) ≡ b
+        → or_else (found (numbered (length live.used + 1 + 1) clauses) n) (cond (n == length live.used + 1) (Some clause) (clause_at live n))
+        ≡ or_else (cond (n == length live.used + 1) (Some clause) (found (numbered (length live.used + 1 + 1) clauses) n)) (clause_at live n)
+    by true e = let same = eqb-true n (length live.used + 1) e in rw (e, found_below clauses (length live.used + 1 + 1) n (omega (arith, same))) refl
+    by false e = rw e refl
+
+found_first : (clauses : List (List Lit)) → AreFound (numbered 1 clauses) (all_live clauses)
+unfolding all_live
+found_first clauses n = alone (found (numbered 1 clauses) n) ∙ sym (clause_at-numbered clauses (record { clauses = []; used = [] }) n)
+  where
+    alone : (o : Option (List Lit)) → o ≡ or_else o None
+    alone None = refl
+    alone (Some clause) = refl
+
+-- ---- steps
+
+are_in-below : (variables : ℕ) (clause : List Lit) → AllByRecursion (λ lit. variable_of lit < variables) clause → are_in variables clause ≡ true
+are_in-below variables [] below = refl
+are_in-below variables (lit ∷ lits) below = rw (within (variable_of lit) below.0, are_in-below variables lits below.1) refl
+  where
+    within : (n : ℕ) → n < variables → nat_lt n variables ≡ true
+    within n h = grind (arith, nat_tests)
+
+module _ (variables : ℕ) (fault : RefutationError) where
+  added_ok : (clauses : List (ℕ × List Lit)) (live : Live) (number : ℕ) (clause : List Lit) (hints : List ℕ) (steps : List Step) → AreFound clauses live
+      → IsStep variables (Adds number clause hints) → AreInOrder live (Adds number clause hints ∷ steps) → is_rup (found clauses) clause hints ≡ true
+      → added variables live number clause hints ≡ Ok (with_clause live number clause)
+  unfolding added
+  added_ok clauses live number clause hints steps are is order rup =
+      let inside = are_in-below variables clause (recursion_from_All (λ lit. variable_of lit < variables) clause is.1) in
+      let there : is_rup (clause_at live) clause hints ≡ true = ap (λ (f : ℕ → Option (List Lit)). is_rup f clause hints) (sym (fun_ext are)) ∙ rup in
+      rw (inside, order.0, there, order.1, order.2) refl
+
+  refuted_ok : (steps : List Step) (clauses : List (ℕ × List Lit)) (live : Live) → AreFound clauses live → AllByRecursion (IsStep variables) steps → AreInOrder live steps → refutes clauses steps ≡ true
+      → outcome variables live steps fault ≡ Ok tt
+  unfolding outcome taken
+  refuted_ok [] clauses live are all order is = absurd (false≢true is)
+  refuted_ok (Adds number clause hints ∷ steps) clauses live are all order is =
+      let parts = and_parts (is_rup (found clauses) clause hints) (is_empty clause || refutes ((number, clause) ∷ clauses) steps) is in
+      rw (added_ok clauses live number clause hints steps are all.0 order parts.0)
+      (by (is_empty clause) (λ later. refuted_ok steps ((number, clause) ∷ clauses) (with_clause live number clause) more all.1 order.3 later) parts.1)
+    where
+      more : AreFound ((number, clause) ∷ clauses) (with_clause live number clause)
+      more n = ap (λ o. cond (n == number) (Some clause) o) (are n)
+
+      by : (b : Bool) {r : Result (Unit {0}) RefutationError} → (refutes ((number, clause) ∷ clauses) steps ≡ true → r ≡ Ok tt) → (b || refutes ((number, clause) ∷ clauses) steps) ≡ true → cond b (Ok tt) r ≡ Ok tt
+      by true later e = refl
+      by false later e = later e
+  refuted_ok (Deletes numbers ∷ steps) clauses live are all order is =
+      rw order.1 (refuted_ok steps (without numbers clauses) order.0 (found_deleted numbers clauses live order.0 are order.1) all.1 order.2 is)
+
+pub ordered_taken : (variables : ℕ) (clauses : List (List Lit)) (steps : List Step) (fault : RefutationError) → All (IsStep variables) steps → AreInOrder (all_live clauses) steps
+    → is_refutation clauses steps ≡ true → outcome variables (all_live clauses) steps fault ≡ Ok tt
+ordered_taken variables clauses steps fault all order is =
+    refuted_ok variables fault steps (numbered 1 clauses) (all_live clauses) (found_first clauses) (recursion_from_All (IsStep variables) steps all) order is
