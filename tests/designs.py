@@ -15,9 +15,11 @@ import sys
 import harness
 from harness import CHECK, PROVE, TESTS, TOP, rows
 
-from aigprove.aiger import Header, Lines
+from aigprove.aiger import Circuit, Header, Lines
 
 DESIGNS = TESTS / "designs"
+# How many values a witness has at most whose every value is tried.
+SHORT = 60
 # A design that another file is beside, and names for it.
 UNSAFE = """`include "q.vh"
 module top(input clk, input d); reg q = `INITIAL; always @(posedge clk) q <= d;
@@ -90,6 +92,26 @@ def kept_faults(folder):
         (folder / name).write_bytes(before)
 
 
+def spare_faults(folder):
+    """A value of a short witness that may be left out too, as aigcheck says."""
+    head, *rows, end = (folder / "witness").read_text().split("\n")[1:-1]
+    places = [(t, i) for t, row in enumerate(rows) for i, value in enumerate(row) if value != "x"]
+    opened = [i for i, latch in enumerate(told_resets(folder)) if latch > 1]
+    if sum(map(len, rows)) > SHORT:
+        return
+    for t, i in places:
+        if t or i in opened:
+            tried = [row[:i] + "x" + row[i + 1:] if n == t else row for n, row in enumerate(rows)]
+            text = "\n".join(["1", head, *tried, end, ""]).encode()
+            if harness.run([CHECK, "run", next(folder.glob("file.a?g")), "/dev/stdin"], input=text)[0] == 0:
+                yield f"value {i} of line {t} doesn't matter to {rows}"
+
+
+def told_resets(folder):
+    """What the latches of a kept file are at first: 0, 1, or their own literal."""
+    return Circuit(Lines(next(folder.glob("file.a?g")).read_bytes(), "FILE")).resets
+
+
 def answered(words):
     """The exit status of aigprove, and what it prints and says on standard error."""
     done = subprocess.run([PROVE, *words], cwd=TOP, capture_output=True, encoding="utf-8")
@@ -104,6 +126,8 @@ def file_faults(design, answer, folder, seconds):
     if not is_right(answer, status, printed) or said:
         yield f"{answer} is right, and aigprove ends with {status}: {printed[-200:]}{said}"
     yield from kept_faults(folder)
+    if status == 10:
+        yield from spare_faults(folder)
 
 
 def verilog_faults(words, wanted_status, wanted, folder):
@@ -114,6 +138,8 @@ def verilog_faults(words, wanted_status, wanted, folder):
         yield f"ended with status {status}: {printed}{said}"
     if wanted_status in ("10", "20"):
         yield from kept_faults(folder)
+    if wanted_status == "10" and "--equal" not in words:
+        yield from spare_faults(folder)
 
 
 def path_faults(folder):

@@ -71,6 +71,8 @@ def main():
     tally = harness.Tally()
     queue = str(TOP / "examples" / "queue.v")
     tally.wants("-q", (10, b"a bad state at step 4: b0\n", b""), harness.run([PROVE, "--engine", "steps", "-q", queue]))
+    with open(queue, "rb") as given:
+        tally.wants("-", (10, b"a bad state at step 4: b0\n", b""), harness.run([PROVE, "--engine", "steps", "-q", "-"], stdin=given))
     status, _, said = harness.run([PROVE, "--engine", "steps", "-v", queue])
     tally.check(status == 10 and said.startswith(b"aigprove: steps answered after "), f"-v says {said}")
     with harness.new_folder() as folder:

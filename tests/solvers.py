@@ -140,8 +140,9 @@ def fed():
     """Files from pipes, and such as have no end: devices, and one that is packed and would fill the memory."""
     with running(TOGGLE, abc=RUN) as run:
         words = [*run.words[:-1], "--engine", "bmc3"]
-        line = shlex.join([*words, "/dev/stdin"])
-        for script in [f"cat t.aag | {line}", f"gzip -c t.aag | {line}", f"{line} < t.aag"]:
+        line, dash = shlex.join([*words, "/dev/stdin"]), shlex.join([*words, "-"])
+        scripts = [f"cat t.aag | {line}", f"gzip -c t.aag | {line}", f"{line} < t.aag", f"cat t.aag | {dash}", f"gzip -c t.aag | {dash}"]
+        for script in scripts:
             yield script, (10, REACHED, "", []), run.result([], ["sh", "-c", script])
         for device in ["/dev/zero", "/dev/null"]:
             yield device, (1, "", f"aigprove: {device} is a device\n", []), run.result([device], words)

@@ -23,8 +23,10 @@ SEALS = fcntl.F_SEAL_WRITE | fcntl.F_SEAL_GROW | fcntl.F_SEAL_SHRINK | fcntl.F_S
 SUBREAPER = 36
 # Seconds that an engine may have run longer than another that waits.
 TURN = 0.25
-# How many times as long as others an engine may run that got further lately, and seconds of its own for which that holds.
-SHARE, LATELY = 2, 2
+# Engines that may run longer than others, by how many times: most designs are decided by this one.
+SHARES = {"pdr": 2}
+# An engine that showed a step may run half as long as others once it showed none for so many seconds of its own.
+LATELY, SLOWED = 2, 2
 # What part of the free bytes of the temporary folder, and of all memory, an engine may write.
 PART = 4
 # How many files an engine may write.
@@ -189,7 +191,8 @@ class Programs:
     def weighed(self, group):
         """For how long the engine of a program ran, as that counts."""
         used = self.used[group.engine]
-        return used / SHARE if used - self.further.get(group.engine, -LATELY) < LATELY else used
+        is_behind = used - self.further.get(group.engine, used) > LATELY
+        return used * (SLOWED if is_behind else 1) / SHARES.get(group.engine, 1)
 
     def count(self):
         """Counts how long programs ran since this was done last."""

@@ -167,7 +167,7 @@ class Source(Asked):
         else:
             yield from shown.lines(told, replay.latches | self.opened(circuit, told), replay.changes)
             trouble = replay.trouble
-        yield from self.open_registers(design)
+        yield from self.open_registers(design, circuit, told)
         own, text = design.assertion(told.bad)
         if replay is None:
             yield from [f"{own} fails", trouble]
@@ -182,10 +182,9 @@ class Source(Asked):
         """The lines of a value change dump: of a design that yosys ran, as yosys writes it."""
         return self.replay.dump.splitlines() if self.replay else super().dump(circuit, told)
 
-    def open_registers(self, design):
-        """The line of the registers of a design that have any value at first, if there are any."""
-        circuit = self.circuit()
-        bits = [circuit.names.get(("l", i), b"").decode("utf-8", "surrogateescape") for i, reset in enumerate(circuit.resets) if reset > 1]
+    def open_registers(self, design, circuit, told):
+        """The line of the registers of a design that have any value at first, and one that matters, if there are any."""
+        bits = [circuit.names.get(("l", i), b"").decode("utf-8", "surrogateescape") for i in sorted(self.opened(circuit, told))]
         words = dict.fromkeys(re.sub(r"\[[0-9]+\]$", "", bit) for bit in bits)
         names = [name for name in words if name and name not in design.constants]
         if names:
@@ -252,9 +251,12 @@ class Pair(Asked):
                 yield f"inputs are matched by position: i{place[1]} is {' and '.join(names)}"
 
     def others(self, circuit, told):
-        """Witnesses of what else differs at the end of a run."""
-        *_, values = circuit.run(told.start, told.steps)
-        differing = [bad for bad, literal in enumerate(circuit.bads) if aiger.value(values, literal) == "1"]
+        """Witnesses of what else differs at the end of a run, or may where it is long."""
+        if len(told.steps) * len(circuit.gates) > SIMULATED:
+            differing = range(len(circuit.bads))
+        else:
+            *_, values = circuit.run(told.start, told.steps)
+            differing = [bad for bad, literal in enumerate(circuit.bads) if aiger.value(values, literal) == "1"]
         return [told._replace(bad=bad) for bad in differing[:NAMED] if bad != told.bad]
 
     def found(self, shown, tolds):
