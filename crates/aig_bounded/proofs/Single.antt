@@ -1,5 +1,10 @@
 -- A question has one circuit, one output and one list of places.
-use Rattle.aig_base.proofs.Words.{◌≡◌, ℕ, zero, suc, ◌+◌, ◌-◌, ◌<◌, ◌≤◌, Bool, true, false, List, [], ◌∷◌, length, get_or, refl, sym, ap, ap₂, subst, ◌∙◌, arith, AllPairs, Contains, false≢true}
+use Rattle.aig_base.proofs.Words.{◌≡◌, ℕ, zero, suc, ◌+◌, ◌-◌, ◌<◌, ◌≤◌, Bool, true, false, List, [], ◌∷◌, length, map, get_or, refl, sym, ap, ap₂, subst, ◌∙◌, arith, AllPairs, Contains, false≢true}
+use Rattle.std.specs.FinMap.{empty, entries, from_entries, get-empty, len-empty, len-entries}
+use Rattle.std.specs.Option.{is_some}
+use Rattle.std.specs.Ordering.{nat_cmp}
+use Rattle.aig_circuit.specs.Renumber.{is_in, position_of, renumbered_names}
+use Rattle.aig_renumber.proofs.Same.{retained-all}
 use Rattle.std.proofs.lemmas.List.{ext_get_or}
 use Rattle.aig_circuit.specs.declared.edge.AigEdge.{AigEdge}
 use Rattle.aig_circuit.specs.declared.node.AigNode.{AigNode}
@@ -116,3 +121,19 @@ question_same c a b k o p ps qs x y =
     let same = exact_same c k a b ps qs x.exact y.exact in
     let outputs = sym x.properties ∙ ap (λ (d : Circuit). d.properties) same.0 ∙ y.properties in
     (same.0, ap (λ (e : Properties AigEdge). get_or e.outputs 0 o) outputs, same.1)
+
+-- ---- names
+
+no_entries : (es : List (ℕ × List ℕ)) → length es ≡ 0 → es ≡ []
+no_entries [] none = refl
+no_entries (e ∷ es) none = absurd (omega (arith, none))
+
+-- it has no names
+pub names_none : (c : Circuit) (k : ℕ) (a : Circuit) (ps : List Place) → IsExact c k a ps
+    → a.names ≡ empty
+names_none c k a ps is =
+    let number = position_of is.cut.nodes.kept in
+    let test = is_in is.cut.nodes.kept in
+    ap (λ (d : Circuit). d.names) is.cut.nodes.exact
+    ∙ ap (renumbered_names number) (retained-all empty test (λ n h. absurd (false≢true (sym (ap is_some (get-empty nat_cmp n)) ∙ h))))
+    ∙ ap (λ (es : List (ℕ × List ℕ)). from_entries (map (λ entry. (number entry.0, entry.1)) es)) (no_entries (entries empty) (sym (len-entries empty) ∙ len-empty nat_cmp (List ℕ)))

@@ -1,5 +1,5 @@
 -- A file's question has one list of clauses.
-use Rattle.aig_base.proofs.Words.{◌≡◌, ◌≤◌, ◌^◌, ◌++◌, ◌∷◌, [], ℕ, Bool, Option, IfSome, List, length, Result, Ok, Err, sym, ap, ap₂, subst, ◌∙◌, All}
+use Rattle.aig_base.proofs.Words.{◌≡◌, ◌≤◌, ◌^◌, ◌++◌, ◌∷◌, [], ℕ, Bool, false, Option, IfSome, List, length, Result, Ok, Err, sym, ap, ap₂, subst, ◌∙◌, All}
 use Rattle.aig_base.specs.Formula.{clauses_in}
 use Rattle.aig_base.specs.declared.logic.literal.Lit.{Lit}
 use Rattle.aig_base.specs.declared.logic.three.Lbool.{Lbool}
@@ -7,7 +7,7 @@ use Rattle.aig_base.specs.Clauses.{are_true}
 use Rattle.aig_circuit.specs.declared.edge.AigEdge.{AigEdge}
 use Rattle.aig_circuit.proofs.Words.{Circuit, edge_to, lit_of, lists_circuit}
 use Rattle.aig_cnf.specs.Cnf.{HasClauses}
-use Rattle.aig_cnf.proofs.OneList.{lists-one}
+use Rattle.aig_cnf.proofs.OneList.{one_list}
 use Rattle.aig_format.proofs.Words.{circuit_of, File}
 use Rattle.aig_refutation.specs.Checking.{Shows}
 use Rattle.aig_solutions.specs.declared.error.SolutionError.{SolutionError}
@@ -31,7 +31,7 @@ module _ (f : File) (k : ℕ) (optimize : Bool) (one other : BoundedClauses)
   same = question_same (circuit_of f) first second k is.output are.output one.question.places.items other.question.places.items is.asks are.asks
 
   same_clauses : one.clauses ≡ other.clauses
-  same_clauses = lists-one second optimize one.clauses other.clauses
+  same_clauses = one_list second optimize one.clauses other.clauses
       (subst (λ c. HasClauses c optimize one.clauses) same.0 is.has_clauses) are.has_clauses
 
   same_further : one.further ≡ other.further

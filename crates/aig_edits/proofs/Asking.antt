@@ -5,6 +5,7 @@ use Rattle.std.specs.Option.{is_some}
 use Rattle.std.specs.Ordering.{nat_cmp}
 use Rattle.aig_bounded.specs.Question.{IsQuestion}
 use Rattle.aig_bounded.specs.declared.place.Place.{Place}
+use Rattle.aig_bounded.proofs.Single.{names_none}
 use Rattle.aig_circuit.specs.declared.edge.AigEdge.{AigEdge}
 use Rattle.aig_circuit.specs.declared.node.AigLatch.{AigLatch}
 use Rattle.aig_circuit.specs.declared.node.AigNodeType.TheVariants.{Leaf}
@@ -25,33 +26,13 @@ use Rattle.aig_edits.specs.QuestionParts.{AsksOf, IsPlainQuestion, unnamed}
 
 -- ---- without names
 
-unnamed_none : (c : Circuit) (n : ℕ) → IsTrue (contains_key (unnamed c).names n) → ⊥
-unnamed_none c n is = false≢true (sym (ap is_some (get-empty nat_cmp n)) ∙ is)
-
--- names are nothing to a question
+-- a question has no names
 pub unnamed_question : (c m : Circuit) (k : ℕ) (output : AigEdge) (places : List Place) → IsQuestion
     c k m output places
     → IsQuestion c k (unnamed m) output places
-unnamed_question c m k output places is = record {
-  circuit = record {
-    nodes = is.circuit.nodes;
-    inputs = is.circuit.inputs;
-    inputs_distinct = is.circuit.inputs_distinct;
-    latchs = is.circuit.latchs;
-    latchs_distinct = is.circuit.latchs_distinct;
-    apart = is.circuit.apart;
-    properties = is.circuit.properties;
-    named = λ n h. absurd (unnamed_none m n h);
-  };
-  closed = is.closed;
-  latchs = is.latchs;
-  properties = is.properties;
-  are_places = is.are_places;
-  steps = is.steps;
-  distinct = is.distinct;
-  value = is.value;
-  runs = is.runs;
-}
+unnamed_question c m k output places is =
+    subst (λ d. IsQuestion c k d output places) (ap (λ names. record m { names = names })
+    (names_none c k m places is.exact)) is
 
 -- ---- its text
 
