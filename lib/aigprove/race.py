@@ -70,8 +70,8 @@ class Race:
         return self.source.run(told, Sealed(told.text().encode()))
 
     def reached(self, start, steps):
-        """The witness of a run whose last step is bad, as aigcheck finds; of one that is short, else of the first bad step. None where there
-        is none."""
+        """The witness of a run whose last step is bad, as aigcheck finds; of one that is short, else of the first bad step. None where
+        there is none."""
         for bad in range(len(self.circuit.bads) if steps else 0):
             told = witness.Witness(bad, start, steps)
             if self.judge.holds(self.claimed(told)):

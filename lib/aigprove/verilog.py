@@ -296,8 +296,8 @@ class Design:
         return " ".join(escaped(line.strip()) for line in data.decode("utf-8", "replace").split("\n")[first - 1:last])[:SPELLED]
 
     def run(self, told):
-        """Has yosys run a witness on the design: the names of the assertions that fail in the last step, as yosys prints them, and a replay.
-        In the place of x there is 0."""
+        """Has yosys run a witness on the design: the names of the assertions that fail in the last step, as yosys prints them, and the
+        dump. In the place of x there is 0."""
         self.replayed()
         lines = [line.replace("x", "0") + "0" for line in [told.start, *told.steps]]
         # Yosys passes over an empty line, and wants a clock.
