@@ -22,8 +22,8 @@ ABOUT = {
 }
 ROW = re.compile(r"^\| `(aig\w+) ([^`]*)` \| (.*) \|$", re.MULTILINE)
 STATUSES = "0: it was printed, written or shown. 1: a refusal, a failure, or nothing shown. 2: wrong words."
-FILES = "FILE is in AIGER form, text or binary; K is a number of steps, and PROOF is in LRAT or DRAT. Files of the other forms are described in " \
-    "docs/COMMANDS.md of the repository."
+FILES = "FILE is in AIGER form, text or binary; K is a number of steps, and PROOF is in LRAT or DRAT. docs/COMMANDS.md of the repository " \
+    "describes files of the other forms."
 
 
 def plain(text):
@@ -55,7 +55,8 @@ def of_parser():
         if action.help != argparse.SUPPRESS:
             names = ", ".join(action.option_strings) or action.metavar
             options += item(f"{names} {action.metavar}" if action.option_strings and action.metavar else names, action.help)
-    about = re.sub(r"\n  (\w+(?:, \w+)*) +(.*)", r"\n.br\n.B \1\n\2", plain(command.ABOUT)).replace("\nAn engine", "\n.br\nAn engine").replace("\n\n", "\n.PP\n")
+    about = re.sub(r"\n  (\w+(?:, \w+)*) +(.*)", r"\n.br\n.B \1\n\2", plain(command.ABOUT)).replace("\nAn engine", "\n.br\nAn engine")
+    about = about.replace("\n\n", "\n.PP\n")
     return [*head("aigprove"), ".B aigprove", ".I FILE .. [TOP] [OPTION ..]", ".SH DESCRIPTION", about.strip(), ".SH OPTIONS", *options,
             ".SH EXIT STATUS", plain(command.ENDS).strip()]
 

@@ -174,7 +174,8 @@ def odd_files(here, odd):
     (here / "part.v").write_text(PART)
     (here / "plain").mkdir()
     (here / "plain" / "q.vh").write_text("")
-    subprocess.run(["yosys", "-q", "-s", "/dev/stdin"], cwd=here, input=(here / script).read_bytes() + b"write_rtlil out.il\n")
+    words = ["yosys", "-q", "-s", "/dev/stdin"]
+    subprocess.run(words, cwd=here, input=(here / script).read_bytes() + b"write_rtlil out.il\n", check=True)
     (here / "out.il").rename(here / made)
     yield [f"-I{include}", "--", top, part], f"./{top}" if top.startswith("-") else top
     yield ["-f", listed], f"./{top}"

@@ -1,9 +1,10 @@
 #!/usr/bin/env python3
 """Runs bin/aigprove as a part of a flow: flow.py
 
-The rows of flow/rows.tsv are what SymbiYosys does with the solvers of its engine `aiger`, recorded from its source: the call, in a folder with the
-model that yosys made, and what is made of each line and of the exit status. Each has to come to the status that is wanted, by reading the
-design, and yosys has to see the assertion fail where it runs the trace. Then what -q, -v and the man pages say."""
+The rows of flow/rows.tsv are calls as SymbiYosys makes them of the solvers of its engine `aiger`, told from memory of its source, which isn't
+installed: in a folder with the model that yosys made; and what it makes of each line and of the exit status. Each has to come to the status
+that is wanted, by reading the design, and yosys has to see the assertion fail where it runs the trace. Then what -q, -v and - do, and what
+the man pages say."""
 import argparse
 import shutil
 import subprocess
@@ -34,12 +35,19 @@ opt_clean
 aigmap
 write_aiger -I -B -zinit -no-startoffset -map model/design_aiger.aim model/design_aiger.aig
 """
-REPLAY = "read_verilog -formal -sv design.v; prep -top {top}; async2sync; setundef -undriven -anyseq; flatten; sim -clock clk -r trace.aiw -map model/design_aiger.aim {top}"
+REPLAY = """read_verilog -formal -sv design.v
+prep -top {top}
+async2sync
+setundef -undriven -anyseq
+flatten
+sim -clock clk -r trace.aiw -map model/design_aiger.aim {top}
+"""
 
 
 def called(solver, folder):
     """The status, the trace and the exit status, as the tool reads them off its process, both of whose streams are one."""
-    done = subprocess.run(["sh", "-c", f"cd {folder}; {solver} model/design_aiger.aig"], stdout=subprocess.PIPE, stderr=subprocess.STDOUT, encoding="ascii")
+    words = ["sh", "-c", f"cd {folder}; {solver} model/design_aiger.aig"]
+    done = subprocess.run(words, stdout=subprocess.PIPE, stderr=subprocess.STDOUT, encoding="ascii")
     status, trace, ended = None, [], False
     for line in done.stdout.splitlines():
         if status is not None:
@@ -51,20 +59,26 @@ def called(solver, folder):
     return status, trace, done.returncode
 
 
+def yosys(script, folder):
+    """What yosys prints where it runs a script in a folder."""
+    (folder / "script.ys").write_text(script)
+    return subprocess.run(["yosys", "script.ys"], cwd=folder, capture_output=True, encoding="utf-8", check=True).stdout
+
+
 def flows(tally, folder):
     """Runs the rows."""
     for i, (design, top, options, wanted) in enumerate(harness.rows(TESTS / "flow" / "rows.tsv")):
         here = folder / str(i)
         (here / "model").mkdir(parents=True)
         shutil.copy(TOP / design, here / "design.v")
-        harness.output(["yosys", "-q", "-p", MODEL.format(top=top).replace("\n", "; ").replace("design.v", str(here / "design.v")).replace("model/", f"{here}/model/")])
+        yosys(MODEL.format(top=top), here)
         status, trace, code = called(f"{PROVE} --aiger {options}".strip(), here)
         tally.wants((design, options), (wanted, 0), (status, code))
         if status == "FAIL":
             # Yosys reads no x, and passes over empty lines.
             (here / "trace.aiw").write_text("".join(f"{line.replace('x', '0')}\n" for line in trace))
-            printed = subprocess.run(["yosys", "-p", REPLAY.format(top=top)], cwd=here, capture_output=True, encoding="utf-8").stdout
-            tally.check("Warning: Assert" in printed.rpartition("Simulating cycle ")[2], f"{design}: no assertion fails in the last step of {trace}")
+            last = yosys(REPLAY.format(top=top), here).rpartition("Simulating cycle ")[2]
+            tally.check("Warning: Assert" in last, f"{design}: no assertion fails in the last step of {trace}")
 
 
 def main():
@@ -78,12 +92,15 @@ def main():
     with harness.new_folder() as folder:
         flows(tally, folder)
         harness.output([str(TOP / "docs" / "man.py"), str(folder / "man")])
-        options = {word for action in command.parser()._actions for word in action.option_strings if action.help != argparse.SUPPRESS}
-        for program, words in {"aigprove": options, "aigtool": ["query"], "aigedit": ["miter"], "aigcheck": ["certified", "bounded"]}.items():
+        shown = [action for action in command.parser()._actions if action.help != argparse.SUPPRESS]
+        options = [word for action in shown for word in action.option_strings]
+        wanted = {"aigprove": options, "aigtool": ["query"], "aigedit": ["miter"], "aigcheck": ["certified", "bounded"]}
+        for program, words in wanted.items():
             page = (folder / "man" / f"{program}.1").read_text().replace("\\-", "-")
             tally.wants(program, set(), {word for word in words if word not in page})
             if shutil.which("man"):
-                tally.wants(f"man {program}", (0, b""), harness.run(["man", "--warnings", "-l", "-Tutf8", folder / "man" / f"{program}.1"])[::2])
+                words = ["man", "--warnings", "-l", "-Tutf8", folder / "man" / f"{program}.1"]
+                tally.wants(f"man {program}", (0, b""), harness.run(words)[::2])
     return tally.end()
 
 

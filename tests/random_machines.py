@@ -14,6 +14,7 @@ import collections
 import concurrent.futures
 import dataclasses
 import functools
+import itertools
 import json
 import random
 import re
@@ -34,7 +35,27 @@ BOUND = 6
 BY_STEPS = ["steps", "steps,windows", "steps,windows,bmc3,pdr", "bounded"]
 NAMES = ["a", "a", "a b", "a=1", "i0", "l1", "b0", '"a"', "é", "a\\b", "x[0]", "\t", "i0:a", "d[0]", "d[0]", "d[1]", "d[1]", "d[2]", "d"]
 # A signal as it is printed, and its value: its place, a word, or a JSON string that may stand behind the place.
-SIGNAL = re.compile(r'((?:[il]\d+:)?"(?:[^"\\]|\\.)*"|[^\s"=]+)=(?:([01])|(\d+)\'h([0-9a-f]+))(?: |$)')
+SIGNAL = re.compile(r'((?:[il]\d+:)?"(?:[^"\\]|\\.)*"|[^\s"=]+)=(?:([01-])|(\d+)\'(?:h([0-9a-f]+)|b([01-]+)))(?: |$)')
+STEPS_LINE = re.compile(r"steps (\d+) to (\d+):")
+# How many fillings of a witness are simulated at most.
+FILLINGS = 64
+
+
+def fillings(witness):
+    """Witnesses with values in the place of x: all, or as many as are simulated."""
+    rows = [witness.start, *witness.steps]
+    text = "\n".join(rows)
+    for values in itertools.islice(itertools.product("01", repeat=text.count("x")), FILLINGS):
+        rest = iter(values)
+        start, *steps = "".join(next(rest) if sign == "x" else sign for sign in text).split("\n")
+        yield Witness(witness.bad, start, steps)
+
+
+def spread(lines):
+    """The lines of a run, with one for each of several steps that are told in one."""
+    for line in lines:
+        found = STEPS_LINE.match(line)
+        yield from (f"step {t}:{line[found.end():]}" for t in range(int(found[1]), int(found[2]) + 1)) if found else [line]
 
 
 def turned(witness):
@@ -152,7 +173,11 @@ class Trial(Files):
         if first is not None:
             witness = read(Lines(written.read_bytes(), "WITNESS"), len(self.machine.latches), len(self.machine.inputs))
             self.compare_lines(lines, witness, names)
-            self.compare_witness(witness, len(witness.steps) - 1 == first or ("pdr" in engines and len(witness.steps) > first))
+            filled = list(fillings(witness))
+            if not (self.is_taken(witness) and all(map(self.machine.is_shown, filled))):
+                self.fail(f"not each filling is a witness: {witness}")
+            self.counts["fillings"] += len(filled)
+            self.compare_witness(filled[0], len(witness.steps) - 1 == first or ("pdr" in engines and len(witness.steps) > first))
             self.counts["reached"] += 1
         elif lines[-1:] == ["no bad state at any step"] and self.first is None:
             self.counts["proved safe"] += 1
@@ -176,27 +201,35 @@ class Trial(Files):
         name = names.get(f"b{witness.bad}")
         if bad is None or (bad[1] and (json.loads(bad[1]) if bad[1][0] == '"' else bad[1])) != name:
             self.fail(f"aigprove: {first}")
+        rest = list(spread(rest))
         for t, (line, bits) in enumerate(zip(rest, [witness.start, *witness.steps], strict=True)):
             letter, label = "li"[t > 0], f"step {t - 1}:" if t else "start:"
-            if not line.startswith(label) or self.bits_of(line.removeprefix(label).lstrip(" "), letter, len(bits), names) != bits:
+            needed = range(len(bits)) if t else [i for i, (_, _, reset) in enumerate(self.machine.latches) if reset > 1 and bits[i] != "x"]
+            shown = self.bits_of(line.removeprefix(label).partition(" | ")[0].lstrip(" "), letter, len(bits), names)
+            if not line.startswith(label) or shown is None or not set(needed) <= set(shown) or any(bits[i] != shown[i] for i in shown):
                 self.fail(f"aigprove: {line}, and the witness has {bits}")
-        signals = [signal for line in rest[:2] for signal, *_ in SIGNAL.findall(line)]
+        signals = [signal for line in rest[:2] for signal, *_ in SIGNAL.findall(line.partition(" | ")[0])]
         if len(set(signals)) < len(signals):
             self.fail(f"aigprove tells signals not apart: {signals}")
 
     def bits_of(self, line, letter, count, names):
-        """The bits of all inputs or latches that a line shows, a word's at the places that have its bits' names; None where it
-        doesn't."""
+        """The bits of the inputs or latches that a line shows by their places, a word's at those that have its bits' names, and x for what
+        doesn't matter; None where it shows anything else."""
         bits = {}
-        for signal, bit, width, digits in SIGNAL.findall(line):
-            if bit:
-                places = (i for i in range(count) if i not in bits and self.names_place(signal, f"{letter}{i}", names))
-                bits[next(places, count)] = bit
+        for signal, bit, width, digits, base_two in SIGNAL.findall(line):
+            places = [i for i in range(count) if i not in bits and self.names_place(signal, f"{letter}{i}", names)]
+            own = {int(names[f"{letter}{i}"][len(signal) + 1:-1]): i for i in range(count) if self.is_bit(signal, names.get(f"{letter}{i}"))}
+            if bit and (places or not own):
+                bits[places[0] if places else count] = bit
                 continue
-            for n, value in enumerate(reversed(f"{int(digits, 16):0{width}b}")):
-                (place,) = [i for i in range(count) if names.get(f"{letter}{i}") == f"{signal}[{n}]"]
-                bits[place] = value
-        return "".join(bits[i] for i in range(count)) if set(bits) == set(range(count)) and SIGNAL.sub("", line) == "" else None
+            spelled = f"{int(digits, 16):0{width}b}" if digits else base_two or bit * len(own)
+            bits.update((own[n], value) for n, value in enumerate(reversed(spelled)))
+        known = set(bits) <= set(range(count)) and SIGNAL.sub("", line) == ""
+        return {i: value.replace("-", "x") for i, value in bits.items()} if known else None
+
+    def is_bit(self, signal, name):
+        """Whether a name is that of a bit of a word."""
+        return name is not None and re.fullmatch(re.escape(signal) + r"\[\d+\]", name) is not None
 
     def names_place(self, signal, place, names):
         """Whether a signal is printed by its name, or by its place where it has none."""

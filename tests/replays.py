@@ -1,9 +1,9 @@
 #!/usr/bin/env python3
 """Compares the runs that bin/aigprove prints of designs, and dumps, with Icarus Verilog: replays.py
 
-Each design is run by Icarus on the inputs of the dump that --vcd wrote. In each step each signal that both have, by its path, has to have the same
-value, and so each value that was printed: behind a bar, at the start, and of what the failing assertion read. What yosys alone has, or Icarus, is
-counted. The designs have first values for all registers and leave nothing open."""
+Each design is run by Icarus on the inputs of the dump that --vcd wrote. In each step each signal that both have, by its path, has to have
+the same value, and so each value that was printed: behind a bar, at the start, and of what the failing assertion read. The designs have
+first values for all registers and leave nothing open, and signals of modules below the top have to be in the dump."""
 import collections
 import re
 import subprocess
@@ -41,9 +41,9 @@ VALUE = re.compile(r"(?<=\s)([\w.]+)=(?:(\d+)'h([0-9a-f]+)|([01]))(?=\s|$)")
 
 
 def snapshots(text, phase):
-    """The value of each signal by its path below the top module, in each step, where a step has ten units and is looked at so many behind its
-    begin; and the kinds and widths of the top module's signals."""
-    scopes, names, now, steps, widths, time = [], collections.defaultdict(list), {}, [], {}, 0
+    """The value of each signal by its path below the top module, in each step, where a step has ten units and is looked at so many behind
+    its begin."""
+    scopes, names, now, steps, time = [], collections.defaultdict(list), {}, [], 0
     for words in map(str.split, text.splitlines()):
         if words[:1] == ["$scope"]:
             scopes.append(words[2])
@@ -52,14 +52,13 @@ def snapshots(text, phase):
         elif words[:1] == ["$var"]:
             path = ".".join(it for it in [*scopes[1:], words[4]] if it != "dut")
             names[words[3]].append(path)
-            widths[path] = int(words[2])
         elif words and words[0][0] == "#":
             last, time = time, int(words[0][1:])
             steps += [dict(now) for t in range(last, time) if t % 10 == phase]
         elif words and (words[0][0] in "01xb"):
             value, code = (words[0][1:], words[1]) if words[0][0] == "b" else (words[0][0], words[0][1:])
             now.update((path, value.lstrip("0") or "0") for path in names.get(code, []))
-    return steps, widths
+    return steps
 
 
 def inputs_of(top, folder):
@@ -83,7 +82,7 @@ def icarus(top, words, sources, run, folder):
         steps="".join(STEP.format(clk=int(t > 0), inputs=given) for t, given in enumerate(steps))))
     harness.output([*flags, "-o", str(folder / "run.vvp"), str(folder / "bench.v"), *sources])
     subprocess.run(["vvp", "-n", "run.vvp"], cwd=folder, stdout=subprocess.DEVNULL, check=True)
-    return snapshots((folder / "icarus.vcd").read_text(), 4)[0]
+    return snapshots((folder / "icarus.vcd").read_text(), 4)
 
 
 def printed_values(lines):
@@ -109,16 +108,15 @@ def faults(words, flags, needed, folder):
     sources = [word for word in words if word.endswith((".v", ".sv"))]
     printed = harness.output([PROVE, "--engine", "steps", "--vcd", str(folder / "run.vcd"), *words], [10]).splitlines()
     top = printed[0].partition(":")[0]
-    run, _ = snapshots((folder / "run.vcd").read_text(), 0)
+    run = snapshots((folder / "run.vcd").read_text(), 0)
     wanted = icarus(top, flags, list(without_assertions(sources, folder)), run, folder)
-    found = [f"step {t}: {name} is {value}, and {wanted[t][name]} by Icarus" for t, values in enumerate(run) for name, value in values.items()
-             if name in wanted[t] and name != "clk" and value != wanted[t][name]]
-    compared = sum(name in wanted[t] and name != "clk" for t, values in enumerate(run) for name in values)
+    both = [(t, name) for t, values in enumerate(run) for name in values if name in wanted[t] and name != "clk"]
+    found = [f"step {t}: {name} is {run[t][name]}, and {wanted[t][name]} by Icarus" for t, name in both if run[t][name] != wanted[t][name]]
     shown = list(printed_values(printed))
     found += [f"printed: step {t}: {name}={value}, and {wanted[t].get(name)} by Icarus" for t, name, value in shown
               if not name.endswith(".stored") and wanted[t].get(name) != value]
     found += [f"{name} isn't in the dump" for name in needed if name not in run[0]]
-    return found, compared, len(shown)
+    return found, len(both), len(shown)
 
 
 def main():

@@ -125,7 +125,7 @@ def parameter(word):
     """The name and the value of a parameter."""
     found = re.fullmatch(r"([A-Za-z_][A-Za-z0-9_$]*)=(-?[0-9]+|[0-9]+'s?(?:b[01_]+|o[0-7_]+|d[0-9_]+|h[0-9A-Fa-f_]+))", word)
     if not found:
-        raise argparse.ArgumentTypeError(f"{word} is no NAME=NUMBER, as WIDTH=8 or MODE=2'b10 (a text stands in the design, or -D gives it)")
+        raise argparse.ArgumentTypeError(f"{word} is no NAME=NUMBER, as WIDTH=8 or MODE=2'b10 (-D gives a text)")
     return found.groups()
 
 
@@ -139,8 +139,10 @@ def engines(word):
 def parser():
     """The words of the command line."""
     it = Parser("aigprove", description=ABOUT, epilog=ENDS, formatter_class=argparse.RawDescriptionHelpFormatter)
-    file = "a file in AIGER form, text or binary, which may be packed by gzip; or the files of a design, in order: Verilog (.v, .sv), an .il " \
-        "file or a script (.ys) of yosys, or BLIF (.blif); - is standard input"
+    file = "a file in AIGER form, text or binary, which may be packed by gzip; or the files of a design, in order: Verilog (.v, .sv), " \
+        "an .il file or a script (.ys) of yosys, or BLIF (.blif); - is standard input"
+    listed = "put the words of this file here: files, -D, -I and -f, with # or // for comments"
+    many_times = {"action": "append", "default": []}
     held = "hold this input of a design at V (1) in the first N steps (1), in which assertions don't count; later it is free, and where " \
         "it is to stay released the design has to assume so"
     boxes = "let the outputs of this module, of which there are the ports alone, have any values in each step"
@@ -158,11 +160,11 @@ def parser():
     loud.add_argument("-q", "--quiet", action="store_true", help="print the line of the answer alone, and only faults on standard error")
     it.add_argument("--aiger", action="store_true", help=aiger)
     it.add_argument("--version", action="version", version=f"aigprove {VERSION}")
-    it.add_argument("-f", metavar="LIST", action="append", help="put the words of this file here: files, -D, -I and -f, with # or // for comments")
-    it.add_argument("-D", "--define", metavar="NAME[=TEXT]", type=macro, action="append", default=[], help="define a macro of Verilog (1)")
-    it.add_argument("-I", "--include", metavar="FOLDER", type=nonempty, action="append", default=[], help="look for included files here too")
-    it.add_argument("--parameter", metavar="NAME=NUMBER", type=parameter, action="append", default=[], help="set a parameter of the top module")
-    it.add_argument("--black-box", metavar="NAME", type=module, action="append", default=[], help=boxes)
+    it.add_argument("-f", metavar="LIST", help=listed)
+    it.add_argument("-D", "--define", metavar="NAME[=TEXT]", type=macro, help="define a macro of Verilog (1)", **many_times)
+    it.add_argument("-I", "--include", metavar="FOLDER", type=nonempty, help="look for included files here too", **many_times)
+    it.add_argument("--parameter", metavar="NAME=NUMBER", type=parameter, help="set a parameter of the top module", **many_times)
+    it.add_argument("--black-box", metavar="NAME", type=module, help=boxes, **many_times)
     it.add_argument("--multiclock", action="store_true", help=many)
     it.add_argument("--reset", metavar="SIGNAL[=V][:N]", type=reset, help=held)
     it.add_argument("--bound", metavar="N", type=count("[0-9]{1,10}", "steps"), help=bound)

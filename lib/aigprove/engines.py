@@ -105,7 +105,7 @@ class Bounded(Asking):
         shown = -1
         for k in self.steps():
             if run := self.reaches(k):
-                self.race.hand_in_run(self.least(shown, run))
+                self.race.hand_in_run(self.least(max(shown, self.race.steps - 1), run))
                 return
             shown = k
         self.race.bound_reached()

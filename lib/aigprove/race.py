@@ -20,8 +20,9 @@ SAFE, UNSAFE, OPEN, FAILED = 20, 10, 0, 1
 REPORTED = {SAFE: 0, UNSAFE: 1, OPEN: 2}
 # Seconds between two looks at turns, limits and the clock.
 TICK = 0.1
-# How many seconds values that don't matter are looked for in a run, and of how many properties that it shows.
-SECONDS, SHOWN = 1, 8
+# How many seconds values that don't matter are looked for in a run, by whether it has more gates in all its steps than that; and of how
+# many properties that it shows.
+SECONDS, SMALL, SHOWN = {True: 1, False: 5}, 1 << 14, 8
 
 
 class Race:
@@ -70,8 +71,8 @@ class Race:
         return self.source.run(told, Sealed(told.text().encode()))
 
     def reached(self, start, steps):
-        """The witness of a run whose last step is bad, as aigcheck finds; of one that is short, else of the first bad step. None where there
-        is none."""
+        """The witness of a run whose last step is bad, as aigcheck finds; of one that is short, else of the first bad step. None where
+        there is none."""
         for bad in range(len(self.circuit.bads) if steps else 0):
             told = witness.Witness(bad, start, steps)
             if self.judge.holds(self.claimed(told)):
@@ -175,7 +176,8 @@ class Race:
             return tolds
         opened = [i for i, reset in enumerate(self.circuit.resets) if reset > 1]
         each = lambda it: [it._replace(bad=told.bad) for told in tolds]
-        seconds = min(SECONDS, self.deadline - time.monotonic())
+        is_large = len(tolds[0].steps) * len(self.circuit.gates) > SMALL
+        seconds = min(SECONDS[is_large], self.deadline - time.monotonic())
         return each(minimal(tolds[0], opened, lambda it: all(self.judge.holds(self.claimed(own)) for own in each(it)), seconds))
 
     def print_run(self, tolds):

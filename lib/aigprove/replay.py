@@ -12,7 +12,7 @@ SIMULATED = 1 << 21
 # How many signals that an assertion reads are looked at.
 MOST = 40
 BIT = re.compile(r"(.+)\[([0-9]+)\]")
-CLOCKED = re.compile(r"\$_?(?:a|s)?[ad]?dff|\$_?ff|\$_DFF|\$_SDFF|\$_ALDFF|\$_FF")
+CLOCKED = re.compile(r"\$[a-z]*ff|\$_[A-Z]*FF")
 
 
 class Read(collections.namedtuple("Read", "name back is_direct")):

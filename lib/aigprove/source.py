@@ -13,7 +13,10 @@ from aigprove.replay import SIMULATED, Replay
 from aigprove.shown import Shown, word
 from aigprove.verilog import BLIF, FRONTS, STANDARD_INPUT, VERILOG, Design, File, kind_of
 # Options that are for designs alone, or for those that certain front ends read.
-OF_DESIGNS = {"top": None, "reset": None, "parameter": None, "black_box": None, "multiclock": None, "define": [VERILOG], "include": [VERILOG]}
+OF_DESIGNS = {
+    **dict.fromkeys(["top", "reset", "parameter", "black_box", "multiclock"]),
+    **dict.fromkeys(["define", "include"], [VERILOG]),
+}
 # How many outputs that differ are named.
 NAMED = 100
 # How many registers that are open at first are named.
@@ -116,8 +119,8 @@ class Asked:
         return []
 
     def lines(self, shown, circuit, told):
-        """Lines of a run: the latches that are read by what it shows, or that are open at first and matter; the inputs of each step; and which
-        of the latches that are read, and have names, changed."""
+        """Lines of a run: the latches that are read by what it shows, or that are open at first and matter; the inputs of each step; and
+        which of the latches that are read, and have names, changed."""
         read = circuit.read_by((circuit.bads or circuit.outputs)[told.bad])
         yield from shown.lines(told, read | self.opened(circuit, told), changes_of(shown, circuit, told, read))
 
@@ -272,7 +275,8 @@ class Pair(Asked):
 
 
 def of_first(words):
-    """What is of FILE alone where another file is compared with it: its top module, parameters and boxes, and macros where OTHER has none."""
+    """What is of FILE alone where another file is compared with it: its top module, parameters and boxes, and all else where the other is
+    no design."""
     alone = {"top": None, "parameter": [], "black_box": []}
     is_design = kind_of(words.equal, b"")
     return {**alone, **({} if is_design else {"reset": None, "multiclock": False, "define": [], "include": []})}

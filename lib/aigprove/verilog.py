@@ -113,6 +113,7 @@ sim {clock} -r witness.aiw -map design.aim -hdlname -vcd run.vcd {top}
 """
 SPARE = "aigprove_clock"
 WIRE = re.compile(r"^  wire .*\\(\S+)$", re.MULTILINE)
+PATH = re.compile(r'[^\s"\\]+( [^\s"\\]+)+')
 FF = re.compile(r"^  cell \$ff (\S+)\n", re.MULTILINE)
 # How many signs of an assertion's text are printed.
 SPELLED = 200
@@ -296,8 +297,8 @@ class Design:
         return " ".join(escaped(line.strip()) for line in data.decode("utf-8", "replace").split("\n")[first - 1:last])[:SPELLED]
 
     def run(self, told):
-        """Has yosys run a witness on the design: the names of the assertions that fail in the last step, as yosys prints them, and a replay.
-        In the place of x there is 0."""
+        """Has yosys run a witness on the design: the names of the assertions that fail in the last step, as yosys prints them, and the
+        dump. In the place of x there is 0."""
         self.replayed()
         lines = [line.replace("x", "0") + "0" for line in [told.start, *told.steps]]
         # Yosys passes over an empty line, and wants a clock.
@@ -312,7 +313,7 @@ class Design:
         spare = "" if self.clock else f"add -input {SPARE} 1"
         self.yosys.run(REPLAY, top=self.top, renames=self.renames, spare=spare)
         nets = self.top_of("drawn.json")[1]["netnames"]
-        paths = {name: net["attributes"]["hdlname"] for name, net in nets.items() if "hdlname" in net["attributes"]}
+        paths = {name: net["attributes"]["hdlname"] for name, net in nets.items() if PATH.fullmatch(net["attributes"].get("hdlname", ""))}
         placed = lambda line: f'  attribute \\hdlname "{paths[line[1]]}"\n{line[0]}' if line[1] in paths else line[0]
         # Yosys has no first value for a register of all steps, but for one of a clock.
         clock, rising = self.clock or (SPARE, True)
