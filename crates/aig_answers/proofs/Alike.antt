@@ -1,8 +1,14 @@
 -- What is told of a proof of some clauses is told of equal ones.
-use Rattle.aig_base.proofs.Words.{◌≡◌, ℕ, List, Option, Result, subst}
+use Rattle.aig_base.proofs.Words.{◌≡◌, ℕ, Bool, List, Option, Result, sym, ap, subst, ◌∙◌}
 use Rattle.aig_base.specs.declared.logic.literal.Lit.{Lit}
+use Rattle.aig_circuit.specs.Circuit.{Circuit}
+use Rattle.aig_cnf.specs.Cnf.{HasClauses}
+use Rattle.aig_runs.specs.Queries.{query_clauses}
+use Rattle.aig_runs.specs.WindowClauses.{AsksWindow}
+use Rattle.aig_runs.specs.declared.window.Window.{Window}
+use Rattle.aig_answers.specs.declared.circuits.CircuitQuery.{CircuitQuery}
 use Rattle.aig_answers.specs.declared.error.AnswerError.{AnswerError}
-use Rattle.aig_answers.specs.Answers.{TellsOfProof}
+use Rattle.aig_answers.specs.Answers.{IsCircuitQuery, TellsOfCircuit, TellsOfCircuitWindow, TellsOfProof}
 
 pub told_alike : (lists others : List (List (List Lit))) (further more : List (List Lit))
     (text : Option (List ℕ)) (answer : Result (Unit {0}) AnswerError) → lists ≡ others
@@ -11,3 +17,43 @@ pub told_alike : (lists others : List (List (List Lit))) (further more : List (L
 told_alike lists others further more text answer same also told =
     subst (λ (ls : List (List (List Lit))). TellsOfProof ls more text answer) same
     (subst (λ (fs : List (List Lit)). TellsOfProof lists fs text answer) also told)
+
+-- what is known of clauses: a circuit has one list of them
+abbrev pub AreOne : Type 0
+AreOne =
+    (c : Circuit) (optimize : Bool) (lists others : List (List (List Lit)))
+    → HasClauses c optimize lists → HasClauses c optimize others → lists ≡ others
+
+abbrev pub WindowsAreOne : Type 0
+WindowsAreOne =
+    (form : Window) (c : Circuit) (k : ℕ) (optimize : Bool)
+    (lists others : List (List (List Lit))) (further more : List (List Lit))
+    → AsksWindow form c k optimize lists further → AsksWindow form c k optimize others more
+    → (lists ≡ others) × (further ≡ more)
+
+-- so what is told of the clauses of one query of a circuit is told of those of each
+pub query_told : AreOne → (c : Circuit) (k : ℕ) (optimize : Bool) (text : Option (List ℕ))
+    (answer : Result (Unit {0}) AnswerError) (q : CircuitQuery) → IsCircuitQuery c k optimize q
+    → TellsOfProof q.clauses q.further text answer → TellsOfCircuit k optimize text c answer
+query_told are_one c k optimize text answer q is told = (
+  (q, is),
+  λ other also.
+      let steps : q.unrolled ≡ other.unrolled = is.steps.exact ∙ sym also.steps.exact in
+      let one = are_one other.unrolled optimize q.clauses other.clauses
+      (subst (λ u. HasClauses u optimize q.clauses) steps is.has_clauses) also.has_clauses in
+      let further = is.asks.exact ∙ ap (query_clauses c k) steps ∙ sym also.asks.exact in
+      told_alike q.clauses other.clauses q.further other.further text answer one further told,
+)
+
+-- and so with windows
+pub window_told : WindowsAreOne → (form : Window) (c : Circuit) (k : ℕ) (optimize : Bool)
+    (text : Option (List ℕ)) (answer : Result (Unit {0}) AnswerError)
+    (lists : List (List (List Lit))) (further : List (List Lit))
+    → AsksWindow form c k optimize lists further → TellsOfProof lists further text answer
+    → TellsOfCircuitWindow form k optimize text c answer
+window_told are_one form c k optimize text answer lists further is told = (
+  (lists, further, is),
+  λ others more also.
+      let one = are_one form c k optimize lists others further more is also in
+      told_alike lists others further more text answer one.0 one.1 told,
+)

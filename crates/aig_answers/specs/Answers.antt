@@ -23,6 +23,7 @@ use Rattle.aig_encode.specs.declared.query_clauses.Query.{Query}
 use Rattle.aig_encode.specs.Encoding as encoding
 use Rattle.aig_encode.specs.Encoding.{IsQuery}
 use Rattle.aig_answers.specs.declared.circuits.CircuitQuery.{CircuitQuery}
+use Rattle.aig_answers.specs.declared.windows.WindowClauses.{WindowClauses}
 use Rattle.aig_answers.specs.declared.error.AnswerError.{AnswerError}
 use Rattle.aig_answers.specs.declared.error.AnswerError.TheVariants as errors
 
@@ -42,6 +43,11 @@ pub record IsCircuitQuery (c : Circuit) (k : ℕ) (optimize : Bool) (q : Circuit
   pub asks : AsksOfCircuit c k q.unrolled q.clauses q.further
   -- the query clauses are of variables that are there
   pub below : AreBelow (length q.clauses) q.further
+
+-- the query that has these clauses and this unrolled circuit
+abbrev pub query_with : Circuit → WindowClauses → CircuitQuery
+query_with unrolled made =
+    record { unrolled = unrolled; clauses = made.clauses; further = made.further }
 
 -- ---- files
 
@@ -96,15 +102,19 @@ TellsOfStep k optimize text f answer =
     ((q : Query) × IsQuery k optimize f q)
     × ((q : Query) → IsQuery k optimize f q → TellsOfProof q.encoded.clauses q.extra text answer)
 
--- so with the clauses of the file's window (`windows_are_one`)
+-- so with the clauses of a circuit's window (`windows_are_one`)
+abbrev pub TellsOfCircuitWindow : Window → ℕ → Bool → Option (List ℕ) → Circuit
+    → Result (Unit {0}) AnswerError → Type 0
+TellsOfCircuitWindow form k optimize text c answer =
+    ((lists : List (List (List Lit))) × (further : List (List Lit))
+    × AsksWindow form c k optimize lists further)
+    × ((lists : List (List (List Lit))) (further : List (List Lit))
+    → AsksWindow form c k optimize lists further → TellsOfProof lists further text answer)
+
+-- with those of the window of the file's circuit
 abbrev pub TellsOfWindow : Window → ℕ → Bool → Option (List ℕ) → File
     → Result (Unit {0}) AnswerError → Type 0
-TellsOfWindow form k optimize text f answer =
-    ((lists : List (List (List Lit))) × (further : List (List Lit))
-    × AsksWindow form (circuit_of f) k optimize lists further)
-    × ((lists : List (List (List Lit))) (further : List (List Lit))
-    → AsksWindow form (circuit_of f) k optimize lists further
-    → TellsOfProof lists further text answer)
+TellsOfWindow form k optimize text f = TellsOfCircuitWindow form k optimize text (circuit_of f)
 
 -- and with those of a circuit's query for step k
 abbrev pub TellsOfCircuit : ℕ → Bool → Option (List ℕ) → Circuit → Result (Unit {0}) AnswerError

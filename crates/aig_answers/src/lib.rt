@@ -9,11 +9,14 @@ mod error;
 mod laws;
 mod refuting;
 mod step;
+mod unrolled;
 mod windows;
 
 pub use aig_runs::Window;
 pub use circuits::{CircuitQuery, check_query_of, query_of};
 pub use error::AnswerError;
-pub use laws::windows_are_asked;
+pub use laws::{circuit_clauses_are_one, windows_are_asked};
+pub use refuting::refute;
 pub use step::{asked_circuit, asked_query, check_step};
+pub use unrolled::{plain_window, unrolled_query};
 pub use windows::{WindowClauses, check_window, window};

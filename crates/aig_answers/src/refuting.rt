@@ -10,8 +10,8 @@ use aig_base::{DagCnf, LitVvec, Source};
 use aig_refutation::{RefutationError, check_refutation};
 use std::alloc::Global;
 
-/// Checks a proof that clauses can't be satisfied. The one error is that of the proof.
-pub(crate) fn refute<P: Source>(
+/// Checks a proof, in the LRAT or the DRAT format, that clauses can't be satisfied. The one error is that of the proof.
+pub fn refute<P: Source>(
     alloc: Global,
     clauses: &DagCnf,
     further: &LitVvec,

@@ -23,12 +23,12 @@ use aig_refutation::RefutationError;
 use aig_runs::{Window, refuted_windows_are_inductive, windows_are_one};
 use std::alloc::Global;
 
-/// The clauses that ask for a window of steps with a bad state first at its end.
+/// The clauses that ask for a window of steps with a bad state first at its end, or for a bad state at a step.
 #[derive(Drop)]
 pub struct WindowClauses {
     /// The clauses of the unrolled circuit, and then free variables.
     pub clauses: DagCnf,
-    /// The window clauses.
+    /// The window clauses, or those of the query.
     pub further: LitVvec,
 }
 

@@ -1,7 +1,7 @@
 use Rattle.aig_base.proofs.Words.{sym, subst, IfOk-weaker, err_from_is_err_and}
 use Rattle.aig_reader.specs.Verdicts.{Judges}
 use Rattle.aig_answers.specs.Answers.{window_verdict}
-use Rattle.aig_answers.proofs.Alike.{told_alike}
+use Rattle.aig_answers.proofs.Alike.{window_told}
 use Rattle.aig_answers.proofs.Verdicts.{proof_of_induction, proof_taken, window_not_taken, window_of_induction}
 use Rattle.aig_answers.proofs.windows.check_window.Goals as goal
 
@@ -47,11 +47,6 @@ returns-clause-shown g c taken =
       file = o.file;
       bytes = o.bytes;
       holds = o.holds;
-      means = (
-        (_, _, o.means),
-        λ lists further asks.
-            let one = c.windows_are_one.ensures c.args.form _ c.args.k c.args.optimize _ lists _ further o.means asks in
-            told_alike _ lists _ further _ c.refute.result one.0 one.1 c.refute.ensures.shown,
-      );
+      means = window_told c.windows_are_one.ensures c.args.form _ c.args.k c.args.optimize _ c.refute.result _ _ o.means c.refute.ensures.shown;
       taken = o.taken;
     }

@@ -1,0 +1,16 @@
+use Rattle.std.proofs.Common.{◌++◌, sym, subst, ◌∙◌}
+use Rattle.std.proofs.lemmas.List.{append-nil}
+use Rattle.aig_base.specs.Clauses.{AreRelations}
+use Rattle.aig_runs.specs.WindowClauses.{induction_clauses}
+use Rattle.aig_runs.specs.declared.window.Window.TheVariants.{Plain}
+use Rattle.aig_answers.proofs.Asking.{asks}
+use Rattle.aig_answers.proofs.unrolled.plain_window.Goals as goal
+
+pub returns : goal.returns
+returns c =
+    let k = c.args.k in
+    let u = c.args.unrolled.now in
+    let lists = c.in_ok-clauses.clauses in
+    let made = c.in_ok-clauses.ensures in
+    asks c.args.circuit.now k c.args.optimize u lists lists c.in_ok-further.further c.in_ok-further.ensures.circuit made.clauses made.fixes made.satisfied (subst AreRelations c.clauses.view_is c.clauses.invariant.0) Plain c.requires.unrolls
+    (sym (append-nil lists)) (c.in_ok-further.ensures.exact ∙ sym (append-nil (induction_clauses c.args.circuit.now k u)))

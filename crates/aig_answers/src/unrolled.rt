@@ -1,0 +1,52 @@
+//! Clauses of circuits with further steps, whether they were read, built or changed.
+
+ghost use Rattle.std.specs.Prelude.{◌+◌, ◌<◌, ◌≤◌, ◌^◌, IfOk, length};
+ghost use Rattle.aig_answers.specs.Answers.{IsCircuitQuery, query_with};
+ghost use Rattle.aig_runs.specs.WindowClauses.{AsksWindow};
+ghost use Rattle.aig_runs.specs.declared.window.Window.TheVariants.{Plain};
+ghost use Rattle.aig_unroll.specs.Unroll.{UnrollsTo};
+
+use crate::clauses::induction_between;
+use crate::windows::WindowClauses;
+use aig_base::MemoryError;
+use aig_circuit::CircuitView;
+use aig_cnf::encode;
+use aig_runs::{Unrolled, circuit_queries_ask};
+use std::alloc::Global;
+
+/// The clauses of a circuit with further steps that ask for a bad edge at the last one, as `query_of` makes them. The one error is
+/// refused memory.
+pub fn unrolled_query(
+    alloc: Global,
+    asked: &Unrolled,
+    optimize: bool,
+) -> Result<WindowClauses, MemoryError>
+    requires { length asked.now.unrolled.nodes ≤ 2 ^ 31 }
+    ensures { IfOk result (λ made. IsCircuitQuery asked.now.circuit asked.now.steps optimize
+        (query_with asked.now.unrolled made)) }
+{
+    circuit_queries_ask();
+    let clauses = encode(alloc, &asked.unrolled(), optimize)?;
+    let further = asked.query_clauses(alloc)?;
+    Ok(WindowClauses { clauses, further })
+}
+
+/// The clauses of a plain window of a circuit, as `window` makes them, from the circuit with `k + 1` further steps. The one error is
+/// refused memory.
+pub fn plain_window(
+    alloc: Global,
+    circuit: &CircuitView<'_>,
+    k: usize,
+    unrolled: &CircuitView<'_>,
+    optimize: bool,
+) -> Result<WindowClauses, MemoryError>
+    requires steps { k < 2 ^ 32 }
+    requires few { length unrolled.now.nodes ≤ 2 ^ 31 }
+    requires unrolls { UnrollsTo circuit.now (k + 1) unrolled.now }
+    ensures { IfOk result
+        (λ made. AsksWindow Plain circuit.now k optimize made.clauses made.further) }
+{
+    let clauses = encode(alloc, unrolled, optimize)?;
+    let further = induction_between(alloc, circuit, k, unrolled)?;
+    Ok(WindowClauses { clauses, further })
+}
