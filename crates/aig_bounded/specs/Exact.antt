@@ -86,7 +86,8 @@ pub record Checks : Type 0 where
 abbrev pub with_checks : Circuit → List AigEdge → Checks → Checks
 with_checks c images before =
     let image = image_in images in
-    let within = shared_ands (made_in before.net before.within) (map image c.properties.constraints) in
+    let within = shared_ands (made_in before.net before.within)
+    (map image c.properties.constraints) in
     let bad = shared_ors (made_in within.net (edge_to 0 false)) (map image c.properties.bads) in
     let now = shared_and bad.net within.edge bad.edge in
     let reached = shared_or now.net before.reached now.edge in

@@ -86,7 +86,8 @@ fn kept_circuit(alloc: Global, frames: Frames, output: AigEdge) -> Result<Circui
     requires frames { (c : Circuit) × (t : ℕ) × AreFrames c t 0 frames }
     requires there { IsInRange frames.nodes.items output }
     requires few { length frames.nodes.items ≤ 2 ^ 31 }
-    ensures { IfOk result (λ made. IsKeptOf (whole_question (net_of frames) output) (lists_circuit made)) }
+    ensures { IfOk result (λ made.
+        IsKeptOf (whole_question (net_of frames) output) (lists_circuit made)) }
 {
     let lists = frames.into_lists(alloc, output)?;
     let (circuit, _old_numbers) = coi_refine(alloc, &CircuitView::new(&lists))?;

@@ -326,7 +326,8 @@ pub(crate) fn expanded(
     ensures shows { IfOk result (λ made. Shows circuit.now last made.0 made.1
         (λ run. reached_to circuit.now run (last + 1))) }
     ensures exact { IfOk result (λ made. (read : ℕ → ℕ → Bool) × ReadsExactly circuit.now last read
-        × (made_in (net_of made.0) made.1 ≡ reached_in (steps_to read circuit.now last (last + 1)))) }
+        × (made_in (net_of made.0) made.1
+        ≡ reached_in (steps_to read circuit.now last (last + 1)))) }
     ensures frames { IfOk result (λ made. AreFrames circuit.now (last + 1) 0 made.0) }
     ensures limit { IfOk result (λ made. made.0.limit ≡ limit) }
     ensures large { IsErrOf result BoundedError.TooLarge → limit < question_size circuit.now last }

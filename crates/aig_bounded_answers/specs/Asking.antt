@@ -123,8 +123,8 @@ pub record TellsOfProof {P : Type 0} (left : P → Option (List ℕ)) (made : Bo
   pub settled : IsSettled made → (result ≡ Ok tt) × (rest ≡ p)
   pub shown : ¬ IsSettled made → ShowsProof made (left p) result
 
--- the file has a question, and it is told so of the clauses of each: of those that any call gives or
--- prints, as there is one (`bounded_clauses_are_one`)
+-- the file has a question, and it is told so of the clauses of each: of those that any call gives
+-- or prints, as there is one (`bounded_clauses_are_one`)
 abbrev pub AnswersProof : {P : Type 0} → (P → Option (List ℕ)) → ℕ → Bool → P → P → File
     → Result Unit BoundedAnswerError → Type 0
 AnswersProof left k optimize p rest f result =

@@ -96,8 +96,8 @@ as_read (Drops clause) = Drops clause
 
 -- ---- binary DRAT
 
--- a literal: twice one more than its variable's number, and one more where it is inverted, in groups
--- of seven bits
+-- a literal: twice one more than its variable's number, and one more where it is inverted, in
+-- groups of seven bits
 abbrev pub literal_bytes : Lit → List ℕ
 literal_bytes lit = delta_of (2 * (variable_of lit + 1) + (if is_positive lit then 0 else 1))
 
