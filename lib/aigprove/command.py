@@ -240,6 +240,8 @@ def parse(line):
     if names and names[0] < len(words.files) - 1 or names and words.top:
         made.error(f"unrecognized arguments: {' '.join(words.files[names[0] + 1 - bool(words.top):])}")
     words.top = words.files.pop() if names else words.top
+    if words.multiclock and words.reset:
+        made.error("--reset counts steps of one clock: with --multiclock let the design assume what its reset is")
     words.deadline = math.inf if words.timeout is None else time.monotonic() + words.timeout
     given = words.certificate or words.run
     words.engines = words.engine or ([] if given else ENGINES)
