@@ -5,7 +5,8 @@ The definition is written here once more, in other words than the library's: of 
 reads in the steps that are left; constants folded, and equal gates one; within the constraints some bad literal at some step; and of all
 that what the output reaches. `aigedit question FILE K` of FILES (500) random machines has just these gates, in this order.
 
-It ends with the first that differs, and else prints one line. It is no part of tests/run."""
+It ends with the first that differs, and else prints one line. It is no part of tests/run.
+"""
 import concurrent.futures
 import itertools
 import random
