@@ -167,6 +167,13 @@ class Circuit:
             yield values
             state = [value(values, literal) for literal in self.nexts]
 
+    def shows(self, start, steps, bads):
+        """Whether a run, each x of which is any value, meets every constraint and ends where these bad literals are true."""
+        for values in self.run(start, steps):
+            if any(value(values, literal) != "1" for literal in self.constraints):
+                return False
+        return all(value(values, self.bads[place]) == "1" for place in bads)
+
 
 def difference(number):
     """A number as binary files spell it: groups of seven bits, the lowest first, each but the last with the eighth bit set."""

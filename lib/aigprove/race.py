@@ -20,9 +20,9 @@ SAFE, UNSAFE, OPEN, FAILED = 20, 10, 0, 1
 REPORTED = {SAFE: 0, UNSAFE: 1, OPEN: 2}
 # Seconds between two looks at turns, limits and the clock.
 TICK = 0.1
-# How many seconds values that don't matter are looked for in a run, by whether it has more gates in all its steps than that; and of how
-# many properties that it shows.
-SECONDS, SMALL, SHOWN = {True: 1, False: 5}, 1 << 14, 8
+# How many seconds values that don't matter are looked for in a run, by whether it has more gates in all its steps than a small one; how
+# many a tiny one has, which is simulated here; and of how many properties that a run shows.
+SECONDS, SMALL, TINY, SHOWN = {True: 1, False: 5}, 1 << 14, 1 << 11, 8
 
 
 class Race:
@@ -171,14 +171,17 @@ class Race:
         return SAFE
 
     def smallest(self, tolds):
-        """Witnesses of a run with x for what doesn't matter to what they show."""
+        """Witnesses of a run with x for what doesn't matter to what they show. Of a tiny run a simulation finds that, and it is checked."""
         if len(tolds) > SHOWN:
             return tolds
         opened = [i for i, reset in enumerate(self.circuit.resets) if reset > 1]
         each = lambda it: [it._replace(bad=told.bad) for told in tolds]
-        is_large = len(tolds[0].steps) * len(self.circuit.gates) > SMALL
-        seconds = min(SECONDS[is_large], self.deadline - time.monotonic())
-        return each(minimal(tolds[0], opened, lambda it: all(self.judge.holds(self.claimed(own)) for own in each(it)), seconds))
+        holds = lambda it: all(self.judge.holds(self.claimed(own)) for own in each(it))
+        seen = lambda it: self.circuit.shows(it.start, it.steps, [told.bad for told in tolds])
+        size = len(tolds[0].steps) * len(self.circuit.gates)
+        seconds = min(SECONDS[size > SMALL], self.deadline - time.monotonic())
+        found = minimal(tolds[0], opened, seen, seconds) if size <= TINY else tolds[0]
+        return each(found if size <= TINY and holds(found) else minimal(tolds[0], opened, holds, seconds))
 
     def print_run(self, tolds):
         """Prints a run without what doesn't matter, and writes it where it is wanted."""
