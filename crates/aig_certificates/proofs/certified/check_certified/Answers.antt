@@ -3,7 +3,7 @@ use Rattle.aig_edits.proofs.Reading.{reads_on}
 use Rattle.aig_circuit.specs.View.{lists_circuit}
 use Rattle.aig_certificates.specs.declared.error.CertificateError.TheVariants as errors
 use Rattle.aig_certificates.specs.Certificates.{Certifies, IsOwn, first_verdict, second_verdict}
-use Rattle.aig_certificates.proofs.Answering.{certifies, first_both, own_both, second_both}
+use Rattle.aig_certificates.proofs.Answering.{Known, certifies, first_both, own_both, second_both}
 use Rattle.aig_certificates.proofs.certified.check_certified.Goals as goal
 
 pub returns-in_err-joint-clause-reads : goal.returns-in_err-joint-clause-reads
@@ -27,7 +27,7 @@ returns-clause-reads g c =
     let m = lists_circuit c.in_ok-joint.joint in
     let made = c.check_both.result in
     let told = c.check_both.ensures.holds in
-    let known = record {
+    let known : Known = record {
       steps = c.safe_steps_are_safe.ensures;
       inductive = c.inductive_windows_are_safe.ensures;
       refuted = c.refuted_windows_are_inductive.ensures;
