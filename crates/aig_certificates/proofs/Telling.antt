@@ -142,6 +142,16 @@ module _ (limit : ℕ) (optimize : Bool) (text : Option (List ℕ)) (m : Circuit
   checked_query k (Err e) own taken shown =
       record { said = said_of_proof (joint_verdict limit k m) e own taken; shown = shown }
 
+  -- and one that was given its steps
+  pub based : (k : ℕ) (u : UnrolledCircuit) → Unrolls m k u → (r : Result (Unit {0}) AnswerError)
+      → IfErr r IsOfProof → Accepted ≡ joint_verdict limit k m
+      → (verdict_by verdict_of r ≡ Accepted → TellsOfCircuit u.steps optimize text u.circuit r)
+      → TellsOfQuery limit k optimize text m r
+  based k u steps r own taken shown =
+      checked_query k r own taken
+      (λ is. subst (λ (n : ℕ). TellsOfCircuit n optimize text m r) steps.steps
+      (subst (λ (d : Circuit). TellsOfCircuit u.steps optimize text d r) steps.circuit (shown is)))
+
   pub checked_two : (r : Result (Unit {0}) AnswerError) → IfErr r IsOfProof
       → Accepted ≡ joint_verdict limit 1 m
       → (verdict_by verdict_of r ≡ Accepted → TellsOfCircuitWindow Plain 0 optimize text m r)

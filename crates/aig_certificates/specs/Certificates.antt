@@ -125,11 +125,11 @@ Equals limit k optimize proof f g (Err (errors.Window e)) = ⊥
 -- 0, and of its plain window of two steps
 pub record AreObligations (optimize : Bool) (f g : File) (first second : WindowClauses) : Type 0
   where
-  pub whole : Circuit
-  pub joint : IsJointOf Certificate f g whole
-  pub unrolled : Circuit
-  pub base : IsCircuitQuery whole 0 optimize (query_with unrolled first)
-  pub step : AsksWindow Plain whole 0 optimize second.clauses second.further
+    pub whole : Circuit
+    pub joint : IsJointOf Certificate f g whole
+    pub unrolled : Circuit
+    pub base : IsCircuitQuery whole 0 optimize (query_with unrolled first)
+    pub step : AsksWindow Plain whole 0 optimize second.clauses second.further
 
 -- the clauses are these, or it is said why there are none
 abbrev pub Obliges : ℕ → Bool → File → File → Result Obligations CertificateError → Type 0

@@ -22,7 +22,7 @@ returns-clause-reads g c =
     let optimize = c.args.optimize in
     let m = lists_circuit c.in_ok-joint.joint in
     let made = c.ask_both.result in
-    let told = c.ask_both.ensures in
+    let told = c.ask_both.ensures.asks in
     reads_on g.R.Source.left g.R.Source.failed g.S.Source.left g.S.Source.failed limit
     c.args.file.now c.args.certificate.now _ _ (Obliges limit optimize) first_verdict second_verdict
     IsOfClauses made c.in_ok-joint.ensures.reads (first_asked limit optimize m made told)
@@ -32,9 +32,9 @@ returns-clause-reads g c =
 pub returns-clause-base_below : goal.returns-clause-base_below
 returns-clause-base_below g c =
     base_below c.args.limit c.args.optimize (lists_circuit c.in_ok-joint.joint) c.ask_both.result
-    c.ask_both.ensures
+    c.ask_both.ensures.asks
 
 pub returns-clause-step_below : goal.returns-clause-step_below
 returns-clause-step_below g c =
     step_below c.args.limit c.args.optimize (lists_circuit c.in_ok-joint.joint) c.ask_both.result
-    c.ask_both.ensures
+    c.ask_both.ensures.asks
