@@ -46,7 +46,8 @@ HoldsBoth limit optimize base step m (Err (errors.Pair e)) = ⊥
 HoldsBoth limit optimize base step m (Err (errors.Query e)) =
     IsOfStep e × TellsOfQuery limit 0 optimize base m (Err e)
 HoldsBoth limit optimize base step m (Err (errors.Window e)) =
-    IsOfStep e × TellsOfQuery limit 0 optimize base m (Ok tt) × TellsOfTwo limit optimize step m (Err e)
+    IsOfStep e × TellsOfQuery limit 0 optimize base m (Ok tt)
+    × TellsOfTwo limit optimize step m (Err e)
 
 -- the circuit is safe at step k, or it is said why that isn't shown
 abbrev pub HoldsStep : ℕ → ℕ → Bool → Option (List ℕ) → Circuit → Result Unit CertificateError

@@ -36,8 +36,8 @@ fn check_base<P: Source>(
     ensures safe { OnOk result (IsCircuitSafeAt asked.now.circuit asked.now.steps) }
     ensures own { IfErr result IsOfProof }
     ensures unread { verdict_by verdict_of result ≢ Accepted → base.new ≡ base.old }
-    ensures shown { verdict_by verdict_of result ≡ Accepted → TellsOfCircuit asked.now.steps optimize
-        (P.left base.old) asked.now.circuit result }
+    ensures shown { verdict_by verdict_of result ≡ Accepted
+        → TellsOfCircuit asked.now.steps optimize (P.left base.old) asked.now.circuit result }
     ensures stream { IsErrOf result (AnswerError.Refutation RefutationError.Stream)
         → IsTrue (P.failed base.new) }
 {
@@ -132,9 +132,9 @@ pub fn check_certified<R: Source, S: Source, P: Source, Q: Source>(
     // The bytes that were read are two files, and the first one's machine reaches no bad state at any step. A refusal says why. Where
     // the proofs are looked at, the answer is what their texts show of the clauses of `obligations_of`.
     ensures reads { let base_text = P.left base.old in let step_text = Q.left step.old in
-        ReadsPair R.left R.failed S.left S.failed limit (Certifies limit optimize base_text step_text)
-        first_verdict second_verdict IsOwn file.old certificate.old result
-        file.new certificate.new }
+        ReadsPair R.left R.failed S.left S.failed limit
+        (Certifies limit optimize base_text step_text) first_verdict second_verdict IsOwn
+        file.old certificate.old result file.new certificate.new }
     ensures base_unread { LeavesQuery result → base.new ≡ base.old }
     ensures step_unread { LeavesWindow result → step.new ≡ step.old }
     // Stream only where a read failed in this call.

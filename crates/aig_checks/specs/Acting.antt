@@ -39,8 +39,8 @@ RunsFile {P = P} opens left failed given given_failed held write_failed limit c 
 -- opened first, in order
 abbrev pub RunsProofs : {R S P W : Type 0} → (List ℕ → Result P OpenError → Type 0)
     → (R → Option (List ℕ)) → (R → Bool) → (S → Option (List ℕ)) → (S → Bool)
-    → (P → Option (List ℕ)) → (P → Bool) → (W → Option (List ℕ)) → (W → Bool) → ℕ → PairCommand → List (List ℕ) → R → S → W
-    → Result Unit CheckError → R → S → W → Type 0
+    → (P → Option (List ℕ)) → (P → Bool) → (W → Option (List ℕ)) → (W → Bool) → ℕ → PairCommand
+    → List (List ℕ) → R → S → W → Result Unit CheckError → R → S → W → Type 0
 RunsProofs opens left failed left_of failed_of given proof_failed held write_failed limit c [] r s w
     result rest other made =
     RunsPair left failed left_of failed_of nothing_given nothing_fails nothing_given nothing_fails
