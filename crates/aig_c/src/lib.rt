@@ -6,6 +6,7 @@
 
 ghost use Rattle.std.specs.Prelude.{◌≡◌, ◌≤◌, ◌<◌, List, ℕ, None, Some};
 ghost use Rattle.aig_answers.specs.Answers.{asked_verdict, window_verdict};
+ghost use Rattle.aig_certificates.specs.Certificates.{joint_verdict};
 ghost use Rattle.aig_bounded_answers.specs.Asking.{bounded_verdict};
 ghost use Rattle.aig_runs.specs.Safety.{IsSafeAt};
 ghost use Rattle.aig_checks.specs.Bounded.{IsWitnessToText};
@@ -19,11 +20,10 @@ ghost use Rattle.aig_edits.specs.declared.pairing.Pairing.TheVariants.{Certifica
 ghost use Rattle.aig_join.specs.Files.{AreEqualMachinesAt, HasLinesOf, HaveSameFileCounts};
 ghost use Rattle.aig_reader.specs.Verdicts.{Accepted};
 ghost use Rattle.aig_runs.specs.Queries.{IsSafeTo};
-ghost use Rattle.aig_runs.specs.declared.window.Window.TheVariants.{Plain};
 ghost use Rattle.aig_witness.specs.Files.{ShowsNext};
-ghost use Rattle.aig_calls.specs.Calls.{Checks, ChecksPair, FailsBounded, FailsStep, Gives, GivesBounded, GivesEdit, GivesPair, IsGiven, IsQuestionText, IsReductionText, Joins, ShowsBounded, ShowsStep, ShowsWindow, TellsFault, TellsJoint, TellsOfSize, TellsProofOf, TellsSolution, form_of, shown_at};
+ghost use Rattle.aig_calls.specs.Calls.{Checks, ChecksPair, FailsBounded, FailsStep, Gives, GivesBounded, GivesEdit, GivesPair, IsGiven, IsQuestionText, IsReductionText, Joins, ShowsBounded, ShowsQuery, ShowsStep, ShowsTwo, ShowsWindow, TellsFault, TellsJoint, TellsJointProof, TellsOfSize, TellsProofOf, TellsSolution, form_of, shown_at};
 ghost use Rattle.aig_calls.specs.Numbers.{IsListed};
-ghost use Rattle.aig_calls.specs.Statuses.{AtStep, IsOfBounded, IsOfBoundedProof, IsOfBoundedSolution, IsOfEdit, IsOfObligations, IsOfPairProof, IsOfProof, IsOfQuestion, IsOfSolution, IsOfText, IsOfWitness, said_of_query, said_of_window};
+ghost use Rattle.aig_calls.specs.Statuses.{AtStep, IsOfBounded, IsOfBoundedProof, IsOfBoundedSolution, IsOfEdit, IsOfObligations, IsOfPairProof, IsOfProof, IsOfQuestion, IsOfSolution, IsOfText, IsOfWitness, said_of_query, said_of_query_proof, said_of_window, said_of_window_proof};
 
 use aig_commands::LIMIT;
 use aig_edits::{Edit, Pairing};
@@ -383,10 +383,14 @@ pub extern "C" fn aig_check_certified(
 ) -> u32
     ensures checks { ChecksPair Certificate LIMIT (λ f g. HasLinesOf g f × ((n : ℕ) → IsSafeTo f n))
         IsOfPairProof file.now certificate.now result }
-    ensures query { TellsJoint Certificate (asked_verdict LIMIT 0) LIMIT file.now certificate.now
+    ensures query { TellsJoint Certificate (joint_verdict LIMIT 0) LIMIT file.now certificate.now
         (said_of_query result) }
-    ensures window { TellsJoint Certificate (window_verdict Plain LIMIT 0) LIMIT file.now
+    ensures window { TellsJoint Certificate (joint_verdict LIMIT 1) LIMIT file.now
         certificate.now (said_of_window result) }
+    ensures base { TellsJointProof Certificate (ShowsQuery 0 optimize base.now) LIMIT file.now
+        certificate.now (said_of_query_proof result) }
+    ensures step { TellsJointProof Certificate (ShowsTwo optimize step.now) LIMIT file.now
+        certificate.now (said_of_window_proof result) }
 {
     aig_calls::check_certified(alloc, file, certificate, optimize, base, step)
 }
@@ -405,8 +409,10 @@ pub extern "C" fn aig_check_equal(
     ensures checks { ChecksPair Miter LIMIT
         (λ f g. HaveSameFileCounts f g × AreEqualMachinesAt f g k) (AtStep k IsOfPairProof)
         file.now other.now result }
-    ensures query { TellsJoint Miter (asked_verdict LIMIT k) LIMIT file.now other.now
+    ensures query { TellsJoint Miter (joint_verdict LIMIT k) LIMIT file.now other.now
         (said_of_query result) }
+    ensures shown { TellsJointProof Miter (ShowsQuery k optimize proof.now) LIMIT file.now other.now
+        (said_of_query_proof result) }
     ensures no_window { result < 1024 }
 {
     aig_calls::check_equal(alloc, file, other, k, optimize, proof)
@@ -527,9 +533,9 @@ pub extern "C" fn aig_obligations(
 ) -> u32
     ensures gives { GivesPair Certificate LIMIT (IsObligationsText optimize) IsOfObligations
         file.now certificate.now result out.old out.new needed.old needed.new }
-    ensures query { TellsJoint Certificate (asked_verdict LIMIT 0) LIMIT file.now certificate.now
+    ensures query { TellsJoint Certificate (joint_verdict LIMIT 0) LIMIT file.now certificate.now
         (said_of_query result) }
-    ensures window { TellsJoint Certificate (window_verdict Plain LIMIT 0) LIMIT file.now
+    ensures window { TellsJoint Certificate (joint_verdict LIMIT 1) LIMIT file.now
         certificate.now (said_of_window result) }
 {
     aig_calls::print_obligations(alloc, file, certificate, optimize, out, needed)

@@ -1,9 +1,8 @@
--- What statuses tell of the text of the circuit of two files.
-use Rattle.aig_base.proofs.Words.{◌≡◌, ℕ, ◌<◌, Bool, List, Option, None, Some, Result, Err, refl, sym, subst, inl, inr, arith}
+-- What statuses tell of the circuit of two files, and of proofs about it.
+use Rattle.aig_base.proofs.Words.{◌≡◌, ℕ, ◌<◌, Bool, List, Option, None, Some, Result, Ok, Err, IfSome, refl, sym, subst, ◌∙◌, inl, inr, arith}
 use Rattle.aig_answers.specs.Answers as answering
-use Rattle.aig_answers.specs.Answers.{asked_verdict, window_verdict}
 use Rattle.aig_answers.specs.declared.error.AnswerError.{AnswerError}
-use Rattle.aig_certificates.specs.Certificates.{Equals, IsOwn, IsTold, Obliges, first_verdict, second_verdict}
+use Rattle.aig_certificates.specs.Certificates.{Equals, IsOwn, IsSaidOf, Obliges, first_verdict, joint_verdict, second_verdict}
 use Rattle.aig_certificates.specs.declared.error.CertificateError.{CertificateError}
 use Rattle.aig_certificates.specs.declared.error.CertificateError.TheVariants as errors
 use Rattle.aig_edits.specs.Pairs.{ReadsPair}
@@ -13,44 +12,59 @@ use Rattle.aig_checks.specs.declared.tool.CheckError.{CheckError}
 use Rattle.aig_checks.specs.declared.tool.CheckError.TheVariants as checks
 use Rattle.aig_edits.specs.declared.pairing.Pairing.{Pairing}
 use Rattle.aig_edits.specs.declared.pairing.Pairing.TheVariants.{Certificate}
-use Rattle.aig_runs.specs.declared.window.Window.TheVariants.{Plain}
+use Rattle.aig_circuit.specs.Circuit.{Circuit}
+use Rattle.aig_edits.specs.Joints.{IsJointOf}
 use Rattle.aig_format.specs.File.{File}
-use Rattle.aig_reader.specs.Verdicts.{Accepted, Verdict}
-use Rattle.aig_calls.specs.Statuses.{many_steps, said_of_query, said_of_window}
-use Rattle.aig_calls.specs.Calls.{TellsJoint}
-use Rattle.aig_calls.specs.Parts.{SaysJoint, SaysObliged, SaysOnly}
+use Rattle.aig_reader.specs.Verdicts.{Accepted, Crowded, IsSettled, Memory, NoBads, Refused, Short, Stream, TooLarge, TooMany, Verdict}
+use Rattle.aig_refutation.specs.declared.error.RefutationError.{RefutationError}
+use Rattle.aig_calls.specs.Statuses.{many_steps, said_of_query, said_of_query_proof, said_of_window}
+use Rattle.aig_calls.specs.Calls.{TellsJoint, TellsJointProof}
+use Rattle.aig_calls.specs.Parts.{IsErrWith, SaysJoint, SaysObliged, SaysOnly}
 use Rattle.aig_calls.proofs.Pairing.{both_whole}
 use Rattle.aig_calls.proofs.Saying.{no_query, no_window, window_no_query}
 
 -- nothing is said of it
-pub none_joint : (pairing : Pairing) (of : File → Verdict) (limit : ℕ) (bytes others : List ℕ)
+pub none_joint : (pairing : Pairing) (of : Circuit → Verdict) (limit : ℕ) (bytes others : List ℕ)
     (said : Option Verdict) → said ≡ None → TellsJoint pairing of limit bytes others said
 none_joint pairing of limit bytes others said is =
     subst (TellsJoint pairing of limit bytes others) (sym is) tt
 
 -- nor where K isn't below 2^32
-pub none_query : (pairing : Pairing) (of : File → Verdict) (limit : ℕ) (bytes others : List ℕ)
+pub none_query : (pairing : Pairing) (of : Circuit → Verdict) (limit : ℕ) (bytes others : List ℕ)
     (status : ℕ) → status ≡ many_steps
     → TellsJoint pairing of limit bytes others (said_of_query status)
 none_query pairing of limit bytes others status is =
     none_joint pairing of limit bytes others _ (no_query status (omega (arith, is)))
 
--- the error is of files that are taken, and the text of their circuit has this one
-abbrev IsOfJoint : {T E : Type 0} → Pairing → (File → Verdict) → ℕ
+-- it is said of a circuit of this verdict
+pub settled_said : (of v : Verdict) → IsSaidOf of v → IsSettled v → v ≡ of
+settled_said of Accepted said settled = said
+settled_said of TooMany said settled = said
+settled_said of TooLarge said settled = said
+settled_said of NoBads said settled = said
+settled_said of Crowded said settled = said
+settled_said of Refused said settled = said
+settled_said of Short said settled = absurd settled
+settled_said of Memory said settled = absurd settled
+settled_said of Stream said settled = absurd settled
+
+-- the error is of files that are taken, and their circuit has this one
+abbrev IsOfJoint : {T E : Type 0} → Pairing → (Circuit → Verdict)
     → (File → File → Result T E → Type 0) → (E → Verdict) → (E → Verdict) → E → AnswerError → Type 0
-IsOfJoint pairing of limit Means first second x e =
+IsOfJoint pairing of Means first second x e =
     (first x ≡ Accepted) × (second x ≡ Accepted)
-    × ((f g : File) → Means f g (Err x) → IsTold pairing of limit f g e)
+    × ((f g : File) → Means f g (Err x)
+    → (m : Circuit) × IsJointOf pairing f g m × IsSaidOf (of m) (answering.verdict_of e))
 
 -- an error of a call whose errors have those about two files among them
-module _ {R S T E : Type 0} (wrap : CertificateError → E) (pairing : Pairing) (of : File → Verdict)
+module _ {R S T E : Type 0} (wrap : CertificateError → E) (pairing : Pairing) (of : Circuit → Verdict)
     {left : R → Option (List ℕ)} {failed : R → Bool} {left_of : S → Option (List ℕ)}
     {failed_of : S → Bool} {limit : ℕ} {Means : File → File → Result T E → Type 0}
     {first second : E → Verdict} {Own : E → Type 0} {r rest : R} {s other : S}
     (bytes others : List ℕ) (is : left r ≡ Some bytes) (also : left_of s ≡ Some others)
     (status : ℕ) where
   verdict_told : (e : CertificateError) (asked : AnswerError) (said : Option Verdict)
-      → IsOfJoint pairing of limit Means first second (wrap e) asked
+      → IsOfJoint pairing of Means first second (wrap e) asked
       → ReadsPair left failed left_of failed_of limit Means first second Own r s (Err (wrap e)) rest
       other
       → SaysOnly said (answering.verdict_of asked)
@@ -58,19 +72,25 @@ module _ {R S T E : Type 0} (wrap : CertificateError → E) (pairing : Pairing) 
   verdict_told e asked None joint told says = tt
   verdict_told e asked (Some v) joint told says =
       let both = both_whole told bytes others is also joint.0 joint.1 in
-      let text = joint.2 both.0 both.2.0 both.2.2 in (
+      let whole = joint.2 both.0 both.2.0 both.2.2 in
+      let settled = says.1 in (
         both.0,
         both.1,
         (
           both.2.0,
           both.2.1,
-          (text.0, text.1, rw says.0 (text.2 says.1)),
+          (
+            whole.0,
+            whole.1,
+            says.0 ∙ settled_said (of whole.0) (answering.verdict_of asked) whole.2
+                (subst IsSettled says.0 settled),
+          ),
         ),
       )
 
   -- what is said of its query
   pub joint_query : ((e : AnswerError)
-      → IsOfJoint pairing of limit Means first second (wrap (errors.Query e)) e)
+      → IsOfJoint pairing of Means first second (wrap (errors.Query e)) e)
       → (e : CertificateError)
       → ReadsPair left failed left_of failed_of limit Means first second Own r s (Err (wrap e)) rest
       other
@@ -87,7 +107,7 @@ module _ {R S T E : Type 0} (wrap : CertificateError → E) (pairing : Pairing) 
 
   -- and of its window
   pub joint_window : ((e : AnswerError)
-      → IsOfJoint pairing of limit Means first second (wrap (errors.Window e)) e)
+      → IsOfJoint pairing of Means first second (wrap (errors.Window e)) e)
       → (e : CertificateError)
       → ReadsPair left failed left_of failed_of limit Means first second Own r s (Err (wrap e)) rest
       other
@@ -100,13 +120,56 @@ module _ {R S T E : Type 0} (wrap : CertificateError → E) (pairing : Pairing) 
   joint_window joint (errors.Window e) told says =
       verdict_told (errors.Window e) e (said_of_window status) (joint e) told says.1
 
+-- ---- proofs
+
+module _ {R S T E : Type 0} (pairing : Pairing)
+    (Shows : Circuit → Result (Unit {0}) RefutationError → Type 0)
+    {left : R → Option (List ℕ)} {failed : R → Bool} {left_of : S → Option (List ℕ)}
+    {failed_of : S → Bool} {limit : ℕ} {Means : File → File → Result T E → Type 0}
+    {first second : E → Verdict} {Own : E → Type 0} {r rest : R} {s other : S}
+    (bytes others : List ℕ) (is : left r ≡ Some bytes) (also : left_of s ≡ Some others) where
+  -- a proof that is taken
+  pub proof_taken : (u : T)
+      → ReadsPair left failed left_of failed_of limit Means first second Own r s (Ok u) rest other
+      → ((f g : File) → Means f g (Ok u)
+      → (m : Circuit) × IsJointOf pairing f g m × Shows m (Ok tt))
+      → TellsJointProof pairing Shows limit bytes others (Some (Ok tt))
+  proof_taken u told shows =
+      let both = both_whole told bytes others is also refl refl in
+      (both.0, both.1, (both.2.0, both.2.1, shows both.0 both.2.0 both.2.2))
+
+  -- and one that is refused
+  pub proof_refused : (wrap : RefutationError → E) (e : E)
+      (said : Option (Result (Unit {0}) RefutationError)) → IfSome said (IsErrWith (λ x. e ≡ wrap x))
+      → ReadsPair left failed left_of failed_of limit Means first second Own r s (Err e) rest other
+      → ((x : RefutationError) → (first (wrap x) ≡ Accepted) × (second (wrap x) ≡ Accepted))
+      → ((x : RefutationError) (f g : File) → Means f g (Err (wrap x))
+      → (m : Circuit) × IsJointOf pairing f g m × Shows m (Err x))
+      → TellsJointProof pairing Shows limit bytes others said
+  proof_refused wrap e None says told accepted shows = tt
+  proof_refused wrap e (Some (Ok done)) says told accepted shows = absurd says
+  proof_refused wrap e (Some (Err x)) says told accepted shows =
+      let Told = λ (y : E). ReadsPair left failed left_of failed_of limit Means first second Own r s
+      (Err y) rest other in
+      let both = both_whole (subst Told says told) bytes others is also (accepted x).0
+      (accepted x).1 in
+      (both.0, both.1, (both.2.0, both.2.1, shows x both.0 both.2.0 both.2.2))
+
+-- nothing is said of a proof where K isn't below 2^32
+pub none_proof : (pairing : Pairing) (Shows : Circuit → Result (Unit {0}) RefutationError → Type 0)
+    (limit : ℕ) (bytes others : List ℕ) (status : ℕ) → status ≡ many_steps
+    → TellsJointProof pairing Shows limit bytes others (said_of_query_proof status)
+none_proof pairing Shows limit bytes others status is =
+    subst (λ n. TellsJointProof pairing Shows limit bytes others (said_of_query_proof n)) (sym is)
+    tt
+
 -- the circuit of two files of which equality is asked has no window
 module _ {R S : Type 0} {left : R → Option (List ℕ)} {failed : R → Bool}
-    {left_of : S → Option (List ℕ)} {failed_of : S → Bool} {limit k : ℕ} {r rest : R} {s other : S}
-    (bytes others : List ℕ) (is : left r ≡ Some bytes) (also : left_of s ≡ Some others)
+    {left_of : S → Option (List ℕ)} {failed_of : S → Bool} {limit k : ℕ} {optimize : Bool}
+    {proof : Option (List ℕ)} {r rest : R} {s other : S} (bytes others : List ℕ) (is : left r ≡ Some bytes) (also : left_of s ≡ Some others)
     (status : ℕ) where
   pub miter_low : (e : CertificateError)
-      → ReadsPair left failed left_of failed_of limit (Equals limit k) first_verdict second_verdict
+      → ReadsPair left failed left_of failed_of limit (Equals limit k optimize proof) first_verdict second_verdict
       IsOwn r s (Err e) rest other
       → SaysJoint status e → status < 1024
   miter_low (errors.Pair e) told says = omega (arith, says)
@@ -126,22 +189,22 @@ module _ {R S : Type 0} {left : R → Option (List ℕ)} {failed : R → Bool}
       → ReadsPair left failed left_of failed_of limit Means verdict_of other_verdict_of Own r s
       (Err e) rest other
       → SaysObliged status e
-      → TellsJoint Certificate (asked_verdict limit 0) limit bytes others (said_of_query status)
+      → TellsJoint Certificate (joint_verdict limit 0) limit bytes others (said_of_query status)
   obliged_query (checks.Certificate e) told says =
-      joint_query checks.Certificate Certificate (asked_verdict limit 0) bytes others is also status
+      joint_query checks.Certificate Certificate (joint_verdict limit 0) bytes others is also status
       (λ x. (refl, refl, means (errors.Query x))) e told says
   obliged_query e told says =
-      none_joint Certificate (asked_verdict limit 0) limit bytes others _ (no_query status says)
+      none_joint Certificate (joint_verdict limit 0) limit bytes others _ (no_query status says)
 
   pub obliged_window : (e : CheckError)
       → ReadsPair left failed left_of failed_of limit Means verdict_of other_verdict_of Own r s
       (Err e) rest other
       → SaysObliged status e
-      → TellsJoint Certificate (window_verdict Plain limit 0) limit bytes others
+      → TellsJoint Certificate (joint_verdict limit 1) limit bytes others
       (said_of_window status)
   obliged_window (checks.Certificate e) told says =
-      joint_window checks.Certificate Certificate (window_verdict Plain limit 0) bytes others is
+      joint_window checks.Certificate Certificate (joint_verdict limit 1) bytes others is
       also status (λ x. (refl, refl, means (errors.Window x))) e told says
   obliged_window e told says =
-      none_joint Certificate (window_verdict Plain limit 0) limit bytes others _
+      none_joint Certificate (joint_verdict limit 1) limit bytes others _
       (no_window status (omega (arith, says)))

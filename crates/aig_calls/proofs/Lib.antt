@@ -1,6 +1,7 @@
 mod Making
 mod Giving
 mod Saying
+mod Counts
 mod Pairing
 mod Joining
 mod Listing

@@ -79,24 +79,26 @@ module _ {R S T E : Type 0} {left : R → Option (List ℕ)} {failed : R → Boo
 pub misfit_tells : {R S T E : Type 0} {left : R → Option (List ℕ)} {failed : R → Bool}
     {left_of : S → Option (List ℕ)} {failed_of : S → Bool} {limit : ℕ}
     {Means : File → File → Result T E → Type 0} {first second : E → Verdict} {Own : E → Type 0}
-    {r rest : R} {s other : S} {counts format e : E} {status : ℕ} (pairing : Pairing)
+    {r rest : R} {s other : S} {Counts : E → Type 0} {format e : E} {status : ℕ}
+    (pairing : Pairing)
     → ReadsPair left failed left_of failed_of limit Means first second Own r s (Err e) rest other
-    → IsPairStatus first second counts format e status → (bytes others : List ℕ)
-    → left r ≡ Some bytes → left_of s ≡ Some others → first counts ≡ Accepted
-    → second counts ≡ Accepted → first format ≡ Accepted → second format ≡ Accepted
-    → ((f g : File) → Means f g (Err counts) → ¬ DoFit pairing f g)
+    → IsPairStatus first second Counts format e status → (bytes others : List ℕ)
+    → left r ≡ Some bytes → left_of s ≡ Some others → (Counts e → first e ≡ Accepted)
+    → (Counts e → second e ≡ Accepted) → first format ≡ Accepted → second format ≡ Accepted
+    → ((f g : File) → Counts e → Means f g (Err e) → ¬ DoFit pairing f g)
     → ((f g : File) → Means f g (Err format) → IsRefusalOf pairing f g TooLarge)
     → TellsMisfit pairing limit bytes others status
 misfit_tells {E = E} {left = left} {failed = failed} {left_of = left_of} {failed_of = failed_of}
     {limit = limit} {Means = Means} {first = first} {second = second} {Own = Own} {r = r}
-    {rest = rest} {s = s} {other = other} {counts = counts} {format = format} pairing told says
+    {rest = rest} {s = s} {other = other} {format = format} pairing told says
     bytes others is also one two three four not large =
     let Told = λ (x : E). ReadsPair left failed left_of failed_of limit Means first second Own r s
     (Err x) rest other in
     record {
       counts = λ h.
-          let both = both_whole (subst Told (says.misfit h) told) bytes others is also one two in
-          (both.0, both.1, (both.2.0, both.2.1, not both.0 both.2.0 both.2.2));
+          let counts = says.misfit h in
+          let both = both_whole told bytes others is also (one counts) (two counts) in
+          (both.0, both.1, (both.2.0, both.2.1, not both.0 both.2.0 counts both.2.2));
       format = λ h.
           let both = both_whole (subst Told (says.large h) told) bytes others is also three four in
           (both.0, both.1, (both.2.0, both.2.1, large both.0 both.2.0 both.2.2));

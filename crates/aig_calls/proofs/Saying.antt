@@ -1,16 +1,19 @@
 -- What statuses with a flag say.
-use Rattle.aig_base.proofs.Words.{◌≡◌, ◌⊎◌, ℕ, zero, suc, ◌+◌, ◌-◌, ◌<◌, ◌≤◌, None, Some, refl, sym, subst, inl, inr, arith, le-leb, le-ltb, lt-leb, lt-ltb}
+use Rattle.aig_base.proofs.Words.{◌≡◌, ◌⊎◌, ℕ, zero, suc, ◌+◌, ◌-◌, ◌<◌, ◌≤◌, Option, None, Some, Result, Ok, Err, IfSome, refl, sym, ap, subst, inl, inr, arith, cases_lt, le-leb, le-ltb, lt-leb, lt-ltb}
 use Rattle.aig_edits.specs.Joints.{first_verdict, second_verdict}
 use Rattle.aig_edits.specs.declared.error.PairError.TheVariants as pair
 use Rattle.aig_reader.specs.declared.error.ReadError.{ReadError}
 use Rattle.aig_reader.specs.Verdicts.{Accepted, verdict_of}
 use Rattle.aig_answers.specs.Answers.{verdict_of as verdict_by}
 use Rattle.aig_answers.specs.declared.error.AnswerError.{AnswerError}
+use Rattle.aig_answers.specs.declared.error.AnswerError.TheVariants as answers
+use Rattle.aig_certificates.specs.declared.error.CertificateError.{CertificateError}
 use Rattle.aig_certificates.specs.declared.error.CertificateError.TheVariants as certificate
+use Rattle.aig_refutation.specs.declared.error.RefutationError.{RefutationError}
 use Rattle.aig_checks.specs.declared.tool.CheckError.{CheckError}
 use Rattle.aig_checks.specs.declared.tool.CheckError.TheVariants as checks
-use Rattle.aig_calls.specs.Statuses.{IsOfPair, memory, said_by, said_of_other, said_of_query, said_of_window}
-use Rattle.aig_calls.specs.Parts.{IsPairStatus, SaysJoint, SaysObliged, SaysOnly, flagged}
+use Rattle.aig_calls.specs.Statuses.{IsOfPair, memory, said_by, said_of_other, said_of_proof, said_of_query, said_of_query_proof, said_of_window, said_of_window_proof}
+use Rattle.aig_calls.specs.Parts.{IsErrWith, IsOfCounts, IsPairStatus, SaysJoint, SaysObliged, SaysOnly, SaysProof, SaysQueryProof, SaysWindowProof, flagged}
 
 -- memory, the stream or the step hides it
 none_said : (status : ℕ) → 2 ≤ status → status < 5 → said_by status ≡ None
@@ -39,11 +42,11 @@ flagged_cases flag status = grind arith
 -- the status of the second file
 pub other_status : (e : ReadError) (status : ℕ) → SaysOnly (said_by status) (verdict_of e)
     → status < 256 → 2 ≤ status
-    → IsPairStatus first_verdict second_verdict pair.Misfit pair.TooLarge (pair.Other e) (flagged 256 status)
+    → IsPairStatus first_verdict second_verdict IsOfCounts pair.TooLarge (pair.Other e) (flagged 256 status)
 other_status e status says low least = elim (flagged_cases 256 status) [
   | inl few ↦
       let none = none_said status least (omega (arith, few.0)) in
-      subst (IsPairStatus first_verdict second_verdict pair.Misfit pair.TooLarge (pair.Other e)) (sym few.1) (record {
+      subst (IsPairStatus first_verdict second_verdict IsOfCounts pair.TooLarge (pair.Other e)) (sym few.1) (record {
         first_said = rw none tt;
         second_said = λ is. absurd (let other = rw none at is in cc);
         misfit = λ is. absurd (omega (arith, is, few.0));
@@ -51,7 +54,7 @@ other_status e status says low least = elim (flagged_cases 256 status) [
         least = least;
       })
   | inr many ↦
-      subst (IsPairStatus first_verdict second_verdict pair.Misfit pair.TooLarge (pair.Other e)) (sym many.1) (record {
+      subst (IsPairStatus first_verdict second_verdict IsOfCounts pair.TooLarge (pair.Other e)) (sym many.1) (record {
         first_said = rw (above_said (256 + status) (omega arith)) (refl, tt);
         second_said = λ is. rw (other_said status low) says;
         misfit = λ is. absurd (omega (arith, is));
@@ -130,3 +133,89 @@ memory_obliged (checks.Certificate (certificate.Pair e)) = omega arith
 memory_obliged (checks.Certificate (certificate.Query e)) = (omega arith, tt)
 memory_obliged (checks.Certificate (certificate.Window e)) = (inl (omega arith), tt)
 memory_obliged e = omega arith
+
+-- ---- proofs
+
+-- a refusal of a proof is one of this kind
+errs_so : {Is Other : RefutationError → Type 0} → ((x : RefutationError) → Is x → Other x)
+    → (said : Option (Result (Unit {0}) RefutationError)) → IfSome said (IsErrWith Is)
+    → IfSome said (IsErrWith Other)
+errs_so so None is = tt
+errs_so so (Some (Ok done)) is = absurd is
+errs_so so (Some (Err x)) is = so x is
+
+-- nothing is said of a proof
+no_query_proof : (status : ℕ) → 1 ≤ status → status < 552 ⊎ 1024 ≤ status
+    → said_of_query_proof status ≡ None
+no_query_proof zero least none = absurd (omega (arith, least))
+no_query_proof (suc n) least (inl low) = rw (lt-leb 552 (suc n) low)
+no_query_proof (suc n) least (inr high) = rw (le-leb 552 (suc n) (omega (arith, high)), le-ltb (suc n) 1024 high)
+
+no_window_proof : (status : ℕ) → 1 ≤ status → status < 1064 → said_of_window_proof status ≡ None
+no_window_proof zero least low = absurd (omega (arith, least))
+no_window_proof (suc n) least low = rw (lt-leb 1064 (suc n) low)
+
+flagged_query_proof : (status : ℕ) → 40 ≤ status → status < 60
+    → said_of_query_proof (512 + status) ≡ said_of_proof status
+flagged_query_proof status least low =
+    let back : (512 + status) - 512 ≡ status = omega arith in
+    rw (le-leb 552 (512 + status) (omega (arith, least)), lt-ltb (512 + status) 1024 (omega (arith, low)), back)
+
+flagged_window_proof : (status : ℕ) → 40 ≤ status
+    → said_of_window_proof (1024 + status) ≡ said_of_proof status
+flagged_window_proof status least =
+    let back : (1024 + status) - 1024 ≡ status = omega arith in
+    rw (le-leb 1064 (1024 + status) (omega (arith, least)), back)
+
+-- a status with its flag is no less than without, and little more than the flag
+pub flagged_apart : (flag status : ℕ) → 2 ≤ status
+    → (2 ≤ flagged flag status) × (flagged flag status ≤ flag + status)
+flagged_apart flag status least = elim (flagged_cases flag status) [
+  | inl few ↦ (omega (arith, few.1, least), omega (arith, few.1))
+  | inr many ↦ (omega (arith, many.1, least), omega (arith, many.1))
+]
+
+pub window_apart : (status : ℕ) → 2 ≤ status
+    → flagged 1024 status < 512 ⊎ 1024 ≤ flagged 1024 status
+window_apart status least = elim (flagged_cases 1024 status) [
+  | inl few ↦ inl (omega (arith, few.0, few.1))
+  | inr many ↦ inr (omega (arith, many.1))
+]
+
+-- what is said of the proof of a query
+pub query_proof : (e : AnswerError) (status : ℕ)
+    → SaysProof status (λ x. e ≡ answers.Refutation x) → 2 ≤ status → status < 60
+    → SaysQueryProof (flagged 512 status) (certificate.Query e)
+query_proof e status says least low = elim (flagged_cases 512 status) [
+  | inl few ↦ rw (no_query_proof (flagged 512 status) (omega (arith, few.0, few.1, least)) (inl (omega (arith, few.0, few.1)))) tt
+  | inr many ↦ subst (λ n. SaysQueryProof n (certificate.Query e)) (sym many.1) (elim (cases_lt status 40) [
+    | inl small ↦ rw (no_query_proof (512 + status) (omega arith) (inl (omega (arith, small)))) tt
+    | inr large ↦
+        rw (flagged_query_proof status large low)
+        (errs_so (λ x is. ap certificate.Query is) (said_of_proof status) says)
+  ])
+]
+
+-- and of a window
+pub window_proof : (e : AnswerError) (status : ℕ)
+    → SaysProof status (λ x. e ≡ answers.Refutation x) → 2 ≤ status → status < 60
+    → SaysWindowProof (flagged 1024 status) (certificate.Window e)
+window_proof e status says least low = elim (flagged_cases 1024 status) [
+  | inl few ↦ rw (no_window_proof (flagged 1024 status) (omega (arith, few.0, few.1, least)) (omega (arith, few.0, few.1))) tt
+  | inr many ↦ subst (λ n. SaysWindowProof n (certificate.Window e)) (sym many.1) (elim (cases_lt status 40) [
+    | inl small ↦ rw (no_window_proof (1024 + status) (omega arith) (omega (arith, small))) tt
+    | inr large ↦
+        rw (flagged_window_proof status large)
+        (errs_so (λ x is. ap certificate.Window is) (said_of_proof status) says)
+  ])
+]
+
+-- of other errors nothing
+pub other_query_proof : (e : CertificateError) (status : ℕ) → 2 ≤ status
+    → status < 512 ⊎ 1024 ≤ status → SaysQueryProof status e
+other_query_proof e status least (inl low) = rw (no_query_proof status (omega (arith, least)) (inl (omega (arith, low)))) tt
+other_query_proof e status least (inr high) = rw (no_query_proof status (omega (arith, least)) (inr high)) tt
+
+pub other_window_proof : (e : CertificateError) (status : ℕ) → 2 ≤ status → status < 1024
+    → SaysWindowProof status e
+other_window_proof e status least low = rw (no_window_proof status (omega (arith, least)) (omega (arith, low))) tt

@@ -5,7 +5,7 @@ use Rattle.std.specs.Prelude.{◌≡◌, ℕ, ◌<◌, ◌≤◌, ◌++◌, if�
 use Rattle.aig_runs.specs.declared.window.Window.{Window}
 use Rattle.aig_runs.specs.declared.window.Window.TheVariants.{Distinct, Plain}
 use Rattle.aig_circuit.specs.Circuit.{Circuit}
-use Rattle.aig_answers.specs.Answers.{TellsOfStep, TellsOfWindow}
+use Rattle.aig_answers.specs.Answers.{TellsOfCircuit, TellsOfCircuitWindow, TellsOfStep, TellsOfWindow}
 use Rattle.aig_answers.specs.declared.error.AnswerError.TheVariants as answers
 use Rattle.aig_bounded.specs.Question.{question_size}
 use Rattle.aig_bounded_answers.specs.Asking.{RefusesSolution, bounded_verdict}
@@ -25,7 +25,7 @@ use Rattle.aig_edits.specs.declared.pairing.Pairing.{Pairing}
 use Rattle.aig_format.specs.Circuit.{circuit_of, text_of}
 use Rattle.aig_format.specs.File.{File}
 use Rattle.aig_format.specs.Fits.{Accepts}
-use Rattle.aig_reader.specs.Verdicts.{Accepted, IsVerdictOn, Verdict}
+use Rattle.aig_reader.specs.Verdicts.{Accepted, Verdict}
 use Rattle.aig_refutation.specs.declared.error.RefutationError.{RefutationError}
 use Rattle.aig_solutions.specs.declared.error.SolutionError.{SolutionError}
 use Rattle.aig_witness.specs.Files.{FailsNext, HasNoNext}
@@ -209,11 +209,32 @@ pub record TellsMisfit (pairing : Pairing) (limit : ℕ) (bytes others : List �
     pub format : status ≡ unwritable
         → AreFilesWith limit bytes others (λ f g. IsRefusalOf pairing f g TooLarge)
 
--- what is said of the text of the circuit of two files is the verdict on it
-abbrev pub TellsJoint : Pairing → (File → Verdict) → ℕ → List ℕ → List ℕ → Option Verdict → Type 0
+-- what is said of the circuit of two files is the verdict on it
+abbrev pub TellsJoint : Pairing → (Circuit → Verdict) → ℕ → List ℕ → List ℕ → Option Verdict
+    → Type 0
 TellsJoint pairing of limit bytes others said =
     IfSome said (λ v. AreFilesWith limit bytes others
-    (λ f g. (m : Circuit) × IsJointOf pairing f g m × IsVerdictOn of limit (text_of m) v))
+    (λ f g. (m : Circuit) × IsJointOf pairing f g m × (v ≡ of m)))
+
+-- what the bytes of a proof show of the clauses of a joint circuit's query for step k
+abbrev pub ShowsQuery : ℕ → Bool → List ℕ → Circuit → Result (Unit {0}) RefutationError → Type 0
+ShowsQuery k optimize proof m (Ok taken) = TellsOfCircuit k optimize (Some proof) m (Ok tt)
+ShowsQuery k optimize proof m (Err e) =
+    TellsOfCircuit k optimize (Some proof) m (Err (answers.Refutation e))
+
+-- and of those of its plain window of two steps
+abbrev pub ShowsTwo : Bool → List ℕ → Circuit → Result (Unit {0}) RefutationError → Type 0
+ShowsTwo optimize proof m (Ok taken) =
+    TellsOfCircuitWindow Plain 0 optimize (Some proof) m (Ok tt)
+ShowsTwo optimize proof m (Err e) =
+    TellsOfCircuitWindow Plain 0 optimize (Some proof) m (Err (answers.Refutation e))
+
+-- what is said of a proof about two files is what its bytes show of their circuit's clauses
+abbrev pub TellsJointProof : Pairing → (Circuit → Result (Unit {0}) RefutationError → Type 0) → ℕ
+    → List ℕ → List ℕ → Option (Result (Unit {0}) RefutationError) → Type 0
+TellsJointProof pairing Shows limit bytes others said =
+    IfSome said (λ r. AreFilesWith limit bytes others
+    (λ f g. (m : Circuit) × IsJointOf pairing f g m × Shows m r))
 
 -- what a call that gives an answer about two files does
 pub record GivesPair (pairing : Pairing) (limit : ℕ) (Means : File → File → List ℕ → Type 0)

@@ -3,6 +3,7 @@
 use Rattle.std.specs.Prelude.{◌≡◌, ℕ, ◌+◌, ◌<◌, ◌≤◌, ◌⊎◌, nat_lt, if◌then◌else◌, Bool, List, Option, None, Some, Result, Ok, Err, IfErr, IfOk, IfSome, Vec, ℤ}
 use Rattle.std.specs.declared.alloc.Global.{Global}
 use Rattle.aig_answers.specs.Answers as answering
+use Rattle.aig_answers.specs.declared.error.AnswerError.TheVariants as answers
 use Rattle.aig_certificates.specs.declared.error.CertificateError.{CertificateError}
 use Rattle.aig_certificates.specs.declared.error.CertificateError.TheVariants as certificate
 use Rattle.aig_checks.specs.Running.{Answers, file_verdict}
@@ -16,11 +17,13 @@ use Rattle.aig_checks.specs.Bounded.{IsSettledTo}
 use Rattle.aig_edits.specs.declared.edit.Edit.{Edit}
 use Rattle.aig_edits.specs.declared.edit_error.EditError.{EditError}
 use Rattle.aig_edits.specs.declared.edit_error.EditError.TheVariants as edit
+use Rattle.aig_edits.specs.declared.error.PairError.{PairError}
+use Rattle.aig_edits.specs.declared.error.PairError.TheVariants as pair
 use Rattle.aig_edits.specs.declared.pairing.Pairing.{Pairing}
 use Rattle.aig_format.specs.File.{File}
 use Rattle.aig_reader.specs.Verdicts.{Accepted, IsSettled, Memory, NoBads, Short, TooLarge, Verdict, verdict_of}
 use Rattle.aig_refutation.specs.declared.error.RefutationError.{RefutationError}
-use Rattle.aig_calls.specs.Statuses.{IsOfBounded, IsOfBoundedSolution, IsOfEdit, IsOfSolution, IsOfText, SaysSolution, Tells, done, has_bads, many_bads, misfit, no_output, said_by, said_of_other, said_of_proof, said_of_query, said_of_window, settled, small, unwritable}
+use Rattle.aig_calls.specs.Statuses.{IsOfBounded, IsOfBoundedSolution, IsOfEdit, IsOfSolution, IsOfText, SaysSolution, Tells, done, has_bads, many_bads, misfit, no_output, said_by, said_of_other, said_of_proof, said_of_query, said_of_query_proof, said_of_window, said_of_window_proof, settled, small, unwritable}
 use Rattle.aig_calls.specs.declared.numbers.Listed.{Listed}
 use Rattle.aig_calls.specs.Calls.{AreFilesWith, IsEditText, IsFileWith, IsGiven, TellsEdit, TellsMisfit, TellsOfPair, TellsOfSize, edited_verdict}
 
@@ -104,17 +107,44 @@ pub record IsEditStatus (e : EditError) (status : ℕ) : Type 0 where
   pub format : status ≡ unwritable → e ≡ edit.TooLarge
   pub least : 2 ≤ status
 
+-- the error is that counts don't fit
+abbrev pub IsOfCounts : PairError → Type 0
+IsOfCounts (pair.Misfit m) = Unit {0}
+IsOfCounts e = ⊥
+
+-- of two files of which something isn't shown
+abbrev pub IsOfCountsIn : CertificateError → Type 0
+IsOfCountsIn (certificate.Pair e) = IsOfCounts e
+IsOfCountsIn e = ⊥
+
+-- or isn't printed
+abbrev pub IsOfCountsBy : CheckError → Type 0
+IsOfCountsBy (checks.Certificate e) = IsOfCountsIn e
+IsOfCountsBy e = ⊥
+
 -- What the status of a call on two files says that has this error: of the first file's bytes, of
 -- the second one's where the first one is taken, and why no circuit is made of them.
-pub record IsPairStatus {E : Type 0} (first second : E → Verdict) (counts format e : E) (status : ℕ)
-    : Type 0 where
+pub record IsPairStatus {E : Type 0} (first second : E → Verdict) (Counts : E → Type 0) (format e : E)
+    (status : ℕ) : Type 0 where
   pub first_said : SaysOnly (said_by status) (first e)
   pub second_said : said_by status ≡ Some Accepted → SaysOnly (said_of_other status) (second e)
-  pub misfit : status ≡ misfit → e ≡ counts
+  pub misfit : status ≡ misfit → Counts e
   pub large : status ≡ unwritable → e ≡ format
   pub least : 2 ≤ status
 
--- what the status of a call on two files says of the text of their circuit that has this error
+-- what the status of a call on two files says of a proof of their circuit's query is this refusal
+abbrev pub SaysQueryProof : ℕ → CertificateError → Type 0
+SaysQueryProof status e =
+    IfSome (said_of_query_proof status)
+    (IsErrWith (λ x. e ≡ certificate.Query (answers.Refutation x)))
+
+-- or of one of its window
+abbrev pub SaysWindowProof : ℕ → CertificateError → Type 0
+SaysWindowProof status e =
+    IfSome (said_of_window_proof status)
+    (IsErrWith (λ x. e ≡ certificate.Window (answers.Refutation x)))
+
+-- what the status of a call on two files says of their circuit that has this error
 abbrev pub SaysJoint : ℕ → CertificateError → Type 0
 SaysJoint status (certificate.Pair e) = status < 512
 SaysJoint status (certificate.Query e) =

@@ -108,6 +108,18 @@ said_of_proof status =
     if status == 0 then Some (Ok tt)
     else if nat_lt status 40 then None else option_map Err (slice_get proof_faults (status - 40))
 
+-- of a call on two files, of the proof of their circuit's query
+abbrev pub said_of_query_proof : ℕ → Option (Result (Unit {0}) RefutationError)
+said_of_query_proof status =
+    if status == 0 then Some (Ok tt)
+    else if nat_le 552 status && nat_lt status 1024 then said_of_proof (status - 512) else None
+
+-- and of that of its window
+abbrev pub said_of_window_proof : ℕ → Option (Result (Unit {0}) RefutationError)
+said_of_window_proof status =
+    if status == 0 then Some (Ok tt)
+    else if nat_le 1064 status then said_of_proof (status - 1024) else None
+
 -- ---- what is said of a witness and of a solver's answer
 
 -- the status of a fault of a witness; which step it is isn't told

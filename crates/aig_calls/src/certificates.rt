@@ -1,13 +1,12 @@
 //! Calls that check proofs about two files.
 
 ghost use Rattle.std.specs.Prelude.{ℕ, ◌<◌};
-ghost use Rattle.aig_answers.specs.Answers.{asked_verdict, window_verdict};
+ghost use Rattle.aig_certificates.specs.Certificates.{joint_verdict};
 ghost use Rattle.aig_edits.specs.declared.pairing.Pairing.TheVariants.{Certificate, Miter};
 ghost use Rattle.aig_join.specs.Files.{AreEqualMachinesAt, HasLinesOf, HaveSameFileCounts};
 ghost use Rattle.aig_runs.specs.Queries.{IsSafeTo};
-ghost use Rattle.aig_runs.specs.declared.window.Window.TheVariants.{Plain};
-ghost use Rattle.aig_calls.specs.Calls.{ChecksPair, TellsJoint};
-ghost use Rattle.aig_calls.specs.Statuses.{AtStep, IsOfPairProof, said_of_query, said_of_window};
+ghost use Rattle.aig_calls.specs.Calls.{ChecksPair, ShowsQuery, ShowsTwo, TellsJoint, TellsJointProof};
+ghost use Rattle.aig_calls.specs.Statuses.{AtStep, IsOfPairProof, said_of_query, said_of_query_proof, said_of_window, said_of_window_proof};
 
 use crate::status::{DONE, of_certificate};
 use crate::steps::step_of;
@@ -27,17 +26,29 @@ pub fn check_certified(
 ) -> u32
     ensures checks { ChecksPair Certificate LIMIT (λ f g. HasLinesOf g f × ((n : ℕ) → IsSafeTo f n))
         IsOfPairProof file.now certificate.now result }
-    ensures query { TellsJoint Certificate (asked_verdict LIMIT 0) LIMIT file.now certificate.now
+    ensures query { TellsJoint Certificate (joint_verdict LIMIT 0) LIMIT file.now certificate.now
         (said_of_query result) }
-    ensures window { TellsJoint Certificate (window_verdict Plain LIMIT 0) LIMIT file.now
+    ensures window { TellsJoint Certificate (joint_verdict LIMIT 1) LIMIT file.now
         certificate.now (said_of_window result) }
+    ensures base { TellsJointProof Certificate (ShowsQuery 0 optimize base.now) LIMIT file.now
+        certificate.now (said_of_query_proof result) }
+    ensures step { TellsJointProof Certificate (ShowsTwo optimize step.now) LIMIT file.now
+        certificate.now (said_of_window_proof result) }
 {
     let mut first = FromRead::new(file);
     let mut second = FromRead::new(certificate);
-    let mut base = FromRead::new(base);
-    let mut step = FromRead::new(step);
+    let mut base_lines = FromRead::new(base);
+    let mut step_lines = FromRead::new(step);
     let (r, s) = (&mut first, &mut second);
-    match aig_certificates::check_certified(alloc, r, s, LIMIT, optimize, &mut base, &mut step) {
+    match aig_certificates::check_certified(
+        alloc,
+        r,
+        s,
+        LIMIT,
+        optimize,
+        &mut base_lines,
+        &mut step_lines,
+    ) {
         Ok(()) => DONE,
         Err(error) => of_certificate(error),
     }
@@ -55,8 +66,10 @@ fn refute_miter(
     ensures checks { ChecksPair Miter LIMIT
         (λ f g. HaveSameFileCounts f g × AreEqualMachinesAt f g k) IsOfPairProof file.now other.now
         result }
-    ensures query { TellsJoint Miter (asked_verdict LIMIT k) LIMIT file.now other.now
+    ensures query { TellsJoint Miter (joint_verdict LIMIT k) LIMIT file.now other.now
         (said_of_query result) }
+    ensures shown { TellsJointProof Miter (ShowsQuery k optimize proof.now) LIMIT file.now other.now
+        (said_of_query_proof result) }
     ensures no_window { result < 1024 }
 {
     let mut first = FromRead::new(file);
@@ -82,8 +95,10 @@ pub fn check_equal(
     ensures checks { ChecksPair Miter LIMIT
         (λ f g. HaveSameFileCounts f g × AreEqualMachinesAt f g k) (AtStep k IsOfPairProof)
         file.now other.now result }
-    ensures query { TellsJoint Miter (asked_verdict LIMIT k) LIMIT file.now other.now
+    ensures query { TellsJoint Miter (joint_verdict LIMIT k) LIMIT file.now other.now
         (said_of_query result) }
+    ensures shown { TellsJointProof Miter (ShowsQuery k optimize proof.now) LIMIT file.now other.now
+        (said_of_query_proof result) }
     ensures no_window { result < 1024 }
 {
     match step_of(k) {

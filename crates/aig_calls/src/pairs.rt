@@ -1,10 +1,9 @@
 //! Calls that give the text of a circuit made of two files, or of its clauses.
 
 ghost use Rattle.std.specs.Prelude.{IfErr};
-ghost use Rattle.aig_answers.specs.Answers.{asked_verdict, window_verdict};
+ghost use Rattle.aig_certificates.specs.Certificates.{joint_verdict};
 ghost use Rattle.aig_checks.specs.Pairs.{IsObligationsText};
 ghost use Rattle.aig_edits.specs.declared.pairing.Pairing.TheVariants.{Certificate};
-ghost use Rattle.aig_runs.specs.declared.window.Window.TheVariants.{Plain};
 ghost use Rattle.aig_calls.specs.Calls.{GivesPair, IsJointText, Joins, TellsJoint};
 ghost use Rattle.aig_calls.specs.Parts.{MakesOfPair};
 ghost use Rattle.aig_calls.specs.Statuses.{IsOfObligations, IsOfPair, said_of_query, said_of_window};
@@ -53,9 +52,9 @@ fn obligations_text(
 ) -> Result<Vec<u8>, u32>
     ensures makes { MakesOfPair Certificate LIMIT (IsObligationsText optimize) IsOfObligations
         file.now certificate.now result }
-    ensures query { IfErr result (λ status. TellsJoint Certificate (asked_verdict LIMIT 0) LIMIT
+    ensures query { IfErr result (λ status. TellsJoint Certificate (joint_verdict LIMIT 0) LIMIT
         file.now certificate.now (said_of_query status)) }
-    ensures window { IfErr result (λ status. TellsJoint Certificate (window_verdict Plain LIMIT 0)
+    ensures window { IfErr result (λ status. TellsJoint Certificate (joint_verdict LIMIT 1)
         LIMIT file.now certificate.now (said_of_window status)) }
 {
     let mut first = FromRead::new(file);
@@ -80,9 +79,9 @@ pub fn print_obligations(
 ) -> u32
     ensures gives { GivesPair Certificate LIMIT (IsObligationsText optimize) IsOfObligations
         file.now certificate.now result out.old out.new needed.old needed.new }
-    ensures query { TellsJoint Certificate (asked_verdict LIMIT 0) LIMIT file.now certificate.now
+    ensures query { TellsJoint Certificate (joint_verdict LIMIT 0) LIMIT file.now certificate.now
         (said_of_query result) }
-    ensures window { TellsJoint Certificate (window_verdict Plain LIMIT 0) LIMIT file.now
+    ensures window { TellsJoint Certificate (joint_verdict LIMIT 1) LIMIT file.now
         certificate.now (said_of_window result) }
 {
     put(

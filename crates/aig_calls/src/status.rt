@@ -20,7 +20,7 @@ ghost use Rattle.aig_encode.specs.Encoding as encoding;
 ghost use Rattle.aig_reader.specs.Verdicts as reading;
 ghost use Rattle.aig_reader.specs.Verdicts.{Refused};
 ghost use Rattle.aig_witness.specs.Files as showing;
-ghost use Rattle.aig_calls.specs.Parts.{IsEditStatus, IsOfAsking, IsOfEditing, IsOfMaking, IsOwnOf, IsPairStatus, SaysAnswer, SaysBounded, SaysJoint, SaysObliged, SaysOnly, SaysProof, flagged, told_as};
+ghost use Rattle.aig_calls.specs.Parts.{IsEditStatus, IsOfAsking, IsOfCounts, IsOfCountsBy, IsOfCountsIn, IsOfEditing, IsOfMaking, IsOwnOf, IsPairStatus, SaysAnswer, SaysBounded, SaysJoint, SaysObliged, SaysOnly, SaysProof, SaysQueryProof, SaysWindowProof, flagged, told_as};
 ghost use Rattle.aig_calls.specs.Statuses.{IsOfBounded, IsOfBoundedProof, IsOfBoundedSolution, IsOfObligations, IsOfPair, IsOfPairProof, IsOfQuestion, SaysFault, SaysSolution, fault_status, is_edit_fault, is_proof_fault, is_refusal, is_solution_fault, is_witness_fault, large_question, said_by, settled, witness_status};
 
 use aig::ReadError;
@@ -351,7 +351,7 @@ fn flagged(flag: u32, status: u32) -> u32
 
 /// The status of the second of two files that is refused.
 fn of_other(error: ReadError) -> u32
-    ensures said { IsPairStatus pairs.first_verdict pairs.second_verdict pair.Misfit pair.TooLarge
+    ensures said { IsPairStatus pairs.first_verdict pairs.second_verdict IsOfCounts pair.TooLarge
         (pair.Other error) result }
     ensures own { IsOfPair result }
 {
@@ -360,14 +360,14 @@ fn of_other(error: ReadError) -> u32
 
 /// The status of two files that no circuit is made of. What is written to memory stops only where memory is refused.
 pub(crate) fn of_pair(error: PairError) -> u32
-    ensures said { IsPairStatus pairs.first_verdict pairs.second_verdict pair.Misfit pair.TooLarge
+    ensures said { IsPairStatus pairs.first_verdict pairs.second_verdict IsOfCounts pair.TooLarge
         error result }
     ensures own { IsOfPair result }
 {
     match error {
         PairError::Read(error) => of_read(error),
         PairError::Other(error) => of_other(error),
-        PairError::Misfit => MISFIT,
+        PairError::Misfit(_) => MISFIT,
         PairError::TooLarge => UNWRITABLE,
         PairError::Memory | PairError::Write => MEMORY,
     }
@@ -375,10 +375,12 @@ pub(crate) fn of_pair(error: PairError) -> u32
 
 /// The status of two files of which something isn't shown.
 pub(crate) fn of_certificate(error: CertificateError) -> u32
-    ensures said { IsPairStatus first_verdict second_verdict (certificate.Pair pair.Misfit)
-        (certificate.Pair pair.TooLarge) error result }
+    ensures said { IsPairStatus first_verdict second_verdict IsOfCountsIn (certificate.Pair pair.TooLarge)
+        error result }
     ensures own { IsOfPairProof result }
     ensures joint { SaysJoint result error }
+    ensures query { SaysQueryProof result error }
+    ensures window { SaysWindowProof result error }
     ensures clauses { IsOfClauses error → IsOfObligations result }
 {
     match error {
@@ -391,7 +393,7 @@ pub(crate) fn of_certificate(error: CertificateError) -> u32
 /// The status of two files whose clauses aren't printed. What is written to memory stops only where memory is refused.
 pub(crate) fn of_obligations(error: CheckError) -> u32
     ensures said { IsPairStatus checking.verdict_of checking_pairs.other_verdict_of
-        (checks.Certificate (certificate.Pair pair.Misfit))
+        IsOfCountsBy
         (checks.Certificate (certificate.Pair pair.TooLarge)) error result }
     ensures joint { SaysObliged result error }
     ensures own { (optimize : Bool) → IsErrorOfPair (pair_commands.Obligations optimize) error

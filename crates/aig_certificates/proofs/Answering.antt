@@ -1,160 +1,184 @@
--- What proofs of a joint circuit's text show of the two files.
-use Rattle.aig_base.proofs.Words.{◌≡◌, ℕ, Bool, List, Result, Ok, Err, Vec, Global, refl, subst, ◌∙◌, arith}
-use Rattle.std.specs.Prelude.{IfErr, length}
-use Rattle.aig_runs.specs.Safety.{IsSafeAt}
-use Rattle.aig_circuit.specs.Circuit.{Circuit}
+-- What proofs of a joint circuit's clauses show of the two files.
+use Rattle.aig_base.proofs.Words.{◌≡◌, ℕ, ◌≤◌, Bool, List, Option, ◌++◌, Result, Ok, Err, refl, sym, subst, arith}
+use Rattle.std.specs.Prelude.{IfErr, IfOk, length}
+use Rattle.aig_base.specs.Clauses.{AreBelow}
+use Rattle.aig_base.specs.Formula.{IsSatisfiable, clauses_in}
+use Rattle.aig_base.specs.declared.logic.literal.Lit.{Lit}
+use Rattle.aig_circuit.specs.Circuit.{Circuit, IsCircuit}
 use Rattle.aig_edits.specs.Joints.{IsJointOf}
-use Rattle.aig_edits.specs.declared.pairing.Pairing.{Pairing}
 use Rattle.aig_edits.specs.declared.pairing.Pairing.TheVariants.{Certificate, Miter}
-use Rattle.aig_runs.specs.WindowClauses.{AsksWindow}
-use Rattle.aig_runs.specs.declared.window.Window.TheVariants.{Plain}
-use Rattle.aig_encode.specs.Encoding.{IsQuery}
-use Rattle.aig_format.proofs.Words.{circuit_of, file_of, text_of, File}
+use Rattle.aig_edit_laws.proofs.Written.{JoinsWitnesses, written_witnesses}
+use Rattle.aig_format.proofs.Words.{IsReadAgain, circuit_of, file_of, File, Fits}
+use Rattle.aig_format.proofs.Circuits.{IsCircuit-of_file}
 use Rattle.aig_format.specs.declared.FileKind.TheVariants.{Text}
 use Rattle.aig_reader.specs.Verdicts.{Accepted, verdict_by}
+use Rattle.aig_runs.proofs.Below.{window_below}
+use Rattle.aig_runs.proofs.Witnesses.{witness_back, witness_forth}
+use Rattle.aig_runs.specs.Induction.{IsKInductive}
 use Rattle.aig_runs.specs.Queries.{IsSafeTo}
+use Rattle.aig_runs.specs.Safety.{IsCircuitSafeAt, IsSafeAt}
+use Rattle.aig_runs.specs.WindowClauses.{AsksWindow}
+use Rattle.aig_runs.specs.declared.window.Window.{Window}
+use Rattle.aig_runs.specs.declared.window.Window.TheVariants.{Plain}
 use Rattle.aig_certificates.specs.declared.error.CertificateError.{CertificateError}
 use Rattle.aig_certificates.specs.declared.error.CertificateError.TheVariants as errors
 use Rattle.aig_certificates.specs.Certificates.{Certifies, Equals, IsOfClauses, IsOwn, Obliges, first_verdict, second_verdict}
 use Rattle.aig_certificates.specs.declared.asking.Obligations.{Obligations}
-use Rattle.aig_certificates.specs.Parts.{AsksBoth, HoldsBoth, HoldsStep, IsFileWith, JoinsText}
-use Rattle.aig_certificates.proofs.TextFiles.{one_spelled}
+use Rattle.aig_certificates.specs.Parts.{AsksBoth, HasNoWindow, HoldsBoth, HoldsStep}
+use Rattle.aig_certificates.proofs.Named.{window_named}
+use Rattle.aig_certificates.proofs.Telling.{induction_of_step, query_of_window}
 
 -- ---- both files were taken
 
-module _ (limit : ℕ) (text : List ℕ) where
-  pub first_both : (made : Result Unit CertificateError) → HoldsBoth limit text made
-      → verdict_by first_verdict made ≡ Accepted
-  first_both (Ok done) told = refl
-  first_both (Err (errors.Pair e)) told = absurd told
-  first_both (Err (errors.Query e)) told = refl
-  first_both (Err (errors.Window e)) told = refl
+module _ (limit : ℕ) (optimize : Bool) (m : Circuit) where
+  module _ (base step : Option (List ℕ)) where
+    pub first_both : (made : Result Unit CertificateError)
+        → HoldsBoth limit optimize base step m made → verdict_by first_verdict made ≡ Accepted
+    first_both (Ok done) told = refl
+    first_both (Err (errors.Pair e)) told = absurd told
+    first_both (Err (errors.Query e)) told = refl
+    first_both (Err (errors.Window e)) told = refl
 
-  pub second_both : (made : Result Unit CertificateError) → HoldsBoth limit text made
-      → verdict_by second_verdict made ≡ Accepted
-  second_both (Ok done) told = refl
-  second_both (Err (errors.Pair e)) told = absurd told
-  second_both (Err (errors.Query e)) told = refl
-  second_both (Err (errors.Window e)) told = refl
+    pub second_both : (made : Result Unit CertificateError)
+        → HoldsBoth limit optimize base step m made → verdict_by second_verdict made ≡ Accepted
+    second_both (Ok done) told = refl
+    second_both (Err (errors.Pair e)) told = absurd told
+    second_both (Err (errors.Query e)) told = refl
+    second_both (Err (errors.Window e)) told = refl
 
-  pub own_both : (made : Result Unit CertificateError) → HoldsBoth limit text made
-      → IfErr made IsOwn
-  own_both (Ok done) told = tt
-  own_both (Err (errors.Pair e)) told = absurd told
-  own_both (Err (errors.Query e)) told = told.0
-  own_both (Err (errors.Window e)) told = told.0
+    pub own_both : (made : Result Unit CertificateError)
+        → HoldsBoth limit optimize base step m made → IfErr made IsOwn
+    own_both (Ok done) told = tt
+    own_both (Err (errors.Pair e)) told = absurd told
+    own_both (Err (errors.Query e)) told = told.0
+    own_both (Err (errors.Window e)) told = induction_of_step e told.0
 
-  module _ (k : ℕ) where
-    pub first_step : (made : Result Unit CertificateError) → HoldsStep limit k text made
-        → verdict_by first_verdict made ≡ Accepted
+  module _ (k : ℕ) (proof : Option (List ℕ)) where
+    pub first_step : (made : Result Unit CertificateError)
+        → HoldsStep limit k optimize proof m made → verdict_by first_verdict made ≡ Accepted
     first_step (Ok done) told = refl
     first_step (Err (errors.Pair e)) told = absurd told
     first_step (Err (errors.Query e)) told = refl
     first_step (Err (errors.Window e)) told = absurd told
 
-    pub second_step : (made : Result Unit CertificateError) → HoldsStep limit k text made
-        → verdict_by second_verdict made ≡ Accepted
+    pub second_step : (made : Result Unit CertificateError)
+        → HoldsStep limit k optimize proof m made → verdict_by second_verdict made ≡ Accepted
     second_step (Ok done) told = refl
     second_step (Err (errors.Pair e)) told = absurd told
     second_step (Err (errors.Query e)) told = refl
     second_step (Err (errors.Window e)) told = absurd told
 
-    pub own_step : (made : Result Unit CertificateError) → HoldsStep limit k text made
-        → IfErr made IsOwn
+    pub own_step : (made : Result Unit CertificateError)
+        → HoldsStep limit k optimize proof m made → IfErr made IsOwn
     own_step (Ok done) told = tt
     own_step (Err (errors.Pair e)) told = absurd told
     own_step (Err (errors.Query e)) told = told.0
     own_step (Err (errors.Window e)) told = absurd told
 
-  module _ (optimize : Bool) where
-    pub first_asked : (made : Result Obligations CertificateError) → AsksBoth limit optimize text made
-        → verdict_by first_verdict made ≡ Accepted
-    first_asked (Ok o) told = refl
-    first_asked (Err (errors.Pair e)) told = absurd told
-    first_asked (Err (errors.Query e)) told = refl
-    first_asked (Err (errors.Window e)) told = refl
+  pub first_asked : (made : Result Obligations CertificateError) → AsksBoth limit optimize m made
+      → verdict_by first_verdict made ≡ Accepted
+  first_asked (Ok o) told = refl
+  first_asked (Err (errors.Pair e)) told = absurd told
+  first_asked (Err (errors.Query e)) told = refl
+  first_asked (Err (errors.Window e)) told = refl
 
-    pub second_asked : (made : Result Obligations CertificateError) → AsksBoth limit optimize text made
-        → verdict_by second_verdict made ≡ Accepted
-    second_asked (Ok o) told = refl
-    second_asked (Err (errors.Pair e)) told = absurd told
-    second_asked (Err (errors.Query e)) told = refl
-    second_asked (Err (errors.Window e)) told = refl
+  pub second_asked : (made : Result Obligations CertificateError) → AsksBoth limit optimize m made
+      → verdict_by second_verdict made ≡ Accepted
+  second_asked (Ok o) told = refl
+  second_asked (Err (errors.Pair e)) told = absurd told
+  second_asked (Err (errors.Query e)) told = refl
+  second_asked (Err (errors.Window e)) told = refl
 
-    pub own_asked : (made : Result Obligations CertificateError) → AsksBoth limit optimize text made
-        → IfErr made IsOfClauses
-    own_asked (Ok o) told = tt
-    own_asked (Err (errors.Pair e)) told = absurd told
-    own_asked (Err (errors.Query e)) told = told.0
-    own_asked (Err (errors.Window e)) told = told.0
+  pub own_asked : (made : Result Obligations CertificateError) → AsksBoth limit optimize m made
+      → IfErr made IsOfClauses
+  own_asked (Ok o) told = tt
+  own_asked (Err (errors.Pair e)) told = absurd told
+  own_asked (Err (errors.Query e)) told = told.0
+  own_asked (Err (errors.Window e)) told = query_of_window e told.0
+
+  -- further clauses are of variables that are there
+  pub base_below : (made : Result Obligations CertificateError) → AsksBoth limit optimize m made
+      → IfOk made (λ o. AreBelow (length o.base.clauses) o.base.further)
+  base_below (Ok o) told = told.0.1.below
+  base_below (Err e) told = tt
+
+  pub step_below : (made : Result Obligations CertificateError) → AsksBoth limit optimize m made
+      → IfOk made (λ o. AreBelow (length o.step.clauses) o.step.further)
+  step_below (Ok o) told =
+      window_below Plain m 0 optimize o.step.clauses o.step.further told.1
+  step_below (Err e) told = tt
 
 -- ---- what they show
 
-module _ (limit : ℕ) (pairing : Pairing) (f g : File) (m : Circuit) (joint : IsJointOf pairing f g m) where
-  -- the file of the text is that of the joint circuit
-  text_file : (Holds : File → Type 0) → IsFileWith limit Holds (text_of m) → Holds (file_of Text m)
-  text_file Holds (h, is, holds) =
-      let written = (joint.again.0 (length m.nodes) (omega arith)).0 in
-      subst Holds (one_spelled h (file_of Text m) (text_of m) is.0 written) holds
+joins : JoinsWitnesses
+joins = record { forth = witness_forth; back = witness_back }
+
+-- a circuit that is read again as a file, and what is known of windows
+pub record Known : Type 0 where
+  pub steps : (f : File) (n : ℕ) → ((k : ℕ) → k ≤ n → IsSafeAt f k) → IsSafeTo f n
+  pub inductive : (form : Window) (f : File) (k : ℕ) → IsSafeTo f k → IsKInductive form f k
+      → (n : ℕ) → IsSafeTo f n
+  pub refuted : (form : Window) (f : File) (limit k : ℕ) (optimize : Bool)
+      (clauses : List (List (List Lit))) (further : List (List Lit))
+      → Fits f limit → AsksWindow form (circuit_of f) k optimize clauses further
+      → ¬ IsSatisfiable (clauses_in clauses ++ further) → IsKInductive form f k
+
+module _ (m : Circuit) (h : File) (again : IsReadAgain m h) where
+  fits : Fits h (length m.nodes)
+  fits = (again.0 (length m.nodes) (omega arith)).1
+
+  file_safe : (k : ℕ) → IsCircuitSafeAt m k → IsSafeAt h k
+  file_safe k safe w = safe ((written_witnesses joins m h k again).1 w)
+
+  -- of a file that is safe at step 0
+  at_none : IsSafeAt h 0 → (k : ℕ) → k ≤ 0 → IsSafeAt h k
+  at_none safe k low = let none : 0 ≡ k = omega arith in subst (IsSafeAt h) none safe
+
+  always_safe : Known → (optimize : Bool) → IsCircuitSafeAt m 0 → HasNoWindow optimize m → (n : ℕ)
+      → IsSafeTo h n
+  always_safe known optimize safe (lists, further, asks, none) n =
+      let circuit = subst IsCircuit again.1 (IsCircuit-of_file h (length m.nodes) fits) in
+      let named = subst (λ c. AsksWindow Plain c 0 optimize lists further) (sym again.1)
+      (window_named m 0 optimize lists further circuit asks) in
+      let kept = known.refuted Plain h (length m.nodes) 0 optimize lists further fits named none in
+      known.inductive Plain h 0 (known.steps h 0 (at_none (file_safe 0 safe))) kept n
 
 -- the machine of the first file is safe at every step, or it is said why that isn't shown
-certifies : (limit : ℕ) (f g : File) (m : Circuit) → IsJointOf Certificate f g m
-    → (made : Result Unit CertificateError) → HoldsBoth limit (text_of m) made
-    → Certifies limit f g made
-certifies limit f g m joint (Ok done) told = (
-  joint.fit,
-  λ n. joint.shows n (text_file limit Certificate f g m joint (λ h. (k : ℕ) → IsSafeTo h k) told n),
+pub certifies : Known → (limit : ℕ) (optimize : Bool) (base step : Option (List ℕ)) (f g : File)
+    (m : Circuit) → IsJointOf Certificate f g m → (made : Result Unit CertificateError)
+    → HoldsBoth limit optimize base step m made → Certifies limit optimize base step f g made
+certifies known limit optimize base step f g m joint (Ok done) told = (
+  (
+    joint.fit,
+    λ n. joint.shows n (always_safe m (file_of Text m) joint.again known optimize told.0.0 told.0.1
+        n),
+  ),
+  (m, joint, told.1, told.2),
 )
-certifies limit f g m joint (Err (errors.Pair e)) told = absurd told
-certifies limit f g m joint (Err (errors.Query e)) told = (m, joint, told.1)
-certifies limit f g m joint (Err (errors.Window e)) told = (m, joint, told.1)
-
-pub text_certifies : (limit : ℕ) (text : Vec ℕ Global) (bytes : List ℕ) (f g : File)
-    (made : Result Unit CertificateError) → bytes ≡ text.items → HoldsBoth limit bytes made
-    → JoinsText Certificate f g (Ok text) → Certifies limit f g made
-text_certifies limit text bytes f g made is told joins =
-    certifies limit f g joins.0 joins.1 made
-    (subst (λ xs. HoldsBoth limit xs made) (is ∙ joins.2) told)
+certifies known limit optimize base step f g m joint (Err (errors.Pair e)) told = absurd told
+certifies known limit optimize base step f g m joint (Err (errors.Query e)) told =
+    (m, joint, told.1)
+certifies known limit optimize base step f g m joint (Err (errors.Window e)) told =
+    (m, joint, told.1, told.2)
 
 -- the machines are equal at the step, or it is said why that isn't shown
-equals : (limit k : ℕ) (f g : File) (m : Circuit) → IsJointOf Miter f g m
-    → (made : Result Unit CertificateError) → HoldsStep limit k (text_of m) made
-    → Equals limit k f g made
-equals limit k f g m joint (Ok done) told = (
-  joint.fit,
-  (joint.shows k).0 (text_file limit Miter f g m joint (λ h. IsSafeAt h k) told),
+pub equals : (limit k : ℕ) (optimize : Bool) (proof : Option (List ℕ)) (f g : File) (m : Circuit)
+    → IsJointOf Miter f g m → (made : Result Unit CertificateError)
+    → HoldsStep limit k optimize proof m made → Equals limit k optimize proof f g made
+equals limit k optimize proof f g m joint (Ok done) told = (
+  (joint.fit, (joint.shows k).0 (file_safe m (file_of Text m) joint.again k told.0)),
+  (m, joint, told.1),
 )
-equals limit k f g m joint (Err (errors.Pair e)) told = absurd told
-equals limit k f g m joint (Err (errors.Query e)) told = (m, joint, told.1)
-equals limit k f g m joint (Err (errors.Window e)) told = absurd told
-
-pub text_equals : (limit k : ℕ) (text : Vec ℕ Global) (bytes : List ℕ) (f g : File)
-    (made : Result Unit CertificateError) → bytes ≡ text.items → HoldsStep limit k bytes made
-    → JoinsText Miter f g (Ok text) → Equals limit k f g made
-text_equals limit k text bytes f g made is told joins =
-    equals limit k f g joins.0 joins.1 made
-    (subst (λ xs. HoldsStep limit k xs made) (is ∙ joins.2) told)
+equals limit k optimize proof f g m joint (Err (errors.Pair e)) told = absurd told
+equals limit k optimize proof f g m joint (Err (errors.Query e)) told = (m, joint, told.1)
+equals limit k optimize proof f g m joint (Err (errors.Window e)) told = absurd told
 
 -- the clauses are those of the joint circuit, or it is said why there are none
-obliges : (limit : ℕ) (optimize : Bool) (f g : File) (m : Circuit) → IsJointOf Certificate f g m
-    → (made : Result Obligations CertificateError) → AsksBoth limit optimize (text_of m) made
-    → Obliges limit optimize f g made
-obliges limit optimize f g m joint (Ok o) told = record {
-  whole = m;
-  joint = joint;
-  base = text_file limit Certificate f g m joint (λ h. IsQuery 0 optimize h o.base) told.0;
-  step =
-      text_file limit Certificate f g m joint
-      (λ h. AsksWindow Plain (circuit_of h) 0 optimize o.step.clauses o.step.further) told.1;
-}
+pub obliges : (limit : ℕ) (optimize : Bool) (f g : File) (m : Circuit)
+    → IsJointOf Certificate f g m → (made : Result Obligations CertificateError)
+    → AsksBoth limit optimize m made → Obliges limit optimize f g made
+obliges limit optimize f g m joint (Ok o) told =
+    record { whole = m; joint = joint; unrolled = told.0.0; base = told.0.1; step = told.1 }
 obliges limit optimize f g m joint (Err (errors.Pair e)) told = absurd told
 obliges limit optimize f g m joint (Err (errors.Query e)) told = (m, joint, told.1)
 obliges limit optimize f g m joint (Err (errors.Window e)) told = (m, joint, told.1)
-
-pub text_obliges : (limit : ℕ) (optimize : Bool) (text : Vec ℕ Global) (bytes : List ℕ) (f g : File)
-    (made : Result Obligations CertificateError) → bytes ≡ text.items
-    → AsksBoth limit optimize bytes made → JoinsText Certificate f g (Ok text)
-    → Obliges limit optimize f g made
-text_obliges limit optimize text bytes f g made is told joins =
-    obliges limit optimize f g joins.0 joins.1 made
-    (subst (λ xs. AsksBoth limit optimize xs made) (is ∙ joins.2) told)

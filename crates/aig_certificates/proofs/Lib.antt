@@ -1,3 +1,3 @@
-pub mod TextFiles
-pub mod Texts
+pub mod Named
+pub mod Telling
 pub mod Answering

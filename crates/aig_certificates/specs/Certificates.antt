@@ -1,23 +1,21 @@
 -- Part of what is promised.
 -- What an answer about two files says of them, and what its errors say.
-use Rattle.std.specs.Prelude.{◌≢◌, ℕ, Bool, List, Result, Ok, Err}
+use Rattle.std.specs.Prelude.{◌≡◌, ◌≢◌, ℕ, ◌==◌, nat_lt, if◌then◌else◌, Bool, List, length, Option, Result, Ok, Err}
 use Rattle.aig_answers.specs.Answers as answering
-use Rattle.aig_answers.specs.Answers.{IsOfInduction, IsOfQuery, IsOfStep, IsOfWindow, asked_verdict, window_verdict}
+use Rattle.aig_answers.specs.Answers.{IsCircuitQuery, IsOfInduction, IsOfQuery, IsOfStep, IsOfWindow, TellsOfCircuit, TellsOfCircuitWindow, query_with}
 use Rattle.aig_answers.specs.declared.error.AnswerError.{AnswerError}
+use Rattle.aig_answers.specs.declared.windows.WindowClauses.{WindowClauses}
 use Rattle.aig_runs.specs.declared.window.Window.TheVariants.{Plain}
 use Rattle.aig_runs.specs.WindowClauses.{AsksWindow}
 use Rattle.aig_circuit.specs.Circuit.{Circuit}
 use Rattle.aig_edits.specs.Joints as joints
 use Rattle.aig_edits.specs.Joints.{IsJointOf, IsRefusalOf}
-use Rattle.aig_edits.specs.declared.pairing.Pairing.{Pairing}
 use Rattle.aig_edits.specs.declared.pairing.Pairing.TheVariants.{Certificate, Miter}
-use Rattle.aig_encode.specs.Encoding.{IsQuery}
-use Rattle.aig_format.specs.Circuit.{circuit_of, file_of, text_of}
-use Rattle.aig_format.specs.declared.FileKind.TheVariants.{Text}
 use Rattle.aig_format.specs.File.{File}
 use Rattle.aig_join.specs.Files.{AreEqualMachinesAt, HasLinesOf, HaveSameFileCounts}
-use Rattle.aig_reader.specs.Verdicts.{Accepted, IsSettled, IsVerdictOn, Verdict}
+use Rattle.aig_reader.specs.Verdicts.{Accepted, NoBads, Short, TooLarge, TooMany, Verdict, verdict_by}
 use Rattle.aig_runs.specs.Queries.{IsSafeTo}
+use Rattle.aig_unroll.specs.Places.{unrolled_size}
 use Rattle.aig_certificates.specs.declared.error.CertificateError.{CertificateError}
 use Rattle.aig_certificates.specs.declared.error.CertificateError.TheVariants as errors
 use Rattle.aig_certificates.specs.declared.asking.Obligations.{Obligations}
@@ -48,16 +46,6 @@ IsOfClauses (errors.Pair e) = joints.IsOwn e
 IsOfClauses (errors.Query e) = IsOfQuery e
 IsOfClauses (errors.Window e) = IsOfWindow e
 
--- memory and the stream aside, the error of a proof is the verdict on the text
-abbrev pub IsExactOn : (File → Verdict) → ℕ → List ℕ → AnswerError → Type 0
-IsExactOn of limit text e =
-    IsSettled (answering.verdict_of e) → IsVerdictOn of limit text (answering.verdict_of e)
-
--- the text of the joint circuit of the files has this error
-abbrev pub IsTold : Pairing → (File → Verdict) → ℕ → File → File → AnswerError → Type 0
-IsTold pairing of limit f g e =
-    (m : Circuit) × IsJointOf pairing f g m × IsExactOn of limit (text_of m) e
-
 -- the proof of the query isn't read
 abbrev pub LeavesQuery : Result Unit CertificateError → Type 0
 LeavesQuery (Ok done) = ⊥
@@ -72,40 +60,84 @@ LeavesWindow (Err (errors.Pair e)) = Unit {0}
 LeavesWindow (Err (errors.Query e)) = Unit {0}
 LeavesWindow (Err (errors.Window e)) = answering.verdict_of e ≢ Accepted
 
+-- ---- the joint circuit
+
+-- the verdict on a joint circuit that is asked for a bad state at step k, or for a window of two
+-- steps, where k is 1: it has more nodes than the limit, or may have with its further steps, or it
+-- has no bad edge, or it is taken
+abbrev pub joint_verdict : ℕ → ℕ → Circuit → Verdict
+joint_verdict limit k m =
+    if nat_lt limit (length m.nodes) then TooMany
+    else if nat_lt limit (unrolled_size m k) then TooLarge
+    else if length m.properties.bads == 0 then NoBads else Accepted
+
+-- it is said of a circuit of this verdict: Short, where memory ran out, only of one that is taken
+abbrev pub IsSaidOf : Verdict → Verdict → Type 0
+IsSaidOf of Short = of ≡ Accepted
+IsSaidOf of v = v ≡ of
+
+-- What an answer to the query of a joint circuit tells: the verdict on the circuit, and of one that
+-- is taken what the text of the proof shows of the query's clauses, as every call makes them.
+pub record TellsOfQuery (limit k : ℕ) (optimize : Bool) (text : Option (List ℕ)) (m : Circuit)
+    (answer : Result (Unit {0}) AnswerError) : Type 0 where
+  pub said : IsSaidOf (joint_verdict limit k m) (verdict_by answering.verdict_of answer)
+  pub shown : verdict_by answering.verdict_of answer ≡ Accepted
+      → TellsOfCircuit k optimize text m answer
+
+-- and one to its plain window of two steps
+pub record TellsOfTwo (limit : ℕ) (optimize : Bool) (text : Option (List ℕ)) (m : Circuit)
+    (answer : Result (Unit {0}) AnswerError) : Type 0 where
+  pub said : IsSaidOf (joint_verdict limit 1 m) (verdict_by answering.verdict_of answer)
+  pub shown : verdict_by answering.verdict_of answer ≡ Accepted
+      → TellsOfCircuitWindow Plain 0 optimize text m answer
+
 -- ---- answers
 
--- the machine of f reaches no bad state at any step, as the certificate g shows, or it is said why
--- that isn't shown
-abbrev pub Certifies : ℕ → File → File → Result Unit CertificateError → Type 0
-Certifies limit f g (Ok done) = HasLinesOf g f × ((n : ℕ) → IsSafeTo f n)
-Certifies limit f g (Err (errors.Pair e)) = IsRefusalOf Certificate f g e
-Certifies limit f g (Err (errors.Query e)) = IsTold Certificate (asked_verdict limit 0) limit f g e
-Certifies limit f g (Err (errors.Window e)) =
-    IsTold Certificate (window_verdict Plain limit 0) limit f g e
+-- The machine of f reaches no bad state at any step, as the certificate g shows, or it is said why
+-- that isn't shown: `base` and `step` are the texts of the two proofs.
+abbrev pub Certifies : ℕ → Bool → Option (List ℕ) → Option (List ℕ) → File → File
+    → Result Unit CertificateError → Type 0
+Certifies limit optimize base step f g (Ok done) =
+    (HasLinesOf g f × ((n : ℕ) → IsSafeTo f n))
+    × ((m : Circuit) × IsJointOf Certificate f g m × TellsOfQuery limit 0 optimize base m (Ok tt)
+    × TellsOfTwo limit optimize step m (Ok tt))
+Certifies limit optimize base step f g (Err (errors.Pair e)) = IsRefusalOf Certificate f g e
+Certifies limit optimize base step f g (Err (errors.Query e)) =
+    (m : Circuit) × IsJointOf Certificate f g m × TellsOfQuery limit 0 optimize base m (Err e)
+Certifies limit optimize base step f g (Err (errors.Window e)) =
+    (m : Circuit) × IsJointOf Certificate f g m × TellsOfQuery limit 0 optimize base m (Ok tt)
+    × TellsOfTwo limit optimize step m (Err e)
 
--- the machines are equal at step k, or it is said why that isn't shown
-abbrev pub Equals : ℕ → ℕ → File → File → Result Unit CertificateError → Type 0
-Equals limit k f g (Ok done) = HaveSameFileCounts f g × AreEqualMachinesAt f g k
-Equals limit k f g (Err (errors.Pair e)) = IsRefusalOf Miter f g e
-Equals limit k f g (Err (errors.Query e)) = IsTold Miter (asked_verdict limit k) limit f g e
-Equals limit k f g (Err (errors.Window e)) = ⊥
+-- the machines are equal at step k, or it is said why that isn't shown by the proof of this text
+abbrev pub Equals : ℕ → ℕ → Bool → Option (List ℕ) → File → File → Result Unit CertificateError
+    → Type 0
+Equals limit k optimize proof f g (Ok done) =
+    (HaveSameFileCounts f g × AreEqualMachinesAt f g k)
+    × ((m : Circuit) × IsJointOf Miter f g m × TellsOfQuery limit k optimize proof m (Ok tt))
+Equals limit k optimize proof f g (Err (errors.Pair e)) = IsRefusalOf Miter f g e
+Equals limit k optimize proof f g (Err (errors.Query e)) =
+    (m : Circuit) × IsJointOf Miter f g m × TellsOfQuery limit k optimize proof m (Err e)
+Equals limit k optimize proof f g (Err (errors.Window e)) = ⊥
 
 -- ---- clauses
 
--- the clauses of which the proofs of a certificate are: the query for step 0 and the window of two
--- steps of the file that the joint circuit's text is
-pub record AreObligations (optimize : Bool) (f g : File) (o : Obligations) : Type 0 where
-  pub whole : Circuit
-  pub joint : IsJointOf Certificate f g whole
-  pub base : IsQuery 0 optimize (file_of Text whole) o.base
-  pub step : AsksWindow Plain (circuit_of (file_of Text whole)) 0 optimize o.step.clauses
-      o.step.further
+-- the clauses of which the proofs of a certificate are: those of the joint circuit's query for step
+-- 0, and of its plain window of two steps
+pub record AreObligations (optimize : Bool) (f g : File) (first second : WindowClauses) : Type 0
+  where
+    pub whole : Circuit
+    pub joint : IsJointOf Certificate f g whole
+    pub unrolled : Circuit
+    pub base : IsCircuitQuery whole 0 optimize (query_with unrolled first)
+    pub step : AsksWindow Plain whole 0 optimize second.clauses second.further
 
 -- the clauses are these, or it is said why there are none
 abbrev pub Obliges : ℕ → Bool → File → File → Result Obligations CertificateError → Type 0
-Obliges limit optimize f g (Ok o) = AreObligations optimize f g o
+Obliges limit optimize f g (Ok o) = AreObligations optimize f g o.base o.step
 Obliges limit optimize f g (Err (errors.Pair e)) = IsRefusalOf Certificate f g e
 Obliges limit optimize f g (Err (errors.Query e)) =
-    IsTold Certificate (asked_verdict limit 0) limit f g e
+    (m : Circuit) × IsJointOf Certificate f g m
+    × IsSaidOf (joint_verdict limit 0 m) (answering.verdict_of e)
 Obliges limit optimize f g (Err (errors.Window e)) =
-    IsTold Certificate (window_verdict Plain limit 0) limit f g e
+    (m : Circuit) × IsJointOf Certificate f g m
+    × IsSaidOf (joint_verdict limit 1 m) (answering.verdict_of e)

@@ -1,94 +1,57 @@
 //! The clauses that the proofs of a certificate are of.
 
-ghost use Rattle.std.specs.Prelude.{◌≡◌, ◌^◌, ◌≤◌, IfErr, IfOk, length};
-ghost use Rattle.aig_answers.specs.Answers.{IsOfQuery, IsOfWindow, asked_verdict, window_verdict};
+ghost use Rattle.std.specs.Prelude.{◌^◌, ◌≤◌, IfOk, length};
 ghost use Rattle.aig_base.specs.Clauses.{AreBelow};
 ghost use Rattle.aig_certificates.specs.Certificates.{IsOfClauses, Obliges, first_verdict, second_verdict};
-ghost use Rattle.aig_certificates.specs.Parts.{AsksBoth, TellsOfText};
-ghost use Rattle.aig_runs.specs.WindowClauses.{AsksWindow};
-ghost use Rattle.aig_runs.specs.declared.window.Window.TheVariants.{Plain};
+ghost use Rattle.aig_certificates.specs.Parts.{AsksBoth};
+ghost use Rattle.aig_circuit.specs.Circuit.{IsCircuit};
+ghost use Rattle.aig_circuit.specs.View.{lists_circuit};
 ghost use Rattle.aig_edits.specs.Pairs.{ReadsPair};
-ghost use Rattle.aig_encode.specs.Encoding.{IsQuery};
-ghost use Rattle.aig_format.specs.Circuit.{circuit_of};
 
 use crate::error::CertificateError;
-use crate::text::joint_text;
-use aig_answers::{AnswerError, Window, WindowClauses, asked_query, window};
-use aig_base::{FromRead, Source};
-use aig_edits::Pairing;
-use aig_encode::Query;
+use crate::joint::{ask_query, ask_window, unroll_joint};
+use aig_answers::WindowClauses;
+use aig_base::Source;
+use aig_circuit::CircuitLists;
+use aig_edits::{Pairing, read_joint};
 use std::alloc::Global;
 
 /// The clauses that the proofs of `check_certified` are of.
 #[derive(Drop)]
 pub struct Obligations {
-    /// The query of the joint circuit's text for step 0.
-    pub base: Query,
-    /// Its plain window of two steps.
+    /// Those of the joint circuit's query for step 0.
+    pub base: WindowClauses,
+    /// Those of its plain window of two steps.
     pub step: WindowClauses,
 }
 
-/// The query of a text for step 0.
-fn text_query(
-    alloc: Global,
-    text: &[u8],
-    limit: usize,
-    optimize: bool,
-) -> Result<Query, AnswerError>
-    requires some { 1 ≤ limit }
-    requires few { limit ≤ 2 ^ 31 }
-    ensures tells { TellsOfText (asked_verdict limit 0) limit (IsQuery 0 optimize) text.now result }
-    ensures below { IfOk result (λ q. AreBelow (length q.encoded.clauses) q.extra) }
-    ensures own { IfErr result IsOfQuery }
-{
-    let mut source = FromRead::new(text);
-    asked_query(alloc, &mut source, limit, 0, optimize)
-}
-
-/// The plain window of two steps of a text.
-fn text_window(
-    alloc: Global,
-    text: &[u8],
-    limit: usize,
-    optimize: bool,
-) -> Result<WindowClauses, AnswerError>
-    requires some { 1 ≤ limit }
-    requires few { limit ≤ 2 ^ 31 }
-    ensures tells { TellsOfText (window_verdict Plain limit 0) limit
-        (λ h made. AsksWindow Plain (circuit_of h) 0 optimize made.clauses made.further)
-        text.now result }
-    ensures below { IfOk result (λ made. AreBelow (length made.clauses) made.further) }
-    ensures own { IfErr result IsOfWindow }
-{
-    let mut source = FromRead::new(text);
-    window(alloc, &mut source, limit, 0, optimize, Window::Plain)
-}
-
-/// The query of a text for step 0 and its window of two steps.
+/// The clauses of a joint circuit's query for step 0 and of its window of two steps.
 fn ask_both(
     alloc: Global,
-    text: &[u8],
+    joint: CircuitLists,
     limit: usize,
     optimize: bool,
 ) -> Result<Obligations, CertificateError>
-    requires some { 1 ≤ limit }
     requires few { limit ≤ 2 ^ 31 }
-    ensures asks { AsksBoth limit optimize text.now result }
-    ensures base_below { IfOk result (λ o. AreBelow (length o.base.encoded.clauses) o.base.extra) }
-    ensures step_below { IfOk result (λ o. AreBelow (length o.step.clauses) o.step.further) }
+    requires circuit { IsCircuit (lists_circuit joint) }
+    ensures asks { AsksBoth limit optimize (lists_circuit joint) result }
 {
-    let base = match text_query(alloc, text, limit, optimize) {
+    let asked = match unroll_joint(joint, limit, 0) {
+        Ok(asked) => asked,
+        Err(error) => return Err(CertificateError::Query(error)),
+    };
+    let base = match ask_query(alloc, &asked, optimize) {
         Ok(base) => base,
         Err(error) => return Err(CertificateError::Query(error)),
     };
-    match text_window(alloc, text, limit, optimize) {
+    match ask_window(alloc, &asked.circuit(), limit, optimize) {
         Ok(step) => Ok(Obligations { base, step }),
         Err(error) => Err(CertificateError::Window(error)),
     }
 }
 
 /// Reads two files in the AIGER format, a file and its certificate, and makes the clauses that the proofs of `check_certified`
-/// are of: `base` of the query of the joint circuit's text for step 0, and `step` of its plain window of two steps. Requires
+/// are of: `base` of the query of the joint circuit for step 0, and `step` of its plain window of two steps. Requires
 /// `1 <= limit <= 2^31`.
 ///
 /// # Errors
@@ -110,9 +73,9 @@ pub fn obligations_of<R: Source, S: Source>(
         first_verdict second_verdict IsOfClauses file.old certificate.old result
         file.new certificate.new }
     // The further clauses are of variables that are there.
-    ensures base_below { IfOk result (λ o. AreBelow (length o.base.encoded.clauses) o.base.extra) }
+    ensures base_below { IfOk result (λ o. AreBelow (length o.base.clauses) o.base.further) }
     ensures step_below { IfOk result (λ o. AreBelow (length o.step.clauses) o.step.further) }
 {
-    let text = joint_text(alloc, Pairing::Certificate, file, certificate, limit)?;
-    ask_both(alloc, &text, limit, optimize)
+    let joint = read_joint(alloc, Pairing::Certificate, file, certificate, limit)?;
+    ask_both(alloc, joint, limit, optimize)
 }

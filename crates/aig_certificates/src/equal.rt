@@ -1,37 +1,87 @@
 //! Whether two files' machines are equal at a step.
 
-ghost use Rattle.std.specs.Prelude.{◌≡◌, ◌^◌, ◌≤◌, IsErrOf, IsTrue};
+ghost use Rattle.std.specs.Prelude.{◌≡◌, ◌≢◌, ◌^◌, ◌≤◌, IfErr, IfOk, IsErrOf, IsTrue, OnOk};
+ghost use Rattle.aig_answers.specs.Answers.{IsOfQuery, IsOfStep, verdict_of};
 ghost use Rattle.aig_answers.specs.declared.error.AnswerError.TheVariants as answers;
-ghost use Rattle.aig_certificates.specs.Certificates.{Equals, IsOwn, LeavesQuery, first_verdict, second_verdict};
-ghost use Rattle.aig_certificates.specs.Parts.{HoldsStep};
+ghost use Rattle.aig_certificates.specs.Certificates.{Equals, IsOwn, IsSaidOf, LeavesQuery, TellsOfQuery, first_verdict, joint_verdict, second_verdict};
+ghost use Rattle.aig_certificates.specs.Parts.{AsksStep, HoldsStep};
 ghost use Rattle.aig_certificates.specs.declared.error.CertificateError.TheVariants as errors;
+ghost use Rattle.aig_circuit.specs.Circuit.{IsCircuit};
+ghost use Rattle.aig_circuit.specs.View.{lists_circuit};
 ghost use Rattle.aig_edits.specs.Pairs.{ReadsPair};
+ghost use Rattle.aig_reader.specs.Verdicts.{Accepted, verdict_by};
+ghost use Rattle.aig_runs.specs.Safety.{IsCircuitSafeAt};
 
 use crate::error::CertificateError;
-use crate::held::check_text_step;
-use crate::text::joint_text;
+use crate::joint::{ask_query, unroll_joint};
+use aig_answers::{AnswerError, WindowClauses, circuit_clauses_are_one, refute};
 use aig_base::Source;
-use aig_edits::Pairing;
+use aig_circuit::CircuitLists;
+use aig_edits::{Pairing, read_joint};
 use aig_refutation::RefutationError;
+use aig_runs::refuted_circuit_queries_have_no_witness;
 use std::alloc::Global;
 
-/// Checks a proof for the query of a text for step `k`.
+/// The clauses of a joint circuit's query for step `k`. The circuit is dropped.
+fn ask_joint(
+    alloc: Global,
+    joint: CircuitLists,
+    limit: usize,
+    k: usize,
+    optimize: bool,
+) -> Result<WindowClauses, AnswerError>
+    requires few { limit ≤ 2 ^ 31 }
+    requires circuit { IsCircuit (lists_circuit joint) }
+    ensures asks { IfOk result (AsksStep k optimize (lists_circuit joint)) }
+    ensures said { IsSaidOf (joint_verdict limit k (lists_circuit joint))
+        (verdict_by verdict_of result) }
+    ensures own { IfErr result IsOfQuery }
+{
+    let asked = unroll_joint(joint, limit, k)?;
+    ask_query(alloc, &asked, optimize)
+}
+
+/// Checks a proof for the query of a joint circuit for step `k`.
+fn check_joint<P: Source>(
+    alloc: Global,
+    joint: CircuitLists,
+    limit: usize,
+    k: usize,
+    optimize: bool,
+    proof: &mut P,
+) -> Result<(), AnswerError>
+    requires few { limit ≤ 2 ^ 31 }
+    requires circuit { IsCircuit (lists_circuit joint) }
+    ensures safe { OnOk result (IsCircuitSafeAt (lists_circuit joint) k) }
+    ensures own { IfErr result IsOfStep }
+    ensures tells { TellsOfQuery limit k optimize (P.left proof.old) (lists_circuit joint) result }
+    ensures unread { verdict_by verdict_of result ≢ Accepted → proof.new ≡ proof.old }
+    ensures stream { IsErrOf result (AnswerError.Refutation RefutationError.Stream)
+        → IsTrue (P.failed proof.new) }
+{
+    refuted_circuit_queries_have_no_witness();
+    circuit_clauses_are_one();
+    let made = ask_joint(alloc, joint, limit, k, optimize)?;
+    refute(alloc, &made.clauses, &made.further, proof)
+}
+
+/// The same, with the error of the query.
 fn check_query<P: Source>(
     alloc: Global,
-    text: &[u8],
+    joint: CircuitLists,
     limit: usize,
     k: usize,
     optimize: bool,
     proof: &mut P,
 ) -> Result<(), CertificateError>
-    requires some { 1 ≤ limit }
     requires few { limit ≤ 2 ^ 31 }
-    ensures holds { HoldsStep limit k text.now result }
+    requires circuit { IsCircuit (lists_circuit joint) }
+    ensures holds { HoldsStep limit k optimize (P.left proof.old) (lists_circuit joint) result }
     ensures unread { LeavesQuery result → proof.new ≡ proof.old }
     ensures stream { IsErrOf result (errors.Query (answers.Refutation RefutationError.Stream))
         → IsTrue (P.failed proof.new) }
 {
-    match check_text_step(alloc, text, limit, k, optimize, proof) {
+    match check_joint(alloc, joint, limit, k, optimize, proof) {
         Ok(()) => Ok(()),
         Err(error) => Err(CertificateError::Query(error)),
     }
@@ -41,7 +91,7 @@ fn check_query<P: Source>(
 /// initial states that have the same inputs and meet the constraints of both, outputs and bad literals are the same at that
 /// step. Requires `1 <= limit <= 2^31`.
 ///
-/// The proof is that the query of the miter's text for step `k` can't be satisfied (`aig_edits::Pairing::Miter`). Of `Ok` for
+/// The proof is that the query of the miter for step `k` can't be satisfied (`aig_edits::Pairing::Miter`). Of `Ok` for
 /// 0 to `k` it follows that the machines are equal up to there.
 ///
 /// # Errors
@@ -60,14 +110,16 @@ pub fn check_equal<R: Source, S: Source, P: Source>(
 ) -> Result<(), CertificateError>
     requires some { 1 ≤ limit }
     requires few { limit ≤ 2 ^ 31 }
-    // The bytes that were read are two files, whose machines are equal at step k. A refusal says why.
-    ensures reads { ReadsPair R.left R.failed S.left S.failed limit (Equals limit k) first_verdict
+    // The bytes that were read are two files, whose machines are equal at step k. A refusal says why. Where the proof is looked at,
+    // the answer is what its text shows of the clauses of the miter's query.
+    ensures reads { let text = P.left proof.old in
+        ReadsPair R.left R.failed S.left S.failed limit (Equals limit k optimize text) first_verdict
         second_verdict IsOwn file.old other.old result file.new other.new }
     ensures unread { LeavesQuery result → proof.new ≡ proof.old }
     // Stream only where a read failed in this call.
     ensures stream { IsErrOf result (errors.Query (answers.Refutation RefutationError.Stream))
         → IsTrue (P.failed proof.new) }
 {
-    let text = joint_text(alloc, Pairing::Miter, file, other, limit)?;
-    check_query(alloc, &text, limit, k, optimize, proof)
+    let joint = read_joint(alloc, Pairing::Miter, file, other, limit)?;
+    check_query(alloc, joint, limit, k, optimize, proof)
 }

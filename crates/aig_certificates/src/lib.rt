@@ -1,15 +1,14 @@
 //! Answers about two files from their bytes: whether a certificate shows that a file's machine is safe, and whether two files'
 //! machines are equal at a step.
 //!
-//! The proofs are of the clauses of the joint circuit's text, as `aig_edits::print_joint` writes it.
+//! The proofs are of the clauses of the joint circuit, as `aig_edits::read_joint` makes it.
 #![tactic(auto)]
 
 mod asking;
 mod certified;
 mod equal;
 mod error;
-mod held;
-mod text;
+mod joint;
 
 pub use asking::{Obligations, obligations_of};
 pub use certified::check_certified;

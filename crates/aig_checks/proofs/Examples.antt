@@ -137,9 +137,9 @@ no_one_step_told optimize given f answers =
     let word : 97 ≡ 117 = ap (λ text. slice_index text 13) answers.0 in omega (arith, word)
 
 -- equal machines are told as a safe one
-no_safety_told : (k : ℕ) (optimize : Bool) (f g : File)
-    → ¬ PairAnswers (on_pair.Equal k optimize) f g safe_line
-no_safety_told k optimize f g answers =
+no_safety_told : (k limit : ℕ) (optimize : Bool) (base step : Option (List ℕ)) (f g : File)
+    → ¬ PairAnswers (on_pair.Equal k optimize) limit base step f g safe_line
+no_safety_told k limit optimize base step f g answers =
     let letter : 110 ≡ 101 = ap (λ text. slice_index text 0) answers.0 in omega (arith, letter)
 
 -- the clauses of BASE under the name of those of STEP
@@ -152,9 +152,9 @@ no_step_first optimize f g rest is =
 -- ---- errors
 
 -- one proof is refused as the second of two
-no_second_proof : (k limit : ℕ) (optimize : Bool) (f g : File) (e : AnswerError)
-    → ¬ RefusesPair (on_pair.Equal k optimize) limit f g (certificate.Window e)
-no_second_proof k limit optimize f g e refuses = refuses
+no_second_proof : (k limit : ℕ) (optimize : Bool) (base step : Option (List ℕ)) (f g : File) (e : AnswerError)
+    → ¬ RefusesPair (on_pair.Equal k optimize) limit base step f g (certificate.Window e)
+no_second_proof k limit optimize base step f g e refuses = refuses
 
 -- clauses are refused as a proof would be
 no_proof_of_clauses : (k : ℕ) (optimize : Bool) (e : RefutationError)

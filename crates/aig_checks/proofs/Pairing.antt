@@ -4,10 +4,10 @@ use Rattle.std.specs.Prelude.{IsTrue, Result, codes}
 use Rattle.aig_base.specs.declared.logic.literal.Lit.{Lit}
 use Rattle.aig_base.specs.Formula.{clauses_in}
 use Rattle.aig_answers.specs.declared.error.AnswerError.{AnswerError}
+use Rattle.aig_answers.specs.declared.windows.WindowClauses.{WindowClauses}
 use Rattle.aig_answers.specs.declared.error.AnswerError.TheVariants as answers
 use Rattle.aig_certificates.specs.Certificates as certificates
 use Rattle.aig_certificates.specs.Certificates.{AreObligations, Equals}
-use Rattle.aig_certificates.specs.declared.asking.Obligations.{Obligations}
 use Rattle.aig_certificates.specs.declared.error.CertificateError.{CertificateError}
 use Rattle.aig_certificates.specs.declared.error.CertificateError.TheVariants as certificate
 use Rattle.aig_dimacs.proofs.Comments.{ArePassed, parse_formula-passed}
@@ -24,20 +24,20 @@ use Rattle.aig_refutation.specs.declared.error.RefutationError.TheVariants as re
 use Rattle.aig_checks.specs.declared.command.PairCommand.{PairCommand}
 use Rattle.aig_checks.specs.declared.tool.CheckError.{CheckError}
 use Rattle.aig_checks.specs.declared.tool.CheckError.TheVariants as errors
-use Rattle.aig_checks.specs.Pairs.{IsErrorOfPair, IsObligationsText, PairAnswers, RefusesPair, RunsPair, TellsOfPair, other_verdict_of, part_text}
+use Rattle.aig_checks.specs.Pairs.{IsErrorOfPair, IsObligationsText, PairAnswers, RefusesPair, RunsPair, TellsOfPair, formula_of, other_verdict_of, part_text}
 use Rattle.aig_checks.specs.Running.{verdict_of}
 use Rattle.aig_checks.proofs.Outcomes.{is_error}
 
-module _ {R S P Q W : Type 0} {left : R → Option (List ℕ)} {failed : R → Bool} {left_of : S → Option (List ℕ)} {failed_of : S → Bool} {base_failed : P → Bool} {step_failed : Q → Bool} {held : W → Option (List ℕ)} {write_failed : W → Bool} {c : PairCommand} {limit : ℕ} {r rest : R} {s other : S} {p used : P} {q spent : Q} {w made : W} {T : Type 0} (Means : File → File → Result T CertificateError → Type 0) {Own : CertificateError → Type 0} where
+module _ {R S P Q W : Type 0} {left : R → Option (List ℕ)} {failed : R → Bool} {left_of : S → Option (List ℕ)} {failed_of : S → Bool} {base_left : P → Option (List ℕ)} {base_failed : P → Bool} {step_left : Q → Option (List ℕ)} {step_failed : Q → Bool} {held : W → Option (List ℕ)} {write_failed : W → Bool} {c : PairCommand} {limit : ℕ} {r rest : R} {s other : S} {p used : P} {q spent : Q} {w made : W} {T : Type 0} (Means : File → File → Result T CertificateError → Type 0) {Own : CertificateError → Type 0} where
   -- a file is refused, or a proof
   pub pair_refused : (e : CertificateError) → ReadsPair left failed left_of failed_of limit Means certificates.first_verdict certificates.second_verdict Own r s (Err e) rest other
-      → (Own e → IsErrorOfPair c (errors.Certificate e)) → ((f g : File) → Means f g (Err e) → RefusesPair c limit f g e) → made ≡ w
+      → (Own e → IsErrorOfPair c (errors.Certificate e)) → ((f g : File) → Means f g (Err e) → RefusesPair c limit (base_left p) (step_left q) f g e) → made ≡ w
       → (certificates.LeavesQuery (Err e) → used ≡ p) → (certificates.LeavesWindow (Err e) → spent ≡ q)
       → (e ≡ certificate.Query (answers.Refutation refutation.Stream) → IsTrue (base_failed used))
       → (e ≡ certificate.Window (answers.Refutation refutation.Stream) → IsTrue (step_failed spent))
-      → RunsPair left failed left_of failed_of base_failed step_failed held write_failed c limit r s p q w (Err (errors.Certificate e)) rest other used spent made
+      → RunsPair left failed left_of failed_of base_left base_failed step_left step_failed held write_failed c limit r s p q w (Err (errors.Certificate e)) rest other used spent made
   pair_refused e reads own means same base step base_stream step_stream = record {
-    reads = reads_on left failed left_of failed_of limit r s rest other (TellsOfPair held write_failed c limit w made) verdict_of other_verdict_of (IsErrorOfPair c) (Err (errors.Certificate e)) reads refl refl (own reads.own) (λ f g bytes others fits also told. means f g told);
+    reads = reads_on left failed left_of failed_of limit r s rest other (TellsOfPair held write_failed c limit (base_left p) (step_left q) w made) verdict_of other_verdict_of (IsErrorOfPair c) (Err (errors.Certificate e)) reads refl refl (own reads.own) (λ f g bytes others fits also told. means f g told);
     kept = λ not. same;
     base_unread = base;
     step_unread = step;
@@ -50,10 +50,10 @@ module _ {R S P Q W : Type 0} {left : R → Option (List ℕ)} {failed : R → B
 
   -- the answer was written
   pub pair_answered : (u : T) (v : Unit {0}) (text : List ℕ) → ReadsPair left failed left_of failed_of limit Means certificates.first_verdict certificates.second_verdict Own r s (Ok u) rest other
-      → ((f g : File) → Means f g (Ok u) → PairAnswers c f g text) → Appends (held w) (held made) text → write_failed made ≡ false
-      → RunsPair left failed left_of failed_of base_failed step_failed held write_failed c limit r s p q w (Ok v) rest other used spent made
+      → ((f g : File) → Means f g (Ok u) → PairAnswers c limit (base_left p) (step_left q) f g text) → Appends (held w) (held made) text → write_failed made ≡ false
+      → RunsPair left failed left_of failed_of base_left base_failed step_left step_failed held write_failed c limit r s p q w (Ok v) rest other used spent made
   pair_answered u v text reads means written sound = record {
-    reads = reads_on left failed left_of failed_of limit r s rest other (TellsOfPair held write_failed c limit w made) verdict_of other_verdict_of (IsErrorOfPair c) (Ok v) reads refl refl tt (λ f g bytes others fits also told. (text, means f g told, written, sound));
+    reads = reads_on left failed left_of failed_of limit r s rest other (TellsOfPair held write_failed c limit (base_left p) (step_left q) w made) verdict_of other_verdict_of (IsErrorOfPair c) (Ok v) reads refl refl tt (λ f g bytes others fits also told. (text, means f g told, written, sound));
     kept = tt;
     base_unread = tt;
     step_unread = tt;
@@ -63,10 +63,10 @@ module _ {R S P Q W : Type 0} {left : R → Option (List ℕ)} {failed : R → B
 
   -- the writer failed after a beginning of it
   pub pair_stopped : (u : T) (text : List ℕ) → ReadsPair left failed left_of failed_of limit Means certificates.first_verdict certificates.second_verdict Own r s (Ok u) rest other
-      → ((f g : File) → Means f g (Ok u) → PairAnswers c f g text) → Stops (held w) (held made) (write_failed made) text
-      → RunsPair left failed left_of failed_of base_failed step_failed held write_failed c limit r s p q w (Err errors.Write) rest other used spent made
+      → ((f g : File) → Means f g (Ok u) → PairAnswers c limit (base_left p) (step_left q) f g text) → Stops (held w) (held made) (write_failed made) text
+      → RunsPair left failed left_of failed_of base_left base_failed step_left step_failed held write_failed c limit r s p q w (Err errors.Write) rest other used spent made
   pair_stopped u text reads means stops = record {
-    reads = reads_on left failed left_of failed_of limit r s rest other (TellsOfPair held write_failed c limit w made) verdict_of other_verdict_of (IsErrorOfPair c) (Err errors.Write) reads refl refl tt (λ f g bytes others fits also told. (text, means f g told, stops));
+    reads = reads_on left failed left_of failed_of limit r s rest other (TellsOfPair held write_failed c limit (base_left p) (step_left q) w made) verdict_of other_verdict_of (IsErrorOfPair c) (Err errors.Write) reads refl refl tt (λ f g bytes others fits also told. (text, means f g told, stops));
     kept = λ not. absurd (not refl);
     base_unread = λ no. absurd no;
     step_unread = λ no. absurd no;
@@ -75,8 +75,8 @@ module _ {R S P Q W : Type 0} {left : R → Option (List ℕ)} {failed : R → B
   }
 
 -- equal machines have no window
-pub no_window : {R S : Type 0} {left : R → Option (List ℕ)} {failed : R → Bool} {left_of : S → Option (List ℕ)} {failed_of : S → Bool} {limit k : ℕ} {r rest : R} {s other : S} (e : CertificateError) (x : AnswerError)
-    → ReadsPair left failed left_of failed_of limit (Equals limit k) certificates.first_verdict certificates.second_verdict certificates.IsOwn r s (Err e) rest other
+pub no_window : {R S : Type 0} {left : R → Option (List ℕ)} {failed : R → Bool} {left_of : S → Option (List ℕ)} {failed_of : S → Bool} {limit k : ℕ} {optimize : Bool} {proof : Option (List ℕ)} {r rest : R} {s other : S} (e : CertificateError) (x : AnswerError)
+    → ReadsPair left failed left_of failed_of limit (Equals limit k optimize proof) certificates.first_verdict certificates.second_verdict certificates.IsOwn r s (Err e) rest other
     → e ≢ certificate.Window x
 no_window (certificate.Pair y) x reads is = cc
 no_window (certificate.Query y) x reads is = cc
@@ -99,11 +99,11 @@ then_written {held = held} {a = a} {b = b} {c = c} {t = t} {result = result} s f
 }
 
 -- behind a line that names them, clauses are read again
-part_again : (name : List ℕ) (lists : List (List (List Lit))) (further : List (List Lit)) → ArePassed (name ++ 10 ∷ [])
-    → IsFormula (length lists) (clauses_in lists ++ further) → parse_formula (part_text name lists further) ≡ Some (length lists, clauses_in lists ++ further)
-part_again name lists further passed formula =
-    parse_formula-passed (name ++ 10 ∷ []) (dimacs_of (length lists) (clauses_in lists ++ further)) passed
-    ∙ parse_formula-dimacs_of (length lists) (clauses_in lists ++ further) formula
+part_again : (name : List ℕ) (made : WindowClauses) → ArePassed (name ++ 10 ∷ []) → IsFormula (length made.clauses) (formula_of made)
+    → parse_formula (part_text name made) ≡ Some (length made.clauses, formula_of made)
+part_again name made passed formula =
+    parse_formula-passed (name ++ 10 ∷ []) (dimacs_of (length made.clauses) (formula_of made)) passed
+    ∙ parse_formula-dimacs_of (length made.clauses) (formula_of made) formula
 
 base_named : ArePassed (codes "c base" ++ 10 ∷ [])
 unfolding after_comments
@@ -113,18 +113,18 @@ step_named : ArePassed (codes "c step" ++ 10 ∷ [])
 unfolding after_comments
 step_named rest = refl
 
-pub obligations_text : (optimize : Bool) (f g : File) (o : Obligations) → AreObligations optimize f g o
-    → IsFormula (length o.base.encoded.clauses) (clauses_in o.base.encoded.clauses ++ o.base.extra)
-    → IsFormula (length o.step.clauses) (clauses_in o.step.clauses ++ o.step.further)
-    → IsObligationsText optimize f g (part_text (codes "c base") o.base.encoded.clauses o.base.extra ++ part_text (codes "c step") o.step.clauses o.step.further)
-obligations_text optimize f g o asked base step = record {
-  clauses = o;
+pub obligations_text : (optimize : Bool) (f g : File) (base step : WindowClauses) → AreObligations optimize f g base step
+    → IsFormula (length base.clauses) (formula_of base) → IsFormula (length step.clauses) (formula_of step)
+    → IsObligationsText optimize f g (part_text (codes "c base") base ++ part_text (codes "c step") step)
+obligations_text optimize f g base step asked base_formula step_formula = record {
+  base_clauses = base;
+  step_clauses = step;
   asked = asked;
-  base = part_text (codes "c base") o.base.encoded.clauses o.base.extra;
+  base = part_text (codes "c base") base;
   base_exact = refl;
-  step = part_text (codes "c step") o.step.clauses o.step.further;
+  step = part_text (codes "c step") step;
   step_exact = refl;
   exact = refl;
-  base_again = part_again (codes "c base") o.base.encoded.clauses o.base.extra base_named base;
-  step_again = part_again (codes "c step") o.step.clauses o.step.further step_named step;
+  base_again = part_again (codes "c base") base base_named base_formula;
+  step_again = part_again (codes "c step") step step_named step_formula;
 }

@@ -14,17 +14,18 @@ use Rattle.aig_checks.specs.Running.{verdict_of}
 
 -- what is told of a refusal
 pub tells_why : {W : Type 0} (held : W → Option (List ℕ)) (write_failed : W → Bool)
-    (limit : ℕ) (c : PairCommand) (w made : W) (f g : File) (e : CheckError)
-    → TellsOfPair held write_failed c limit w made f g (Err e) → RefusesFor limit c f g e
-tells_why held write_failed limit c w made f g (errors.Certificate e) told = told
-tells_why held write_failed limit c w made f g errors.Open told = tt
-tells_why held write_failed limit c w made f g errors.Memory told = tt
-tells_why held write_failed limit c w made f g (errors.Answer e) told = tt
-tells_why held write_failed limit c w made f g (errors.Solution e) told = tt
-tells_why held write_failed limit c w made f g (errors.Show e) told = tt
-tells_why held write_failed limit c w made f g errors.Write told = tt
-tells_why held write_failed limit c w made f g (errors.Bounded e) told = tt
-tells_why held write_failed limit c w made f g (errors.Settled k) told = tt
+    (limit : ℕ) (c : PairCommand) (base step : Option (List ℕ)) (w made : W) (f g : File)
+    (e : CheckError) → TellsOfPair held write_failed c limit base step w made f g (Err e) → RefusesFor limit c f g e
+tells_why held write_failed limit c base step w made f g (errors.Certificate e) told =
+    (base, step, told)
+tells_why held write_failed limit c base step w made f g errors.Open told = tt
+tells_why held write_failed limit c base step w made f g errors.Memory told = tt
+tells_why held write_failed limit c base step w made f g (errors.Answer e) told = tt
+tells_why held write_failed limit c base step w made f g (errors.Solution e) told = tt
+tells_why held write_failed limit c base step w made f g (errors.Show e) told = tt
+tells_why held write_failed limit c base step w made f g errors.Write told = tt
+tells_why held write_failed limit c base step w made f g (errors.Bounded e) told = tt
+tells_why held write_failed limit c base step w made f g (errors.Settled k) told = tt
 
 -- a value of the same file, with another meaning
 pub read_as : {T U : Type 0} {Holds : List ℕ → File → Type 0} (Means : File → T → Type 0)
@@ -43,16 +44,17 @@ read_as Means Other so was = record {
 -- a command on two files that is run again refuses them so
 pub refused_again : {R S P Q W : Type 0} {left : R → Option (List ℕ)} {failed : R → Bool}
     {left_of : S → Option (List ℕ)} {failed_of : S → Bool}
-    {base_failed : P → Bool} {step_failed : Q → Bool} {held : W → Option (List ℕ)} {write_failed : W
+    {base_left : P → Option (List ℕ)} {base_failed : P → Bool}
+    {step_left : Q → Option (List ℕ)} {step_failed : Q → Bool} {held : W → Option (List ℕ)} {write_failed : W
     → Bool} {limit : ℕ} {c : PairCommand} {r : R} {s : S} {p : P}
     {q : Q} {w : W} (again e : CheckError) {rest : R} {other : S} {used : P} {spent : Q} {made : W}
-    → RunsPair left failed left_of failed_of base_failed step_failed held write_failed c limit r s p
-    q w (Err again) rest other used spent made
+    → RunsPair left failed left_of failed_of base_left base_failed step_left step_failed held
+    write_failed c limit r s p q w (Err again) rest other used spent made
     → again ≡ e → verdict_of e ≡ Accepted → other_verdict_of e ≡ Accepted
     → AreReadAs limit (RefusesFor limit c) (left r) (left rest) (left_of s) (left_of other) e
 refused_again {left = left} {left_of = left_of} {held = held} {write_failed = write_failed} {limit = limit} {c = c}
     {r = r} {s = s} {w = w} again e {rest = rest} {other = other} {made = made} runs same =
     subst (λ (x : CheckError). verdict_of x ≡ Accepted → other_verdict_of x ≡ Accepted
     → AreReadAs limit (RefusesFor limit c) (left r) (left rest) (left_of s) (left_of other) x) same
-    (λ first second. read_as _ _ (λ f. read_as _ _ (λ g. tells_why held write_failed limit c w made f g
+    (λ first second. read_as _ _ (λ f. read_as _ _ (λ g. tells_why held write_failed limit c _ _ w made f g
     again)) (runs.reads.answer first second))

@@ -38,27 +38,27 @@ RunsFile {P = P} opens left failed given given_failed held write_failed limit c 
 -- the command was run on the open files, and on the proofs at the paths beside them, which were
 -- opened first, in order
 abbrev pub RunsProofs : {R S P W : Type 0} → (List ℕ → Result P OpenError → Type 0)
-    → (R → Option (List ℕ)) → (R → Bool) → (S → Option (List ℕ)) → (S → Bool) → (P → Bool)
-    → (W → Option (List ℕ)) → (W → Bool) → ℕ → PairCommand → List (List ℕ) → R → S → W
-    → Result Unit CheckError → R → S → W → Type 0
-RunsProofs opens left failed left_of failed_of proof_failed held write_failed limit c [] r s w
+    → (R → Option (List ℕ)) → (R → Bool) → (S → Option (List ℕ)) → (S → Bool)
+    → (P → Option (List ℕ)) → (P → Bool) → (W → Option (List ℕ)) → (W → Bool) → ℕ → PairCommand
+    → List (List ℕ) → R → S → W → Result Unit CheckError → R → S → W → Type 0
+RunsProofs opens left failed left_of failed_of given proof_failed held write_failed limit c [] r s w
     result rest other made =
-    RunsPair left failed left_of failed_of nothing_fails nothing_fails held write_failed c limit r s
-    tt tt w result rest other tt tt made
-RunsProofs {P = P} opens left failed left_of failed_of proof_failed held write_failed limit c
+    RunsPair left failed left_of failed_of nothing_given nothing_fails nothing_given nothing_fails
+    held write_failed c limit r s tt tt w result rest other tt tt made
+RunsProofs {P = P} opens left failed left_of failed_of given proof_failed held write_failed limit c
     (proof ∷ []) r s w result rest other made =
     Opening opens proof
     (λ p. (used : P)
-    × RunsPair left failed left_of failed_of proof_failed nothing_fails held write_failed c limit r
-    s p tt w result rest other used tt made)
+    × RunsPair left failed left_of failed_of given proof_failed nothing_given nothing_fails held
+    write_failed c limit r s p tt w result rest other used tt made)
     (λ e. (result ≡ Err e) × (made ≡ w))
-RunsProofs {P = P} opens left failed left_of failed_of proof_failed held write_failed limit c
+RunsProofs {P = P} opens left failed left_of failed_of given proof_failed held write_failed limit c
     (base ∷ step ∷ more) r s w result rest other made =
     Opening opens base
     (λ p. Opening opens step
     (λ q. (used : P) × (spent : P)
-    × RunsPair left failed left_of failed_of proof_failed proof_failed held write_failed c limit r s
-    p q w result rest other used spent made)
+    × RunsPair left failed left_of failed_of given proof_failed given proof_failed held write_failed
+    c limit r s p q w result rest other used spent made)
     (λ e. (result ≡ Err e) × (made ≡ w)))
     (λ e. (result ≡ Err e) × (made ≡ w))
 
@@ -78,7 +78,7 @@ Acts {F} opens left failed held write_failed limit (commands.Pair c) (path ∷ b
     Opening opens path
     (λ r. Opening opens beside
     (λ s. (rest : F) × (other : F)
-    × RunsProofs opens left failed left failed failed held write_failed limit c further r s w
+    × RunsProofs opens left failed left failed left failed held write_failed limit c further r s w
     result rest other made)
     (λ e. (result ≡ Err e) × (made ≡ w)))
     (λ e. (result ≡ Err e) × (made ≡ w))

@@ -57,9 +57,10 @@ pub record IsRefusedBeside (limit : ℕ) (c : FileCommand) (file known : Option 
   pub failed : Bool
   pub refused : TellsOfGiven c limit file rest known failed e
 
--- why a command shows nothing of two files
+-- why a command shows nothing of two files, by some proofs
 abbrev pub RefusesFor : ℕ → PairCommand → File → File → CheckError → Type 0
-RefusesFor limit c f g (errors.Certificate e) = RefusesPair c limit f g e
+RefusesFor limit c f g (errors.Certificate e) =
+    (base : Option (List ℕ)) × (step : Option (List ℕ)) × RefusesPair c limit base step f g e
 RefusesFor limit c f g e = Unit {0}
 
 -- a proof about two files was read up to this place, and refused so by the command

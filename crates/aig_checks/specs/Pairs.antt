@@ -10,16 +10,14 @@ use Rattle.aig_certificates.specs.Certificates as certificates
 use Rattle.aig_certificates.specs.Certificates.{AreObligations, Certifies, Equals, Obliges}
 use Rattle.aig_certificates.specs.declared.error.CertificateError.{CertificateError}
 use Rattle.aig_certificates.specs.declared.error.CertificateError.TheVariants as certificate
-use Rattle.aig_certificates.specs.declared.asking.Obligations.{Obligations}
+use Rattle.aig_answers.specs.declared.windows.WindowClauses.{WindowClauses}
 use Rattle.aig_dimacs.specs.Reading.{parse_formula}
 use Rattle.aig_dimacs.specs.Text.{dimacs_of}
 use Rattle.aig_edits.specs.Pairs.{ReadsPair}
 use Rattle.aig_format.specs.File.{File}
-use Rattle.aig_join.specs.Files.{AreEqualMachinesAt, HasLinesOf, HaveSameFileCounts}
 use Rattle.aig_output.specs.Sinks.{Stops}
 use Rattle.aig_reader.specs.Verdicts.{Accepted, Refused, Verdict}
 use Rattle.aig_refutation.specs.declared.error.RefutationError.TheVariants as refutation
-use Rattle.aig_runs.specs.Queries.{IsSafeTo}
 use Rattle.aig_checks.specs.declared.command.PairCommand.{PairCommand}
 use Rattle.aig_checks.specs.declared.command.PairCommand.TheVariants as commands
 use Rattle.aig_checks.specs.declared.tool.CheckError.{CheckError}
@@ -36,38 +34,41 @@ safe_line = codes "no bad state at any step" ++ 10 ∷ []
 abbrev pub equal_line : ℕ → List ℕ
 equal_line k = codes "equal at step " ++ (decimal k ++ 10 ∷ [])
 
+-- the clauses with the further ones
+abbrev pub formula_of : WindowClauses → List (List Lit)
+formula_of made = clauses_in made.clauses ++ made.further
+
 -- the text of clauses, after a line that names them
-abbrev pub part_text : List ℕ → List (List (List Lit)) → List (List Lit) → List ℕ
-part_text name lists further =
-    (name ++ 10 ∷ []) ++ dimacs_of (length lists) (clauses_in lists ++ further)
+abbrev pub part_text : List ℕ → WindowClauses → List ℕ
+part_text name made = (name ++ 10 ∷ []) ++ dimacs_of (length made.clauses) (formula_of made)
 
 -- the text of the clauses of which the proofs of a certificate are, in two parts; from each a plain
 -- reader reads just these again
 pub record IsObligationsText (optimize : Bool) (f g : File) (text : List ℕ) : Type 0 where
-  pub clauses : Obligations
-  pub asked : AreObligations optimize f g clauses
+  pub base_clauses : WindowClauses
+  pub step_clauses : WindowClauses
+  pub asked : AreObligations optimize f g base_clauses step_clauses
   pub base : List ℕ
-  pub base_exact : base
-      ≡ part_text (codes "c base") clauses.base.encoded.clauses clauses.base.extra
+  pub base_exact : base ≡ part_text (codes "c base") base_clauses
   pub step : List ℕ
-  pub step_exact : step ≡ part_text (codes "c step") clauses.step.clauses clauses.step.further
+  pub step_exact : step ≡ part_text (codes "c step") step_clauses
   pub exact : text ≡ base ++ step
   pub base_again : parse_formula base
-      ≡ Some (
-        length clauses.base.encoded.clauses,
-        clauses_in clauses.base.encoded.clauses ++ clauses.base.extra,
-      )
+      ≡ Some (length base_clauses.clauses, formula_of base_clauses)
   pub step_again : parse_formula step
-      ≡ Some (length clauses.step.clauses, clauses_in clauses.step.clauses ++ clauses.step.further)
+      ≡ Some (length step_clauses.clauses, formula_of step_clauses)
 
--- what the command puts into its writer for FILE and the file beside it, whose counts fit, and what
--- is then so of their machines
-abbrev pub PairAnswers : PairCommand → File → File → List ℕ → Type 0
-PairAnswers (commands.Certified optimize) f g text =
-    (text ≡ safe_line) × HasLinesOf g f × ((n : ℕ) → IsSafeTo f n)
-PairAnswers (commands.Equal k optimize) f g text =
-    (text ≡ equal_line k) × HaveSameFileCounts f g × AreEqualMachinesAt f g k
-PairAnswers (commands.Obligations optimize) f g text = IsObligationsText optimize f g text
+-- What the command puts into its writer for FILE and the file beside it, whose counts fit, what is
+-- then so of their machines, and what the texts of BASE, or of the proof of `equal`, and of STEP
+-- show of the clauses that they are of.
+abbrev pub PairAnswers : PairCommand → ℕ → Option (List ℕ) → Option (List ℕ) → File → File
+    → List ℕ → Type 0
+PairAnswers (commands.Certified optimize) limit base step f g text =
+    (text ≡ safe_line) × Certifies limit optimize base step f g (Ok tt)
+PairAnswers (commands.Equal k optimize) limit base step f g text =
+    (text ≡ equal_line k) × Equals limit k optimize base f g (Ok tt)
+PairAnswers (commands.Obligations optimize) limit base step f g text =
+    IsObligationsText optimize f g text
 
 -- ---- errors
 
@@ -84,11 +85,15 @@ IsErrorOfPair (commands.Obligations optimize) (errors.Certificate e) = certifica
 IsErrorOfPair c (errors.Certificate e) = certificates.IsOwn e
 IsErrorOfPair c e = ⊥
 
--- why the command shows nothing of two files
-abbrev pub RefusesPair : PairCommand → ℕ → File → File → CertificateError → Type 0
-RefusesPair (commands.Certified optimize) limit f g e = Certifies limit f g (Err e)
-RefusesPair (commands.Equal k optimize) limit f g e = Equals limit k f g (Err e)
-RefusesPair (commands.Obligations optimize) limit f g e = Obliges limit optimize f g (Err e)
+-- why the command shows nothing of two files, by proofs of these texts
+abbrev pub RefusesPair : PairCommand → ℕ → Option (List ℕ) → Option (List ℕ) → File → File
+    → CertificateError → Type 0
+RefusesPair (commands.Certified optimize) limit base step f g e =
+    Certifies limit optimize base step f g (Err e)
+RefusesPair (commands.Equal k optimize) limit base step f g e =
+    Equals limit k optimize base f g (Err e)
+RefusesPair (commands.Obligations optimize) limit base step f g e =
+    Obliges limit optimize f g (Err e)
 
 -- BASE, or the proof of `equal`, isn't read
 abbrev pub LeavesBase : CheckError → Type 0
@@ -104,29 +109,31 @@ LeavesStep e = ⊥
 
 -- what a result tells of two files that were taken: the answer to them was written, and the writer
 -- has not failed; or a beginning of it was, and the writer has; or it is said why there is none
-abbrev pub TellsOfPair : {W : Type 0} → (W → Option (List ℕ)) → (W → Bool) → PairCommand → ℕ → W
-    → W → File → File → Result Unit CheckError → Type 0
-TellsOfPair held write_failed c limit w made f g (Ok done) =
-    (text : List ℕ) × PairAnswers c f g text × Appends (held w) (held made) text
+abbrev pub TellsOfPair : {W : Type 0} → (W → Option (List ℕ)) → (W → Bool) → PairCommand → ℕ
+    → Option (List ℕ) → Option (List ℕ) → W → W → File → File → Result Unit CheckError → Type 0
+TellsOfPair held write_failed c limit base step w made f g (Ok done) =
+    (text : List ℕ) × PairAnswers c limit base step f g text × Appends (held w) (held made) text
     × (write_failed made ≡ false)
-TellsOfPair held write_failed c limit w made f g (Err errors.Write) =
-    (text : List ℕ) × PairAnswers c f g text × Stops (held w) (held made) (write_failed made) text
-TellsOfPair held write_failed c limit w made f g (Err (errors.Certificate e)) =
-    RefusesPair c limit f g e
-TellsOfPair held write_failed c limit w made f g (Err e) = ⊥
+TellsOfPair held write_failed c limit base step w made f g (Err errors.Write) =
+    (text : List ℕ) × PairAnswers c limit base step f g text
+    × Stops (held w) (held made) (write_failed made) text
+TellsOfPair held write_failed c limit base step w made f g (Err (errors.Certificate e)) =
+    RefusesPair c limit base step f g e
+TellsOfPair held write_failed c limit base step w made f g (Err e) = ⊥
 
 -- What a command does: r, s, p, q and w are before it the readers of FILE, of the file beside it,
 -- and of two proofs, and the writer; rest, other, used, spent and made are these after it.
 pub record RunsPair {R S P Q W : Type 0} (left : R → Option (List ℕ)) (failed : R → Bool)
-    (left_of : S → Option (List ℕ)) (failed_of : S → Bool) (base_failed : P → Bool)
-    (step_failed : Q → Bool) (held : W → Option (List ℕ)) (write_failed : W → Bool)
+    (left_of : S → Option (List ℕ)) (failed_of : S → Bool) (base_left : P → Option (List ℕ))
+    (base_failed : P → Bool) (step_left : Q → Option (List ℕ)) (step_failed : Q → Bool)
+    (held : W → Option (List ℕ)) (write_failed : W → Bool)
     (c : PairCommand) (limit : ℕ) (r : R) (s : S) (p : P) (q : Q) (w : W)
     (result : Result Unit CheckError) (rest : R) (other : S) (used : P) (spent : Q) (made : W)
     : Type 0 where
   -- what is said of the bytes of both files, and where they are taken, of their machines
   pub reads : ReadsPair left failed left_of failed_of limit
-      (TellsOfPair held write_failed c limit w made) verdict_of other_verdict_of (IsErrorOfPair c) r
-      s result rest other
+      (TellsOfPair held write_failed c limit (base_left p) (step_left q) w made) verdict_of
+      other_verdict_of (IsErrorOfPair c) r s result rest other
   -- every refusal but that of the writer leaves the writer as it was
   pub kept : IfErr result (λ e. e ≢ errors.Write → made ≡ w)
   -- a proof is read only where what comes before it is taken

@@ -139,9 +139,9 @@ fn run_certified<F: Opens, R: Source, S: Source, W: Sink>(
     w: &mut W,
 ) -> Result<(), CheckError>
     requires { IsLimit limit }
-    ensures { RunsProofs (F.opens files.now) R.left R.failed S.left S.failed F.File.failed W.held
-        W.failed limit (PairCommand.Certified optimize) (base.now ∷ step.now ∷ []) r.old s.old w.old
-        result r.new s.new w.new }
+    ensures { RunsProofs (F.opens files.now) R.left R.failed S.left S.failed F.File.left
+        F.File.failed W.held W.failed limit (PairCommand.Certified optimize)
+        (base.now ∷ step.now ∷ []) r.old s.old w.old result r.new s.new w.new }
 {
     let mut base = files.open(base)?;
     let mut step = files.open(step)?;
@@ -161,9 +161,9 @@ fn run_equal<F: Opens, R: Source, S: Source, W: Sink>(
     w: &mut W,
 ) -> Result<(), CheckError>
     requires { IsLimit limit }
-    ensures { RunsProofs (F.opens files.now) R.left R.failed S.left S.failed F.File.failed W.held
-        W.failed limit (PairCommand.Equal k optimize) (proof.now ∷ []) r.old s.old w.old
-        result r.new s.new w.new }
+    ensures { RunsProofs (F.opens files.now) R.left R.failed S.left S.failed F.File.left
+        F.File.failed W.held W.failed limit (PairCommand.Equal k optimize) (proof.now ∷ []) r.old
+        s.old w.old result r.new s.new w.new }
 {
     let mut proof = files.open(proof)?;
     print_equal(alloc, limit, k, optimize, r, s, &mut proof, w)
@@ -182,8 +182,8 @@ fn run_on_pair<F: Opens, R: Source, S: Source, W: Sink>(
 ) -> Result<(), CheckError>
     requires limit { IsLimit limit }
     requires further { length further.now ≡ beside_of (Command.Pair command) }
-    ensures { RunsProofs (F.opens files.now) R.left R.failed S.left S.failed F.File.failed W.held
-        W.failed limit command (map string_bytes further.now) r.old s.old w.old
+    ensures { RunsProofs (F.opens files.now) R.left R.failed S.left S.failed F.File.left
+        F.File.failed W.held W.failed limit command (map string_bytes further.now) r.old s.old w.old
         result r.new s.new w.new }
 {
     match command {

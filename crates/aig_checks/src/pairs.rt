@@ -5,11 +5,12 @@ ghost use Rattle.aig_base.specs.Clauses.{AreBelow};
 ghost use Rattle.aig_command_line.specs.Limits.{IsLimit};
 ghost use Rattle.aig_output.specs.Sinks.{WritesOrStops};
 ghost use Rattle.aig_checks.specs.Pairs.{RunsPair, part_text};
-ghost use Rattle.aig_checks.specs.Running.{nothing_fails};
+ghost use Rattle.aig_checks.specs.Running.{nothing_fails, nothing_given};
 
 use crate::command::PairCommand;
 use crate::tool::{CheckError, tell_formula, write_line};
-use aig_base::{DagCnf, LitVvec, Sink, Source, StreamFault};
+use aig_answers::WindowClauses;
+use aig_base::{Sink, Source, StreamFault};
 use aig_certificates::{Obligations, check_certified, check_equal, obligations_of};
 use aig_command_line::write_text;
 use aig_dimacs::write_dimacs;
@@ -28,7 +29,8 @@ pub fn print_certified<R: Source, S: Source, P: Source, Q: Source, W: Sink>(
 ) -> Result<(), CheckError>
     requires { IsLimit limit }
     ensures { let command = PairCommand.Certified optimize in
-        RunsPair R.left R.failed S.left S.failed P.failed Q.failed W.held W.failed command limit
+        RunsPair R.left R.failed S.left S.failed P.left P.failed Q.left Q.failed W.held W.failed
+        command limit
         file.old certificate.old base.old step.old w.old result
         file.new certificate.new base.new step.new w.new }
 {
@@ -49,8 +51,8 @@ pub fn print_equal<R: Source, S: Source, P: Source, W: Sink>(
 ) -> Result<(), CheckError>
     requires { IsLimit limit }
     ensures { let command = PairCommand.Equal k optimize in
-        RunsPair R.left R.failed S.left S.failed P.failed nothing_fails W.held W.failed command
-        limit file.old other.old proof.old tt w.old result
+        RunsPair R.left R.failed S.left S.failed P.left P.failed nothing_given nothing_fails W.held
+        W.failed command limit file.old other.old proof.old tt w.old result
         file.new other.new proof.new tt w.new }
 {
     check_equal(alloc, file, other, limit, k, optimize, proof)?;
@@ -58,30 +60,25 @@ pub fn print_equal<R: Source, S: Source, P: Source, W: Sink>(
 }
 
 /// Writes the text of clauses, after a line that names them.
-fn write_part<W: Sink>(
-    w: &mut W,
-    name: &[u8],
-    clauses: &DagCnf,
-    further: &LitVvec,
-) -> Result<(), StreamFault>
-    requires { AreBelow (length clauses.now) further.now }
-    ensures { let text = part_text name.now clauses.now further.now in
+fn write_part<W: Sink>(w: &mut W, name: &[u8], made: &WindowClauses) -> Result<(), StreamFault>
+    requires { AreBelow (length made.now.clauses) made.now.further }
+    ensures { let text = part_text name.now made.now in
         WritesOrStops W.held W.failed w.old result text w.new }
 {
     write_text(w, name)?;
-    write_dimacs(w, clauses, further)
+    write_dimacs(w, &made.clauses, &made.further)
 }
 
 /// Writes the text of the clauses that the proofs of a certificate are of.
 fn write_obligations<W: Sink>(w: &mut W, asked: &Obligations) -> Result<(), StreamFault>
-    requires base { AreBelow (length asked.now.base.encoded.clauses) asked.now.base.extra }
+    requires base { AreBelow (length asked.now.base.clauses) asked.now.base.further }
     requires step { AreBelow (length asked.now.step.clauses) asked.now.step.further }
-    ensures { let base = part_text (codes "c base") asked.now.base.encoded.clauses asked.now.base.extra in
-        let step = part_text (codes "c step") asked.now.step.clauses asked.now.step.further in
+    ensures { let base = part_text (codes "c base") asked.now.base in
+        let step = part_text (codes "c step") asked.now.step in
         WritesOrStops W.held W.failed w.old result (base ++ step) w.new }
 {
-    write_part(w, b"c base", &asked.base.encoded.clauses, &asked.base.extra)?;
-    write_part(w, b"c step", &asked.step.clauses, &asked.step.further)
+    write_part(w, b"c base", &asked.base)?;
+    write_part(w, b"c step", &asked.step)
 }
 
 /// Prints the clauses that the proofs of `print_certified` are of: after the line `c base` those of which BASE is a proof, and after
@@ -96,12 +93,13 @@ pub fn print_obligations<R: Source, S: Source, W: Sink>(
 ) -> Result<(), CheckError>
     requires { IsLimit limit }
     ensures { let command = PairCommand.Obligations optimize in
-        RunsPair R.left R.failed S.left S.failed nothing_fails nothing_fails W.held W.failed
+        RunsPair R.left R.failed S.left S.failed nothing_given nothing_fails nothing_given
+        nothing_fails W.held W.failed
         command limit file.old certificate.old tt tt w.old result
         file.new certificate.new tt tt w.new }
 {
     let asked = obligations_of(alloc, file, certificate, limit, optimize)?;
-    tell_formula(&asked.base.encoded.clauses, &asked.base.extra);
+    tell_formula(&asked.base.clauses, &asked.base.further);
     tell_formula(&asked.step.clauses, &asked.step.further);
     Ok(write_obligations(w, &asked)?)
 }

@@ -1,9 +1,10 @@
 use Rattle.aig_commands.specs.declared.tool.TheConstants.{LIMIT}
 use Rattle.aig_edits.specs.declared.pairing.Pairing.TheVariants.{Miter}
 use Rattle.aig_join.specs.Files.{AreEqualMachinesAt, HaveSameFileCounts}
+use Rattle.aig_calls.specs.Calls.{ShowsQuery}
 use Rattle.aig_calls.specs.Statuses.{IsOfPairProof}
-use Rattle.aig_answers.specs.Answers.{asked_verdict}
-use Rattle.aig_calls.proofs.Joining.{none_query}
+use Rattle.aig_certificates.specs.Certificates.{joint_verdict}
+use Rattle.aig_calls.proofs.Joining.{none_proof, none_query}
 use Rattle.aig_calls.proofs.Pairing.{pair_at, pair_none}
 use Rattle.aig_calls.proofs.certificates.check_equal.Goals as goal
 
@@ -26,5 +27,13 @@ returns-in-Ok-clause-query c = rw c.in-Ok.ensures.ok.0 at c.refute_miter.ensures
 
 pub returns-in-Err-clause-query : goal.returns-in-Err-clause-query
 returns-in-Err-clause-query c =
-    none_query Miter (asked_verdict LIMIT c.args.k) LIMIT c.args.file.now c.args.other.now _
+    none_query Miter (joint_verdict LIMIT c.args.k) LIMIT c.args.file.now c.args.other.now _
     c.in-Err.ensures.err.0
+
+pub returns-in-Ok-clause-shown : goal.returns-in-Ok-clause-shown
+returns-in-Ok-clause-shown c = rw c.in-Ok.ensures.ok.0 at c.refute_miter.ensures.shown
+
+pub returns-in-Err-clause-shown : goal.returns-in-Err-clause-shown
+returns-in-Err-clause-shown c =
+    none_proof Miter (ShowsQuery c.args.k c.args.optimize c.args.proof.now) LIMIT c.args.file.now
+    c.args.other.now _ c.in-Err.ensures.err.0

@@ -1,9 +1,8 @@
 use Rattle.std.proofs.Common.{ℕ, inl, arith}
-use Rattle.aig_answers.specs.Answers.{asked_verdict, window_verdict}
+use Rattle.aig_certificates.specs.Certificates.{joint_verdict}
 use Rattle.aig_checks.specs.Pairs.{IsObligationsText}
 use Rattle.aig_commands.specs.declared.tool.TheConstants.{LIMIT}
 use Rattle.aig_edits.specs.declared.pairing.Pairing.TheVariants.{Certificate}
-use Rattle.aig_runs.specs.declared.window.Window.TheVariants.{Plain}
 use Rattle.aig_calls.specs.Calls.{TellsJoint}
 use Rattle.aig_calls.specs.Statuses.{IsOfObligations, said_of_query, said_of_window}
 use Rattle.aig_calls.proofs.Giving.{put_told}
@@ -21,7 +20,7 @@ returns-clause-gives c =
 
 pub returns-clause-query : goal.returns-clause-query
 returns-clause-query c =
-    let of = asked_verdict LIMIT 0 in
+    let of = joint_verdict LIMIT 0 in
     let bytes = c.args.file.now in
     let others = c.args.certificate.now in
     put_told (λ (n : ℕ). TellsJoint Certificate of LIMIT bytes others (said_of_query n))
@@ -30,7 +29,7 @@ returns-clause-query c =
 
 pub returns-clause-window : goal.returns-clause-window
 returns-clause-window c =
-    let of = window_verdict Plain LIMIT 0 in
+    let of = joint_verdict LIMIT 1 in
     let bytes = c.args.file.now in
     let others = c.args.certificate.now in
     put_told (λ (n : ℕ). TellsJoint Certificate of LIMIT bytes others (said_of_window n))

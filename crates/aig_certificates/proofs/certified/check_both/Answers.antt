@@ -1,15 +1,53 @@
-use Rattle.std.proofs.Common.{subst}
-use Rattle.aig_runs.specs.Induction.{IsKInductive}
-use Rattle.aig_runs.specs.declared.window.Window.TheVariants.{Plain}
-use Rattle.aig_certificates.proofs.TextFiles.{at_none, one_spelled}
+use Rattle.aig_base.proofs.Words.{ℕ, Ok, Err, subst}
+use Rattle.aig_circuit.specs.Circuit.{Circuit}
+use Rattle.aig_circuit.specs.View.{lists_circuit}
+use Rattle.aig_runs.specs.Safety.{IsCircuitSafeAt}
+use Rattle.aig_certificates.specs.Certificates.{TellsOfTwo}
+use Rattle.aig_certificates.specs.Parts.{HasNoWindow}
+use Rattle.aig_certificates.proofs.Telling.{based, step_of_proof}
 use Rattle.aig_certificates.proofs.certified.check_both.Goals as goal
 
-pub returns-in-Ok-clause-holds : goal.returns-in-Ok-clause-holds
-returns-in-Ok-clause-holds g c =
-    let base = c.in_default.ensures.checks.answer in
-    let step = c.in-Ok.ensures.checks.answer in
-    let h = base.0 in
-    let same = one_spelled step.0 h c.args.text.now step.1.0 base.1.0 in
-    let inductive = subst (λ f. IsKInductive Plain f 0) same step.2 in
-    let safe = c.safe_steps_are_safe.ensures h 0 (at_none h base.2) in
-    (h, base.1, λ n. c.inductive_windows_are_safe.ensures Plain h 0 safe inductive n)
+pub returns-in-Err-check_base-clause-holds : goal.returns-in-Err-check_base-clause-holds
+returns-in-Err-check_base-clause-holds g c =
+    let e = c.in-Err-check_base.error in
+    let told = c.in-Err-check_base.ensures in (
+      step_of_proof e told.own,
+      based c.args.limit c.args.optimize (g.P.Source.left c.args.base.now)
+          (lists_circuit c.args.joint) 0 c.in-Ok.asked c.in-Ok.ensures.unrolls (Err e) told.own
+          c.in-Ok.ensures.said told.shown,
+    )
+
+pub returns-in-Ok-check_step-clause-holds : goal.returns-in-Ok-check_step-clause-holds
+returns-in-Ok-check_step-clause-holds g c =
+    let limit = c.args.limit in
+    let optimize = c.args.optimize in
+    let m = lists_circuit c.args.joint in
+    let asked = c.in-Ok.asked in
+    let steps = c.in-Ok.ensures.unrolls in
+    let base = c.in_default.ensures in
+    let step = c.in-Ok-check_step.ensures in (
+      (
+        subst (λ (n : ℕ). IsCircuitSafeAt m n) steps.steps
+            (subst (λ (d : Circuit). IsCircuitSafeAt d asked.steps) steps.circuit base.safe),
+        subst (λ (d : Circuit). HasNoWindow optimize d) steps.circuit step.none,
+      ),
+      based limit optimize (g.P.Source.left c.args.base.now) m 0 asked steps (Ok tt) tt
+          c.in-Ok.ensures.said base.shown,
+      subst (λ (d : Circuit). TellsOfTwo limit optimize (g.Q.Source.left c.args.step.now) d (Ok tt))
+          steps.circuit step.tells,
+    )
+
+pub returns-in-Err-check_step-clause-holds : goal.returns-in-Err-check_step-clause-holds
+returns-in-Err-check_step-clause-holds g c =
+    let limit = c.args.limit in
+    let optimize = c.args.optimize in
+    let m = lists_circuit c.args.joint in
+    let steps = c.in-Ok.ensures.unrolls in
+    let e = c.in-Err-check_step.error in
+    let step = c.in-Err-check_step.ensures in (
+      step.own,
+      based limit optimize (g.P.Source.left c.args.base.now) m 0 c.in-Ok.asked steps (Ok tt) tt
+          c.in-Ok.ensures.said c.in_default.ensures.shown,
+      subst (λ (d : Circuit). TellsOfTwo limit optimize (g.Q.Source.left c.args.step.now) d (Err e))
+          steps.circuit step.tells,
+    )

@@ -17,12 +17,12 @@ pub returns-in_err-write_obligations : goal.returns-in_err-write_obligations
 returns-in_err-write_obligations g c =
     let p = err_from_is_err_and c.from_residual-in_err-write_obligations.result c.from_residual-in_err-write_obligations.ensures.1 in
     let o = c.in_ok-asked.asked in
-    let text = part_text (codes "c base") o.base.encoded.clauses o.base.extra ++ part_text (codes "c step") o.step.clauses o.step.further in
-    rw (p.1, p.2) (pair_stopped (Obliges c.args.limit c.args.optimize) o text c.in_ok-asked.ensures.reads (λ f h asked. obligations_text c.args.optimize f h o asked c.tell_formula.ensures.formula c.tell_formula-2.ensures.formula) c.in_err-write_obligations.ensures.err)
+    let text = part_text (codes "c base") o.base ++ part_text (codes "c step") o.step in
+    rw (p.1, p.2) (pair_stopped (Obliges c.args.limit c.args.optimize) o text c.in_ok-asked.ensures.reads (λ f h asked. obligations_text c.args.optimize f h o.base o.step asked c.tell_formula.ensures.formula c.tell_formula-2.ensures.formula) c.in_err-write_obligations.ensures.err)
 
 pub returns : goal.returns
 returns g c =
     let o = c.in_ok-asked.asked in
-    let text = part_text (codes "c base") o.base.encoded.clauses o.base.extra ++ part_text (codes "c step") o.step.clauses o.step.further in
+    let text = part_text (codes "c base") o.base ++ part_text (codes "c step") o.step in
     let told = c.in_ok-write_obligations.ensures in
-    pair_answered (Obliges c.args.limit c.args.optimize) o tt text c.in_ok-asked.ensures.reads (λ f h asked. obligations_text c.args.optimize f h o asked c.tell_formula.ensures.formula c.tell_formula-2.ensures.formula) told.ok told.sound
+    pair_answered (Obliges c.args.limit c.args.optimize) o tt text c.in_ok-asked.ensures.reads (λ f h asked. obligations_text c.args.optimize f h o.base o.step asked c.tell_formula.ensures.formula c.tell_formula-2.ensures.formula) told.ok told.sound

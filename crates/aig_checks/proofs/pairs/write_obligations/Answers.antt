@@ -7,9 +7,9 @@ use Rattle.aig_checks.proofs.pairs.write_obligations.Goals as goal
 pub returns-in_err-write_part : goal.returns-in_err-write_part
 returns-in_err-write_part g c =
     let o = c.args.asked.now in
-    failed_put (Stops-before (part_text (codes "c step") o.step.clauses o.step.further) c.in_err-write_part.ensures.err) (search rules)
+    failed_put (Stops-before (part_text (codes "c step") o.step) c.in_err-write_part.ensures.err) (search rules)
 
 pub returns : goal.returns
 returns g c =
     let o = c.args.asked.now in
-    then_written (part_text (codes "c base") o.base.encoded.clauses o.base.extra) c.in_ok-write_part.ensures.ok c.write_part-2.ensures
+    then_written (part_text (codes "c base") o.base) c.in_ok-write_part.ensures.ok c.write_part-2.ensures
