@@ -87,10 +87,13 @@ module _ (f g : File) where
       → checking_pairs.TellsOfPair held failed (commands.Obligations optimize) limit base step w
       made f g (Err e)
       → ¬ DoFit Certificate f g
-  obliged_unfit held failed optimize limit base step w made (checks.Certificate (certificate.Pair e))
+  obliged_unfit held failed optimize limit base step w made
+      (checks.Certificate (certificate.Pair e))
       is refused = counts_unfit Certificate e is refused
-  obliged_unfit held failed optimize limit base step w made (checks.Certificate (certificate.Query e))
+  obliged_unfit held failed optimize limit base step w made
+      (checks.Certificate (certificate.Query e))
       is refused = absurd is
-  obliged_unfit held failed optimize limit base step w made (checks.Certificate (certificate.Window e))
+  obliged_unfit held failed optimize limit base step w made
+      (checks.Certificate (certificate.Window e))
       is refused = absurd is
   obliged_unfit held failed optimize limit base step w made e is refused = absurd is

@@ -57,7 +57,8 @@ IsOfJoint pairing of Means first second x e =
     → (m : Circuit) × IsJointOf pairing f g m × IsSaidOf (of m) (answering.verdict_of e))
 
 -- an error of a call whose errors have those about two files among them
-module _ {R S T E : Type 0} (wrap : CertificateError → E) (pairing : Pairing) (of : Circuit → Verdict)
+module _ {R S T E : Type 0} (wrap : CertificateError → E) (pairing : Pairing)
+    (of : Circuit → Verdict)
     {left : R → Option (List ℕ)} {failed : R → Bool} {left_of : S → Option (List ℕ)}
     {failed_of : S → Bool} {limit : ℕ} {Means : File → File → Result T E → Type 0}
     {first second : E → Verdict} {Own : E → Type 0} {r rest : R} {s other : S}
@@ -140,7 +141,8 @@ module _ {R S T E : Type 0} (pairing : Pairing)
 
   -- and one that is refused
   pub proof_refused : (wrap : RefutationError → E) (e : E)
-      (said : Option (Result (Unit {0}) RefutationError)) → IfSome said (IsErrWith (λ x. e ≡ wrap x))
+      (said : Option (Result (Unit {0}) RefutationError)) → IfSome said
+      (IsErrWith (λ x. e ≡ wrap x))
       → ReadsPair left failed left_of failed_of limit Means first second Own r s (Err e) rest other
       → ((x : RefutationError) → (first (wrap x) ≡ Accepted) × (second (wrap x) ≡ Accepted))
       → ((x : RefutationError) (f g : File) → Means f g (Err (wrap x))
@@ -166,10 +168,12 @@ none_proof pairing Shows limit bytes others status is =
 -- the circuit of two files of which equality is asked has no window
 module _ {R S : Type 0} {left : R → Option (List ℕ)} {failed : R → Bool}
     {left_of : S → Option (List ℕ)} {failed_of : S → Bool} {limit k : ℕ} {optimize : Bool}
-    {proof : Option (List ℕ)} {r rest : R} {s other : S} (bytes others : List ℕ) (is : left r ≡ Some bytes) (also : left_of s ≡ Some others)
+    {proof : Option (List ℕ)} {r rest : R} {s other : S} (bytes others : List ℕ)
+    (is : left r ≡ Some bytes) (also : left_of s ≡ Some others)
     (status : ℕ) where
   pub miter_low : (e : CertificateError)
-      → ReadsPair left failed left_of failed_of limit (Equals limit k optimize proof) first_verdict second_verdict
+      → ReadsPair left failed left_of failed_of limit (Equals limit k optimize proof) first_verdict
+      second_verdict
       IsOwn r s (Err e) rest other
       → SaysJoint status e → status < 1024
   miter_low (errors.Pair e) told says = omega (arith, says)

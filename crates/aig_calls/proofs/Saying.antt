@@ -42,11 +42,13 @@ flagged_cases flag status = grind arith
 -- the status of the second file
 pub other_status : (e : ReadError) (status : ℕ) → SaysOnly (said_by status) (verdict_of e)
     → status < 256 → 2 ≤ status
-    → IsPairStatus first_verdict second_verdict IsOfCounts pair.TooLarge (pair.Other e) (flagged 256 status)
+    → IsPairStatus first_verdict second_verdict IsOfCounts pair.TooLarge (pair.Other e)
+    (flagged 256 status)
 other_status e status says low least = elim (flagged_cases 256 status) [
   | inl few ↦
       let none = none_said status least (omega (arith, few.0)) in
-      subst (IsPairStatus first_verdict second_verdict IsOfCounts pair.TooLarge (pair.Other e)) (sym few.1) (record {
+      subst (IsPairStatus first_verdict second_verdict IsOfCounts pair.TooLarge (pair.Other e))
+      (sym few.1) (record {
         first_said = rw none tt;
         second_said = λ is. absurd (let other = rw none at is in cc);
         misfit = λ is. absurd (omega (arith, is, few.0));
@@ -54,7 +56,8 @@ other_status e status says low least = elim (flagged_cases 256 status) [
         least = least;
       })
   | inr many ↦
-      subst (IsPairStatus first_verdict second_verdict IsOfCounts pair.TooLarge (pair.Other e)) (sym many.1) (record {
+      subst (IsPairStatus first_verdict second_verdict IsOfCounts pair.TooLarge (pair.Other e))
+      (sym many.1) (record {
         first_said = rw (above_said (256 + status) (omega arith)) (refl, tt);
         second_said = λ is. rw (other_said status low) says;
         misfit = λ is. absurd (omega (arith, is));
@@ -149,7 +152,11 @@ no_query_proof : (status : ℕ) → 1 ≤ status → status < 552 ⊎ 1024 ≤ s
     → said_of_query_proof status ≡ None
 no_query_proof zero least none = absurd (omega (arith, least))
 no_query_proof (suc n) least (inl low) = rw (lt-leb 552 (suc n) low)
-no_query_proof (suc n) least (inr high) = rw (le-leb 552 (suc n) (omega (arith, high)), le-ltb (suc n) 1024 high)
+no_query_proof (suc n) least (inr high) = rw (
+  le-leb 552 (suc n) (omega (arith, high)),
+  le-ltb
+      (suc n) 1024 high,
+)
 
 no_window_proof : (status : ℕ) → 1 ≤ status → status < 1064 → said_of_window_proof status ≡ None
 no_window_proof zero least low = absurd (omega (arith, least))
@@ -159,7 +166,12 @@ flagged_query_proof : (status : ℕ) → 40 ≤ status → status < 60
     → said_of_query_proof (512 + status) ≡ said_of_proof status
 flagged_query_proof status least low =
     let back : (512 + status) - 512 ≡ status = omega arith in
-    rw (le-leb 552 (512 + status) (omega (arith, least)), lt-ltb (512 + status) 1024 (omega (arith, low)), back)
+    rw (
+      le-leb 552 (512 + status) (omega (arith, least)),
+      lt-ltb (512 + status) 1024
+          (omega (arith, low)),
+      back,
+    )
 
 flagged_window_proof : (status : ℕ) → 40 ≤ status
     → said_of_window_proof (1024 + status) ≡ said_of_proof status
@@ -187,13 +199,15 @@ pub query_proof : (e : AnswerError) (status : ℕ)
     → SaysProof status (λ x. e ≡ answers.Refutation x) → 2 ≤ status → status < 60
     → SaysQueryProof (flagged 512 status) (certificate.Query e)
 query_proof e status says least low = elim (flagged_cases 512 status) [
-  | inl few ↦ rw (no_query_proof (flagged 512 status) (omega (arith, few.0, few.1, least)) (inl (omega (arith, few.0, few.1)))) tt
-  | inr many ↦ subst (λ n. SaysQueryProof n (certificate.Query e)) (sym many.1) (elim (cases_lt status 40) [
-    | inl small ↦ rw (no_query_proof (512 + status) (omega arith) (inl (omega (arith, small)))) tt
-    | inr large ↦
-        rw (flagged_query_proof status large low)
-        (errs_so (λ x is. ap certificate.Query is) (said_of_proof status) says)
-  ])
+  | inl few ↦ rw (no_query_proof (flagged 512 status) (omega (arith, few.0, few.1, least))
+      (inl (omega (arith, few.0, few.1)))) tt
+  | inr many ↦ subst (λ n. SaysQueryProof n (certificate.Query e)) (sym many.1)
+      (elim (cases_lt status 40) [
+        | inl small ↦ rw (no_query_proof (512 + status) (omega arith) (inl (omega (arith, small)))) tt
+        | inr large ↦
+            rw (flagged_query_proof status large low)
+            (errs_so (λ x is. ap certificate.Query is) (said_of_proof status) says)
+      ])
 ]
 
 -- and of a window
@@ -201,21 +215,26 @@ pub window_proof : (e : AnswerError) (status : ℕ)
     → SaysProof status (λ x. e ≡ answers.Refutation x) → 2 ≤ status → status < 60
     → SaysWindowProof (flagged 1024 status) (certificate.Window e)
 window_proof e status says least low = elim (flagged_cases 1024 status) [
-  | inl few ↦ rw (no_window_proof (flagged 1024 status) (omega (arith, few.0, few.1, least)) (omega (arith, few.0, few.1))) tt
-  | inr many ↦ subst (λ n. SaysWindowProof n (certificate.Window e)) (sym many.1) (elim (cases_lt status 40) [
-    | inl small ↦ rw (no_window_proof (1024 + status) (omega arith) (omega (arith, small))) tt
-    | inr large ↦
-        rw (flagged_window_proof status large)
-        (errs_so (λ x is. ap certificate.Window is) (said_of_proof status) says)
-  ])
+  | inl few ↦ rw (no_window_proof (flagged 1024 status) (omega (arith, few.0, few.1, least))
+      (omega (arith, few.0, few.1))) tt
+  | inr many ↦ subst (λ n. SaysWindowProof n (certificate.Window e)) (sym many.1)
+      (elim (cases_lt status 40) [
+        | inl small ↦ rw (no_window_proof (1024 + status) (omega arith) (omega (arith, small))) tt
+        | inr large ↦
+            rw (flagged_window_proof status large)
+            (errs_so (λ x is. ap certificate.Window is) (said_of_proof status) says)
+      ])
 ]
 
 -- of other errors nothing
 pub other_query_proof : (e : CertificateError) (status : ℕ) → 2 ≤ status
     → status < 512 ⊎ 1024 ≤ status → SaysQueryProof status e
-other_query_proof e status least (inl low) = rw (no_query_proof status (omega (arith, least)) (inl (omega (arith, low)))) tt
-other_query_proof e status least (inr high) = rw (no_query_proof status (omega (arith, least)) (inr high)) tt
+other_query_proof e status least (inl low) = rw (no_query_proof status (omega (arith, least))
+    (inl (omega (arith, low)))) tt
+other_query_proof e status least (inr high) = rw (no_query_proof status (omega (arith, least))
+    (inr high)) tt
 
 pub other_window_proof : (e : CertificateError) (status : ℕ) → 2 ≤ status → status < 1024
     → SaysWindowProof status e
-other_window_proof e status least low = rw (no_window_proof status (omega (arith, least)) (omega (arith, low))) tt
+other_window_proof e status least low = rw (no_window_proof status (omega (arith, least))
+    (omega (arith, low))) tt

@@ -124,8 +124,8 @@ IsOfCountsBy e = ⊥
 
 -- What the status of a call on two files says that has this error: of the first file's bytes, of
 -- the second one's where the first one is taken, and why no circuit is made of them.
-pub record IsPairStatus {E : Type 0} (first second : E → Verdict) (Counts : E → Type 0) (format e : E)
-    (status : ℕ) : Type 0 where
+pub record IsPairStatus {E : Type 0} (first second : E → Verdict) (Counts : E → Type 0)
+    (format e : E) (status : ℕ) : Type 0 where
   pub first_said : SaysOnly (said_by status) (first e)
   pub second_said : said_by status ≡ Some Accepted → SaysOnly (said_of_other status) (second e)
   pub misfit : status ≡ misfit → Counts e

@@ -375,8 +375,8 @@ pub(crate) fn of_pair(error: PairError) -> u32
 
 /// The status of two files of which something isn't shown.
 pub(crate) fn of_certificate(error: CertificateError) -> u32
-    ensures said { IsPairStatus first_verdict second_verdict IsOfCountsIn (certificate.Pair pair.TooLarge)
-        error result }
+    ensures said { IsPairStatus first_verdict second_verdict IsOfCountsIn
+        (certificate.Pair pair.TooLarge) error result }
     ensures own { IsOfPairProof result }
     ensures joint { SaysJoint result error }
     ensures query { SaysQueryProof result error }

@@ -38,7 +38,10 @@ returns-in-Err-clause-checks c =
     record {
       said = pair_tells told bytes others (rw first) (rw second) c.of_certificate.result says.first_said says.second_said;
       own = c.of_certificate.ensures.own;
-      misfit = misfit_tells Miter told says bytes others (rw first) (rw second) (counts_first_in c.in-Err.error) (counts_second_in c.in-Err.error) refl refl (λ f g is refused. equal_unfit f g LIMIT c.args.k c.args.optimize _ c.in-Err.error is refused) (λ f g large. large);
+      misfit = misfit_tells Miter told says bytes others (rw first) (rw second)
+          (counts_first_in c.in-Err.error) (counts_second_in c.in-Err.error) refl refl
+          (λ f g is refused. equal_unfit f g LIMIT c.args.k c.args.optimize _ c.in-Err.error is refused)
+          (λ f g large. large);
       answer = λ is. absurd (omega (arith, is, says.least));
     }
 
@@ -46,7 +49,8 @@ pub returns-in-Err-clause-query : goal.returns-in-Err-clause-query
 returns-in-Err-clause-query c =
     joint_query (λ e. e) Miter (joint_verdict LIMIT c.args.k) c.args.file.now c.args.other.now
     (rw c.new-first.ensures.reader) (rw c.new-second.ensures.reader) c.of_certificate.result
-    (λ e. (refl, refl, λ f g told. (told.0, told.1, told.2.said))) c.in-Err.error c.in-Err.ensures.reads
+    (λ e. (refl, refl, λ f g told. (told.0, told.1, told.2.said))) c.in-Err.error
+    c.in-Err.ensures.reads
     c.of_certificate.ensures.joint
 
 pub returns-in-Err-clause-no_window : goal.returns-in-Err-clause-no_window

@@ -35,13 +35,15 @@ returns-in-Query-clause-query c =
 pub returns-in-Query-clause-window : goal.returns-in-Query-clause-window
 returns-in-Query-clause-window c =
     let apart = flagged_apart 512 c.of_answer.result c.of_answer.ensures.least in
-    rw c.flagged.ensures (other_window_proof _ _ apart.0 (omega (arith, apart.1, c.of_answer.ensures.few)))
+    rw c.flagged.ensures (other_window_proof _ _ apart.0
+    (omega (arith, apart.1, c.of_answer.ensures.few)))
 
 pub returns-in-Window-clause-query : goal.returns-in-Window-clause-query
 returns-in-Window-clause-query c =
     let status = c.of_answer-in-Window.result in
     let least = c.of_answer-in-Window.ensures.least in
-    rw c.flagged-in-Window.ensures (other_query_proof _ _ (flagged_apart 1024 status least).0 (window_apart status least))
+    rw c.flagged-in-Window.ensures (other_query_proof _ _ (flagged_apart 1024 status least).0
+    (window_apart status least))
 
 pub returns-in-Window-clause-window : goal.returns-in-Window-clause-window
 returns-in-Window-clause-window c =
