@@ -1,23 +1,24 @@
 -- Errors of two files whose counts don't fit.
-use Rattle.std.proofs.Common.{◌≡◌, ℕ, Bool, List, Option, Result, Err, refl}
+use Rattle.std.proofs.Common.{◌≡◌, ℕ, Bool, List, Option, Result, Err, refl, ap, subst}
 use Rattle.aig_certificates.specs.Certificates as certificates
 use Rattle.aig_certificates.specs.Certificates.{Certifies, Equals}
 use Rattle.aig_certificates.specs.declared.error.CertificateError.{CertificateError}
 use Rattle.aig_certificates.specs.declared.error.CertificateError.TheVariants as certificate
 use Rattle.aig_checks.specs.Pairs as checking_pairs
 use Rattle.aig_checks.specs.Running as checking
-use Rattle.aig_checks.specs.declared.command.PairCommand.TheVariants as commands
 use Rattle.aig_checks.specs.declared.tool.CheckError.{CheckError}
 use Rattle.aig_checks.specs.declared.tool.CheckError.TheVariants as checks
 use Rattle.aig_edits.proofs.Misfits.{unfit}
 use Rattle.aig_edits.specs.Joints as joints
-use Rattle.aig_edits.specs.Joints.{DoFit, IsRefusalOf, PrintsJoint}
+use Rattle.aig_edits.specs.Joints.{DoFit, IsRefusalOf}
+use Rattle.aig_edits.specs.Pairs.{ReadsPair}
+use Rattle.aig_edits.specs.declared.misfit.Misfit.{Misfit}
 use Rattle.aig_edits.specs.declared.error.PairError.{PairError}
 use Rattle.aig_edits.specs.declared.error.PairError.TheVariants as pair
 use Rattle.aig_edits.specs.declared.pairing.Pairing.{Pairing}
 use Rattle.aig_edits.specs.declared.pairing.Pairing.TheVariants.{Certificate, Miter}
 use Rattle.aig_format.specs.File.{File}
-use Rattle.aig_reader.specs.Verdicts.{Accepted}
+use Rattle.aig_reader.specs.Verdicts.{Accepted, Verdict}
 use Rattle.aig_calls.specs.Parts.{IsOfCounts, IsOfCountsBy, IsOfCountsIn}
 
 pub counts_first : (e : PairError) → IsOfCounts e → joints.first_verdict e ≡ Accepted
@@ -55,16 +56,6 @@ module _ (f g : File) where
   counts_unfit pairing (pair.Misfit m) is refused = unfit pairing f g m refused
   counts_unfit pairing e is refused = absurd is
 
-  pub joint_unfit : {W : Type 0} (held : W → Option (List ℕ)) (failed : W → Bool)
-      (pairing : Pairing) (w made : W) (e : PairError) → IsOfCounts e
-      → PrintsJoint held failed pairing w made f g (Err e) → ¬ DoFit pairing f g
-  joint_unfit held failed pairing w made (pair.Misfit m) is refused = unfit pairing f g m refused
-  joint_unfit held failed pairing w made (pair.Read e) is refused = absurd is
-  joint_unfit held failed pairing w made (pair.Other e) is refused = absurd is
-  joint_unfit held failed pairing w made pair.TooLarge is refused = absurd is
-  joint_unfit held failed pairing w made pair.Memory is refused = absurd is
-  joint_unfit held failed pairing w made pair.Write is refused = absurd is
-
   pub certified_unfit : (limit : ℕ) (optimize : Bool) (base step : Option (List ℕ))
       (e : CertificateError) → IsOfCountsIn e → Certifies limit optimize base step f g (Err e)
       → ¬ DoFit Certificate f g
@@ -81,19 +72,31 @@ module _ (f g : File) where
   equal_unfit limit k optimize proof (certificate.Query e) is refused = absurd is
   equal_unfit limit k optimize proof (certificate.Window e) is refused = absurd is
 
-  pub obliged_unfit : {W : Type 0} (held : W → Option (List ℕ)) (failed : W → Bool)
-      (optimize : Bool) (limit : ℕ) (base step : Option (List ℕ)) (w made : W) (e : CheckError)
-      → IsOfCountsBy e
-      → checking_pairs.TellsOfPair held failed (commands.Obligations optimize) limit base step w
-      made f g (Err e)
-      → ¬ DoFit Certificate f g
-  obliged_unfit held failed optimize limit base step w made
-      (checks.Certificate (certificate.Pair e))
-      is refused = counts_unfit Certificate e is refused
-  obliged_unfit held failed optimize limit base step w made
-      (checks.Certificate (certificate.Query e))
-      is refused = absurd is
-  obliged_unfit held failed optimize limit base step w made
-      (checks.Certificate (certificate.Window e))
-      is refused = absurd is
-  obliged_unfit held failed optimize limit base step w made e is refused = absurd is
+-- the counts that such an error has
+pub misfit_of : (e : PairError) → IsOfCounts e → (m : Misfit) × (e ≡ pair.Misfit m)
+misfit_of (pair.Misfit m) is = (m, refl)
+misfit_of e is = absurd is
+
+misfit_in : (e : CertificateError) → IsOfCountsIn e
+    → (m : Misfit) × (e ≡ certificate.Pair (pair.Misfit m))
+misfit_in (certificate.Pair e) is =
+    let it = misfit_of e is in (it.0, ap certificate.Pair it.1)
+misfit_in (certificate.Query e) is = absurd is
+misfit_in (certificate.Window e) is = absurd is
+
+pub misfit_by : (e : CheckError) → IsOfCountsBy e
+    → (m : Misfit) × (e ≡ checks.Certificate (certificate.Pair (pair.Misfit m)))
+misfit_by (checks.Certificate e) is =
+    let it = misfit_in e is in (it.0, ap checks.Certificate it.1)
+misfit_by e is = absurd is
+
+-- what is meant of two files by an error of their counts, where it is meant of each such error
+pub counts_tell : {R S T E : Type 0} {left : R → Option (List ℕ)} {failed : R → Bool}
+    {left_of : S → Option (List ℕ)} {failed_of : S → Bool} {limit : ℕ}
+    {Means : File → File → Result T E → Type 0} {first second : E → Verdict} {Own : E → Type 0}
+    {r rest : R} {s other : S} (pairing : Pairing) (wrap : Misfit → E) (e : E)
+    → ReadsPair left failed left_of failed_of limit Means first second Own r s (Err e) rest other
+    → ((m : Misfit) (f g : File) → Means f g (Err (wrap m)) → ¬ DoFit pairing f g)
+    → (m : Misfit) × (e ≡ wrap m) → (f g : File) → Means f g (Err e) → ¬ DoFit pairing f g
+counts_tell {Means} pairing wrap e told fits it f g refused =
+    fits it.0 f g (subst (λ x. Means f g (Err x)) it.1 refused)

@@ -2,7 +2,10 @@
 use Rattle.aig_base.proofs.Words.{◌≡◌, ℕ, ◌<◌, Bool, List, Option, None, Some, Result, Ok, Err, IfSome, refl, sym, subst, ◌∙◌, inl, inr, arith}
 use Rattle.aig_answers.specs.Answers as answering
 use Rattle.aig_answers.specs.declared.error.AnswerError.{AnswerError}
-use Rattle.aig_certificates.specs.Certificates.{Equals, IsOwn, IsSaidOf, Obliges, first_verdict, joint_verdict, second_verdict}
+use Rattle.aig_answers.specs.Answers.{TellsOfCircuit, TellsOfCircuitWindow}
+use Rattle.aig_answers.specs.declared.error.AnswerError.TheVariants as answers
+use Rattle.aig_certificates.specs.Certificates.{Equals, IsOwn, IsSaidOf, Obliges, TellsOfQuery, TellsOfTwo, first_verdict, joint_verdict, second_verdict}
+use Rattle.aig_runs.specs.declared.window.Window.TheVariants.{Plain}
 use Rattle.aig_certificates.specs.declared.error.CertificateError.{CertificateError}
 use Rattle.aig_certificates.specs.declared.error.CertificateError.TheVariants as errors
 use Rattle.aig_edits.specs.Pairs.{ReadsPair}
@@ -18,7 +21,7 @@ use Rattle.aig_format.specs.File.{File}
 use Rattle.aig_reader.specs.Verdicts.{Accepted, Crowded, IsSettled, Memory, NoBads, Refused, Short, Stream, TooLarge, TooMany, Verdict}
 use Rattle.aig_refutation.specs.declared.error.RefutationError.{RefutationError}
 use Rattle.aig_calls.specs.Statuses.{many_steps, said_of_query, said_of_query_proof, said_of_window}
-use Rattle.aig_calls.specs.Calls.{TellsJoint, TellsJointProof}
+use Rattle.aig_calls.specs.Calls.{ShowsQuery, ShowsTwo, TellsJoint, TellsJointProof}
 use Rattle.aig_calls.specs.Parts.{IsErrWith, SaysJoint, SaysObliged, SaysOnly}
 use Rattle.aig_calls.proofs.Pairing.{both_whole}
 use Rattle.aig_calls.proofs.Saying.{no_query, no_window, window_no_query}
@@ -84,7 +87,7 @@ module _ {R S T E : Type 0} (wrap : CertificateError → E) (pairing : Pairing)
             whole.0,
             whole.1,
             says.0 ∙ settled_said (of whole.0) (answering.verdict_of asked) whole.2
-                (subst IsSettled says.0 settled),
+                settled,
           ),
         ),
       )
@@ -156,6 +159,22 @@ module _ {R S T E : Type 0} (pairing : Pairing)
       let both = both_whole (subst Told says told) bytes others is also (accepted x).0
       (accepted x).1 in
       (both.0, both.1, (both.2.0, both.2.1, shows x both.0 both.2.0 both.2.2))
+
+-- what the text of a proof shows its bytes show, where these are its text
+pub query_by_bytes : {text : Option (List ℕ)} {proof : List ℕ} {limit k : ℕ} {optimize : Bool}
+    {m : Circuit} {x : RefutationError}
+    → TellsOfQuery limit k optimize text m (Err (answers.Refutation x)) → text ≡ Some proof
+    → ShowsQuery k optimize proof m (Err x)
+query_by_bytes {k} {optimize} {m} {x} told is =
+    subst (λ t. TellsOfCircuit k optimize t m (Err (answers.Refutation x))) is (told.shown refl)
+
+pub two_by_bytes : {text : Option (List ℕ)} {proof : List ℕ} {limit : ℕ} {optimize : Bool}
+    {m : Circuit} {x : RefutationError}
+    → TellsOfTwo limit optimize text m (Err (answers.Refutation x)) → text ≡ Some proof
+    → ShowsTwo optimize proof m (Err x)
+two_by_bytes {optimize} {m} {x} told is =
+    subst (λ t. TellsOfCircuitWindow Plain 0 optimize t m (Err (answers.Refutation x))) is
+    (told.shown refl)
 
 -- nothing is said of a proof where K isn't below 2^32
 pub none_proof : (pairing : Pairing) (Shows : Circuit → Result (Unit {0}) RefutationError → Type 0)

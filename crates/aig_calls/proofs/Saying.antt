@@ -1,5 +1,5 @@
 -- What statuses with a flag say.
-use Rattle.aig_base.proofs.Words.{◌≡◌, ◌⊎◌, ℕ, zero, suc, ◌+◌, ◌-◌, ◌<◌, ◌≤◌, Option, None, Some, Result, Ok, Err, IfSome, refl, sym, ap, subst, inl, inr, arith, cases_lt, le-leb, le-ltb, lt-leb, lt-ltb}
+use Rattle.aig_base.proofs.Words.{◌≡◌, ◌⊎◌, ℕ, zero, suc, ◌+◌, ◌-◌, ◌<◌, ◌≤◌, ◌==◌, false, ne_eqb, Option, None, Some, Result, Ok, Err, IfSome, refl, sym, ap, subst, inl, inr, arith, cases_lt, le-leb, le-ltb, lt-leb, lt-ltb}
 use Rattle.aig_edits.specs.Joints.{first_verdict, second_verdict}
 use Rattle.aig_edits.specs.declared.error.PairError.TheVariants as pair
 use Rattle.aig_reader.specs.declared.error.ReadError.{ReadError}
@@ -147,12 +147,20 @@ errs_so so None is = tt
 errs_so so (Some (Ok done)) is = absurd is
 errs_so so (Some (Err x)) is = so x is
 
+-- a number above 0 isn't 0
+above_zero : (n : ℕ) → 1 ≤ n → (n == 0) ≡ false
+above_zero n least = ne_eqb n 0 (λ is. absurd (omega (arith, is, least)))
+
+no_zero : (n : ℕ) → (suc n == 0) ≡ false
+no_zero n = above_zero (suc n) (omega arith)
+
 -- nothing is said of a proof
 no_query_proof : (status : ℕ) → 1 ≤ status → status < 552 ⊎ 1024 ≤ status
     → said_of_query_proof status ≡ None
 no_query_proof zero least none = absurd (omega (arith, least))
-no_query_proof (suc n) least (inl low) = rw (lt-leb 552 (suc n) low)
+no_query_proof (suc n) least (inl low) = rw (no_zero n, lt-leb 552 (suc n) low)
 no_query_proof (suc n) least (inr high) = rw (
+  no_zero n,
   le-leb 552 (suc n) (omega (arith, high)),
   le-ltb
       (suc n) 1024 high,
@@ -160,13 +168,14 @@ no_query_proof (suc n) least (inr high) = rw (
 
 no_window_proof : (status : ℕ) → 1 ≤ status → status < 1064 → said_of_window_proof status ≡ None
 no_window_proof zero least low = absurd (omega (arith, least))
-no_window_proof (suc n) least low = rw (lt-leb 1064 (suc n) low)
+no_window_proof (suc n) least low = rw (no_zero n, lt-leb 1064 (suc n) low)
 
 flagged_query_proof : (status : ℕ) → 40 ≤ status → status < 60
     → said_of_query_proof (512 + status) ≡ said_of_proof status
 flagged_query_proof status least low =
     let back : (512 + status) - 512 ≡ status = omega arith in
     rw (
+      above_zero (512 + status) (omega arith),
       le-leb 552 (512 + status) (omega (arith, least)),
       lt-ltb (512 + status) 1024
           (omega (arith, low)),
@@ -177,7 +186,11 @@ flagged_window_proof : (status : ℕ) → 40 ≤ status
     → said_of_window_proof (1024 + status) ≡ said_of_proof status
 flagged_window_proof status least =
     let back : (1024 + status) - 1024 ≡ status = omega arith in
-    rw (le-leb 1064 (1024 + status) (omega (arith, least)), back)
+    rw (
+      above_zero (1024 + status) (omega arith),
+      le-leb 1064 (1024 + status) (omega (arith, least)),
+      back,
+    )
 
 -- a status with its flag is no less than without, and little more than the flag
 pub flagged_apart : (flag status : ℕ) → 2 ≤ status

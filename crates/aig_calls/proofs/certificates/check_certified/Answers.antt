@@ -7,7 +7,7 @@ use Rattle.aig_edits.specs.declared.pairing.Pairing.TheVariants.{Certificate}
 use Rattle.aig_calls.specs.Calls.{ShowsQuery, ShowsTwo}
 use Rattle.aig_calls.specs.Statuses.{done, said_of_query_proof, said_of_window_proof}
 use Rattle.aig_calls.proofs.Counts.{certified_unfit, counts_first_in, counts_second_in}
-use Rattle.aig_calls.proofs.Joining.{joint_query, joint_window, proof_refused, proof_taken}
+use Rattle.aig_calls.proofs.Joining.{joint_query, joint_window, proof_refused, proof_taken, query_by_bytes, two_by_bytes}
 use Rattle.aig_calls.proofs.Pairing.{both_whole, misfit_tells, no_misfit, pair_tells}
 use Rattle.aig_calls.proofs.certificates.check_certified.Goals as goal
 
@@ -82,7 +82,7 @@ returns-in-Err-clause-base c =
     (λ x. errors.Query (answers.Refutation x)) c.in-Err.error
     (said_of_query_proof c.of_certificate.result) c.of_certificate.ensures.query
     c.in-Err.ensures.reads (λ x. (refl, refl))
-    (λ x f g told. (told.0, told.1, rw c.new-base_lines.ensures.reader at (told.2.shown refl)))
+    (λ x f g told. (told.0, told.1, query_by_bytes told.2 (rw c.new-base_lines.ensures.reader)))
 
 pub returns-in-Err-clause-step : goal.returns-in-Err-clause-step
 returns-in-Err-clause-step c =
@@ -91,4 +91,4 @@ returns-in-Err-clause-step c =
     (λ x. errors.Window (answers.Refutation x)) c.in-Err.error
     (said_of_window_proof c.of_certificate.result) c.of_certificate.ensures.window
     c.in-Err.ensures.reads (λ x. (refl, refl))
-    (λ x f g told. (told.0, told.1, rw c.new-step_lines.ensures.reader at (told.3.shown refl)))
+    (λ x f g told. (told.0, told.1, two_by_bytes told.3 (rw c.new-step_lines.ensures.reader)))

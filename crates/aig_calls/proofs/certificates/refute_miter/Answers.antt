@@ -7,7 +7,7 @@ use Rattle.aig_edits.specs.declared.pairing.Pairing.TheVariants.{Miter}
 use Rattle.aig_calls.specs.Calls.{ShowsQuery}
 use Rattle.aig_calls.specs.Statuses.{done, said_of_query_proof}
 use Rattle.aig_calls.proofs.Counts.{equal_unfit, counts_first_in, counts_second_in}
-use Rattle.aig_calls.proofs.Joining.{joint_query, miter_low, proof_refused, proof_taken}
+use Rattle.aig_calls.proofs.Joining.{joint_query, miter_low, proof_refused, proof_taken, query_by_bytes}
 use Rattle.aig_calls.proofs.Pairing.{both_whole, misfit_tells, no_misfit, pair_tells}
 use Rattle.aig_calls.proofs.certificates.refute_miter.Goals as goal
 
@@ -73,4 +73,4 @@ returns-in-Err-clause-shown c =
     (λ x. errors.Query (answers.Refutation x)) c.in-Err.error
     (said_of_query_proof c.of_certificate.result) c.of_certificate.ensures.query
     c.in-Err.ensures.reads (λ x. (refl, refl))
-    (λ x f g told. (told.0, told.1, rw c.new-lines.ensures.reader at (told.2.shown refl)))
+    (λ x f g told. (told.0, told.1, query_by_bytes told.2 (rw c.new-lines.ensures.reader)))

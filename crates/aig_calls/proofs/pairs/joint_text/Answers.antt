@@ -1,7 +1,9 @@
 use Rattle.std.proofs.Common.{ℕ, List, Some, Vec, Global, ap, refl, sym, ◌∙◌}
 use Rattle.aig_format.specs.Circuit.{text_of}
 use Rattle.aig_calls.specs.Statuses.{done}
-use Rattle.aig_calls.proofs.Counts.{counts_first, counts_second, joint_unfit}
+use Rattle.aig_edits.proofs.Misfits.{unfit}
+use Rattle.aig_edits.specs.declared.error.PairError.TheVariants as pair
+use Rattle.aig_calls.proofs.Counts.{counts_first, counts_second, counts_tell, misfit_of}
 use Rattle.aig_calls.proofs.Making.{only_text}
 use Rattle.aig_calls.proofs.Pairing.{both_whole, misfit_tells, pair_tells}
 use Rattle.aig_calls.proofs.pairs.joint_text.Goals as goal
@@ -32,5 +34,5 @@ returns-in-Err c =
     record {
       said = pair_tells told bytes others (rw c.new-first.ensures.reader) (rw c.new-second.ensures.reader) c.of_pair.result says.first_said says.second_said;
       answer = tt;
-      misfit = (misfit_tells c.args.pairing told says bytes others (rw c.new-first.ensures.reader) (rw c.new-second.ensures.reader) (counts_first c.in-Err.error) (counts_second c.in-Err.error) refl refl (λ f g is refused. joint_unfit f g _ _ c.args.pairing _ _ c.in-Err.error is refused) (λ f g large. large), says.least, c.of_pair.ensures.own);
+      misfit = (misfit_tells c.args.pairing told says bytes others (rw c.new-first.ensures.reader) (rw c.new-second.ensures.reader) (counts_first c.in-Err.error) (counts_second c.in-Err.error) refl refl (λ f g is. counts_tell c.args.pairing pair.Misfit c.in-Err.error told (λ m f g refused. unfit c.args.pairing f g m refused) (misfit_of c.in-Err.error is) f g) (λ f g large. large), says.least, c.of_pair.ensures.own);
     }

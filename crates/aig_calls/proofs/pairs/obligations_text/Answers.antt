@@ -2,7 +2,11 @@ use Rattle.std.proofs.Common.{ℕ, List, Some, Vec, Global, ap, refl, sym, subst
 use Rattle.aig_checks.specs.Pairs.{IsObligationsText}
 use Rattle.aig_edits.specs.declared.pairing.Pairing.TheVariants.{Certificate}
 use Rattle.aig_calls.specs.Statuses.{done}
-use Rattle.aig_calls.proofs.Counts.{counts_first_by, counts_second_by, obliged_unfit}
+use Rattle.aig_certificates.specs.declared.error.CertificateError.TheVariants as certificate
+use Rattle.aig_checks.specs.declared.tool.CheckError.TheVariants as checks
+use Rattle.aig_edits.proofs.Misfits.{unfit}
+use Rattle.aig_edits.specs.declared.error.PairError.TheVariants as pair
+use Rattle.aig_calls.proofs.Counts.{counts_first_by, counts_second_by, counts_tell, misfit_by}
 use Rattle.aig_calls.proofs.Making.{only_text}
 use Rattle.aig_calls.proofs.Joining.{obliged_query, obliged_window}
 use Rattle.aig_calls.proofs.Pairing.{both_whole, misfit_tells, pair_tells}
@@ -46,8 +50,9 @@ returns-in-Err-clause-makes c =
         misfit_tells Certificate told says bytes others (rw c.new-first.ensures.reader)
             (rw c.new-second.ensures.reader) (counts_first_by c.in-Err.error)
             (counts_second_by c.in-Err.error) refl refl
-            (λ f g is refused. obliged_unfit f g _ _ c.args.optimize _ _ _ _ _ c.in-Err.error is
-            refused) (λ f g large. large),
+            (λ f g is. counts_tell Certificate (λ m. checks.Certificate (certificate.Pair (pair.Misfit m)))
+            c.in-Err.error told (λ m f g refused. unfit Certificate f g m refused)
+            (misfit_by c.in-Err.error is) f g) (λ f g large. large),
         says.least,
         c.of_obligations.ensures.own c.args.optimize told.own,
       );
