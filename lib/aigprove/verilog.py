@@ -111,6 +111,8 @@ SIMULATE = """read_rtlil replayed.il
 sim {clock} -r witness.aiw -map design.aim -hdlname -vcd run.vcd {top}
 """
 SPARE = "aigprove_clock"
+# How long the text of a small design is.
+SMALL = 1 << 17
 WIRE = re.compile(r"^  wire .*\\(\S+)$", re.MULTILINE)
 PATH = re.compile(r'[^\s"\\]+( [^\s"\\]+)+')
 FF = re.compile(r"^  cell \$ff (\S+)\n", re.MULTILINE)
@@ -270,7 +272,11 @@ class Design:
         reset = self.put_reset(module) if self.reset else ""
         clock = f"delete w:{self.clock[0]}\nopt_clean -purge" if self.clock else ""
         self.renames = "\n".join(f"rename {old} {new}" for old, new in [*stored(module), *free_names(module)])
-        self.yosys.run(WRITE, top=self.top, renames=self.renames, clock=clock, reset=reset)
+        words = {"top": self.top, "renames": self.renames, "clock": clock, "reset": reset, "spare": self.spare()}
+        # A small design is made ready to be simulated in the same run, where yosys can: another one's start takes longer.
+        self.is_replayed = len(self.yosys.text("whole.il")) <= SMALL and self.is_run(WRITE + "design -reset\n" + REPLAY, words)
+        if not self.is_replayed:
+            self.yosys.run(WRITE, **words)
         cells = self.yosys.modules("asserted.json").get(self.top, {"cells": {}})["cells"]
         return [(name, cell["attributes"].get("src", "").partition("|")[0], not cell["hide_name"]) for name, cell in cells.items()]
 
@@ -319,10 +325,24 @@ class Design:
         failed = FAILED.findall(printed.rpartition("Simulating cycle ")[2])
         return list(dict.fromkeys(failed)), self.yosys.text("run.vcd")
 
+    def is_run(self, script, words):
+        """Whether yosys runs a script to its end, in time."""
+        try:
+            self.yosys.run(script, **words)
+        except Late:
+            raise
+        except Fault:
+            return False
+        return True
+
+    def spare(self):
+        """The line that gives a design without a clock one, which yosys wants."""
+        return "" if self.clock else f"add -input {SPARE} 1"
+
     def replayed(self):
         """Has yosys make the module that it simulates, in which all signals of the design are."""
-        spare = "" if self.clock else f"add -input {SPARE} 1"
-        self.yosys.run(REPLAY, top=self.top, renames=self.renames, spare=spare)
+        if not self.is_replayed:
+            self.yosys.run(REPLAY, top=self.top, renames=self.renames, spare=self.spare())
         nets = self.top_of("drawn.json")[1]["netnames"]
         paths = {name: net["attributes"]["hdlname"] for name, net in nets.items() if PATH.fullmatch(net["attributes"].get("hdlname", ""))}
         placed = lambda line: f'  attribute \\hdlname "{paths[line[1]]}"\n{line[0]}' if line[1] in paths else line[0]
