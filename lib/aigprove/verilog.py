@@ -11,7 +11,7 @@ from aigprove.netlist import cells_like, cells_of, check_drivers, clock_of, cons
 from aigprove.netlist import base_of, modules_of, roots_of, stored
 from aigprove.programs import Fault, escaped, plain
 from aigprove.replay import Module
-from aigprove.yosys import Yosys
+from aigprove.yosys import Late, Yosys
 
 # By the end of a file's name: what reads it. The latches of BLIF have one clock.
 VERILOG = "read_verilog -formal -sv {include} {file}"
@@ -33,17 +33,14 @@ write_json {made}/drawn.json
 # Up to setundef no pass folds constants: an x is no constant of the design. Hierarchy, memories and asynchronous resets become flat
 # registers of one clock, whose every step is one of it. What is x, and what nothing drives, becomes an input. Of several names of a net
 # the one with most attributes stays.
-FREE = """read_rtlil below.il
-proc -noopt -norom
-flatten
-chformal -cover -live -fair -remove
+FREE = """chformal -cover -live -fair -remove
 opt_clean
-techmap -max_iter 1 -map free.v
+techmap -max_iter 1 -map {made}/free.v
 chtype -set $eq t:$eqx
 chtype -set $ne t:$nex
 memory_collect
 memory_memx
-techmap -map free.v -D ADDRESSES t:$nex
+techmap -map {made}/free.v -D ADDRESSES t:$nex
 {edges}
 memory_map -formal
 async2sync
@@ -52,14 +49,16 @@ setundef -undriven -anyseq
 opt -fine -noff -keepdc
 setattr -unset hdlname w:*
 setattr -set outer 1 w:* w:*.* %d
-write_rtlil whole.il
+write_rtlil {made}/whole.il
 opt_clean -purge
 setundef -undriven -undef
 delete t:$anyseq
 setundef -undriven -expose
-write_rtlil free.il
-write_json free.json
+write_rtlil {made}/free.il
+write_json {made}/free.json
 """
+# What is free in a design whose text was changed is made so in a run of its own.
+AGAIN = "read_rtlil below.il\nproc -noopt -norom\nflatten\n" + FREE
 # Registers of any clocks as such of all steps, which compare each clock with its last value.
 EDGES = "clk2fflogic\nchtype -set $eq t:$eqx"
 # While there are gates to be found, a register that is open at first is a cell that no pass looks into.
@@ -112,6 +111,8 @@ SIMULATE = """read_rtlil replayed.il
 sim {clock} -r witness.aiw -map design.aim -hdlname -vcd run.vcd {top}
 """
 SPARE = "aigprove_clock"
+# How long the text of a small design is.
+SMALL = 1 << 17
 WIRE = re.compile(r"^  wire .*\\(\S+)$", re.MULTILINE)
 PATH = re.compile(r'[^\s"\\]+( [^\s"\\]+)+')
 FF = re.compile(r"^  cell \$ff (\S+)\n", re.MULTILINE)
@@ -158,9 +159,11 @@ class Design:
     def __init__(self, files, words, folder, programs):
         if words.top and not WORD.fullmatch(words.top):
             raise Fault(f"{words.top} is no name of a module")
-        self.files, self.words, self.reset = files, words, words.reset
+        self.files, self.words, self.reset, self.edges = files, words, words.reset, EDGES if words.multiclock else ""
         self.yosys = Yosys(files, folder, programs, words.deadline)
         self.yosys.put("defines.v", "".join(f"`define {name} {value}\n" for name, value in words.define))
+        with open(os.path.join(os.path.dirname(__file__), "free.v"), encoding="utf-8") as file:
+            self.yosys.put("free.v", file.read())
         self.left_out = self.read(words.top)
         self.top, module = self.free()
         self.clock, self.constants = clock_of(self.top, module), constants(module)
@@ -183,22 +186,31 @@ class Design:
         lines = [f"{name} is a top module too, and not asked about" for name in others]
         return lines + [line for cell in every for line in self.passed_over(cell, cell.module[1:] in below)]
 
-    def script(self, top, made, copies, folders):
-        """The script that reads the design as far as a top module has it."""
+    def script(self, top, further, made, copies, folders):
+        """The script that reads the design as far as a top module has it, and goes on."""
         include = " ".join(f"-I {folder}" for folder in folders)
         fronts = [FRONTS[file.kind].format(file=copies[file.path], include=include) for file in self.files]
         if self.words.define:
             fronts.insert(0, VERILOG.format(file=f"{made}/defines.v", include=""))
         # A box whose outputs are free is an empty module.
         fronts += [f"setattr -mod -unset blackbox ={name}" for name in self.words.black_box]
-        return READ.format(fronts="\n".join(fronts), made=made, top=top)
+        return (READ + further).format(fronts="\n".join(fronts), made=made, top=top, edges=self.edges)
+
+    def is_read(self, top, further, is_needed=False):
+        """Reads the design as far as a top module has it, and goes on; whether yosys does, which it has to where that is needed."""
+        try:
+            self.yosys.read(functools.partial(self.script, top, further), self.words.include)
+        except Fault as why:
+            if is_needed or isinstance(why, Late):
+                raise type(why)("; ".join([str(why), *(hint for said, hint in HINTS.items() if said in str(why))])) from None
+            return False
+        return True
 
     def read_below(self, top):
         """Reads the design as far as a top module has it, and gives all its cells, and the names of the top module and those below."""
-        try:
-            self.yosys.read(functools.partial(self.script, top), self.words.include)
-        except Fault as why:
-            raise type(why)("; ".join([str(why), *(hint for said, hint in HINTS.items() if said in str(why))])) from None
+        self.is_free = self.is_read(top, FREE)
+        if not self.is_free:
+            self.is_read(top, "", is_needed=True)
         text = self.yosys.text("below.il")
         if place := item_of_x(text):
             raise Fault(f"{self.yosys.told(place)}: an item of this case is x or z")
@@ -207,7 +219,9 @@ class Design:
         if not below:
             raise Fault(f"{self.yosys.path} has no module")
         self.top = next((base_of(name) for name, own in modules.items() if TOP.search(own)), None)
-        self.yosys.put("below.il", opened(self.freed_boxes(text, modules)))
+        changed = opened(self.freed_boxes(text, modules))
+        self.is_free = self.is_free and changed == text
+        self.yosys.put("below.il", changed)
         return list(cells_of(self.yosys.text("all.il"))), below
 
     def parameters(self):
@@ -240,10 +254,9 @@ class Design:
             yield f"{KINDS[cell.type]} {cell.label} ({self.yosys.told(cell.place)}) is not asked about"
 
     def free(self):
-        """Makes inputs of what is free, and gives the name of the top module and what it has."""
-        with open(os.path.join(os.path.dirname(__file__), "free.v"), encoding="utf-8") as file:
-            self.yosys.put("free.v", file.read())
-        self.yosys.run(FREE, edges=EDGES if self.words.multiclock else "")
+        """Makes inputs of what is free, where that isn't done, and gives the name of the top module and what it has."""
+        if not self.is_free:
+            self.yosys.run(AGAIN, made=".", edges=self.edges)
         check_drivers(*self.top_of("drawn.json"))
         top, module = self.top_of("free.json")
         if not WORD.fullmatch(top):
@@ -259,7 +272,11 @@ class Design:
         reset = self.put_reset(module) if self.reset else ""
         clock = f"delete w:{self.clock[0]}\nopt_clean -purge" if self.clock else ""
         self.renames = "\n".join(f"rename {old} {new}" for old, new in [*stored(module), *free_names(module)])
-        self.yosys.run(WRITE, top=self.top, renames=self.renames, clock=clock, reset=reset)
+        words = {"top": self.top, "renames": self.renames, "clock": clock, "reset": reset, "spare": self.spare()}
+        # A small design is made ready to be simulated in the same run, where yosys can: another one's start takes longer.
+        self.is_replayed = len(self.yosys.text("whole.il")) <= SMALL and self.is_run(WRITE + "design -reset\n" + REPLAY, words)
+        if not self.is_replayed:
+            self.yosys.run(WRITE, **words)
         cells = self.yosys.modules("asserted.json").get(self.top, {"cells": {}})["cells"]
         return [(name, cell["attributes"].get("src", "").partition("|")[0], not cell["hide_name"]) for name, cell in cells.items()]
 
@@ -308,10 +325,24 @@ class Design:
         failed = FAILED.findall(printed.rpartition("Simulating cycle ")[2])
         return list(dict.fromkeys(failed)), self.yosys.text("run.vcd")
 
+    def is_run(self, script, words):
+        """Whether yosys runs a script to its end, in time."""
+        try:
+            self.yosys.run(script, **words)
+        except Late:
+            raise
+        except Fault:
+            return False
+        return True
+
+    def spare(self):
+        """The line that gives a design without a clock one, which yosys wants."""
+        return "" if self.clock else f"add -input {SPARE} 1"
+
     def replayed(self):
         """Has yosys make the module that it simulates, in which all signals of the design are."""
-        spare = "" if self.clock else f"add -input {SPARE} 1"
-        self.yosys.run(REPLAY, top=self.top, renames=self.renames, spare=spare)
+        if not self.is_replayed:
+            self.yosys.run(REPLAY, top=self.top, renames=self.renames, spare=self.spare())
         nets = self.top_of("drawn.json")[1]["netnames"]
         paths = {name: net["attributes"]["hdlname"] for name, net in nets.items() if PATH.fullmatch(net["attributes"].get("hdlname", ""))}
         placed = lambda line: f'  attribute \\hdlname "{paths[line[1]]}"\n{line[0]}' if line[1] in paths else line[0]
