@@ -26,11 +26,12 @@ from aiger import AND
 from harness import TESTS, TOP, repeated, spelled
 
 CLIENTS = TESTS / "clients"
-# What a status can't tell: the number of a step.
+# What a status can't tell: the number of a step, and counts that don't fit.
 NUMBERED = [
     (rb"\bstep \d+ has not a value", b"a step has not a value"),
     (rb"\bhold at step \d+\n", b"hold at a step\n"),
     (rb"\bup to step \d+\n", b"up to the step\n"),
+    (rb"\bdo not fit: \d+ and \d+ [a-z ]+\n", b"do not fit\n"),
 ]
 # The commands of the programs that have a call.
 CALLED = "text strash cnf query clauses window refuted inductive witness run certified equal miter join merge obligations bounded".split()
@@ -91,7 +92,7 @@ def table_rows():
 
 
 def told(program, printed):
-    """What a row's words give through a call: the status, the output and what is said, without the number of a step and what a program
+    """What a row's words give through a call: the status, the output and what is said, without what a status can't tell and what a program
     tells beside its answer."""
     status, out, said = answers.wanted_of(program, spelled(printed))
     said = harness.alone(said)
