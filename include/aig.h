@@ -23,9 +23,9 @@
  * word `raw` says the opposite. A proof and a solver's answer are of the clauses of the same `k` and `optimize`. A proof is in LRAT, as
  * text (cadical --lrat --no-binary), or in DRAT, as text or binary. A solver's answer is its lines `s SATISFIABLE` and `v ..`.
  *
- * Bad states are reached on runs that meet every constraint at each step: where there is no such run, none is. Justice and fairness are
- * read and not checked; `aig_cone`, `aig_reduce`, `aig_question`, `aig_miter` and `aig_join` drop them, other calls keep them. Names of
- * inputs and latches are kept, others dropped.
+ * Bad states are reached on runs that meet every constraint at each step: where there is no such run, none is (`aig_possible` asks for
+ * one). Justice and fairness are read and not checked; `aig_cone`, `aig_reduce`, `aig_question`, `aig_miter` and `aig_join` drop them,
+ * other calls keep them. Names of inputs and latches are kept, others dropped.
  */
 #ifndef AIG_H
 #define AIG_H
@@ -83,6 +83,7 @@ enum aig_status {
   AIG_NO_OUTPUT = 34,      /* There is no output of this number. */
   AIG_LARGE_QUESTION = 35, /* The question has more nodes than the limit while it is made. */
   AIG_MANY_BADS = 36,      /* There are constraints and more than one bad state property. */
+  AIG_NO_BAD = 37,         /* There is no bad state property of this number. */
 
   /* A proof is refused. */
   AIG_PROOF_CLAUSES = 40,    /* A literal of the clauses has no variable. Tests have never met it. */
@@ -160,6 +161,13 @@ uint32_t aig_compress_bads(const uint8_t *file, size_t file_len, uint8_t *out, s
 /* The text form of a file's circuit with its outputs as its bad state properties, and no outputs: files from before AIGER 1.9 have
  * no others. A file with bad state properties is refused. */
 uint32_t aig_outputs_as_bads(const uint8_t *file, size_t file_len, uint8_t *out, size_t out_len, size_t *needed);
+
+/* The text form of a file's circuit with its bad state property `n`, from 0 on, as the only one. */
+uint32_t aig_property_alone(const uint8_t *file, size_t file_len, size_t n, uint8_t *out, size_t out_len, size_t *needed);
+
+/* The text form of a file's circuit with true as its only bad state property: a bad state is reached at step K exactly where there is a
+ * run of K + 1 steps that meets every constraint at each of them. */
+uint32_t aig_possible(const uint8_t *file, size_t file_len, uint8_t *out, size_t out_len, size_t *needed);
 
 /* The text form of the cone of a file's output `n`, from 0 on: what it, the constraints and the latches read, with that output and the
  * constraints as the only properties. */

@@ -109,6 +109,18 @@ class Machine:
             if not states:
                 return None
 
+    def first_unmet(self):
+        """The first step from which on no run meets the constraints, if there is one."""
+        states, seen = self.starts(), set()
+        for k in itertools.count():
+            seen.add(frozenset(states))
+            steps = [values for state in states for _, values in self.steps(state)]
+            if not steps:
+                return k
+            states = set(map(self.following, steps))
+            if states in seen:
+                return None
+
     def is_shown(self, witness):
         """Whether a witness shows its bad state, by simulation."""
         state = tuple(bit == "1" for bit in witness.start)

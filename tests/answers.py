@@ -29,6 +29,7 @@ TABLES = {
     "answers/solutions.tsv": "aigcheck {}",
     "answers/certificates.tsv": "aigcheck {}",
     "answers/bounded.tsv": "aigcheck {}",
+    "answers/safe.tsv": "aigcheck {}",
     "answers/words.tsv": "aigcheck {}",
     "witnesses/rows.tsv": "aigcheck run {} GIVEN",
 }
@@ -73,6 +74,7 @@ MADE = {
     "ahead": AHEAD,
     "inputs": "aig 1100000 1100000 0 0 0 1\n2\n",
     "outputs": "aag 1 1 0 5000 0\n2\n" + "2\n" * 5000,
+    "first": "s SATISFIABLE\nv 2 0\n",
     "last": "s SATISFIABLE\nv -3 1100002 0\n",
     "late": f"s SATISFIABLE\nv -2 -3 {' '.join(str(-2 * i) for i in range(2, 3000))} 6000 -6002 0\n",
     "repeats": f"14 10{' 2' * COUNT} 0 13 0\n15 2 0{' 14' * COUNT} 13 10 11 2 6 0\n16 0 15 13 10 11 3 7 0\n",

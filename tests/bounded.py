@@ -5,6 +5,8 @@ Asks of FILES (500) random machines, with constraints, resets of all three kinds
 to a step K from 0 to 12, by one question: `aigcheck bounded`, cadical, and `aigcheck refuted FILE to K` or `witness FILE to K`, whose
 witness `aigcheck run` takes. Where a question is settled at once, the search has to find no bad state either. The file of `aigedit
 question` has an output that can be true exactly where the search finds one. Where a bad state is reached, mangled proofs are refused.
+Where none is, `aigcheck window` is asked, too: by cadical's proofs of both `aigcheck safe` says that no step is bad, and by neither of
+them for both, nor by that of a window where the first is refused.
 
 It ends with the first that differs, and else prints one line. It needs cadical, and is no part of tests/run."""
 import concurrent.futures
@@ -58,8 +60,10 @@ class Trial(Files):
         self.counts["settled"] += 1
         if self.is_reached or clauses or harness.unnamed(said) != f"aigcheck: no bad state up to step {self.step}\n".encode():
             self.fail(f"settled: {clauses} {said}")
-        if not self.refutes(self.put("empty", "")):
+        empty = self.put("empty", "")
+        if not self.refutes(empty):
             self.fail("an empty proof is refused")
+        self.compare_safe(empty)
 
     def compare_asked(self, clauses):
         """Compares a solver's answer."""
@@ -74,6 +78,25 @@ class Trial(Files):
             self.fail(f"a proof is refused: {Path(proof).read_text()}")
         else:
             self.counts["refuted"] += 1
+            self.compare_safe(proof)
+
+    def compare_safe(self, base):
+        """Asks for a window, and what both proofs show."""
+        form = self.rng.choice([[], ["distinct"]])
+        words = [self.file, str(self.step), *form, *self.setting]
+        path, step = self.put("window.cnf", output([CHECK, "window", *words])), str(self.folder / "step")
+        status, _, _ = harness.run(["cadical", "-q", "--no-binary", path, step])
+        shown = self.is_safe(base, step, *form)
+        if shown != (status == 20) or shown and self.first is not None:
+            self.fail(f"safe {form}: {shown}, and cadical ends with {status}")
+        if self.first is not None and self.is_safe(base, base, *form):
+            self.fail(f"safe {form}: by one proof for both")
+        self.counts["safe" if shown else "no window"] += 1
+
+    def is_safe(self, base, step, *form):
+        """Whether aigcheck takes proofs that no bad state is reached at any step."""
+        words = [self.file, "to", str(self.step), base, step, *form, *self.setting]
+        return self.takes("no bad state at any step", "safe", *words)
 
     def compare_witness(self, solution):
         """Compares the witness of a solution."""

@@ -36,8 +36,8 @@ NUMBERED = [
 # The commands of the programs that have a call.
 CALLED = "text strash cnf query clauses window refuted inductive witness run certified equal miter join merge obligations bounded".split()
 # The edits among them, with the names of their calls.
-EDITS = {name: name for name in "refine reencode unroll cone reduce question info".split()}
-EDITS |= {"move": "move_constraints", "compress": "compress_bads", "bads": "outputs_as_bads"}
+EDITS = {name: name for name in "refine reencode unroll possible cone reduce question info".split()}
+EDITS |= {"move": "move_constraints", "compress": "compress_bads", "bads": "outputs_as_bads", "property": "property_alone"}
 # Those that take the setting of clauses.
 SET = "cnf query clauses numbers window bounded refuted inductive witness certified equal obligations".split()
 # The statuses that say what another one is about.

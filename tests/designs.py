@@ -20,6 +20,8 @@ from aigprove.aiger import Circuit, Header, Lines
 DESIGNS = TESTS / "designs"
 # How many values a witness has at most whose every value is tried.
 SHORT = 60
+# How the last line of an answer about a file with constraints begins.
+MET = "the assumptions can be met up to step "
 # A design that another file is beside, and names for it.
 UNSAFE = """`include "q.vh"
 module top(input clk, input d); reg q = `INITIAL; always @(posedge clk) q <= d;
@@ -42,7 +44,7 @@ def is_right(answer, status, printed):
     if answer == "open":
         return status == 0 and lines[-1].startswith("no bad state up to step ")
     if answer == "safe":
-        return status == 20 and lines[-1] == "no bad state at any step"
+        return status == 20 and [line for line in lines if not line.startswith(MET)][-1] == "no bad state at any step"
     steps = [int(line.split()[5].rstrip(":")) for line in lines if line.startswith("a bad state at step ")]
     return status == 10 and len(steps) == 1 and steps[0] >= int(answer)
 
@@ -60,7 +62,7 @@ def needed(folder):
     for line in (folder / "check.sh").read_text().splitlines():
         verb, *words = shlex.split(line) or [""]
         if verb == "shows" and words[1] != "run":
-            first, count = {"certified": (4, 2), "equal": (5, 1)}.get(words[1], (5 if words[3] == "to" else 4, 1))
+            first, count = {"certified": (4, 2), "equal": (5, 1), "safe": (5, 2)}.get(words[1], (5 if words[3] == "to" else 4, 1))
             for proof in words[first:first + count]:
                 tried = [*words[1:words.index(proof)], "/dev/stdin", *words[words.index(proof) + 1 :]]
                 if harness.run([CHECK, *tried], cwd=folder, input=b"0\n")[0] != 0:

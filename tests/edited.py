@@ -1,10 +1,11 @@
 #!/usr/bin/env python3
 """Compares the machines of files that aigedit prints with those of the files that it reads: edited.py [--aigedit PATH] [FILES [SEED]]
 
-For the examples and for FILES (200) random files a search over all states says at which of the first steps a bad state or a true
+For the examples and for FILES (300) random files a search over all states says at which of the first steps a bad state or a true
 output is reached by a run that meets the constraints. What is printed is read by tests/aiger.py, and has to reach bad states at the
 steps that the command says. The files are small, so that the search is over all runs.
 """
+import dataclasses
 import random
 import sys
 
@@ -12,7 +13,9 @@ import harness
 from aiger import Machine, machine_of
 
 EXAMPLES = sorted((harness.TOP / "examples").glob("*.aag"))
-LAST = 4
+LAST = 6
+# The last step that files are unrolled to.
+UNROLLED = 3
 
 
 def literals(rng, most, count):
@@ -29,7 +32,7 @@ def random_machine(rng):
         made.append([2 * (len(leaves) + place + 1), *sorted(literals(rng, below, 2), reverse=True)])
     most = 2 * (len(leaves) + gates) + 1
     states = [[leaf, rng.randint(0, most), rng.choice([0, 1, leaf])] for leaf in leaves[inputs:]]
-    lists = (literals(rng, most, rng.randint(0, count)) for count in (3, 2, 2))
+    lists = (literals(rng, most, rng.randint(0, count)) for count in (3, 3, 2))
     return Machine(leaves[:inputs], states, *lists, fairness=literals(rng, most, rng.randint(0, 1)), gates=made)
 
 
@@ -83,6 +86,20 @@ class Edits:
         """Checks that a bad state is reached at the same steps."""
         self.tally.wants(f"{what}\n{(self.folder / 'file').read_text()}", wanted, given)
 
+    def refuses(self, why, *words):
+        """Checks that a command is refused, which says why."""
+        status, out, said = harness.run([self.program, *words], cwd=self.folder)
+        self.tally.wants(f"{words}, which is refused", (1, b"", True), (status, out, why in said))
+
+    def check_bads(self, machine):
+        """Checks the commands that give a file another bad literal alone, and what of it stays."""
+        alone = {("possible",): 1} | {("property", str(n)): bad for n, bad in enumerate(machine.bads)}
+        for (command, *number), bad in alone.items():
+            made = self.edited(command, "file", *number)
+            self.compare(f"{command} {number}", reached(machine, [bad]), reached(made, made.bads))
+            self.compare(f"the rest of {command} {number}", dataclasses.replace(machine, bads=[bad]).text(), made.text())
+        self.refuses(b"no such bad state property", "property", "file", str(len(machine.bads)))
+
     def check(self, machine, other):
         """Checks each command on a file, and the one that merges it with another."""
         (self.folder / "file").write_text(machine.text())
@@ -93,9 +110,8 @@ class Edits:
             made = self.edited(command, "file")
             self.compare(command, bads, reached(made, made.bads))
         if not is_movable:
-            status, out, said = harness.run([self.program, "move", "file"], cwd=self.folder)
-            self.tally.wants("a move that is refused", (1, b"", True), (status, out, b"several bad state properties" in said))
-        for k in range(LAST):
+            self.refuses(b"several bad state properties", "move", "file")
+        for k in range(UNROLLED + 1):
             made = self.edited("unroll", "file", str(k))
             self.compare(f"unroll {k}", reached_by(machine, k), 0 in reached(made, made.bads))
             if machine.bads:
@@ -104,6 +120,7 @@ class Edits:
         if not machine.bads:
             made = self.edited("bads", "file")
             self.compare("bads", reached(machine, machine.outputs), reached(made, made.bads))
+        self.check_bads(machine)
         self.compare("info", counts(machine), self.printed("info", "file"))
         for n, output in enumerate(machine.outputs):
             made = self.edited("cone", "file", str(n))
@@ -115,7 +132,7 @@ class Edits:
 
 def main():
     parser = harness.parser(__doc__, "aigedit")
-    parser.add_argument("files", nargs="?", type=int, default=200)
+    parser.add_argument("files", nargs="?", type=int, default=300)
     parser.add_argument("seed", nargs="?", type=int, default=1)
     given, tally = parser.parse_args(), harness.Tally()
     rng = random.Random(given.seed)

@@ -3,9 +3,11 @@
 
 The rows of flow/rows.tsv are calls as SymbiYosys makes them of the solvers of its engine `aiger`, told from memory of its source, which isn't
 installed: in a folder with the model that yosys made; and what it makes of each line and of the exit status. Each has to come to the status
-that is wanted, by reading the design, and yosys has to see the assertion fail where it runs the trace. Then what -q, -v and - do, and what
+that is wanted, by reading the design, `yosys-witness` has to take the trace as it is, by the tool's own call, and yosys has to see the
+assertion fail where it runs it. Then what -q, -v and - do, and what
 the man pages say."""
 import argparse
+import json
 import shutil
 import subprocess
 import sys
@@ -33,7 +35,7 @@ dffunmap
 abc -g AND -fast
 opt_clean
 aigmap
-write_aiger -I -B -zinit -no-startoffset -map model/design_aiger.aim model/design_aiger.aig
+write_aiger -I -B -zinit -no-startoffset -map model/design_aiger.aim -ywmap model/design_aiger.ywa model/design_aiger.aig
 """
 REPLAY = """read_verilog -formal -sv design.v
 prep -top {top}
@@ -75,6 +77,11 @@ def flows(tally, folder):
         status, trace, code = called(f"{PROVE} --aiger {options}".strip(), here)
         tally.wants((design, options), (wanted, 0), (status, code))
         if status == "FAIL":
+            (here / "trace.aiw").write_text("".join(f"{line}\n" for line in trace))
+            words = ["yosys-witness", "aiw2yw", "trace.aiw", "model/design_aiger.ywa", "trace.yw"]
+            tally.wants((design, words), 0, harness.run(words, cwd=here)[0])
+            steps = json.loads((here / "trace.yw").read_text())["steps"]
+            tally.wants((design, "steps"), len(trace) - 4, len(steps))
             # Yosys reads no x, and passes over empty lines.
             (here / "trace.aiw").write_text("".join(f"{line.replace('x', '0')}\n" for line in trace))
             last = yosys(REPLAY.format(top=top), here).rpartition("Simulating cycle ")[2]

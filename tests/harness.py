@@ -21,11 +21,13 @@ sys.dont_write_bytecode = True
 USAGE = {
     "aigtool": b"usage: aigtool text FILE, binary FILE OUT, strash FILE, cnf FILE K [raw], query FILE K [raw]\n",
     "aigedit": b"usage: aigedit [--limit N] refine FILE, reencode FILE, unroll FILE K, move FILE, compress FILE, bads FILE, "
-    b"reduce FILE, cone FILE N, question FILE K, info FILE, miter FILE OTHER, join FILE CERT, merge FILE OTHER\n",
+    b"property FILE N, possible FILE, reduce FILE, cone FILE N, question FILE K, live FILE J, info FILE, miter FILE OTHER, "
+    b"join FILE CERT, merge FILE OTHER\n",
     "aigcheck": b"usage: aigcheck [--limit N] clauses FILE K [raw], window FILE K [distinct] [raw], refuted FILE K PROOF [raw], "
     b"inductive FILE K PROOF [distinct] [raw], witness FILE K SOLUTION [raw], run FILE WITNESS, "
     b"certified FILE CERT BASE STEP [raw], equal FILE OTHER K PROOF [raw], obligations FILE CERT [raw], "
-    b"bounded FILE K [raw], refuted FILE to K PROOF [raw], witness FILE to K SOLUTION [raw]\n",
+    b"bounded FILE K [raw], refuted FILE to K PROOF [raw], witness FILE to K SOLUTION [raw], "
+    b"safe FILE to K BASE STEP [distinct] [raw]\n",
 }
 TOOL, EDIT, CHECK = (str(TOP / "crates" / name / "out" / name) for name in ["aigtool", "aigedit", "aigcheck"])
 PROVE = str(TOP / "bin" / "aigprove")
@@ -34,7 +36,7 @@ SECONDS = 100
 REPEATED = re.compile(r"\{([^{}]*)\}\*(\d+)")
 SPELLED = re.compile(r"\\n|\\x([0-9a-f]{2})")
 # The file that a program names behind its own name in a line, and the place there.
-NAMED = re.compile(rb"^(aigcheck|aigedit): (?!query: |window: )[^ :]+: (?:(?:line|byte) \d+: )?", re.M)
+NAMED = re.compile(rb"^(aigcheck|aigedit): (?!query: |window: |base: |step: )[^ :]+: (?:(?:line|byte) \d+: )?", re.M)
 # What a program tells of files beside its answer.
 NOTICES = [b"justice and fairness were not looked at", b"compared only on runs that its constraints allow"]
 BESIDE = re.compile(rb"^aig(?:check|edit): (?:.*: )?(?:%s)\n" % b"|".join(NOTICES), re.M)

@@ -2,19 +2,27 @@
 """Holds the links, the paths and the Rust of README.md and docs/*.md against the repository: links.py
 
 Each relative link has to lead to a file or folder of the repository, and its anchor to a heading of that page, by the rule of
-GitHub. A name in the text of a link to a file of code or definitions has to stand in that file. A code span that is the path of
-a file, from the top, from crates/ or from a crate, has to lead to one. Each block of the kind `rust` has to stand, line by line,
-in a file of crates/ or examples/.
+GitHub. A name in the text of a link to a file of code or definitions has to stand in that file. A word of a code span has to lead
+to a file or folder where it is a path from the top, from crates/, or from specs/, src/ or proofs/ of a crate; so has the name of a
+file of code alone, in a crate that the line names. A part in capitals, or with a star, stands for
+any name, and what follows it isn't looked at. Each block of the kind `rust` has to
+stand, line by line, in a file of crates/ or examples/.
 """
+import collections
 import re
 import sys
 
 from harness import TOP
 
 BLOCK = re.compile(r"^```(\w*)[^\n]*\n(.*?)^```$", re.DOTALL | re.MULTILINE)
-PATH = re.compile(r"`([\w.-]+/[\w./-]+\.(?:rt|antt|py|sh|md))`")
+SPAN = re.compile(r"`([^`]+)`")
+FILE = re.compile(r"[\w-]+\.(rt|antt|py|sh|md|tsv|steps)")
+ANY = re.compile(r"[A-Z][A-Z_]+(?:\.\w+)?|.*\*.*")
+OF_CRATES = ("specs", "src", "proofs", "must-fail")
 LINK = re.compile(r"\[([^\]]*)\]\(([^)\s]*)\)")
 CODE = (".rt", ".antt")
+# Files that a reader makes.
+EXAMPLES = ("check.sh",)
 
 
 def anchors(text):
@@ -44,11 +52,43 @@ def link_faults(page, text):
                     yield f"{name} doesn't stand in {target}"
 
 
-def path_faults(text):
-    """The paths in code spans that lead nowhere."""
-    for path in PATH.findall(BLOCK.sub("", text)):
-        if not any((start / path).exists() for start in [TOP, TOP / "crates", *TOP.glob("crates/*")]):
-            yield f"no such file: {path}"
+class Files:
+    """The files and folders of the repository that code spans may name."""
+
+    def __init__(self):
+        self.crates = {path.name: path for path in TOP.glob("crates/*") if path.is_dir()}
+        self.top = {path.name for path in TOP.iterdir() if path.is_dir() and path.name != ".git"}
+        self.named = collections.defaultdict(list)
+        for folder in ["crates", "tests", "docs", "bench", "examples", "lib"]:
+            for path in (TOP / folder).rglob("*"):
+                self.named[path.name].append(path)
+
+    def leads(self, parts, crates):
+        """Whether a path leads to a file or folder; of one within a crate, in one of these crates, or in any where there is none."""
+        if parts[0] in self.top:
+            return (TOP / "/".join(parts)).exists()
+        if parts[0] in self.crates:
+            return (TOP / "crates" / "/".join(parts)).exists()
+        return any((crate / "/".join(parts)).exists() for crate in crates or self.crates.values())
+
+    def is_there(self, name, crates):
+        """Whether there is a file of this name, and if it is one of code in these crates, where there are some."""
+        is_code = FILE.fullmatch(name)[1] in ("rt", "antt")
+        places = self.named.get(name, ())
+        return any(not is_code or not crates or any(place.is_relative_to(crate) for crate in crates) for place in places)
+
+    def faults(self, text):
+        """The paths and names of files in code spans that lead nowhere."""
+        for line in BLOCK.sub("", text).split("\n"):
+            crates = []
+            for word in (word.strip("/,") for span in SPAN.findall(line) for word in span.split()):
+                parts = word.split("/")
+                crates += [self.crates[parts[0]]] if parts[0] in self.crates else []
+                parts = parts[:next((at for at, part in enumerate(parts) if ANY.fullmatch(part)), len(parts))]
+                if len(parts) > 1 and (parts[0] in (*self.top, *self.crates, *OF_CRATES) or parts[0].startswith("aig_")):
+                    yield from [f"no such file: {word}"] * (not self.leads(parts, crates))
+                elif FILE.fullmatch(word) and word not in EXAMPLES:
+                    yield from [f"no such file: {word}"] * (not self.is_there(word, crates))
 
 
 def rust_faults(text, sources):
@@ -61,11 +101,11 @@ def rust_faults(text, sources):
 def main():
     pages = [TOP / "README.md", *sorted(TOP.glob("docs/*.md"))]
     sources = [path.read_text() for pattern in ["crates/*/src/**/*.rt", "examples/*/*.rt.txt"] for path in TOP.glob(pattern)]
-    wrong, links = [], 0
+    files, wrong, links = Files(), [], 0
     for page in pages:
         text = page.read_text()
         links += len(LINK.findall(text))
-        faults = [*link_faults(page, text), *path_faults(text), *rust_faults(text, sources)]
+        faults = [*link_faults(page, text), *files.faults(text), *rust_faults(text, sources)]
         wrong += [f"{page.relative_to(TOP)}: {fault}" for fault in faults]
     print("\n".join([*wrong, f"{len(pages)} pages, {links} links, {len(wrong)} faults"]))
     sys.exit(1 if wrong else 0)

@@ -4,7 +4,7 @@
 Every call that takes memory is made by a step of aig_script (memory/calls.tsv), once for each of its own requests for memory, with that
 request refused, upwards until a run ends without a refusal. A refused call answers that memory ran out and nothing else, and leaves its
 receiver as it was; the last run answers what ample memory answers. The same of each command of aigtool, aigedit and aigcheck, which says
-`out of memory` after its program's name (and of the second of two files that it is that one), ends with status 1, prints at most a
+`out of memory` after its program's name (and of what, where there are several files or proofs), ends with status 1, prints at most a
 beginning, and leaves an old OUT as it was.
 
 Requests are counted as well: long lines and comments make none, ands that fold and changes of entries make none, and no number of a
@@ -155,7 +155,7 @@ class Program:
             ended = self.shim.run([self.path, *words], room, refused)
             if ended.requests < refused:
                 break
-            told = [f"{self.name}: {part}out of memory\n".encode() for part in ("", "other file: ", "query: ", "window: ")]
+            told = [f"{self.name}: {part}out of memory\n".encode() for part in ("", "other file: ", "query: ", "window: ", "base: ", "step: ")]
             if ended.status != 1 or ended.err not in told or not out.startswith(ended.out):
                 wrong.append(f"{name}, request {refused}: status {ended.status}, {ended.err}")
             if self.contents(room) != files:

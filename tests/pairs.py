@@ -117,7 +117,7 @@ class Pair(Files):
             last = proof
         if self.abc_command:
             self.compare_abc(first)
-        self.compare_proved(first)
+        self.compare_proved(first, made.first_unmet())
         self.counts["equal" if first is None else "different"] += 1
         return self.counts
 
@@ -131,11 +131,15 @@ class Pair(Files):
             self.fail(f"a search finds a difference at step {first}, and ABC: {printed}")
         self.counts[f"by {self.abc_command}" if told else "not told by ABC"] += 1
 
-    def compare_proved(self, first):
-        """Compares what aigprove says, and what it keeps."""
+    def compare_proved(self, first, unmet):
+        """Compares what aigprove says, and what it keeps. Where no run meets the constraints of both files from a step on, the answer is
+        empty."""
         keep = self.folder / "kept"
-        printed = output([PROVE, "--equal", self.other, self.file, "--keep", str(keep)], [10, 20])
-        if printed.endswith("\nequal at every step\n") != (first is None) or ("\na difference" in f"\n{printed}") == (first is None):
+        status, printed, said = harness.run([PROVE, "--equal", self.other, self.file, "--keep", str(keep)])
+        printed = printed.decode()
+        if status != (10 if first is not None else 20 if unmet is None else 0):
+            self.fail(f"a search finds a difference at step {first}, and no run from step {unmet} on, and aigprove: {status} {printed} {said}")
+        if ("\nequal at every step\n" in printed) != (first is None) or ("\na difference" in f"\n{printed}") == (first is None):
             self.fail(f"a search finds a difference at step {first}, and aigprove: {printed}")
         again = harness.shown_again(keep)
         (keep / "other.aag").write_bytes(inverted((keep / "other.aag").read_bytes()))

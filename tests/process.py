@@ -42,6 +42,7 @@ OPENED = [
     "aigcheck equal file other 0 proof",
     "aigcheck obligations file other",
     "aigcheck certified file other proof step",
+    "aigcheck safe file to 0 proof step",
 ]
 NEW_OUT = ".part"
 # The events of Linux's inotify that a file was opened and closed, without which two equal ones would be told as one; and the head of what

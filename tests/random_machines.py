@@ -3,10 +3,10 @@
 
 For the examples and for FILES (300) random files, with constraints, resets of all three kinds, several bad states and odd names:
 each answer of bin/aigprove, by each engine alone and by all together, is that of a search over all states, and that of ABC's bmc3
-and pdr. What it prints is the witness that it writes, by names that tell signals apart, and what it keeps is shown again by
-check.sh. `aigcheck run` takes that witness and ABC's counterexamples, and takes a witness that is turned at one place exactly
-where a simulation says that it still shows its bad state. `aigcheck refuted` takes none of TRIES (1000) proofs of other clauses,
-mangled, for steps at which a bad state is reached.
+and pdr; where none is reached, it says from which step on the constraints can't be met, if there is one. What it prints is the witness
+that it writes, by names that tell signals apart, and what it keeps is shown again by check.sh. `aigcheck run` takes that witness and
+ABC's counterexamples, and takes a witness that is turned at one place exactly where a simulation says that it still shows its bad state.
+`aigcheck refuted` takes none of TRIES (1000) proofs of other clauses, mangled, for steps at which a bad state is reached.
 
 It ends at the first that differs, and else prints one line. The solver and ABC are the Debian packages cadical and berkeley-abc. It is
 no part of tests/run."""
@@ -33,6 +33,8 @@ EXAMPLES = [str(TOP / "examples" / f"{name}.aag") for name in ["credits", "queue
 BOUND = 6
 # Engines that show the steps up to the bound.
 BY_STEPS = ["steps", "steps,windows", "steps,windows,bmc3,pdr", "bounded"]
+# Engines whose runs need not be the shortest.
+LATER = ["pdr", "windows", "steps,windows,bmc3,pdr"]
 NAMES = ["a", "a", "a b", "a=1", "i0", "l1", "b0", '"a"', "é", "a\\b", "x[0]", "\t", "i0:a", "d[0]", "d[0]", "d[1]", "d[1]", "d[2]", "d"]
 # A signal as it is printed, and its value: its place, a word, or a JSON string that may stand behind the place.
 SIGNAL = re.compile(r'((?:[il]\d+:)?"(?:[^"\\]|\\.)*"|[^\s"=]+)=(?:([01-])|(\d+)\'(?:h([0-9a-f]+)|b([01-]+)))(?: |$)')
@@ -131,7 +133,7 @@ class Trial(Files):
 
     def __init__(self, machine, folder):
         super().__init__(folder)
-        self.machine, self.first = machine, machine.first_bad()
+        self.machine, self.first, self.unmet = machine, machine.first_bad(), machine.first_unmet()
         self.text, self.binary = self.put("made.aag", machine.text()), str(self.folder / "made.aig")
         output([TOOL, "binary", self.text, self.binary])
         # ABC takes no two signals of one name.
@@ -150,7 +152,7 @@ class Trial(Files):
         self.compare_proved(self.text, self.machine.names, "bounded", self.first_to(BOUND))
         self.compare_proved(self.text, self.machine.names, "bmc3", self.first_to(BOUND))
         self.compare_proved(self.binary, binary_names, "pdr", self.first)
-        # What windows show needs the steps before them.
+        # Windows may come to a run, by the steps before one that nothing leaves.
         self.compare_proved(self.text, self.machine.names, "windows", None)
         self.compare_proved(self.text, self.machine.names, "steps,windows,bmc3,pdr", self.first)
         self.compare_abc("bmc3", f"bmc3 -F {BOUND + 1}", BOUND)
@@ -166,32 +168,50 @@ class Trial(Files):
         there is a first step, and be no longer by engines that look for the shortest."""
         keep, written = f"{file}-{engines}", self.folder / "witness"
         words = [PROVE, "--engine", engines, *options, file, "--witness", str(written), "--bound", str(BOUND), "--keep", keep]
-        printed = output(words, [0, 10, 20])
-        *lines, end = printed.split("\n")[:-1]
+        status, printed, said = harness.run(words)
+        printed, wanted = printed.decode(), 0
+        *lines, end = printed.split("\n")[:-1] or [""]
+        assumed, end = (end, lines.pop()) if end.startswith("the assumptions ") else (None, end)
         # What was shown on the way says nothing of the answer.
         lines = [line for line in lines if not line.startswith(("no bad state at step ", "no bad state up to step "))] + [end]
-        if first is not None:
+        if first is not None or (engines == "windows" and status == 10):
             witness = read(Lines(written.read_bytes(), "WITNESS"), len(self.machine.latches), len(self.machine.inputs))
             self.compare_lines(lines, witness, names)
             filled = list(fillings(witness))
             if not (self.is_taken(witness) and all(map(self.machine.is_shown, filled))):
                 self.fail(f"not each filling is a witness: {witness}")
             self.counts["fillings"] += len(filled)
-            self.compare_witness(filled[0], len(witness.steps) - 1 == first or ("pdr" in engines and len(witness.steps) > first))
+            is_later = engines in LATER and self.first is not None and len(witness.steps) > self.first
+            self.compare_witness(filled[0], len(witness.steps) - 1 == first or is_later)
             self.counts["reached"] += 1
+            wanted = 10
         elif lines[-1:] == ["no bad state at any step"] and self.first is None:
-            self.counts["proved safe"] += 1
+            self.counts["proved safe" if self.unmet is None else "proved empty"] += 1
+            wanted = 20 if self.unmet is None else 0
+            self.compare_assumed(assumed)
         elif lines == [f"no bad state up to step {BOUND}" if engines in BY_STEPS else "nothing was shown"] and engines != "pdr":
             self.counts["open"] += 1
         else:
             self.fail(f"aigprove: {printed}")
-        self.compare_kept(keep, printed, ("no bad state at", "no bad state up to") if engines == "bounded" else "no bad state at")
+        if status != wanted:
+            self.fail(f"aigprove ends with {status}, and not with {wanted}: {printed} {said}")
+        self.compare_kept(keep, printed, ["no bad state at", *["no bad state up to"] * (engines == "bounded")])
+
+    def compare_assumed(self, line):
+        """Compares what is said of constraints with a search, where none of the machine's runs that meet them is bad."""
+        wanted = f"the assumptions can't be met from step {self.unmet} on: the answer is empty"
+        is_met = self.unmet is None and line and re.fullmatch("the assumptions can be met up to step [0-9]+", line)
+        if not (is_met or line == wanted if self.machine.constraints else line is None):
+            self.fail(f"the first step at which the constraints can't be met is {self.unmet}, and aigprove says {line}")
 
     def compare_kept(self, folder, printed, heads):
-        """Has what was kept shown again, which prints the same lines with these heads, but for those of a run."""
+        """Has what was kept shown again, which prints the same lines with these heads, but for those of a run, and those behind the answer
+        of which aigcheck says something of the constraints."""
         again = harness.shown_again(folder) or ""
-        shown = [line for line in printed.splitlines() if line.startswith(heads)]
-        if [line for line in again.splitlines() if line[0] != "b"] != shown:
+        shown = [line for line in printed.splitlines() if line.startswith((*heads, "the assumptions"))]
+        own, answer, behind = again.partition("no bad state at any step\n")
+        given = [line for line in (own + answer).splitlines() if line[0] != "b"]
+        if given + [line for line in behind.splitlines() if line.startswith("the assumptions")] != shown:
             self.fail(f"check.sh prints {again}, and aigprove {printed}")
 
     def compare_lines(self, lines, witness, names):

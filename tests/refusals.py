@@ -22,6 +22,8 @@ LEMMA = re.compile(r"(?:\./)?proofs/\S+\.antt:\d+:\d+: error: (?:`([^`]+)`: )?(.
 RESTS = re.compile(r"that depends? on `([^`]+)`, which was \D+, w\w+ not checked: (.*)")
 # An error in src is a law of an impl that doesn't hold, if it has the law's name, and else, as in specs, a text that can't be read.
 LAW = re.compile(r"(?:\./)?(?:src|specs)/(\S+)\.\w+:\d+:\d+: error(?:: `([^`]+)`)?(.*)")
+# What a check with several jobs tells on the way comes again behind.
+AHEAD = "so far: "
 # An error's line goes on in the next.
 WRAPPED = re.compile(r"(: error[^\n]*)\n  ")
 HEAD = re.compile(r"( *)(?:pub(?:\([a-z]+\))? )?(?:const )?(?:unsafe )?(?:extern \"C\" )?fn (\w+)")
@@ -60,7 +62,8 @@ def refused(name, why, broken):
 def states(said):
     """What a check said of each function, by its name; None where it didn't come to that."""
     found, notes, broken = collections.defaultdict(State), [], set()
-    for line in WRAPPED.sub(r"\1 ", said).splitlines():
+    lines = [line for line in said.splitlines() if not line.startswith(AHEAD)]
+    for line in WRAPPED.sub(r"\1 ", "\n".join(lines)).splitlines():
         notes += NOTE.findall(line)
         if answer := ANSWER.match(line):
             state, names, rests = found[answer[1].replace("/", "::")], refused(answer[2], answer[3], broken), RESTS.search(answer[3])

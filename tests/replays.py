@@ -21,6 +21,15 @@ DESIGNS = [
     (["tests/verilog/counter.v", "tests/verilog/parts/add_one.v", "-Itests/verilog/limits", "-DMORE=1"],
      ["-Itests/verilog/limits", "-DMORE=1"], ["adder.more", "adder.value"]),
     (["tests/verilog/states.sv", "--reset", "rst_n=0"], [], []),
+    (["tests/verilog/fifo.v"], [], ["full", "pushes"]),
+    (["tests/verilog/arbiter.v"], [], ["each[0].has", "each[2].has"]),
+    (["tests/verilog/uart.v"], [], ["line", "shift"]),
+    (["tests/verilog/registers.v", "registers"], [], ["cells.q"]),
+    (["tests/verilog/lights.sv"], [], ["north.phase", "east.green"]),
+    (["tests/verilog/watchdog.v"], [], ["late"]),
+    (["tests/verilog/delay.v"], [], ["chain[0].stage.q", "between"]),
+    (["tests/verilog/gray.v"], [], ["changed"]),
+    (["tests/verilog/stack.v"], [], ["top", "pops"]),
 ]
 BENCH = """module bench;
   reg clk = 0;
@@ -124,7 +133,7 @@ def main():
     for words, flags, needed in DESIGNS:
         with harness.new_folder() as folder:
             found, compared, shown = faults(words, flags, needed, folder)
-            tally.wants(words, ([], True), (found, compared > 20 and shown > 1))
+            tally.wants(words, ([], True), (found, compared > 10 and shown > 1))
             print(f"{words[0]}: {compared} values of the dump, {shown} that were printed")
     return tally.end()
 

@@ -1,9 +1,10 @@
 #!/usr/bin/env python3
-"""Holds docs/PROMISES.md against the contracts: theorems.py [--write]
+"""Holds docs/PROMISES.md against the contracts: theorems.py [--write | --list NAME]
 
-Each call that is exported and each law has to stand in a row, with each clause that it ensures, and each clause of a row has to be
-one of its calls'. The last column has the words of specs/ that these clauses cite, each with a link to its file, but for those that
-the page links before its first table; --write fills it. So a row more is one line, whose last cell is left empty.
+Each call that is exported and each law has to stand in a row, and each name of a row has to be one of them. tests/theorems.tsv has
+the clauses that their rows tell: a call with another clause fails, until its row tells that one too and --write has written it. A
+definition that the page quotes has to stand so in the file that the link before it leads to. --list prints the clauses of a call or
+law, and the words of specs/ that these cite, each with a link to its file.
 """
 import collections
 import os
@@ -13,7 +14,9 @@ import sys
 import promises
 
 PAGE = promises.TOP / "docs" / "PROMISES.md"
+CLAUSES = promises.TOP / "tests" / "theorems.tsv"
 NAMED = re.compile(r"`([^`]+)`")
+QUOTED = re.compile(r"\]\(([^)\s]+\.antt)\)[^\n]*\n\n?```antt\n(.*?)```", re.DOTALL)
 
 
 def calls_of(code):
@@ -37,54 +40,57 @@ def calls_of(code):
     return calls, needed
 
 
-def row_of(calls, specs, items, clauses, common):
-    """The words of a row, as links, and what is wrong with it."""
-    words, wrong = set(), [f"no call: {item}" for item in items if item not in calls]
-    for clause in clauses:
-        found = [part.ensures[clause] for item in items for part in calls.get(item, ()) if clause in part.ensures]
-        wrong += [f"no clause of {', '.join(items)}: {clause}"] * (not found)
-        words |= {specs.constructors.get(word, word) for cited in found for word in cited}
-    told = sorted(words & specs.lines.keys(), key=lambda word: (word.name.lower(), word))
-    links = (f"[`{word.name}`]({os.path.relpath(specs.paths[word[:2]], PAGE.parent)})" for word in told)
-    return ", ".join(link for link in links if link not in common), wrong
+def contract_of(calls, specs, item):
+    """The clauses of a call or law, and the words that these cite, as links."""
+    parts = calls.get(item, ())
+    yield from (f"{part.name or item}: {', '.join(part.ensures)}" for part in parts)
+    words = {specs.constructors.get(word, word) for part in parts for cited in part.ensures.values() for word in cited}
+    for word in sorted(words & specs.lines.keys(), key=lambda word: (word.name.lower(), word)):
+        yield f"[`{word.name}`]({os.path.relpath(specs.paths[word[:2]], PAGE.parent)})"
 
 
-def filled(text, calls, specs):
-    """The lines of the page with its last column filled, the items with clauses that its rows tell, and what is wrong with these."""
-    lines, told, wrong = [], set(), []
-    common = re.findall(r"\[`[^`]+`\]\([^)]+\)", text.partition("\n|")[0])
+def row_names(text, calls):
+    """The names of the rows: those of a row that ends with `of` and a crate are that crate's."""
     for line in text.split("\n"):
         cells = [cell.strip() for cell in line.split("|")[1:-1]]
-        items = NAMED.findall(cells[0]) if len(cells) == 4 else []
-        if items:
-            items = items[:-1] if re.search(r"` of `\w+`$", cells[0]) else items
-            clauses = NAMED.findall(cells[2])
-            cells[3], faults = row_of(calls, specs, items, clauses, common)
-            wrong += faults
-            told |= {(item, clause) for item in items for clause in clauses}
-            line = f"| {' | '.join(cells)} |"
-        lines.append(line.replace("|  |", "| |"))
-    return lines, told, wrong
+        names = NAMED.findall(cells[0]) if len(cells) == 2 else []
+        if names and re.search(r"` of `\w+`$", cells[0]):
+            crate = names.pop()
+            names = [own if (own := f"{crate}::{name}") in calls else name for name in names]
+        yield from names
+
+
+def quotation_faults(text):
+    """The definitions that the page quotes from specs/ and that don't stand there so: each block follows a link to its file."""
+    quoted = QUOTED.findall(text)
+    for path, block in quoted:
+        if "\n" + block not in (PAGE.parent / path).read_text():
+            yield f"doesn't stand so in {path}: {block.splitlines()[0]}"
+    if text.count("```antt\n") != len(quoted) or not quoted:
+        yield "a definition is quoted without a link to its file, or none is"
 
 
 def main():
-    option = (sys.argv[1:] or [""])[0]
-    if option not in ("", "--write"):
+    option, *names = sys.argv[1:] or [""]
+    if option not in ("", "--write", "--list") or len(names) != (option == "--list"):
         sys.exit(__doc__)
     text, specs, code = PAGE.read_text(), promises.Specs(), promises.Code()
     calls, needed = calls_of(code)
-    lines, told, wrong = filled(text, calls, specs)
-    for crate, item, own in needed:
-        for clause in (clause for part in calls[own] for clause in part.ensures):
-            if not {(item, clause), (f"{crate}::{item}", clause)} & told:
-                wrong.append(f"no row: {item} of {crate}, clause {clause}")
-    links = re.findall(r"\]\(([^)#]+)\)", text)
-    wrong += [f"leads nowhere: {link}" for link in links if "://" not in link and not (PAGE.parent / link).exists()]
+    if option == "--list":
+        print("\n".join(contract_of(calls, specs, *names)))
+        return
+    told = set(row_names(text, calls))
+    clauses = {f"{crate} {item}": f"{crate} {item}\t{' '.join(clause for part in calls[own] for clause in part.ensures)}"
+        for crate, item, own in needed}
     if option == "--write":
-        PAGE.write_text("\n".join(lines))
-    elif lines != text.split("\n"):
-        wrong.append("the words of docs/PROMISES.md aren't those of the contracts: tests/theorems.py --write")
-    print("\n".join(sorted(wrong)) or f"{len(needed)} calls and laws, each clause in a row")
+        CLAUSES.write_text("".join(f"{clauses[key]}\n" for key in sorted(clauses)))
+    known = {line.partition("\t")[0]: line for line in CLAUSES.read_text().splitlines()}
+    wrong = [*quotation_faults(text), *(f"no call or law: {name}" for name in told if name not in calls)]
+    wrong += [f"no row: {item} of {crate}" for crate, item, own in needed if not {item, own} & told]
+    for key in sorted(known.keys() | clauses):
+        if known.get(key) != clauses.get(key):
+            wrong.append(f"tell it in its row, then --write: {clauses.get(key) or f'{key}, which is gone'}")
+    print("\n".join(sorted(wrong)) or f"{len(needed)} calls and laws, each in a row with its clauses")
     sys.exit(1 if wrong else 0)
 
 

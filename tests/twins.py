@@ -2,10 +2,11 @@
 """Asks bin/aigprove about designs in Verilog, and a simulator about a twin of each: twins.py [COUNT [SEED]]
 
 In the twin of a design all that the design leaves open is a first state or a free value of each step. Icarus runs the twin in all states
-that its runs come to, with all free values, which says what the first bad step is, or that there is none. aigprove has to say the same
-of the design, by engines that find the first step, and the run that it prints has to be one of the twin's, as far as the names of its
-values are the twin's too. The designs are those of twins/table.txt, whose twins were written by hand, and COUNT (200) random ones, by
-SEED (1), each written with its twin from one tree. The tools are yosys, cadical, ABC and Icarus Verilog (iverilog, vvp)."""
+that its runs come to, with all free values, which says what the first bad step is, or that there is none, and from which step on no run
+meets what is assumed, if there is one. aigprove has to say the same of the design, by engines that find the first step, and the run that
+it prints has to be one of the twin's, as far as the names of its values are the twin's too. The designs are those of twins/table.txt, whose
+twins were written by hand, and COUNT (200) random ones, by SEED (1), each written with its twin from one tree. The tools are yosys,
+cadical, ABC and Icarus Verilog (iverilog, vvp)."""
 import concurrent.futures
 import dataclasses
 import functools
@@ -20,6 +21,9 @@ from random_designs import random_design
 TABLE, SEARCH = TESTS / "twins" / "table.txt", TESTS / "twins" / "search.v"
 # How far a search goes: no twin has as many states.
 STEPS = 4095
+# In how many steps it is looked whether what is assumed can be met.
+MET = 32
+UNMET = re.compile("the assumptions can't be met from step ([0-9]+) on: the answer is empty")
 PART = re.compile(r"(state|free|first|next|also|ok|bad|refused): (.*)")
 SIGNAL = re.compile(r"(\w+)(?:\[(\d+):0\])?")
 # A value in a printed run: of a bit, or of a word in hexadecimal, or in base two where some bits don't matter; and several steps in a line.
@@ -85,6 +89,16 @@ class Design:
 
     def first_bad(self, folder, held=None):
         """What Icarus says of the twin: its first bad step, or that there is none; of runs that are held to printed lines, if any."""
+        return self.searched(folder, held)[0]
+
+    def first_unmet(self, folder):
+        """The step from which on no run meets what is assumed, as Icarus says, if it is one of the first."""
+        never_bad = dataclasses.replace(self, parts={**self.parts, "bad": "0"})
+        states = int(never_bad.searched(folder, [""] * (MET + 2))[1].split(" ")[0])
+        return max(states - 1, 0) if states <= MET else None
+
+    def searched(self, folder, held):
+        """The lines that Icarus prints of the twin; of runs that are held to printed lines, if any."""
         steps = len(held) - 2 if held else STEPS
         if held:
             (folder / "first").write_text(self.pattern("state", held[0]))
@@ -95,7 +109,7 @@ class Design:
         status, _, said = harness.run(["iverilog", "-g2012", *defined, "-o", "search", SEARCH, "twin.v"], cwd=folder)
         if status == 0:
             status, said, _ = harness.run(["vvp", "-n", "search"], cwd=folder)
-        return said.decode().split("\n")[0]
+        return said.decode().split("\n")
 
     def faults(self, folder):
         """What is wrong of aigprove's answer about the design."""
@@ -103,6 +117,8 @@ class Design:
         wanted = "refused" if "refused" in self.parts else self.first_bad(folder)
         # Where there is no bad step to be the first, there are engines that find that out sooner.
         words = ["--engine", "steps,windows,pdr" if wanted == "never" else "steps,windows", "--jobs", "1", "--timeout", "60"]
+        if wanted == "never" and (unmet := self.first_unmet(folder)) is not None:
+            wanted = f"nothing from step {unmet} on"
         status, printed, said = harness.run([PROVE, *words, "--witness", "witness", "design.v"], cwd=folder)
         lines, said = printed.decode().splitlines(), said.decode()
         given = answered(status, lines, said)
@@ -130,12 +146,16 @@ def spread(lines):
 
 
 def answered(status, lines, said):
-    """The first bad step that aigprove prints, that there is none, or that it refuses a design; else all that it says."""
+    """The first bad step that aigprove prints, that there is none, that no run meets what is assumed from some step on, or that it refuses a
+    design; else all that it says."""
     found = [line.removeprefix("a bad state at ").split(":")[0] for line in lines if line.startswith("a bad state at ")]
     if status == 10 and len(found) == 1:
         return found[0]
-    if status == 20 and lines[-1] == "no bad state at any step":
+    *_, before, last = ["", "", *lines]
+    if status == 20 and "no bad state at any step" == (before if last.startswith("the assumptions can be met up to step ") else last):
         return "never"
+    if status == 0 and before == "no bad state at any step" and (unmet := UNMET.fullmatch(last)):
+        return f"nothing from step {unmet[1]} on"
     return "refused" if status == 1 and not lines and said.startswith("aigprove: ") else f"status {status}: {lines}"
 
 

@@ -49,6 +49,15 @@ class Lines:
         """A line of one number."""
         return self.numbers(1, 1)[0]
 
+    def rows(self, count, width):
+        """So many lines of so many numbers each, which are read at once."""
+        *lines, rest = self.data[self.place:].split(b"\n", count)
+        words = b" ".join(lines).split(b" ") if lines else []
+        if len(lines) < count or any(line.count(b" ") != width - 1 for line in lines) or not all(map(bytes.isdigit, words)):
+            return [self.numbers(width, width) for _ in range(count)]
+        self.place = len(self.data) - len(rest)
+        return list(map(list, zip(*[map(int, words)] * width)))
+
     def difference(self):
         """A number in groups of seven bits, the lowest first."""
         number = 0
@@ -89,7 +98,7 @@ class Circuit:
         first_latch = 2 * (header.inputs + 1)
         first_gate = first_latch + 2 * header.latches
         if header.is_text:
-            self.inputs = [lines.number() for _ in range(header.inputs)]
+            self.inputs = [row[0] for row in lines.rows(header.inputs, 1)]
             rows = [lines.numbers(2, 3) for _ in range(header.latches)]
         else:
             self.inputs = range(2, first_latch, 2)
@@ -101,7 +110,7 @@ class Circuit:
         self.justice = [[lines.number() for _ in range(size)] for size in sizes]
         self.fairness = [lines.number() for _ in range(header.fairness)]
         if header.is_text:
-            self.gates = [lines.numbers(3, 3) for _ in range(header.gates)]
+            self.gates = lines.rows(header.gates, 3)
         else:
             self.gates = [binary_gate(lines, first_gate + 2 * i) for i in range(header.gates)]
         self.names = names(lines)
@@ -120,7 +129,10 @@ class Circuit:
                 raise Fault(f"literal {literal} is not defined in {self.what}")
 
     def put_in_order(self):
-        """Puts each gate behind those that it stands on."""
+        """Puts each gate behind those that it stands on, where that isn't so."""
+        known = {0, *self.inputs, *self.latches}
+        if all(left & ~1 in known and right & ~1 in known and not known.add(gate) for gate, left, right in self.gates):
+            return
         gates = {gate: (gate, left, right) for gate, left, right in self.gates}
         known, begun, self.gates = {0, *self.inputs, *self.latches}, set(), []
         path = list(reversed(gates))
@@ -158,22 +170,6 @@ class Circuit:
                 left += [operand & ~1 for operand in gates.get(it, [])]
         return {i for i, latch in enumerate(self.latches) if latch in seen}
 
-    def run(self, state, inputs):
-        """The values of all even literals in each step."""
-        for given in inputs:
-            values = {0: "0", **dict(zip(self.latches, state)), **dict(zip(self.inputs, given))}
-            for gate, left, right in self.gates:
-                values[gate] = both(value(values, left), value(values, right))
-            yield values
-            state = [value(values, literal) for literal in self.nexts]
-
-    def shows(self, start, steps, bads):
-        """Whether a run, each x of which is any value, meets every constraint and ends where these bad literals are true."""
-        for values in self.run(start, steps):
-            if any(value(values, literal) != "1" for literal in self.constraints):
-                return False
-        return all(value(values, self.bads[place]) == "1" for place in bads)
-
 
 def difference(number):
     """A number as binary files spell it: groups of seven bits, the lowest first, each but the last with the eighth bit set."""
@@ -202,12 +198,3 @@ def names(lines):
             raise Fault(f"bad line of a name in {lines.what}")
         found[symbol[1].decode(), decimal(symbol[2])] = symbol[3]
     return found
-
-
-def value(values, literal):
-    known = values[literal & ~1]
-    return {"0": "1", "1": "0", "x": "x"}[known] if literal & 1 else known
-
-
-def both(left, right):
-    return "0" if "0" in (left, right) else "x" if "x" in (left, right) else "1"

@@ -15,9 +15,12 @@ from aigprove import VERSION, programs
 from aigprove.aiger import Fault
 from aigprove.files import sealed
 from aigprove.judge import Judge
+from aigprove.justice import Justice, Justices
+from aigprove.properties import Property
 from aigprove.questions import cadical
 from aigprove.race import FAILED, OPEN, Race
-from aigprove.source import Pair, Source
+from aigprove.source import Given, Pair, Source
+from aigprove.table import Table
 from aigprove.yosys import Late
 
 TOP = os.path.dirname(os.path.dirname(os.path.dirname(os.path.realpath(__file__))))
@@ -40,6 +43,9 @@ NAMED = [
     ("keep", "FOLDER", "make FOLDER, with what shows each line, and check.sh, which shows it again"),
     ("witness", "OUT", "write the witness of a bad state to OUT, in the form of the AIGER report"),
     ("vcd", "OUT", "write the run to a bad state to OUT, as a value change dump for wave viewers"),
+    ("json", "OUT", "with --each: write the table to OUT in JSON"),
+    ("junit", "OUT", "with --each: write the table to OUT as JUnit's XML"),
+    ("gather", "FOLDER", "print the table of what is kept in FOLDER and in folders in it, each line of which aigcheck checks again"),
     *((program, "PROGRAM", f"another program {program} than the one that is found") for program in ["abc", *BELIEVED]),
 ]
 ABOUT = """\
@@ -57,8 +63,8 @@ constraints of both allow: each step by aigcheck equal, and all at once by an an
 Justice and fairness are not looked at.
 """
 ENDS = """\
-Exit status 20: no bad state at any step, or no difference. 10: a bad state is reached, or a difference. 0: neither was shown.
-1: something went wrong. 2: wrong words. With --aiger it is 0 where it would be 20, 10 or 0.
+Exit status 20: no bad state at any step, or no difference. 10: a bad state is reached, or a difference. 0: neither was shown, or no
+run meets the assumptions. 1: something went wrong. 2: wrong words. With --aiger it is 0 where it would be 20, 10 or 0.
 """
 
 
@@ -144,7 +150,7 @@ def parser():
     listed = "put the words of this file here: files, -D, -I and -f, with # or // for comments"
     many_times = {"action": "append", "default": []}
     held = "hold this input of a design at V (1) in the first N steps (1), in which assertions don't count; later it is free, and where " \
-        "it is to stay released the design has to assume so"
+        "it is to stay released the design has to assume so; with --multiclock its steps are moments, in which a clock may stand still"
     boxes = "let the outputs of this module, of which there are the ports alone, have any values in each step"
     aiger = "print the answer alone, as the AIGER report has it: 1 and a witness, 0 (none at any step) or 2 (neither), each with status 0"
     many = "take several clocks, and both edges: a step is a moment, in which each input may change, clocks too"
@@ -166,7 +172,15 @@ def parser():
     it.add_argument("--parameter", metavar="NAME=NUMBER", type=parameter, help="set a parameter of the top module", **many_times)
     it.add_argument("--black-box", metavar="NAME", type=module, help=boxes, **many_times)
     it.add_argument("--multiclock", action="store_true", help=many)
+    each = "ask about each property by itself, and print a table; --keep goes on in a folder that is there, and --witness and --vcd make " \
+        "folders with a file for each run"
+    tasks = "print a command for each property and engine, each of which keeps what it shows in a folder of its own in that of --keep"
+    it.add_argument("--each", action="store_true", help=each)
+    it.add_argument("--tasks", action="store_true", help=tasks)
+    it.add_argument("--property", metavar="N", type=count("[0-9]{1,10}", "a property"), help="ask about property N alone (from 0 on)")
     it.add_argument("--reset", metavar="SIGNAL[=V][:N]", type=reset, help=held)
+    fair = "ask about this justice property, from 0 on, and not about bad states: whether a run without end is fair"
+    it.add_argument("--justice", metavar="J", type=count("[0-9]{1,10}", "a justice property"), help=fair)
     it.add_argument("--bound", metavar="N", type=count("[0-9]{1,10}", "steps"), help=bound)
     seconds = count(r"[0-9]{1,9}(\.[0-9]{1,9})?", "seconds", float)
     it.add_argument("--timeout", metavar="S", type=seconds, help="end after so many seconds, with those of yosys (never)")
@@ -240,8 +254,10 @@ def parse(line):
     if names and names[0] < len(words.files) - 1 or names and words.top:
         made.error(f"unrecognized arguments: {' '.join(words.files[names[0] + 1 - bool(words.top):])}")
     words.top = words.files.pop() if names else words.top
-    if words.multiclock and words.reset:
-        made.error("--reset counts steps of one clock: with --multiclock let the design assume what its reset is")
+    words.covers, words.each = False, words.each or words.tasks or bool(words.gather)
+    check_each(made, words)
+    if words.justice is not None and (words.equal or words.certificate or words.run or words.each or words.property is not None):
+        made.error("--justice goes with none of --equal, --certificate, --run, --each and --property")
     words.deadline = math.inf if words.timeout is None else time.monotonic() + words.timeout
     given = words.certificate or words.run
     words.engines = words.engine or ([] if given else ENGINES)
@@ -251,6 +267,20 @@ def parse(line):
     words.solver[:1] = map(engine, words.solver[:1])
     words.abc = words.abc and engine(words.abc)
     return words
+
+
+def check_each(made, words):
+    """Refuses words that have no meaning beside one another."""
+    alone = [f"--{name}" for name in ["json", "junit"] if getattr(words, name)]
+    if alone and not words.each:
+        made.error(f"{alone[0]} is for the table of --each")
+    for name in ["equal", "certificate", "run", "property", "aiger"] if words.each else ["equal"] if words.property is not None else []:
+        if getattr(words, name) is not None and getattr(words, name) is not False:
+            made.error(f"--{name} is about one question, and not with " + ("--each" if words.each else "--property"))
+    if words.tasks and not words.keep:
+        made.error("--tasks keeps what is asked about in a folder: --keep FOLDER says which")
+    if words.gather and (words.keep or words.tasks):
+        made.error("--gather asks nothing: --keep FOLDER goes on with what FOLDER has")
 
 
 def open_streams():
@@ -268,6 +298,14 @@ def end(number, _):
     sys.exit(128 + number)
 
 
+def asked(words, above, judge):
+    """What a command line asks about."""
+    if words.justice is not None:
+        return Justice(Justices(Given(words.files, words, above, judge)), words.justice)
+    source = (Pair if words.equal else Source)(words, above, judge)
+    return source if words.property is None else Property(source, words.property)
+
+
 def answer(line):
     """Answers what a command line asks, and gives the exit status."""
     words = parse(line)
@@ -276,8 +314,9 @@ def answer(line):
     programs.adopt()
     above = tempfile.mkdtemp(prefix="aigprove-")
     try:
-        source = (Pair if words.equal else Source)(words, above, judge)
-        return Race(words, running, judge, above, source).run()
+        if words.each:
+            return Table(words, running, judge, above).run()
+        return Race(words, running, judge, above, asked(words, above, judge)).run()
     except Late as why:
         programs.say(why)
         print("2\n." if words.aiger else "nothing was shown")

@@ -125,6 +125,7 @@ class Bounded(Asking):
             return self.judge.witness(self.source.asked, question, given)
         claim = self.source.unsolvable(question, given)
         self.judge.check(claim)
+        self.race.bounded[k] = given
         self.race.step(k, claim, self.source.prefix)
         return None
 
@@ -142,7 +143,8 @@ class Bounded(Asking):
 
 
 class Windows(Asking):
-    """Asks about windows of K + 2 steps, where K is 0 or a power of two: all, and then those on which no state comes twice."""
+    """Asks about windows of K + 2 steps, where K is 0 or a power of two: all, and then those on which no state comes twice. Once one is
+    shown, asks about the steps up to K, unless another engine did."""
 
     def run(self):
         for k in powers(self.race.bound):
@@ -153,8 +155,21 @@ class Windows(Asking):
                 if not has_solution:
                     claim = self.source.unsolvable(question, given)
                     self.judge.check(claim)
-                    self.race.window(k, claim)
+                    self.finish(question, claim, given)
                     return
+
+    def finish(self, window, claim, step):
+        """Shows the steps before a window, and what follows; or hands in a run that reaches a bad state in them."""
+        question = Question("bounded", window.k)
+        base = self.race.bounded.get(window.k)
+        if base is None:
+            has_solution, base = self.solver.ask(question, self.source.asked)
+            if has_solution:
+                self.race.hand_in_run(self.judge.witness(self.source.asked, question, base))
+                return
+        shown = self.source.proved(question, base, window, step)
+        self.judge.check(shown)
+        self.race.induction(window.k, claim, shown)
 
     def forms(self, k):
         latches = self.race.circuit.header.latches
@@ -215,8 +230,10 @@ class Certificate(Asking):
 
     def run(self):
         """Has the certificate checked, by proofs about the file beside it, and hands it in."""
+        self.race.programs.answers()
         joint = self.judge.made("join", self.source.asked, self.certificate)
-        proofs = [self.solver.refute(Question(command, 0), joint) for command in ["query", "window"]]
+        with concurrent.futures.ThreadPoolExecutor(CHECKS, threading.current_thread().name) as both:
+            proofs = list(both.map(lambda command: self.solver.refute(Question(command, 0), joint), ["query", "window"]))
         claim = self.source.certified(self.certificate, *proofs)
         self.judge.check(claim)
         self.race.certificate(claim)

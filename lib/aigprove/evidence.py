@@ -4,6 +4,8 @@ import shlex
 
 from aigprove import files
 
+# How the path of a file in the folder above begins.
+ABOVE = "../"
 HEAD = """#!/bin/sh
 # Shows again what aigprove printed, by the aigcheck and aigedit that AIGCHECK and AIGEDIT name, or that are found.
 check=${AIGCHECK:-aigcheck}
@@ -37,13 +39,16 @@ makes() {
 """
 
 
+def limited(limit):
+    """The line of a script whose programs take so many nodes, where a number is given."""
+    return [] if limit is None else [f"limit='--limit {limit}'\n"]
+
+
 class Evidence:
     """A folder that is filled, and the lines of its script, whose programs take so many nodes, where a number is given."""
 
     def __init__(self, folder, limit=None):
-        self.folder, self.lines, self.names = folder, [HEAD], set()
-        if limit is not None:
-            self.lines.append(f"limit='--limit {limit}'\n")
+        self.folder, self.lines, self.names = folder, [HEAD, *limited(limit)], set()
         os.mkdir(folder)
 
     def put(self, name, file):
@@ -57,10 +62,15 @@ class Evidence:
         self.lines.append(shlex.join(words) + "\n")
 
     def shows(self, claim):
-        """Keeps a claim's files, and adds its line."""
+        """Keeps a claim's files, but for those of a folder above, and adds its line."""
         for name, file in claim.files.items():
-            self.put(name, file)
+            if not name.startswith(ABOVE):
+                self.put(name, file)
         self.add("shows", claim.line, *claim.words)
+
+    def note(self, engine, seconds):
+        """Notes in the script which engine answered, and after how many seconds."""
+        self.lines.append(f"# {engine} answered after {seconds:.1f} s\n")
 
     def makes(self, name, file, *words):
         """Puts a file into the folder, and adds the words with which aigedit prints it."""

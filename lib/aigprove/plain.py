@@ -1,5 +1,4 @@
-"""The machine of a file as every model checker reads it: all latches 0 at first, one output that is 1 in a bad state, no
-constraints.
+"""The machine of a file as every model checker reads it: all latches 0 at first, outputs that are 1 in bad states, no constraints.
 
 A latch that is 1 at first is inverted; one that is open at first takes an input's value at step 0, while the latch `began` is 0;
 and the latch `broken` is 1 once a constraint didn't hold. A machine without latches gets one that is spare. Inputs and latches
@@ -61,9 +60,10 @@ def literals_of(circuit, gates, leaves):
 
 
 class Plain:
-    """The plain machine of a circuit, and what is told of it told of the circuit."""
+    """The plain machine of a circuit, and what is told of it told of the circuit. It has one output for all bad state properties, or
+    one for each."""
 
-    def __init__(self, circuit):
+    def __init__(self, circuit, is_apart=False):
         self.circuit = circuit
         self.opened = [i for i, reset in enumerate(circuit.resets) if reset > 1]
         count = len(circuit.inputs)
@@ -77,8 +77,8 @@ class Plain:
         literal = literals_of(circuit, self.gates, self.leaves())
         allowed = self.gates.all(map(literal, circuit.constraints))
         broken = self.places.get(BROKEN, 0)
-        bad = self.gates.any(map(literal, circuit.bads))
-        self.bad = self.gates.all([bad, allowed, broken ^ 1])
+        bads = list(map(literal, circuit.bads))
+        self.bads = [self.gates.all([bad, allowed, broken ^ 1]) for bad in (bads if is_apart else [self.gates.any(bads)])]
         self.nexts = [literal(next) ^ (reset == 1) for next, reset in zip(circuit.nexts, circuit.resets)]
         self.nexts += [1] * bool(self.opened) + [self.gates.both(broken ^ 1, allowed) ^ 1] * bool(circuit.constraints)
         self.nexts = self.nexts or [0]
@@ -95,7 +95,8 @@ class Plain:
     def binary(self):
         """Its binary form."""
         inputs, latches, gates = len(self.inputs), len(self.latches), self.gates.rows
-        lines = [f"aig {inputs + latches + len(gates)} {inputs} {latches} 1 {len(gates)}", *self.nexts, self.bad]
+        header = f"aig {inputs + latches + len(gates)} {inputs} {latches} {len(self.bads)} {len(gates)}"
+        lines = [header, *self.nexts, *self.bads]
         names = [f"{letter}{i} {name}" for letter, own in [("i", self.inputs), ("l", self.latches)] for i, name in enumerate(own)]
         names = "".join(f"{name}\n" for name in names).encode()
         differences = b"".join(difference(gate - left) + difference(left - right) for gate, left, right in gates)

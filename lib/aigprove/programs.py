@@ -27,6 +27,8 @@ TURN = 0.25
 SHARES = {"pdr": 2}
 # An engine that showed a step may run half as long as others once it showed none for so many seconds of its own.
 LATELY, SLOWED = 2, 2
+# What stands between the name of an engine and the mark of its question, where several are asked side by side.
+MARK = "#"
 # What part of the free bytes of the temporary folder, and of all memory, an engine may write.
 PART = 4
 # How many files an engine may write.
@@ -113,13 +115,18 @@ def signal_group(group, number):
         os.killpg(group, number)
 
 
+def engine_here():
+    """The name of the engine whose thread this is, or one that it started."""
+    return threading.current_thread().name.partition("_")[0]
+
+
 class Group:
     """A program that was started in a session of its own, so that all that it starts is stopped, continued and ended with it."""
 
     def __init__(self, words, folder=None, **streams):
         environment = {**os.environ, "TMPDIR": folder} if folder else None
         # The folder whose limit it keeps, the engine whose thread started it, and up to when its time was counted.
-        self.folder, self.engine, self.counted = None, threading.current_thread().name.partition("_")[0], time.monotonic()
+        self.folder, self.engine, self.counted = None, engine_here(), time.monotonic()
         self.process = subprocess.Popen(words, cwd=folder, env=environment, start_new_session=True, stdin=subprocess.DEVNULL, **streams)
 
     def signal(self, number):
@@ -164,17 +171,20 @@ class Programs:
 
     def __init__(self, jobs):
         self.jobs, self.lock, self.is_stopped = jobs, threading.Lock(), False
+        # The thread that alone starts programs once there is an answer.
+        self.alone = None
         self.keeper = Keeper()
         self.running, self.waiting = [], []
         self.looked = time.monotonic()
         # By the engine: for how long its programs ran, and for how long when it last got further.
         self.used, self.further = collections.Counter(), {}
+        # Engines that have an answer which has to be checked: these go first.
+        self.answering = set()
 
     def start(self, words, **options):
         """Starts a program, which waits for its turn where there is none free."""
         with self.lock:
-            if self.is_stopped:
-                raise Stopped
+            self.check_stopped()
             group = Group(words, **options)
             self.keeper.tell(group.process.pid)
             (self.running if len(self.running) < self.jobs else self.waiting).append(group)
@@ -188,11 +198,18 @@ class Programs:
         with self.lock:
             self.further[engine] = self.used[engine]
 
+    def answers(self):
+        """Takes that the engine whose thread this is has an answer."""
+        with self.lock:
+            self.answering.add(engine_here())
+
     def weighed(self, group):
         """For how long the engine of a program ran, as that counts."""
+        if group.engine in self.answering:
+            return 0
         used = self.used[group.engine]
         is_behind = used - self.further.get(group.engine, used) > LATELY
-        return used * (SLOWED if is_behind else 1) / SHARES.get(group.engine, 1)
+        return used * (SLOWED if is_behind else 1) / SHARES.get(group.engine.partition(MARK)[0], 1)
 
     def count(self):
         """Counts how long programs ran since this was done last."""
@@ -214,9 +231,13 @@ class Programs:
                 if group in groups:
                     groups.remove(group)
             self.fill()
-            if self.is_stopped:
-                raise Stopped
+            self.check_stopped()
         return status
+
+    def check_stopped(self):
+        """Ends the work of a thread that isn't wanted any more."""
+        if self.is_stopped or self.alone not in (None, threading.current_thread()):
+            raise Stopped
 
     def fill(self):
         """Continues programs that wait, while there is a turn free."""
@@ -254,10 +275,11 @@ class Programs:
                 group.signal(signal.SIGKILL)
 
     def end_engines(self):
-        """Ends what engines run."""
+        """Ends what engines run, which start nothing any more."""
         with self.lock:
+            self.alone = threading.current_thread()
             for group in self.running + self.waiting:
-                if group.engine != threading.current_thread().name:
+                if group.engine != self.alone.name:
                     group.signal(signal.SIGKILL)
 
     def stop(self):
@@ -277,6 +299,30 @@ class Programs:
             status = self.finish(group)
             out.seek(0), said.seek(0)
             return status, out.read().decode("ascii", "surrogateescape"), unnamed(plain(said.read()).strip(), sealed)
+
+
+class Part(Programs):
+    """The programs of one question among several that are asked side by side: all share turns, and those of one can be ended alone. The
+    names of its threads end with its mark."""
+
+    def __init__(self, whole, mark):
+        vars(self).update(vars(whole))
+        self.whole, self.mark, self.is_over = whole, MARK + mark, False
+
+    @property
+    def is_stopped(self):
+        return self.is_over or self.whole.is_stopped
+
+    def own(self):
+        """The programs that its threads started."""
+        return [group for group in self.running + self.waiting if group.engine.endswith(self.mark)]
+
+    def stop(self):
+        """Ends its programs; none of its is started from now on."""
+        with self.lock:
+            self.is_over = True
+            for group in self.own():
+                group.signal(signal.SIGKILL)
 
 
 def adopt():

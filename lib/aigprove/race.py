@@ -6,10 +6,10 @@ import sys
 import threading
 import time
 
-from aigprove import aiger, files, plain, witness
+from aigprove import aiger, files, met, plain, witness
 from aigprove.engines import COMMANDS, Abc, Bounded, Certificate, Missing, Run, Steps, Windows
 from aigprove.evidence import Evidence
-from aigprove.minimal import minimal
+from aigprove.minimal import minimal, simulated
 from aigprove.programs import Fault, Sealed, Stopped, reason, say, tell
 from aigprove.questions import Solver
 from aigprove.replay import SIMULATED
@@ -20,9 +20,13 @@ SAFE, UNSAFE, OPEN, FAILED = 20, 10, 0, 1
 REPORTED = {SAFE: 0, UNSAFE: 1, OPEN: 2}
 # Seconds between two looks at turns, limits and the clock.
 TICK = 0.1
-# How many seconds values that don't matter are looked for in a run, by whether it has more gates in all its steps than a small one; how
-# many a tiny one has, which is simulated here; and of how many properties that a run shows.
-SECONDS, SMALL, TINY, SHOWN = {True: 1, False: 5}, 1 << 14, 1 << 11, 8
+# How many seconds values that don't matter are looked for in a run; how many gates in all steps a run has at most whose trials are simulated
+# here, many at once; and of how many properties that a run shows.
+SECONDS, SMALL, SHOWN = 1, 1 << 18, 8
+
+
+def header_of(file):
+    return aiger.Header(aiger.Lines(file.line(), "FILE"))
 
 
 class Race:
@@ -32,8 +36,9 @@ class Race:
         self.words, self.programs, self.judge, self.above, self.source = words, programs, judge, above, source
         self.bound, self.text = words.bound, self.read_text()
         self.events, self.begun = queue.Queue(), time.monotonic()
-        # Steps that were shown, from 0 on, a window that was, and engines that failed.
-        self.steps, self.shown_window, self.faults = 0, None, []
+        # Steps that were shown, from 0 on, those before a window that was, proofs of questions about the steps up to K, by K, and engines
+        # that failed.
+        self.steps, self.windowed, self.bounded, self.faults = 0, 0, {}, []
         self.deadline = words.deadline
         # What the progress line says, and the last line that was printed.
         self.doing, self.last = {}, None
@@ -49,9 +54,13 @@ class Race:
             text = self.judge.text(self.source.asked)
         except Fault as why:
             raise Fault(f"{self.source.path}: {re.sub('^aig(tool|edit): ', '', str(why))}") from None
-        if aiger.Header(aiger.Lines(text.line(), "FILE")).bads == 0:
+        if header_of(text).bads == 0:
             raise Fault(f"{self.source.path}: {self.source.empty}")
         return text
+
+    @functools.cached_property
+    def header(self):
+        return header_of(self.text)
 
     @functools.cached_property
     def circuit(self):
@@ -71,8 +80,8 @@ class Race:
         return self.source.run(told, Sealed(told.text().encode()))
 
     def reached(self, start, steps):
-        """The witness of a run whose last step is bad, as aigcheck finds; of one that is short, else of the first bad step. None where
-        there is none."""
+        """The witness of a run whose last step is bad, as aigcheck finds; of one that is short, else of the first bad step, which nobody has
+        checked. None where there is none."""
         for bad in range(len(self.circuit.bads) if steps else 0):
             told = witness.Witness(bad, start, steps)
             if self.judge.holds(self.claimed(told)):
@@ -85,15 +94,16 @@ class Race:
         """Takes down what an engine does."""
         self.doing[what] = what if count is None else f"{what} {count}"
 
-    def step(self, k, claim, prefix=""):
+    def step(self, k, claim, prefix=None):
         """Takes that step k was checked, and all before it."""
         if k >= self.steps:
             self.programs.achieved(threading.current_thread().name)
-        self.hand_in(lambda: self.print_step(k, claim, prefix))
+        self.hand_in(lambda: self.print_step(k, claim, self.source.of_step if prefix is None else prefix))
 
-    def window(self, k, claim):
-        self.shown_window = k, claim
-        self.hand_in(self.print_induction)
+    def induction(self, k, window, claim):
+        """Takes a window of k + 2 steps, and the claim that it makes with a proof of the steps before."""
+        self.windowed = k + 1
+        self.hand_in(lambda: self.print_induction(window, claim))
 
     def certificate(self, claim):
         self.hand_in(lambda: self.print_safe(claim))
@@ -107,6 +117,7 @@ class Race:
         """Has aigcheck check a run to a bad state, and takes it."""
         header = self.circuit.header
         told = witness.read(aiger.Lines(data, "WITNESS"), header.latches, header.inputs)
+        self.programs.answers()
         self.judge.check(self.claimed(told))
         others = self.source.others(self.circuit, told)
         shown = [it for it in others if self.judge.holds(self.claimed(it))]
@@ -119,9 +130,11 @@ class Race:
 
     def answered(self, name, answer):
         """Prints an answer, and says whose it is, where that is wanted."""
-        status = answer()
+        status, seconds = answer(), time.monotonic() - self.begun
         if self.words.verbose and status is not None:
-            say(f"{name} answered after {time.monotonic() - self.begun:.1f} s")
+            say(f"{name} answered after {seconds:.1f} s")
+        if self.evidence and status is not None:
+            self.evidence.note(name, seconds)
         return status
 
     # What is printed. Each of these gives the exit status once there is an answer, and else None.
@@ -137,8 +150,8 @@ class Race:
         """Prints the status of the AIGER report, where that is wanted, and gives the exit status."""
         if not self.words.aiger or status == FAILED:
             return status
-        asked = "".join(f"b{i}" for i in range(len(self.circuit.bads)))
-        print(told.text() if told else f"{REPORTED[status]}\n{asked}\n.\n", end="", flush=True)
+        asked = "".join(self.source.places(self.circuit))
+        print(self.source.of_file(told).text() if told else f"{REPORTED[status]}\n{asked}\n.\n", end="", flush=True)
         return OPEN
 
     def print_claim(self, claim, prefix="", is_answer=False):
@@ -152,16 +165,14 @@ class Race:
         if k >= self.steps:
             self.print_claim(claim, prefix)
             self.steps = k + 1
-        return self.print_induction()
 
-    def print_induction(self):
-        """Prints a window that was shown, and what follows, once the steps before it were shown."""
-        if self.shown_window is None or self.steps <= self.shown_window[0]:
-            return None
-        return self.print_safe(self.shown_window[1])
+    def print_induction(self, window, claim):
+        """Prints a window, and what is shown by it and by the steps before."""
+        self.print_claim(window, self.source.prefix)
+        return self.print_safe(claim)
 
     def print_safe(self, claim):
-        """Prints a claim from which it follows that no step has what is asked about, and that."""
+        """Prints a claim that no step has what is asked about; of two files, what follows of them."""
         prefix, safe = self.source.prefix, self.source.safe
         self.print_claim(claim, prefix, prefix + claim.line == safe)
         if prefix + claim.line != safe:
@@ -170,35 +181,51 @@ class Race:
                 self.evidence.add("echo", safe)
         return SAFE
 
+    def print_met(self):
+        """Prints up to which step the constraints were seen to be met, or from which on they can't be: whether the answer isn't empty."""
+        self.programs.end_engines()
+        found = met.Assumptions(self.source, self.judge)
+        try:
+            found.look(self.needs_solver(), max(self.steps - 1, self.windowed), self.words.deadline)
+        except Fault as why:
+            say(f"assumptions: {why}")
+        if self.evidence:
+            found.keep(self.evidence)
+        self.print_line(found.line(), found.unmet is not None)
+        return found.unmet is None
+
     def smallest(self, tolds):
-        """Witnesses of a run with x for what doesn't matter to what they show. Of a tiny run a simulation finds that, and it is checked."""
+        """Witnesses of a run with x for what doesn't matter to what they show. Of a small run a simulation finds that, and it is checked."""
         if len(tolds) > SHOWN:
             return tolds
         opened = [i for i, reset in enumerate(self.circuit.resets) if reset > 1]
         each = lambda it: [it._replace(bad=told.bad) for told in tolds]
         holds = lambda it: all(self.judge.holds(self.claimed(own)) for own in each(it))
-        seen = lambda it: self.circuit.shows(it.start, it.steps, [told.bad for told in tolds])
-        size = len(tolds[0].steps) * len(self.circuit.gates)
-        seconds = min(SECONDS[size > SMALL], self.deadline - time.monotonic())
-        found = minimal(tolds[0], opened, seen, seconds) if size <= TINY else tolds[0]
-        return each(found if size <= TINY and holds(found) else minimal(tolds[0], opened, holds, seconds))
+        seconds = min(SECONDS, self.deadline - time.monotonic())
+        if len(tolds[0].steps) * len(self.circuit.gates) <= SMALL:
+            found = simulated(self.circuit, tolds[0], opened, [told.bad for told in tolds], seconds)
+            if holds(found):
+                return each(found)
+        return each(minimal(tolds[0], opened, holds, seconds))
 
     def print_run(self, tolds):
         """Prints a run without what doesn't matter, and writes it where it is wanted."""
         self.programs.end_engines()
-        tolds = self.smallest(tolds)
-        circuit, told = self.source.circuit(), tolds[0]
+        circuit, words = self.source.circuit(), self.words
         shown = Shown(circuit)
-        self.told = told
         self.print_line(self.source.found(shown, tolds), True)
-        for line in self.source.lines(shown, circuit, told):
+        if words.quiet and not (words.aiger or words.keep or words.witness or words.vcd):
+            return UNSAFE
+        tolds = self.smallest(tolds)
+        told = self.told = tolds[0]
+        for line in [] if words.quiet and not words.vcd else self.source.lines(shown, circuit, told):
             self.print_line(line)
         if self.evidence:
             self.evidence.shows(self.claimed(told))
-        if self.words.witness:
-            files.write(self.words.witness, [told.text().encode()])
-        if self.words.vcd:
-            files.write(self.words.vcd, (f"{line}\n".encode() for line in self.source.dump(circuit, told)))
+        if words.witness:
+            files.write(words.witness, [self.source.of_file(told).text().encode()])
+        if words.vcd:
+            files.write(words.vcd, (f"{line}\n".encode() for line in self.source.dump(circuit, told)))
         return UNSAFE
 
     def print_open(self):
@@ -268,6 +295,18 @@ class Race:
         for line in self.source.about():
             self.print_line(line)
         engines = self.engines()
+        status = self.raced(engines)
+        self.show_progress("")
+        if status is None:
+            status = FAILED if len(self.faults) == len(engines) else self.print_open()
+        if status == SAFE and self.header.constraints:
+            status = SAFE if self.print_met() else OPEN
+        if self.evidence:
+            self.evidence.end()
+        return self.print_status(status, self.told)
+
+    def raced(self, engines):
+        """Runs engines until there is an answer, or none can come any more: the exit status of the answer, or None."""
         self.left = sum([self.start(name, make) for name, make in engines.items()])
         status = None
         while status is None and time.monotonic() < self.deadline and (self.left or not self.events.empty()):
@@ -277,12 +316,7 @@ class Race:
         # What was handed in by then counts.
         for _ in range(self.events.qsize()):
             status = self.take(0) if status is None else status
-        self.show_progress("")
-        if status is None:
-            status = FAILED if len(self.faults) == len(engines) else self.print_open()
-        if self.evidence:
-            self.evidence.end()
-        return self.print_status(status, self.told)
+        return status
 
     def show_progress(self, text=None):
         """Shows what is being done, on a terminal."""

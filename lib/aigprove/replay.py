@@ -2,6 +2,7 @@
 import collections
 import re
 
+from aigprove import simulation
 from aigprove.programs import Fault
 from aigprove.shown import number, word
 
@@ -73,19 +74,21 @@ class Module:
 
     def read_by(self, name):
         """What the assertion of this name reads, up to registers and inputs, the nearest first: registers without a name are those that
-        yosys makes of an assertion at a clock's edge, which reads what was there a step before."""
+        yosys makes of an assertion at a clock's edge, which reads what was there a step before. With several clocks each register has such
+        ones that hold its last value, so each is passed once: a way around that goes back without an end."""
         cell = self.module["cells"].get(name)
         ports = cell["connections"] if cell else {}
         left = collections.deque((bit, 0, True) for port in ("A", "EN") for bit in ports.get(port, []) if not isinstance(bit, str))
-        seen, found = set(left), {}
-        while left:
+        seen, passed, found = set(left), set(), {}
+        while left and len(found) < MOST:
             bit, back, is_direct = left.popleft()
             name, maker = self.names.get(bit), self.makers.get(bit)
             if name:
                 found.setdefault((name, back), Read(name, back, is_direct))
             is_clocked = maker is not None and bool(CLOCKED.match(maker["type"]))
-            if maker is None or is_clocked and name:
+            if maker is None or is_clocked and (name or (bit, is_direct) in passed):
                 continue
+            passed.update([(bit, is_direct)] * is_clocked)
             for port, bits in maker["connections"].items():
                 if maker["port_directions"].get(port) != "output" and port != "CLK":
                     for it in ((bit, back + is_clocked, is_direct and not name) for bit in bits if not isinstance(bit, str)):
@@ -104,7 +107,7 @@ class Replay:
         failed, self.dump = design.run(told)
         self.module, self.told = design.module, told
         name, last = design.assertions[told.bad][0], len(told.steps) - 1
-        reads = self.module.read_by(name)[:MOST]
+        reads = self.module.read_by(name)
         held = {f"l{i}": circuit.name("l", i).decode("utf-8", "replace") for i in range(len(circuit.latches))}
         bits = {place: BIT.fullmatch(name) for place, name in held.items()}
         words = {place: found[1] if found else held[place] for place, found in bits.items()}
@@ -142,7 +145,7 @@ class Replay:
     def differing(self, circuit, held, words):
         """A register that has another value where yosys runs the design than in the file, if there is one."""
         steps = [row.replace("x", "0") for row in self.told.steps]
-        for t, values in enumerate(circuit.run(self.told.start.replace("x", "0"), steps)):
+        for t, values in enumerate(simulation.run(circuit, self.told.start.replace("x", "0"), steps)):
             for i, latch in enumerate(circuit.latches):
                 name, found = words[f"l{i}"], BIT.fullmatch(held[f"l{i}"])
                 if t < len(self.values) and name in self.values[t]:

@@ -12,6 +12,8 @@ from aigprove.waves import grouped, words
 
 # How many steps that are equal are printed as one line, at least; and how many lines of a run are printed, at its begin and its end.
 EQUAL, FIRST, LAST = 3, 10, 50
+# How many inputs are printed of which no value matters.
+MOST = 20
 PLAIN = re.compile(r"(?![ilb][0-9]+(:|$))[!#-<>-\[\]-~]+")
 
 
@@ -73,9 +75,11 @@ class Shown:
     def lines(self, told, latches, changes):
         """The lines of a run: the values of these latches at first, and for each step the inputs, and what else changed, behind a bar."""
         yield spaced("start:", *self.values("l", told.start, latches))
-        steps = []
+        steps, count = [], len(told.steps[0])
+        is_short = len(grouped(count, self.buses["i"])) <= MOST
+        mattering = None if is_short else {i for i in range(count) if any(row[i] != "x" for row in told.steps)}
         for t, inputs in enumerate(told.steps):
-            steps.append(spaced(*self.values("i", inputs), *["|", *changes.get(t, [])] * bool(changes.get(t))))
+            steps.append(spaced(*self.values("i", inputs, mattering), *["|", *changes.get(t, [])] * bool(changes.get(t))))
         yield from folded(steps)
 
 

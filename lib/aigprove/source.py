@@ -3,13 +3,14 @@ import argparse
 import re
 import tempfile
 
-from aigprove import aiger, waves
+from aigprove import aiger, simulation, waves
 from aigprove.aiger import Header, Lines
 from aigprove.files import sealed
 from aigprove.judge import Claim
 from aigprove.misfit import misfit
 from aigprove.programs import Fault, say
 from aigprove.replay import SIMULATED, Replay
+from aigprove.report import Answer
 from aigprove.shown import Shown, word
 from aigprove.verilog import BLIF, FRONTS, STANDARD_INPUT, VERILOG, Design, File, kind_of
 # Options that are for designs alone, or for those that certain front ends read.
@@ -32,9 +33,10 @@ CLAIMS = {
 class Given:
     """A file in AIGER form as it was given, and its name among what is kept; of the files of a design one is made first."""
 
-    def __init__(self, paths, words, above, judge, name="file"):
+    def __init__(self, paths, words, above, judge, name="file", given=None):
         self.path, self.design, self.judge = paths[0], None, judge
-        self.given = [sealed("/dev/stdin" if path == STANDARD_INPUT else path, judge.limit) for path in paths]
+        # What was read before is given.
+        self.given = given or [sealed("/dev/stdin" if path == STANDARD_INPUT else path, judge.limit) for path in paths]
         self.kinds = [kind_of(path, file.line()) for path, file in zip(paths, self.given)]
         self.check_kinds(paths, words)
         if self.kinds[0]:
@@ -42,7 +44,8 @@ class Given:
             files = [File(path, file.bytes()) for path, file in zip(paths, self.given)]
             self.design = Design(files, words, folder, judge.programs)
         for line in self.design.left_out if self.design and not words.quiet else []:
-            say(line)
+            if not (words.each and line.startswith("cover ")):
+                say(line)
         self.file = sealed(self.design.file, judge.limit) if self.design else self.given[0]
         self.line = self.file.line()
         self.suffix = "aag" if self.line.startswith(b"aag") else "aig"
@@ -93,8 +96,9 @@ class Asked:
     """A file that engines are asked about, its name among what is kept, and what aigcheck can show of it."""
 
     # What stands before lines that aigcheck prints of a file that was made of others, the line of what is shown in the end, and the
-    # beginning of one of what was shown so far; and what is said of a file about which nothing can be asked.
-    prefix, safe, so_far, empty = "", "no bad state at any step", "no bad state", "no bad state property"
+    # beginning of one of what was shown so far; what is said of a file about which nothing can be asked; and what stands before a line of
+    # one step.
+    prefix, safe, so_far, empty, of_step = "", "no bad state at any step", "no bad state", "no bad state property", ""
 
     def claim(self, line, command, words, files):
         """What aigcheck says of the file."""
@@ -105,6 +109,11 @@ class Asked:
         line, command, *words = CLAIMS[question.command]
         words += [str(question.k), question.name, *question.form]
         return self.claim(line.format(question.k), command, words, {question.name: proof})
+
+    def proved(self, question, base, window, step):
+        """That none is reached at all, by proofs of the steps up to K and of a window."""
+        words = ["to", str(question.k), question.name, window.name, *window.form]
+        return self.claim("no bad state at any step", "safe", words, {question.name: base, window.name: step})
 
     def certified(self, certificate, base, step):
         """That none is reached at all, by a certificate and proofs about both."""
@@ -117,6 +126,14 @@ class Asked:
     def others(self, circuit, told):
         """Further witnesses of what a run shows."""
         return []
+
+    def places(self, circuit):
+        """How the AIGER report names what is asked about, in the file that was given."""
+        return [f"b{i}" for i in range(len(circuit.bads))]
+
+    def of_file(self, told):
+        """A witness as one of the file that was given."""
+        return told
 
     def lines(self, shown, circuit, told):
         """Lines of a run: the latches that are read by what it shows, or that are open at first and matter; the inputs of each step; and
@@ -136,14 +153,34 @@ class Asked:
 class Source(Asked):
     """One file, whose bad states are asked about."""
 
-    def __init__(self, words, above, judge):
-        self.given, self.path = Given(words.files, words, above, judge), words.files[0]
+    # The letter of the numbers of its properties, what all and one of them are called among what is kept, the file's name there, and the
+    # option that asks about one.
+    letter, stems, stem, option = "b", ("properties", "property"), "file", "property"
+
+    def __init__(self, words, above, judge, given=None):
+        self.given, self.path = Given(words.files, words, above, judge, self.stem, given), words.files[0]
         self.name, self.asked, self.is_old = self.given.name, self.given.file, is_old(self.given.line)
-        if self.given.design and not self.given.design.assertions and BLIF not in self.given.kinds:
+        if self.given.design and not self.given.design.assertions and BLIF not in self.given.kinds and not (words.each and self.covers):
             raise Fault(f"{self.path}: {self.given.design.top} has no assertion")
         if self.is_old:
             self.name, self.asked = "bads.aag", judge.made("bads", self.asked)
         self.circuit, self.warnings, self.replay = self.given.circuit, self.given.warnings, None
+
+    @property
+    def covers(self):
+        """How many covers its design has."""
+        return self.given.design.covers if self.given.design else 0
+
+    def answers(self):
+        """Its properties, which have no answers yet: of a design with the names and the places of its assertions."""
+        circuit, design = self.circuit(), self.given.design
+        if design and design.assertions:
+            named = [(f"{design.top}.{name}" if is_named else "", design.yosys.told(place)) for name, place, is_named in design.assertions]
+        else:
+            letter = "o" if self.is_old else "b"
+            names = [circuit.names.get((letter, i), b"") for i in range(len(circuit.outputs if self.is_old else circuit.bads))]
+            named = [(name.decode("utf-8", "surrogateescape"), "") for name in names]
+        return [Answer(self.letter, i, *it) for i, it in enumerate(named)]
 
     def about(self):
         """Lines of what the file is, where that isn't seen."""
@@ -199,6 +236,16 @@ class Source(Asked):
         self.given.keep(evidence)
         if self.is_old:
             evidence.makes(self.name, self.asked, "bads", self.given.name)
+
+
+class Covers(Source):
+    """The covers of a design, in a file of their own in which they are bad states: what was read of the design is given."""
+
+    letter, stems, stem = "c", ("covers", "cover"), "covers"
+
+    def __init__(self, words, above, judge, first):
+        words = argparse.Namespace(**{**vars(words), "quiet": True, "covers": True, "top": first.design.top})
+        super().__init__(words, above, judge, first.given)
 
 
 class Pair(Asked):
@@ -258,8 +305,8 @@ class Pair(Asked):
         if len(told.steps) * len(circuit.gates) > SIMULATED:
             differing = range(len(circuit.bads))
         else:
-            *_, values = circuit.run(told.start, told.steps)
-            differing = [bad for bad, literal in enumerate(circuit.bads) if aiger.value(values, literal) == "1"]
+            *_, values = simulation.run(circuit, told.start, told.steps)
+            differing = [bad for bad, literal in enumerate(circuit.bads) if values[literal] == "1"]
         return [told._replace(bad=bad) for bad in differing[:NAMED] if bad != told.bad]
 
     def found(self, shown, tolds):
@@ -287,7 +334,7 @@ def changes_of(shown, circuit, told, read):
     if len(told.steps) * len(circuit.gates) > SIMULATED:
         return {}
     named, last, found = {i for i in read if f"l{i}" in shown.names}, None, {}
-    for t, values in enumerate(circuit.run(told.start, told.steps)):
+    for t, values in enumerate(simulation.run(circuit, told.start, told.steps)):
         now = shown.values("l", [values[latch] for latch in circuit.latches], named)
         found[t] = [it for it in now if it not in (last or now)]
         last = now

@@ -33,7 +33,7 @@ write_json {made}/drawn.json
 # Up to setundef no pass folds constants: an x is no constant of the design. Hierarchy, memories and asynchronous resets become flat
 # registers of one clock, whose every step is one of it. What is x, and what nothing drives, becomes an input. Of several names of a net
 # the one with most attributes stays.
-FREE = """chformal -cover -live -fair -remove
+FREE = """{chosen}
 opt_clean
 techmap -max_iter 1 -map {made}/free.v
 chtype -set $eq t:$eqx
@@ -57,10 +57,17 @@ setundef -undriven -expose
 write_rtlil {made}/free.il
 write_json {made}/free.json
 """
+# What isn't asked about: covers, or assertions, where covers are asked for as assertions that fail.
+CHOSEN = {False: "chformal -cover -live -fair -remove", True: "chformal -assert -live -fair -remove\ntechmap -map {made}/cover.v t:$cover"}
+COVER = """(* techmap_celltype = "$cover" *)
+module covered (input A, input EN);
+  \\$assert _TECHMAP_REPLACE_ (.A(!A), .EN(EN));
+endmodule
+"""
 # What is free in a design whose text was changed is made so in a run of its own.
 AGAIN = "read_rtlil below.il\nproc -noopt -norom\nflatten\n" + FREE
 # Registers of any clocks as such of all steps, which compare each clock with its last value.
-EDGES = "clk2fflogic\nchtype -set $eq t:$eqx"
+EDGES = "{reset}clk2fflogic\nchtype -set $eq t:$eqx"
 # While there are gates to be found, a register that is open at first is a cell that no pass looks into.
 WRITE = """read_rtlil free.il
 cd {top}
@@ -80,18 +87,29 @@ aigmap
 json -o asserted.json t:$assert
 write_aiger -symbols -map design.aim design.aig
 """
-# The first steps: the signal is held, and no assertion is asked about. One at an edge of the clock is about the step before.
+# The first steps: the signal is held, and no assertion is asked about. One at an edge of the clock is about the step before, or with
+# several clocks about the last edge: there what its register takes at an edge is changed, before that is one of all steps.
 RESET = """select -set held t:$assume
 add -assume {signal}
-techmap -autoproc -max_iter 1 -map held.v t:$assume @held %d
+techmap -autoproc -max_iter 1 -map {made}/held.v t:$assume @held %d
 select -set late t:$dff %co1:+[Q] w:$* %i %co1:+[EN] t:$assert %i
-techmap -autoproc -max_iter 1 -map asked.v t:$assert @late %d
-techmap -autoproc -max_iter 1 -map late.v @late"""
+techmap -autoproc -max_iter 1 -map {made}/asked.v t:$assert @late %d
+techmap -autoproc -max_iter 1 -map {made}/late.v {late}
+"""
+LATE, AT_EDGES = "@late", "@late %ci1:+[EN] w:$* %i %ci1:+[Q] t:$dff %i"
 COUNTING = """(* techmap_celltype = "{kind}" *)
 module counting (input A, input EN);
   reg [{high}:0] left = {steps};
   always @($global_clock) left <= left - (left != 0);
   \\{kind} _TECHMAP_REPLACE_ (.A({value}), .EN({enabled}));
+endmodule
+"""
+SAMPLING = """(* techmap_celltype = "$dff" *)
+module sampling (input CLK, input D, output Q);
+  parameter WIDTH = 1, CLK_POLARITY = 1;
+  reg [{high}:0] left = {steps};
+  always @($global_clock) left <= left - (left != 0);
+  \\$dff #(.WIDTH(1), .CLK_POLARITY(CLK_POLARITY)) _TECHMAP_REPLACE_ (.CLK(CLK), .D(D & left == 0), .Q(Q));
 endmodule
 """
 # All names of a net stay, and the hierarchy is that of the design.
@@ -121,6 +139,8 @@ SPELLED = 200
 STANDARD_INPUT = "-"
 BOX, TOP = (re.compile(rf"^attribute \\{name} 1\n", re.MULTILINE) for name in ["blackbox", "top"])
 ASKED = ("$assert", "$assume")
+# The files of our own that cells are made by.
+MADE = re.compile(r"(/proc/self/fd/[0-9]+/|\./)?(cover|held|asked|late|free)\.v:")
 KINDS = {"$assert": "assertion", "$assume": "assumption", "$cover": "cover", "$live": "liveness assertion", "$fair": "fairness assumption"}
 WORD = re.compile(r"[A-Za-z_][A-Za-z0-9_$]*")
 PARAMETER = re.compile(r"^  parameter \\(\S+)", re.MULTILINE)
@@ -133,9 +153,15 @@ HINTS = {
 FAILED = re.compile(r"^Warning: Assert (\S+ \(.*\)) failed\.$", re.MULTILINE)
 
 
-def asked_below(cells, modules):
-    """How many assertions these modules have."""
-    return sum(cell.type == "$assert" and cell.module[1:] in modules for cell in cells)
+def asked_below(cells, modules, kind="$assert"):
+    """How many assertions, or cells of another kind, these modules have."""
+    return sum(cell.type == kind and cell.module[1:] in modules for cell in cells)
+
+
+def place_of(source):
+    """The place of a cell of a flat module, of which yosys has those of the instances before it, and of what it was made by behind it."""
+    own = [place for place in source.split("|") if not MADE.match(place)]
+    return own[-1] if own else ""
 
 
 class File(collections.namedtuple("File", "path data")):
@@ -159,15 +185,20 @@ class Design:
     def __init__(self, files, words, folder, programs):
         if words.top and not WORD.fullmatch(words.top):
             raise Fault(f"{words.top} is no name of a module")
-        self.files, self.words, self.reset, self.edges = files, words, words.reset, EDGES if words.multiclock else ""
+        self.files, self.words, self.reset = files, words, words.reset
         self.yosys = Yosys(files, folder, programs, words.deadline)
         self.yosys.put("defines.v", "".join(f"`define {name} {value}\n" for name, value in words.define))
         with open(os.path.join(os.path.dirname(__file__), "free.v"), encoding="utf-8") as file:
             self.yosys.put("free.v", file.read())
+        self.yosys.put("cover.v", COVER)
+        if self.reset:
+            self.put_reset()
         self.left_out = self.read(words.top)
         self.top, module = self.free()
         self.clock, self.constants = clock_of(self.top, module), constants(module)
         self.counts = [len(cells_like(module, kind)) for kind in ("$assert", "$assume")]
+        # With several clocks the reset is among the assumptions by now.
+        self.counts[1] -= bool(self.reset and words.multiclock)
         self.assertions = self.write(module)
         self.file = self.yosys.place("design.aig")
 
@@ -183,6 +214,7 @@ class Design:
         if self.words.parameter:
             # Yosys sets parameters of a top module that is named.
             every, below = self.read_below(f"-top {self.top}{self.parameters()}")
+        self.covers = asked_below(every, below, "$cover")
         lines = [f"{name} is a top module too, and not asked about" for name in others]
         return lines + [line for cell in every for line in self.passed_over(cell, cell.module[1:] in below)]
 
@@ -194,7 +226,15 @@ class Design:
             fronts.insert(0, VERILOG.format(file=f"{made}/defines.v", include=""))
         # A box whose outputs are free is an empty module.
         fronts += [f"setattr -mod -unset blackbox ={name}" for name in self.words.black_box]
-        return (READ + further).format(fronts="\n".join(fronts), made=made, top=top, edges=self.edges)
+        return (READ + further).format(fronts="\n".join(fronts), made=made, top=top, edges=self.edges(made), chosen=self.chosen(made))
+
+    def chosen(self, made):
+        """The lines that leave out what isn't asked about, where our folder is `made`."""
+        return CHOSEN[self.words.covers].format(made=made)
+
+    def edges(self, made):
+        """The lines that make registers of any clocks such of all steps, where that is wanted, in the folder where ours is so called."""
+        return EDGES.format(reset=self.resetting(made, AT_EDGES)) if self.words.multiclock else ""
 
     def is_read(self, top, further, is_needed=False):
         """Reads the design as far as a top module has it, and goes on; whether yosys does, which it has to where that is needed."""
@@ -255,8 +295,9 @@ class Design:
 
     def free(self):
         """Makes inputs of what is free, where that isn't done, and gives the name of the top module and what it has."""
+        self.check_reset(*self.top_of("drawn.json"))
         if not self.is_free:
-            self.yosys.run(AGAIN, made=".", edges=self.edges)
+            self.yosys.run(AGAIN, made=".", edges=self.edges("."), chosen=self.chosen("."))
         check_drivers(*self.top_of("drawn.json"))
         top, module = self.top_of("free.json")
         if not WORD.fullmatch(top):
@@ -269,7 +310,8 @@ class Design:
 
     def write(self, module):
         """Writes the file, and gives the name, the place and whether the design has that name for each bad state property's assertion."""
-        reset = self.put_reset(module) if self.reset else ""
+        self.check_reset(self.top, module, self.clock and self.clock[0])
+        reset = "" if self.words.multiclock else self.resetting(".", LATE)
         clock = f"delete w:{self.clock[0]}\nopt_clean -purge" if self.clock else ""
         self.renames = "\n".join(f"rename {old} {new}" for old, new in [*stored(module), *free_names(module)])
         words = {"top": self.top, "renames": self.renames, "clock": clock, "reset": reset, "spare": self.spare()}
@@ -278,20 +320,27 @@ class Design:
         if not self.is_replayed:
             self.yosys.run(WRITE, **words)
         cells = self.yosys.modules("asserted.json").get(self.top, {"cells": {}})["cells"]
-        return [(name, cell["attributes"].get("src", "").partition("|")[0], not cell["hide_name"]) for name, cell in cells.items()]
+        return [(name, place_of(cell["attributes"].get("src", "")), not cell["hide_name"]) for name, cell in cells.items()]
 
-    def put_reset(self, module):
-        """Puts cells into the folder for assertions, and for the assumption that the reset is held, which count its steps, and gives the
-        lines that use them."""
-        signal, value, steps = self.reset
-        port = module["ports"].get(signal)
-        if port is None or port["direction"] != "input" or len(port["bits"]) > 1 or signal in (self.clock or []):
-            raise Fault(f"{self.top} has no input {signal} of one bit that could be a reset")
+    def check_reset(self, top, module, clock=None):
+        """Refuses a reset that is no input of one bit, or is the clock."""
+        port = self.reset and module["ports"].get(self.reset.signal, {"direction": ""})
+        if port and (port["direction"] != "input" or len(port["bits"]) > 1 or self.reset.signal == clock):
+            raise Fault(f"{top} has no input {self.reset.signal} of one bit that could be a reset")
+
+    def put_reset(self):
+        """Puts cells into the folder for assertions, and for the assumption that the reset is held, which count its steps."""
+        _, value, steps = self.reset
         asked = {"kind": "$assert", "value": "A", "enabled": "EN & left == 0"}
         held = {"kind": "$assume", "value": f"A == {value}", "enabled": "left != 0"}
-        for name, count, words in [("held.v", steps, held), ("asked.v", steps, asked), ("late.v", steps + 1, asked)]:
-            self.yosys.put(name, COUNTING.format(steps=count, high=count.bit_length() - 1, **words))
-        return RESET.format(signal=signal)
+        cells = [("held", COUNTING, steps, held), ("asked", COUNTING, steps, asked)]
+        cells.append(("late", SAMPLING, steps, {}) if self.words.multiclock else ("late", COUNTING, steps + 1, asked))
+        for name, text, count, words in cells:
+            self.yosys.put(f"{name}.v", text.format(steps=count, high=count.bit_length() - 1, **words))
+
+    def resetting(self, made, late):
+        """The lines that use these cells, if there is a reset, in the folder where ours is so called."""
+        return RESET.format(signal=self.reset.signal, made=made, late=late) if self.reset else ""
 
     def about(self):
         """The line of what is asked about."""

@@ -3,7 +3,8 @@ import collections
 import itertools
 import re
 
-from aigprove.aiger import KINDS, value
+from aigprove.aiger import KINDS
+from aigprove.simulation import run
 
 SIMPLE_NAME = re.compile(rb"[A-Za-z_][A-Za-z0-9_$]*(\[[0-9]+\])?")
 BIT = re.compile(rb"(.+)\[(0|[1-9][0-9]{0,5})\]", re.DOTALL)
@@ -64,7 +65,7 @@ class Variable:
 
     def change(self, values):
         """The line that says its value in a step."""
-        bits = "".join(value(values, literal) for literal in reversed(self.literals))
+        bits = "".join(values[literal] for literal in reversed(self.literals))
         return bits + self.code if len(bits) == 1 else f"b{bits} {self.code}"
 
 
@@ -101,7 +102,7 @@ def dump(circuit, state, inputs):
         yield "$upscope $end"
     yield "$enddefinitions $end"
     last = {}
-    for t, values in enumerate(circuit.run(state, inputs)):
+    for t, values in enumerate(run(circuit, state, inputs)):
         now = {it.code: it.change(values) for _, own in made for it in own}
         yield f"#{t}"
         changes = [line for name, line in now.items() if last.get(name) != line]

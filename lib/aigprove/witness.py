@@ -2,7 +2,7 @@
 import collections
 import re
 
-from aigprove import aiger
+from aigprove import simulation
 from aigprove.aiger import Fault
 
 # A value of ABC's counterexample: the name of an input or latch, the step and the value.
@@ -13,12 +13,12 @@ LENGTH = re.compile("^# COUNTEREXAMPLE LENGTH: ([0-9]{1,9})$", re.MULTILINE)
 LONGEST = 1 << 20
 
 
-class Witness(collections.namedtuple("Witness", "bad start steps")):
-    """Which bad state is reached, a value for each latch at first, and for each step a value for each input."""
+class Witness(collections.namedtuple("Witness", "bad start steps letter", defaults=["b"])):
+    """Which bad state (or justice property) is shown, a value for each latch at first, and for each step a value for each input."""
 
     def text(self):
         """Its text, by the AIGER report."""
-        return "".join(line + "\n" for line in ["1", f"b{self.bad}", self.start, *self.steps, "."])
+        return "".join(line + "\n" for line in ["1", f"{self.letter}{self.bad}", self.start, *self.steps, "."])
 
 
 def values_of(line, count, what):
@@ -75,9 +75,9 @@ class Named:
 
 def reached(circuit, start, steps):
     """The witness of a run: the first step at which a bad state property is true, and which one; None where there is none."""
-    for t, values in enumerate(circuit.run(start, steps)):
+    for t, values in enumerate(simulation.run(circuit, start, steps)):
         for position, literal in enumerate(circuit.bads):
-            if aiger.value(values, literal) == "1":
+            if values[literal] == "1":
                 return Witness(position, start, list(steps[: t + 1]))
     return None
 

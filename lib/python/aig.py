@@ -20,8 +20,8 @@ from typing import NamedTuple
 __all__ = [
     "Clauses", "Refused", "Settled", "Shown", "binary", "bounded", "check_certified", "check_equal", "check_inductive", "check_refuted",
     "check_refuted_to", "check_run", "clauses", "cnf", "compress_bads", "cone", "info", "join", "merge", "miter", "move_constraints",
-    "obligations", "outputs_as_bads", "query", "query_numbers", "question", "reduce", "reencode", "refine", "strash", "text", "unroll",
-    "window", "witness", "witness_to",
+    "obligations", "outputs_as_bads", "possible", "property_alone", "query", "query_numbers", "question", "reduce", "reencode", "refine",
+    "strash", "text", "unroll", "window", "witness", "witness_to",
 ]
 
 DONE, SMALL, MEMORY, SETTLED = 0, 1, 2, 32
@@ -35,7 +35,7 @@ _OUT = [ctypes.POINTER(ctypes.c_uint8), _size, ctypes.POINTER(_size)]
 _NUMBERS_OUT = [ctypes.POINTER(ctypes.c_int32), _size, *[ctypes.POINTER(_size)] * 3]
 
 # What each call of `aig.h` takes.
-_PLAIN = "text binary strash refine reencode move_constraints compress_bads outputs_as_bads reduce info"
+_PLAIN = "text binary strash refine reencode move_constraints compress_bads outputs_as_bads possible reduce info"
 _TAKES = {
     **{f"aig_{_name}": [*_BYTES, *_OUT] for _name in _PLAIN.split()},
     **{f"aig_{_name}": [*_BYTES, _step, *_OUT] for _name in ("unroll", "question")},
@@ -43,7 +43,7 @@ _TAKES = {
     **{f"aig_{_name}": [*_BYTES, *_BYTES, *_OUT] for _name in ("miter", "join", "merge")},
     **{f"aig_{_name}": [*_BYTES, *_STEP, *_BYTES] for _name in ("check_refuted", "check_refuted_to")},
     **{f"aig_{_name}": [*_BYTES, *_STEP, *_BYTES, *_OUT] for _name in ("witness", "witness_to")},
-    "aig_cone": [*_BYTES, _size, *_OUT],
+    **{f"aig_{_name}": [*_BYTES, _size, *_OUT] for _name in ("property_alone", "cone")},
     "aig_query_numbers": [*_BYTES, *_STEP, *_NUMBERS_OUT],
     "aig_window": [*_BYTES, _step, _bool, _bool, *_OUT],
     "aig_check_inductive": [*_BYTES, _step, _bool, _bool, *_BYTES],
@@ -204,6 +204,16 @@ def compress_bads(file: bytes) -> bytes:
 def outputs_as_bads(file: bytes) -> bytes:
     """The text form of a file's circuit with its outputs as its bad state properties. A file that has some is refused."""
     return _bytes("aig_outputs_as_bads", *_given(file))
+
+
+def property_alone(file: bytes, n: int) -> bytes:
+    """The text form of a file's circuit with its bad state property `n`, from 0 on, as the only one."""
+    return _bytes("aig_property_alone", *_given(file), _number(n))
+
+
+def possible(file: bytes) -> bytes:
+    """The text form of a file's circuit that is bad wherever a run has come: true is its only bad state property."""
+    return _bytes("aig_possible", *_given(file))
 
 
 def cone(file: bytes, n: int) -> bytes:

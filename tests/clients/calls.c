@@ -97,6 +97,12 @@ static uint32_t compress(const struct words *w, uint8_t *out, size_t len, size_t
 static uint32_t bads(const struct words *w, uint8_t *out, size_t len, size_t *needed) {
   return aig_outputs_as_bads(w->file.at, w->file.len, out, len, needed);
 }
+static uint32_t property(const struct words *w, uint8_t *out, size_t len, size_t *needed) {
+  return aig_property_alone(w->file.at, w->file.len, w->k, out, len, needed);
+}
+static uint32_t possible(const struct words *w, uint8_t *out, size_t len, size_t *needed) {
+  return aig_possible(w->file.at, w->file.len, out, len, needed);
+}
 static uint32_t cone(const struct words *w, uint8_t *out, size_t len, size_t *needed) {
   return aig_cone(w->file.at, w->file.len, w->k, out, len, needed);
 }
@@ -244,9 +250,9 @@ static const struct {
   int paths;
 } ANSWERS[] = {
   {"text", text, 1}, {"binary", binary, 1}, {"strash", strash, 1}, {"refine", refine, 1}, {"reencode", reencode, 1},
-  {"unroll", unroll, 1}, {"move", move, 1}, {"compress", compress, 1}, {"bads", bads, 1}, {"cone", cone, 1},
-  {"reduce", reduce, 1}, {"question", question, 1}, {"info", info, 1}, {"cnf", cnf, 1}, {"query", query, 1},
-  {"clauses", clauses, 1}, {"bounded", bounded, 1}, {"window", window, 1}, {"witness", witness, 2}, {"miter", miter, 2},
+  {"unroll", unroll, 1}, {"move", move, 1}, {"compress", compress, 1}, {"bads", bads, 1}, {"property", property, 1},
+  {"possible", possible, 1}, {"cone", cone, 1}, {"reduce", reduce, 1}, {"question", question, 1}, {"info", info, 1}, {"cnf", cnf, 1},
+  {"query", query, 1}, {"clauses", clauses, 1}, {"bounded", bounded, 1}, {"window", window, 1}, {"witness", witness, 2}, {"miter", miter, 2},
   {"join", join, 2}, {"merge", merge, 2}, {"obligations", obligations, 2},
 };
 

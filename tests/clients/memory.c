@@ -54,6 +54,8 @@ static uint32_t unroll(void) { return aig_unroll(GIVEN(WHOLE), 2, PUT); }
 static uint32_t move_constraints(void) { return aig_move_constraints(GIVEN(WHOLE), PUT); }
 static uint32_t compress_bads(void) { return aig_compress_bads(GIVEN(WHOLE), PUT); }
 static uint32_t outputs_as_bads(void) { return aig_outputs_as_bads(GIVEN(AND), PUT); }
+static uint32_t property_alone(void) { return aig_property_alone(GIVEN(WHOLE), 0, PUT); }
+static uint32_t possible(void) { return aig_possible(GIVEN(WHOLE), PUT); }
 static uint32_t cone(void) { return aig_cone(GIVEN(WHOLE), 0, PUT); }
 static uint32_t reduce(void) { return aig_reduce(GIVEN(WHOLE), PUT); }
 static uint32_t question(void) { return aig_question(GIVEN(WHOLE), 1, PUT); }
@@ -87,8 +89,8 @@ static const struct {
   uint32_t (*call)(void);
 } CALLS[] = {
   {"text", text}, {"binary", binary}, {"strash", strash}, {"refine", refine}, {"reencode", reencode}, {"unroll", unroll},
-  {"move_constraints", move_constraints}, {"compress_bads", compress_bads}, {"outputs_as_bads", outputs_as_bads}, {"cone", cone},
-  {"reduce", reduce}, {"question", question}, {"info", info}, {"cnf", cnf}, {"query", query}, {"query_numbers", query_numbers},
+  {"move_constraints", move_constraints}, {"compress_bads", compress_bads}, {"outputs_as_bads", outputs_as_bads},
+  {"property_alone", property_alone}, {"possible", possible}, {"cone", cone}, {"reduce", reduce}, {"question", question}, {"info", info}, {"cnf", cnf}, {"query", query}, {"query_numbers", query_numbers},
   {"clauses", clauses}, {"bounded", bounded}, {"window", window}, {"check_refuted", refuted}, {"check_refuted_to", refuted_to},
   {"check_inductive", inductive}, {"witness", witness}, {"witness_to", witness_to}, {"check_run", run}, {"miter", miter},
   {"join", join}, {"merge", merge}, {"obligations", obligations}, {"check_equal", equal}, {"check_certified", certified},

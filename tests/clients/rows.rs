@@ -37,6 +37,8 @@ fn main() -> ExitCode {
         "move" => aig::move_constraints(file),
         "compress" => aig::compress_bads(file),
         "bads" => aig::outputs_as_bads(file),
+        "property" => aig::property_alone(file, step as usize),
+        "possible" => aig::possible(file),
         "cone" => aig::cone(file, step as usize),
         "reduce" => aig::reduce(file),
         "question" => aig::question(file, step),

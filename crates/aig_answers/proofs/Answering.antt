@@ -20,8 +20,8 @@ use Rattle.aig_encode.specs.Encoding.{IsQuery}
 use Rattle.aig_answers.specs.declared.circuits.CircuitQuery.{CircuitQuery}
 use Rattle.aig_answers.specs.declared.error.AnswerError.{AnswerError}
 use Rattle.aig_answers.specs.declared.windows.WindowClauses.{WindowClauses}
-use Rattle.aig_answers.specs.Answers.{IsAsked, IsCircuitQuery, verdict_of}
-use Rattle.aig_answers.specs.Parts.{IsSaidBy, circuit_verdict, circuit_window_verdict}
+use Rattle.aig_answers.specs.Answers.{IsAsked, IsCircuitQuery, IsSaidBy, circuit_window_verdict, verdict_of}
+use Rattle.aig_answers.specs.Parts.{circuit_verdict}
 use Rattle.aig_runs.proofs.Asking.{unrolls_to}
 use Rattle.aig_runs.specs.Unrolled.{IsUnrolledOf, UnrolledCircuit, Unrolls}
 use Rattle.aig_answers.proofs.Verdicts.{asked_circuit, bads_of}

@@ -1,11 +1,14 @@
 -- The clauses of a window, from their parts.
-use Rattle.aig_base.proofs.Words.{◌≡◌, Result, Ok, Err, ℕ, ◌+◌, ◌-◌, ◌*◌, ◌<◌, ◌≤◌, Bool, false, List, [], ◌∷◌, ◌++◌, length, map, take, drop, get_or, refl, sym, ap, ◌∙◌, arith, length-drop, add-mul, get_or-map, length-map, length-take-le, take_all, take_more}
+use Rattle.aig_base.proofs.Words.{◌≡◌, Result, Ok, Err, ℕ, ◌+◌, ◌-◌, ◌*◌, ◌<◌, ◌≤◌, Bool, false, List, [], ◌++◌, length, take, drop, refl, ap, ◌∙◌, arith, length-drop, add-mul, length-map, length-take-le, take_all, All-map, All-weaker}
 use Rattle.std.specs.Prelude.{replicate, IfOk}
 use Rattle.aig_base.specs.declared.logic.literal.Lit.{Lit}
 use Rattle.aig_base.specs.Clauses.{AreBelow, AreRelations}
 use Rattle.aig_circuit.specs.declared.edge.AigEdge.{AigEdge}
-use Rattle.aig_circuit.specs.declared.node.AigLatch.{AigLatch}
-use Rattle.aig_circuit.proofs.Words.{edge_to, Circuit, IsCircuit}
+use Rattle.aig_circuit.proofs.Circuits.{latch_leaves-leaves}
+use Rattle.aig_circuit.proofs.Trees.{kind_at-within}
+use Rattle.aig_circuit.proofs.Words.{edge_to, Circuit, IsCircuit, IsInRange, IsLeaf}
+use Rattle.aig_circuit.specs.Circuit.{latch_leaves}
+use Rattle.aig_circuit.specs.declared.node.AigNodeType.TheVariants.{Leaf}
 use Rattle.aig_cnf.specs.Cnf.{FixesRoots, HasClauses, NodeValuesSatisfy}
 use Rattle.aig_unroll.specs.Unroll.{UnrollsTo}
 use Rattle.aig_answers.specs.declared.error.AnswerError.{AnswerError}
@@ -16,23 +19,29 @@ use Rattle.aig_runs.specs.declared.window.Window.{Window}
 use Rattle.aig_runs.specs.declared.window.Window.TheVariants.{Plain, Distinct}
 use Rattle.aig_runs.specs.WindowClauses.{AsksWindow, count_free, induction_clauses, pair_clauses, state_at, state_edges, states_clauses, watched}
 
--- the leaf of one latch more is an output
-pub watch_step : (old now made : Circuit) (i : ℕ) (latchs : List AigLatch) (leaf : ℕ) (e : AigEdge) (d : AigLatch)
-    → leaf ≡ (get_or latchs i d).input → latchs ≡ now.latchs → e ≡ edge_to leaf false
-    → i < length old.latchs
-    → now ≡ record old { properties = record old.properties { outputs = take i (state_edges old) } } → made ≡ record now { properties = record now.properties { outputs = now.properties.outputs ++ e ∷ [] } } → made ≡ record old { properties = record old.properties { outputs = take (i + 1) (state_edges old) } }
-watch_step old now made i latchs leaf e d of same is low before step =
-    let these : latchs ≡ old.latchs = same ∙ ap (λ (c : Circuit). c.latchs) before in
-    let leaf_of = λ (latch : AigLatch). latch.input in
-    let edge_at = λ (n : ℕ). edge_to n false in
-    let leaves = map leaf_of old.latchs in
-    let count : length leaves ≡ length old.latchs = length-map old.latchs leaf_of in
-    let within : i < length leaves = omega (arith, count) in
-    let wide : length (map edge_at leaves) ≡ length leaves = length-map leaves edge_at in
-    let here : get_or (map edge_at leaves) i e ≡ e =
-    get_or-map edge_at leaves i (leaf_of d) e within ∙ ap edge_at (get_or-map leaf_of old.latchs i d (leaf_of d) low ∙ sym (of ∙ ap (λ ls. (get_or ls i d).input) these)) ∙ sym is in
-    let more = take_more (map edge_at leaves) i e (omega (arith, within, wide)) ∙ ap (λ x. take i (map edge_at leaves) ++ x ∷ []) here in
-    step ∙ ap (λ (c : Circuit). record c { properties = record c.properties { outputs = c.properties.outputs ++ e ∷ [] } }) before ∙ ap (λ es. record old { properties = record old.properties { outputs = es } }) (sym more)
+-- the leaves of latches may be outputs
+pub watched_circuit : (form : Window) (c : Circuit) → IsCircuit c → IsCircuit (watched form c)
+watched_circuit Plain c is = is
+watched_circuit Distinct c is =
+    let there = All-weaker (IsLeaf c.nodes) (λ n. n < length c.nodes)
+    (λ n leaf. kind_at-within c.nodes n Leaf leaf) (latch_leaves c.latchs)
+    (latch_leaves-leaves c is) in
+    record {
+      nodes = is.nodes;
+      inputs = is.inputs;
+      inputs_distinct = is.inputs_distinct;
+      latchs = is.latchs;
+      latchs_distinct = is.latchs_distinct;
+      apart = is.apart;
+      properties = record {
+        outputs = All-map (IsInRange c.nodes) (λ n. edge_to n false) (latch_leaves c.latchs) there;
+        bads = is.properties.bads;
+        constraints = is.properties.constraints;
+        justice = is.properties.justice;
+        fairness = is.properties.fairness;
+      };
+      named = is.named;
+    }
 
 -- the edges of a state, as they are cut out
 pub cut_row : (edges : List AigEdge) (l s : ℕ)

@@ -2,7 +2,7 @@ mod Pairs
 mod Growing
 mod Asking
 pub mod Verdicts
-mod Answering
+pub mod Answering
 mod Alike
 mod Deciding
 mod Differing

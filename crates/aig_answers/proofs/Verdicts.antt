@@ -15,8 +15,8 @@ use Rattle.aig_encode.specs.declared.error.EncodeError.{EncodeError}
 use Rattle.aig_encode.specs.declared.error.EncodeError.TheVariants as encode
 use Rattle.aig_encode.specs.Encoding as encoding
 use Rattle.aig_refutation.specs.declared.error.RefutationError.{RefutationError}
-use Rattle.aig_answers.specs.Answers.{IsOfCircuitQuery, IsOfInduction, IsOfQuery, IsOfStep, IsOfWindow, asked_verdict, verdict_of, window_size, window_verdict}
-use Rattle.aig_answers.specs.Parts.{IsSaidBy, circuit_verdict, circuit_window_verdict}
+use Rattle.aig_answers.specs.Answers.{IsOfCircuitQuery, IsOfInduction, IsOfQuery, IsOfStep, IsOfWindow, IsSaidBy, asked_verdict, circuit_window_verdict, verdict_of, window_size, window_verdict}
+use Rattle.aig_answers.specs.Parts.{circuit_verdict}
 use Rattle.aig_answers.specs.declared.error.AnswerError.{AnswerError}
 use Rattle.aig_answers.specs.declared.error.AnswerError.TheVariants as errors
 

@@ -1,7 +1,7 @@
 -- Part of what is promised.
 -- What is asked of a circuit, what an answer says of the bytes of a file and of a proof, and which
 -- errors a call has.
-use Rattle.std.specs.Prelude.{◌≢◌, ℕ, ◌+◌, ◌≤◌, ◌==◌, nat_lt, if◌then◌else◌, Bool, List, [], ◌++◌, length, Option, Result, Ok, Err}
+use Rattle.std.specs.Prelude.{◌≡◌, ◌≢◌, ℕ, ◌+◌, ◌≤◌, ◌==◌, nat_lt, if◌then◌else◌, Bool, List, [], ◌++◌, length, Option, Result, Ok, Err}
 use Rattle.aig_base.specs.declared.logic.literal.Lit.{Lit}
 use Rattle.aig_base.specs.Clauses.{AreBelow}
 use Rattle.aig_base.specs.Formula.{clauses_in}
@@ -11,7 +11,7 @@ use Rattle.aig_format.specs.Circuit.{circuit_of}
 use Rattle.aig_format.specs.File.{File}
 use Rattle.aig_format.specs.Fits.{Accepts}
 use Rattle.aig_reader.specs.declared.error.ReadError.TheVariants as read
-use Rattle.aig_reader.specs.Verdicts.{Accepted, Crowded, NoBads, TooLarge, Verdict}
+use Rattle.aig_reader.specs.Verdicts.{Accepted, Crowded, NoBads, Short, TooLarge, Verdict}
 use Rattle.aig_unroll.specs.Places.{unrolled_size}
 use Rattle.aig_unroll.specs.Unroll.{UnrollsTo}
 use Rattle.aig_runs.specs.CircuitQueries.{AsksOfCircuit}
@@ -74,6 +74,20 @@ window_verdict form limit k f =
     if nat_lt limit (unrolled_size (circuit_of f) (k + 1)) then TooLarge
     else if length f.properties.bads == 0 then NoBads
     else if nat_lt limit (window_size form (circuit_of f) k) then Crowded else Accepted
+
+-- ---- circuits that are asked for a window
+
+-- it is this verdict, or Short where that is that the circuit is taken
+abbrev pub IsSaidBy : Verdict → Verdict → Type 0
+IsSaidBy of Short = of ≡ Accepted
+IsSaidBy of v = v ≡ of
+
+-- the verdict on a circuit that is asked for a window
+abbrev pub circuit_window_verdict : Window → ℕ → ℕ → Circuit → Verdict
+circuit_window_verdict form limit k c =
+    if nat_lt limit (unrolled_size c (k + 1)) then TooLarge
+    else if length c.properties.bads == 0 then NoBads
+    else if nat_lt limit (window_size form c k) then Crowded else Accepted
 
 -- ---- errors
 

@@ -7,9 +7,8 @@ ghost use Rattle.aig_runs.specs.WindowClauses.{induction_clauses};
 ghost use Rattle.aig_runs.specs.Queries.{unit_clauses};
 ghost use Rattle.aig_unroll.specs.Unroll.{UnrollsTo};
 
-use aig::{Aig, AigEdge};
 use aig_base::{LitVvec, MemoryError};
-use aig_circuit::CircuitView;
+use aig_circuit::{AigEdge, CircuitView};
 use aig_runs::{push_any, push_units};
 use std::alloc::Global;
 
@@ -47,27 +46,7 @@ fn induction_over(
     Ok(further)
 }
 
-/// The window clauses of an induction step, over the nodes of the circuit unrolled by `k + 1` steps.
-pub(crate) fn window_clauses(
-    alloc: Global,
-    circuit: &Aig,
-    k: usize,
-    unrolled: &Aig,
-) -> Result<LitVvec, MemoryError>
-    requires steps { k < 2 ^ 32 }
-    requires few_unrolled { length unrolled.now.nodes ≤ 2 ^ 31 }
-    requires bads { length unrolled.now.properties.bads
-        ≡ (k + 1 + 1) * length circuit.now.properties.bads }
-    ensures exact { IfOk result
-        (λ further. further ≡ induction_clauses circuit.now k unrolled.now) }
-    ensures circuit { OnOk result (IsCircuit unrolled.now) }
-{
-    let bads = unrolled.bads();
-    let first = (k + 1) * circuit.bads().len();
-    induction_over(alloc, unrolled.constraints(), bads, first)
-}
-
-/// The same over views of the circuit and of the circuit with its further steps.
+/// The window clauses of an induction step, over the circuit and the circuit with `k + 1` further steps.
 pub(crate) fn induction_between(
     alloc: Global,
     circuit: &CircuitView<'_>,

@@ -19,4 +19,4 @@ pub use laws::{circuit_clauses_are_one, windows_are_asked};
 pub use refuting::refute;
 pub use step::{asked_circuit, asked_query, check_step};
 pub use unrolled::{plain_window, unrolled_query};
-pub use windows::{WindowClauses, check_window, window};
+pub use windows::{WindowClauses, check_window, check_window_of, check_window_room, window};

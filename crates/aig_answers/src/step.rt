@@ -1,8 +1,8 @@
 //! No bad state at a step.
 
 ghost use Rattle.std.specs.Prelude.{◌≡◌, ◌≢◌, ◌^◌, ◌≤◌, IfErr, IfOk, IsErrOf, IsTrue, length};
-ghost use Rattle.aig_answers.specs.Answers.{IsAsked, IsCircuitQuery, IsOfQuery, IsOfStep, TellsOfStep, asked_verdict, verdict_of};
-ghost use Rattle.aig_answers.specs.Parts.{IsSaidBy, circuit_verdict};
+ghost use Rattle.aig_answers.specs.Answers.{IsAsked, IsCircuitQuery, IsOfQuery, IsOfStep, IsSaidBy, TellsOfStep, asked_verdict, verdict_of};
+ghost use Rattle.aig_answers.specs.Parts.{circuit_verdict};
 ghost use Rattle.aig_base.specs.Clauses.{AreBelow};
 ghost use Rattle.aig_circuit.specs.Circuit.{IsCircuit};
 ghost use Rattle.aig_circuit.specs.View.{lists_circuit};

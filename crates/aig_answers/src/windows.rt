@@ -1,26 +1,32 @@
 //! Windows of steps that keep a machine safe.
 
-ghost use Rattle.std.specs.Prelude.{◌≡◌, ◌≢◌, ◌+◌, ◌*◌, ◌≤◌, ◌<◌, ◌^◌, ◌↔◌, ◌++◌, [], IfErr, IfOk, IsErrOf, IsTrue, OnOk, length, replicate};
-ghost use Rattle.aig_answers.specs.Answers.{IsAsked, IsOfInduction, IsOfWindow, TellsOfWindow, verdict_of, window_size, window_verdict};
-ghost use Rattle.aig_answers.specs.Parts.{IsSaidBy, circuit_window_verdict};
+ghost use Rattle.std.specs.Prelude.{◌≡◌, ◌≢◌, ◌+◌, ◌*◌, ◌≤◌, ◌<◌, ◌^◌, ◌↔◌, ◌++◌, [], IfErr, IfOk, IsErrOf, IsTrue, OnOk, false, length, map, replicate, ℕ};
+ghost use Rattle.aig_answers.specs.Answers.{IsAsked, IsOfInduction, IsOfWindow, IsSaidBy, TellsOfCircuitWindow, TellsOfWindow, circuit_window_verdict, verdict_of, window_size, window_verdict};
 ghost use Rattle.aig_base.specs.Clauses.{AreBelow};
 ghost use Rattle.aig_runs.specs.Induction.{IsKInductive};
 ghost use Rattle.aig_runs.specs.WindowClauses.{AsksWindow, count_free, states_clauses, watched};
-ghost use Rattle.aig_circuit.specs.Circuit.{Circuit};
-ghost use Rattle.aig_reader.specs.Reading.{IsReadAs};
+ghost use Rattle.aig_circuit.specs.Circuit.{Circuit, IsCircuit, latch_leaves};
+ghost use Rattle.aig_circuit.specs.Edge.{edge_to};
+ghost use Rattle.aig_circuit.specs.View.{lists_circuit};
+ghost use Rattle.aig_reader.specs.Reading.{AreListsOf, IsReadAs};
 ghost use Rattle.aig_reader.specs.Verdicts.{Accepted, Judges, verdict_by};
 ghost use Rattle.aig_format.specs.Circuit.{circuit_of};
+ghost use Rattle.aig_format.specs.File.{File};
+ghost use Rattle.aig_format.specs.Fits.{Fits};
 ghost use Rattle.aig_unroll.specs.Unroll.{UnrollsTo};
 
 use crate::asks::check_asks;
-use crate::clauses::window_clauses;
+use crate::clauses::induction_between;
 use crate::distinct::{pairs_of, push_distinct};
 use crate::error::AnswerError;
 use crate::refuting::refute;
-use aig::{Aig, AigEdge, PropList};
 use aig_base::{DagCnf, LitVvec, MemoryError, Source};
+use aig_circuit::{AigEdge, AigLatch, CircuitLists, CircuitView};
+use aig_cnf::encode;
+use aig_reader::read;
 use aig_refutation::RefutationError;
 use aig_runs::{Window, refuted_windows_are_inductive, windows_are_one};
+use aig_unroll::{is_size_within, unroll_to};
 use std::alloc::Global;
 
 /// The clauses that ask for a window of steps with a bad state first at its end, or for a bad state at a step.
@@ -32,23 +38,34 @@ pub struct WindowClauses {
     pub further: LitVvec,
 }
 
-/// Makes the leaves of latches the outputs, where states are to be told apart.
-fn watch(circuit: &mut Aig, form: Window) -> Result<(), MemoryError>
-    ensures { OnOk result (circuit.new ≡ watched form circuit.old) }
+/// The edges of the leaves of latches.
+fn leaf_edges(alloc: Global, latchs: &[AigLatch]) -> Result<Vec<AigEdge>, MemoryError>
+    ensures { IfOk result
+        (λ edges. edges.items ≡ map (λ n. edge_to n false) (latch_leaves latchs.now)) }
 {
-    if form == Window::Plain {
-        return Ok(());
+    let mut edges = Vec::with_capacity(alloc, latchs.len())?;
+    for latch in latchs {
+        edges.push_reserved(AigEdge::from(latch.input()));
     }
-    circuit.clear_edges(PropList::Outputs);
-    for i in 0..circuit.latchs().len() {
-        let leaf = circuit.latchs()[i].input();
-        circuit.push_edge(PropList::Outputs, AigEdge::from(leaf))?;
+    Ok(edges)
+}
+
+/// The circuit whose outputs are the leaves of latches, where states are to be told apart.
+fn watch(
+    alloc: Global,
+    mut circuit: CircuitLists,
+    form: Window,
+) -> Result<CircuitLists, MemoryError>
+    ensures { IfOk result (λ made. lists_circuit made ≡ watched form (lists_circuit circuit)) }
+{
+    if form == Window::Distinct {
+        circuit.properties.outputs = leaf_edges(alloc, &circuit.latchs)?;
     }
-    Ok(())
+    Ok(circuit)
 }
 
 /// Whether the bound of a window's variables is within the limit.
-fn has_room(circuit: &Aig, k: usize, form: Window, limit: usize) -> bool
+fn has_room(circuit: &CircuitView<'_>, k: usize, form: Window, limit: usize) -> bool
     requires { k < 2 ^ 32 }
     ensures { IsTrue result ↔ (window_size form circuit.now k ≤ limit) }
 {
@@ -60,16 +77,16 @@ fn has_room(circuit: &Aig, k: usize, form: Window, limit: usize) -> bool
     if latchs != 0 && pairs > limit / latchs {
         return false;
     }
-    aig_unroll::is_size_within(circuit.num_nodes(), latchs, k + 1, limit - pairs * latchs)
+    is_size_within(circuit.nodes().len(), latchs, k + 1, limit - pairs * latchs)
 }
 
 /// Appends the clauses that tell the states of a window apart, where the form asks for them.
 fn tell_apart(
     alloc: Global,
     made: &mut WindowClauses,
-    circuit: &Aig,
+    circuit: &CircuitView<'_>,
     k: usize,
-    unrolled: &Aig,
+    unrolled: &CircuitView<'_>,
     form: Window,
 ) -> Result<(), MemoryError>
     requires steps { k < 2 ^ 32 }
@@ -98,9 +115,9 @@ fn tell_apart(
 /// outputs of it.
 fn clauses_of(
     alloc: Global,
-    circuit: &Aig,
+    circuit: &CircuitView<'_>,
     k: usize,
-    unrolled: &Aig,
+    unrolled: &CircuitView<'_>,
     optimize: bool,
     form: Window,
 ) -> Result<WindowClauses, MemoryError>
@@ -111,46 +128,55 @@ fn clauses_of(
     ensures { IfOk result (λ made. (c : Circuit) → circuit.now ≡ watched form c
         → AsksWindow form c k optimize made.clauses made.further) }
 {
-    let clauses = unrolled.cnf(optimize)?;
-    let further = window_clauses(alloc, circuit, k, unrolled)?;
+    let clauses = encode(alloc, unrolled, optimize)?;
+    let further = induction_between(alloc, circuit, k, unrolled)?;
     let mut made = WindowClauses { clauses, further };
     tell_apart(alloc, &mut made, circuit, k, unrolled, form)?;
     Ok(made)
 }
 
-/// The clauses of a window of a circuit. The circuit's outputs are used, whatever they are.
+/// The clauses of a window of a circuit.
 fn make_window(
     alloc: Global,
-    circuit: &mut Aig,
+    circuit: CircuitLists,
     k: usize,
     optimize: bool,
     form: Window,
 ) -> Result<WindowClauses, MemoryError>
     requires steps { k < 2 ^ 32 }
-    requires room { window_size form circuit.old k ≤ 2 ^ 31 }
+    requires circuit { IsCircuit (lists_circuit circuit) }
+    requires room { window_size form (lists_circuit circuit) k ≤ 2 ^ 31 }
     ensures { IfOk result
-        (λ made. AsksWindow form circuit.old k optimize made.clauses made.further) }
+        (λ made. AsksWindow form (lists_circuit circuit) k optimize made.clauses made.further) }
 {
-    watch(circuit, form)?;
-    let unrolled = circuit.unroll_to(k + 1)?;
-    clauses_of(alloc, circuit, k, &unrolled, optimize, form)
+    let watched = watch(alloc, circuit, form)?;
+    let circuit = CircuitView::new(&watched);
+    let unrolled = unroll_to(&circuit, k + 1)?;
+    clauses_of(
+        alloc,
+        &circuit,
+        k,
+        &CircuitView::new(&unrolled),
+        optimize,
+        form,
+    )
 }
 
-/// The clauses of a window of a circuit, unless they may pass the limit. The circuit's outputs are used, whatever they are.
-fn ask_window(
-    alloc: Global,
-    circuit: &mut Aig,
+/// Refuses a circuit whose window of `k + 2` steps may pass the limit, and one without bad edges, of which nothing is asked.
+///
+/// # Errors
+///
+/// - `Encode(TooLarge)`: the bound of the circuit with `k + 1` further steps passes the limit.
+/// - `NoBads`: there is no bad edge.
+/// - `TooLarge`: with the variables that tell states apart it passes the limit.
+pub fn check_window_room(
+    circuit: &CircuitView<'_>,
     limit: usize,
     k: usize,
-    optimize: bool,
     form: Window,
-) -> Result<WindowClauses, AnswerError>
-    requires few { limit ≤ 2 ^ 31 }
-    requires steps { k < 2 ^ 32 }
-    ensures asks { IfOk result
-        (λ made. AsksWindow form circuit.old k optimize made.clauses made.further) }
-    ensures said { IsSaidBy (circuit_window_verdict form limit k circuit.old)
-        (verdict_by verdict_of result) }
+) -> Result<(), AnswerError>
+    requires { k < 2 ^ 32 }
+    ensures said { verdict_by verdict_of result ≡ circuit_window_verdict form limit k circuit.now }
     ensures own { IfErr result IsOfWindow }
 {
     check_asks(
@@ -163,6 +189,28 @@ fn ask_window(
     if !has_room(circuit, k, form, limit) {
         return Err(AnswerError::TooLarge);
     }
+    Ok(())
+}
+
+/// The clauses of a window of a circuit, unless they may pass the limit.
+fn ask_window(
+    alloc: Global,
+    circuit: CircuitLists,
+    limit: usize,
+    k: usize,
+    optimize: bool,
+    form: Window,
+) -> Result<WindowClauses, AnswerError>
+    requires few { limit ≤ 2 ^ 31 }
+    requires steps { k < 2 ^ 32 }
+    requires circuit { IsCircuit (lists_circuit circuit) }
+    ensures asks { IfOk result
+        (λ made. AsksWindow form (lists_circuit circuit) k optimize made.clauses made.further) }
+    ensures said { IsSaidBy (circuit_window_verdict form limit k (lists_circuit circuit))
+        (verdict_by verdict_of result) }
+    ensures own { IfErr result IsOfWindow }
+{
+    check_window_room(&CircuitView::new(&circuit), limit, k, form)?;
     Ok(make_window(alloc, circuit, k, optimize, form)?)
 }
 
@@ -199,8 +247,8 @@ pub fn window<R: Source>(
         (R.failed r.new) (verdict_by verdict_of result) }
     ensures own { IfErr result IsOfWindow }
 {
-    let mut circuit = Aig::from_aiger(alloc, r, limit)?;
-    ask_window(alloc, &mut circuit, limit, k, optimize, form)
+    let circuit = read(alloc, r, limit)?;
+    ask_window(alloc, circuit, limit, k, optimize, form)
 }
 
 /// Reads a circuit from the bytes of an AIGER file, and checks a proof, in the LRAT or the DRAT format, that the clauses of
@@ -236,5 +284,40 @@ pub fn check_window<R: Source, P: Source>(
     refuted_windows_are_inductive();
     windows_are_one();
     let asked = window(alloc, r, limit, k, optimize, form)?;
+    refute(alloc, &asked.clauses, &asked.further, proof)
+}
+
+/// Checks a proof, in the LRAT or the DRAT format, that the window clauses of a circuit can't be satisfied, as `check_window` does
+/// with those of a file: then no window of `k + 2` steps of a file that the circuit is of reaches a bad state first at its end. The
+/// circuit is dropped before the proof is read.
+pub fn check_window_of<P: Source>(
+    alloc: Global,
+    circuit: CircuitLists,
+    limit: usize,
+    k: usize,
+    optimize: bool,
+    form: Window,
+    proof: &mut P,
+) -> Result<(), AnswerError>
+    requires few { limit ≤ 2 ^ 31 }
+    requires steps { k < 2 ^ 32 }
+    requires circuit { IsCircuit (lists_circuit circuit) }
+    ensures answer { OnOk result ((f : File) (bound : ℕ) → Fits f bound → AreListsOf f circuit
+        → IsKInductive form f k) }
+    // Which refusals come before the proof is read, and when.
+    ensures said { IsSaidBy (circuit_window_verdict form limit k (lists_circuit circuit))
+        (verdict_by verdict_of result) }
+    ensures own { IfErr result IsOfInduction }
+    ensures unread { verdict_by verdict_of result ≢ Accepted → proof.new ≡ proof.old }
+    // Where the proof is looked at, the answer is what its text shows of the window's clauses.
+    ensures shown { verdict_by verdict_of result ≡ Accepted → TellsOfCircuitWindow form k optimize
+        (P.left proof.old) (lists_circuit circuit) result }
+    // Stream only where a read failed in this call.
+    ensures proof_stream { IsErrOf result (AnswerError.Refutation RefutationError.Stream)
+        → IsTrue (P.failed proof.new) }
+{
+    refuted_windows_are_inductive();
+    windows_are_one();
+    let asked = ask_window(alloc, circuit, limit, k, optimize, form)?;
     refute(alloc, &asked.clauses, &asked.further, proof)
 }

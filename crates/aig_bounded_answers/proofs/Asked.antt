@@ -4,7 +4,7 @@ use Rattle.aig_base.specs.Clauses.{AreBelow, variable_of}
 use Rattle.aig_base.proofs.Literals.{variable_of-lit_to}
 use Rattle.aig_circuit.specs.declared.edge.AigEdge.{AigEdge}
 use Rattle.aig_circuit.specs.declared.view.CircuitLists.{CircuitLists}
-use Rattle.aig_circuit.proofs.Words.{Circuit, IsCircuit, IsClosed, IsInRange, IsLeaf, lit_of, HasConstantInit, Properties, no_properties, lists_circuit}
+use Rattle.aig_circuit.proofs.Words.{Circuit, IsCircuit, IsClosed, IsInRange, lit_of, HasConstantInit, Properties, lists_circuit}
 use Rattle.aig_format.proofs.Words.{circuit_of, edge_of, File, Accepts, Fits}
 use Rattle.aig_format.proofs.Circuits.{IsCircuit-of_file}
 use Rattle.aig_format_laws.proofs.Closed.{IsClosed-of_file}
@@ -32,6 +32,31 @@ use Rattle.aig_bounded.specs.declared.question.Question.{Question}
 
 -- ---- of a file
 
+-- the question of the circuit of a file is one of the file
+pub asks_of_lists : (k : ℕ) (optimize : Bool) (lists : CircuitLists) (f : File)
+    → AreListsOf f lists → (made : BoundedClauses)
+    → IsEncodedQuestion (lists_circuit lists) k optimize made → AsksBounded f k optimize made
+asks_of_lists k optimize lists f is made e = record {
+  output = e.output;
+  asks = subst (λ c. IsQuestion c k (lists_circuit made.question.circuit) e.output
+      made.question.places.items) is e.asks;
+  named = subst (λ c. AllZip (IsNamed c) made.question.places.items made.named.items) is e.named;
+  has_clauses = e.encoded.has_clauses;
+  fixes = e.encoded.fixes;
+  satisfied = e.encoded.satisfied;
+  exact = e.encoded.exact ∙ ap (λ (p : Properties AigEdge). unit_clauses p.outputs)
+      e.asks.properties;
+}
+
+pub lists_closed : (f : File) (bound : ℕ) (lists : CircuitLists) → Fits f bound
+    → AreListsOf f lists → IsClosed (lists_circuit lists)
+lists_closed f bound lists fits is = subst IsClosed (sym is) (IsClosed-of_file f bound fits)
+
+pub lists_start : (f : File) (lists : CircuitLists) → AreListsOf f lists
+    → All HasConstantInit lists.latchs.items
+lists_start f lists is =
+    subst (λ (c : Circuit). All HasConstantInit c.latchs) (sym is) (plain_starts f)
+
 module _ (limit k : ℕ) (optimize : Bool) (lists : CircuitLists)
     (old new : Option (List ℕ))
     (read : IsReadAs (λ bytes. Accepts bytes limit) AreListsOf old new lists) where
@@ -39,11 +64,10 @@ module _ (limit k : ℕ) (optimize : Bool) (lists : CircuitLists)
   read_circuit = subst IsCircuit (sym read.means) (IsCircuit-of_file read.file limit read.holds.1)
 
   pub read_closed : IsClosed (lists_circuit lists)
-  read_closed = subst IsClosed (sym read.means) (IsClosed-of_file read.file limit read.holds.1)
+  read_closed = lists_closed read.file limit lists read.holds.1 read.means
 
   pub read_starts : All HasConstantInit lists.latchs.items
-  read_starts = subst (λ (c : Circuit). All HasConstantInit c.latchs) (sym read.means)
-      (plain_starts read.file)
+  read_starts = lists_start read.file lists read.means
 
   bads_of : lists.properties.bads.items ≢ [] → read.file.properties.bads ≢ []
   bads_of some none = some (ap (λ (c : Circuit). c.properties.bads) read.means ∙ ap (λ bads. map
@@ -53,18 +77,7 @@ module _ (limit k : ℕ) (optimize : Bool) (lists : CircuitLists)
   asks_file : (made : BoundedClauses)
       → IsEncodedQuestion (lists_circuit lists) k optimize made
       → AsksBounded read.file k optimize made
-  asks_file made e = record {
-    output = e.output;
-    asks = subst (λ c. IsQuestion c k (lists_circuit made.question.circuit) e.output
-        made.question.places.items) read.means e.asks;
-    named = subst (λ c. AllZip (IsNamed c) made.question.places.items made.named.items) read.means
-        e.named;
-    has_clauses = e.encoded.has_clauses;
-    fixes = e.encoded.fixes;
-    satisfied = e.encoded.satisfied;
-    exact = e.encoded.exact ∙ ap (λ (p : Properties AigEdge). unit_clauses p.outputs)
-        e.asks.properties;
-  }
+  asks_file = asks_of_lists k optimize lists read.file read.means
 
   pub asked_of : (made : BoundedClauses) → lists.properties.bads.items ≢ []
       → IsEncodedQuestion (lists_circuit lists) k optimize made

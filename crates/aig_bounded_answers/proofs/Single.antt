@@ -1,10 +1,8 @@
 -- A file's question has one list of clauses.
-use Rattle.aig_base.proofs.Words.{◌≡◌, ◌≤◌, ◌^◌, ◌++◌, ◌∷◌, [], ℕ, Bool, false, Option, IfSome, List, length, Result, Ok, Err, sym, ap, ap₂, subst, ◌∙◌, All}
+use Rattle.aig_base.proofs.Words.{◌≡◌, ◌++◌, ◌∷◌, [], ℕ, Bool, false, Option, IfSome, List, length, Result, Ok, Err, sym, ap, ap₂, subst, ◌∙◌, All}
 use Rattle.aig_base.specs.Formula.{clauses_in}
 use Rattle.aig_base.specs.declared.logic.literal.Lit.{Lit}
-use Rattle.aig_base.specs.declared.logic.three.Lbool.{Lbool}
 use Rattle.aig_base.specs.Clauses.{are_true}
-use Rattle.aig_circuit.specs.declared.edge.AigEdge.{AigEdge}
 use Rattle.aig_circuit.proofs.Words.{Circuit, edge_to, lit_of, lists_circuit}
 use Rattle.aig_cnf.specs.Cnf.{HasClauses}
 use Rattle.aig_cnf.proofs.OneList.{one_list}

@@ -46,7 +46,7 @@ pub count_of : (f : File) (lists : CircuitLists) → AreListsOf f lists
 count_of f lists is = ap (λ (c : Circuit). length c.properties.bads) is ∙ length-map
     f.properties.bads (edge_of f)
 
-said_of_lists : (f : File) (lists : CircuitLists) → AreListsOf f lists → (v : Verdict)
+pub said_of_lists : (f : File) (lists : CircuitLists) → AreListsOf f lists → (v : Verdict)
     → IsSaidOfBads lists.properties.bads.items v → IsSaidOf bounded_verdict f v
 said_of_lists f lists is Accepted said = some_at (length f.properties.bads) (subst (λ n. n ≢ 0)
     (count_of f lists is) (some_length lists.properties.bads.items said))
@@ -134,6 +134,13 @@ untaken_question (errors.Solution e) own is = own
 pub no_proof : (r : Result Unit BoundedAnswerError) (x : RefutationError) → IfErr r IsOfQuestion
     → ¬ IsErrOf r (errors.Refutation x)
 no_proof r x own is = subst (λ s. IfErr s IsOfQuestion) is own
+
+-- an error is the same of results of any value
+pub other_value : {T U E : Type 0} (e x : E) → IsErrOf {T = T} (Err e) x → IsErrOf {T = U} (Err e) x
+other_value {U = U} {E = E} e x is =
+    let same : e ≡ x = cc in
+    let error : E → Result U E = λ y. Err y in
+    ap error same
 
 -- a refusal of a solver's answer is none of a witness
 pub refused_own : (text : Option (List ℕ)) (failed : Bool) (bads : ℕ) (made : BoundedClauses)

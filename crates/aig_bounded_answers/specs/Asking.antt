@@ -1,7 +1,7 @@
 -- Part of what is promised.
 -- The clauses of a bounded check of a file's machine, and what an answer says of the bytes of the
 -- file and of a proof. (Bounded model checking; Tseitin encoding.)
-use Rattle.std.specs.Prelude.{◌≡◌, ◌≢◌, ℕ, ◌==◌, ◌+◌, ◌<◌, ◌≤◌, ◌^◌, if◌then◌else◌, Bool, true, false, IsTrue, Option, IfSome, List, [], ◌∷◌, ◌++◌, length, All, slice_index_or, Result, Ok, Err}
+use Rattle.std.specs.Prelude.{◌≡◌, ◌≢◌, ℕ, ◌==◌, ◌<◌, ◌≤◌, ◌^◌, if◌then◌else◌, Bool, true, false, IsTrue, Option, IfSome, List, [], ◌∷◌, ◌++◌, length, All, slice_index_or, Result, Ok, Err}
 use Rattle.std.specs.List.{AllZip}
 use Rattle.aig_base.specs.declared.logic.three.Lbool.{Lbool}
 use Rattle.aig_base.specs.declared.logic.three.Lbool.TheVariants.{TRUE, NONE}

@@ -1,6 +1,6 @@
 -- Serves private clauses alone.
 -- The names of leaves, and the clauses of a question.
-use Rattle.std.specs.Prelude.{◌≡◌, ◌≢◌, ℕ, Bool, false, Some, List, [], ◌++◌, ◌⊎◌, slice_index_or}
+use Rattle.std.specs.Prelude.{◌≡◌, ◌≢◌, ℕ, Bool, false, Some, List, [], slice_index_or}
 use Rattle.std.specs.List.{AllZip}
 use Rattle.aig_circuit.specs.declared.edge.AigEdge.{AigEdge}
 use Rattle.aig_circuit.specs.Circuit.{Circuit}

@@ -2,17 +2,22 @@
 
 ghost use Rattle.std.specs.Prelude.{◌≡◌, ◌≢◌, ◌+◌, ◌<◌, ◌≤◌, ◌^◌, ◌++◌, ◌⊎◌, ℕ, IfErr, IfOk, IsErrOf, IsTrue, OnOk};
 ghost use Rattle.aig_base.specs.Formula.{IsSatisfiable, clauses_in};
-ghost use Rattle.aig_reader.specs.Reading.{IsReadAs};
-ghost use Rattle.aig_reader.specs.Verdicts.{Accepted, Judges, verdict_by};
+ghost use Rattle.aig_circuit.specs.View.{lists_circuit};
+ghost use Rattle.aig_format.specs.File.{File};
+ghost use Rattle.aig_format.specs.Fits.{Fits};
+ghost use Rattle.aig_reader.specs.Reading.{AreListsOf, IsReadAs};
+ghost use Rattle.aig_reader.specs.Verdicts.{Accepted, IsSaidOf, Judges, verdict_by};
 ghost use Rattle.aig_runs.specs.Queries.{IsSafeTo};
 ghost use Rattle.aig_bounded.specs.Question.{question_size};
 ghost use Rattle.aig_bounded_answers.specs.declared.error.BoundedAnswerError.TheVariants as errors;
 ghost use Rattle.aig_bounded_answers.specs.Asking.{AnswersProof, IsAskedWithin, IsOfCheck, IsSettled, TellsOfProof, TellsOfSize, bounded_verdict, verdict_of};
 
-use crate::clauses::{BoundedClauses, bounded};
+use crate::clauses::{BoundedClauses, ask_file, bounded};
 use crate::error::BoundedAnswerError;
 use crate::laws::refuted_questions_are_safe;
 use aig_base::Source;
+use aig_bounded::BoundedError;
+use aig_circuit::CircuitLists;
 use aig_refutation::{RefutationError, check_refutation};
 use std::alloc::Global;
 
@@ -76,5 +81,41 @@ pub fn check_bounded<R: Source, P: Source>(
 {
     refuted_questions_are_safe();
     let made = bounded(alloc, r, limit, k, optimize)?;
+    refute(alloc, &made, proof)
+}
+
+/// Checks a proof as `check_bounded` does, of the circuit of a file that was read.
+pub fn check_bounded_of<P: Source>(
+    alloc: Global,
+    circuit: &CircuitLists,
+    limit: usize,
+    k: usize,
+    optimize: bool,
+    proof: &mut P,
+) -> Result<(), BoundedAnswerError>
+    requires some { 1 ≤ limit }
+    requires few { limit ≤ 2 ^ 31 }
+    requires file { (f : File) × (bound : ℕ) × Fits f bound × AreListsOf f circuit.now }
+    // No bad state of the file's machine is reached up to step k.
+    ensures answer { OnOk result ((f : File) (bound : ℕ) → Fits f bound → AreListsOf f circuit.now
+        → IsSafeTo f k) }
+    // A file without a bad literal is refused, and no other but for memory or the size of its question.
+    ensures said { (f : File) → AreListsOf f circuit.now
+        → IsSaidOf bounded_verdict f (verdict_by verdict_of result) }
+    ensures own { IfErr result IsOfCheck }
+    // A question is too large only where its bound passes the limit.
+    ensures large { IsErrOf result (BoundedAnswerError.Question BoundedError.TooLarge)
+        → limit < question_size (lists_circuit circuit.now) k }
+    // The proof is read only where the file is taken.
+    ensures unread { verdict_by verdict_of result ≢ Accepted → proof.new ≡ proof.old }
+    // Stream only where a read of the proof failed in this call.
+    ensures stream { IsErrOf result (BoundedAnswerError.Refutation RefutationError.Stream)
+        → IsTrue (P.failed proof.new) }
+    // Where the file is taken, the result is told of its question as by `check_bounded`.
+    ensures shown { verdict_by verdict_of result ≡ Accepted → (f : File)
+        → AreListsOf f circuit.now → AnswersProof P.left k optimize proof.old proof.new f result }
+{
+    refuted_questions_are_safe();
+    let made = ask_file(alloc, circuit, limit, k, optimize)?;
     refute(alloc, &made, proof)
 }

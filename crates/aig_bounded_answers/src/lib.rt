@@ -11,7 +11,7 @@ mod simulating;
 mod solving;
 mod values;
 
-pub use checking::check_bounded;
+pub use checking::{check_bounded, check_bounded_of};
 pub use clauses::{BoundedClauses, bounded};
 pub use error::BoundedAnswerError;
 pub use laws::{bounded_clauses_are_one, refuted_questions_are_safe};

@@ -148,6 +148,35 @@ pub extern "C" fn aig_outputs_as_bads(
     aig_calls::print_edit(alloc, &Edit::Bads, file, out, needed)
 }
 
+/// The text form of a file's circuit with its bad literal `n`, from 0 on, as the only one.
+#[unsafe(no_mangle)]
+pub extern "C" fn aig_property_alone(
+    alloc: Global,
+    file: &[u8],
+    n: usize,
+    out: &mut [u8],
+    needed: &mut usize,
+) -> u32
+    ensures { GivesEdit (edits.Property n) LIMIT IsOfEdit file.now result out.old out.new needed.old
+        needed.new }
+{
+    aig_calls::print_edit(alloc, &Edit::Property(n), file, out, needed)
+}
+
+/// The text form of a file's circuit with true as its only bad literal.
+#[unsafe(no_mangle)]
+pub extern "C" fn aig_possible(
+    alloc: Global,
+    file: &[u8],
+    out: &mut [u8],
+    needed: &mut usize,
+) -> u32
+    ensures { GivesEdit edits.Possible LIMIT IsOfEdit file.now result out.old out.new needed.old
+        needed.new }
+{
+    aig_calls::print_edit(alloc, &Edit::Possible, file, out, needed)
+}
+
 /// The text form of the cone of a file's output `n`, from 0 on.
 #[unsafe(no_mangle)]
 pub extern "C" fn aig_cone(

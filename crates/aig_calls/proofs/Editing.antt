@@ -174,6 +174,8 @@ module _ (edit : Edit) (limit : ℕ) (w made : Sink) where
       (ap (λ (x : Edit). edited_verdict x limit f) means.0)
   edit_said f errors.NoOutput means settled = sym
       (ap (λ (x : Edit). edited_verdict x limit f) means.1)
+  edit_said f errors.NoBad means settled = sym
+      (ap (λ (x : Edit). edited_verdict x limit f) means.1)
   edit_said f errors.PassesLimit means settled = sym (beyond edit limit f means.1)
   edit_said f errors.TooLarge means settled = sym (within edit limit f means.1)
   edit_said f errors.Memory means settled = absurd settled
@@ -212,6 +214,7 @@ module _ (edit : Edit) (limit : ℕ) (w made : Sink) where
         several = λ h. file_with (subst Told (says.several h) told) bytes is refl;
         bads = λ h. file_with (subst Told (says.bads h) told) bytes is refl;
         output = λ h. file_with (subst Told (says.output h) told) bytes is refl;
+        bad = λ h. file_with (subst Told (says.bad h) told) bytes is refl;
         format = λ h. file_with (subst Told (says.format h) told) bytes is refl;
       }
 
@@ -260,6 +263,7 @@ module _ (edit : Edit) (limit : ℕ) (bytes : List ℕ) where
     several = λ is. absurd (omega (arith, low, is));
     bads = λ is. absurd (omega (arith, low, is));
     output = λ is. absurd (omega (arith, low, is));
+    bad = λ is. absurd (omega (arith, low, is));
     format = λ is. absurd (omega (arith, low, is));
   }
 

@@ -32,7 +32,7 @@ use Rattle.aig_witness.specs.Files.{FailsNext, HasNoNext}
 use Rattle.aig_witness.specs.declared.file.ShowError.{ShowError}
 use Rattle.aig_witness.specs.declared.file.ShowError.TheVariants as shows
 use Rattle.aig_witness.specs.declared.file.Shown.{Shown}
-use Rattle.aig_calls.specs.Statuses.{IsOfPair, SaysFault, SaysSolution, Tells, done, has_bads, is_solution_fault, is_witness_fault, large_question, many_bads, misfit, no_output, said_by, said_of_other, said_of_proof, settled, small, unwritable}
+use Rattle.aig_calls.specs.Statuses.{IsOfPair, SaysFault, SaysSolution, Tells, done, has_bads, is_solution_fault, is_witness_fault, large_question, many_bads, misfit, no_bad, no_output, said_by, said_of_other, said_of_proof, settled, small, unwritable}
 
 -- ---- words
 
@@ -167,6 +167,8 @@ pub record TellsEdit (edit : Edit) (limit : ℕ) (bytes : List ℕ) (status : �
       → IsFileWith limit bytes (λ f. IsEditRefusal edit limit f edit_errors.HasBads)
   pub output : status ≡ no_output
       → IsFileWith limit bytes (λ f. IsEditRefusal edit limit f edit_errors.NoOutput)
+  pub bad : status ≡ no_bad
+      → IsFileWith limit bytes (λ f. IsEditRefusal edit limit f edit_errors.NoBad)
   pub format : status ≡ unwritable
       → IsFileWith limit bytes (λ f. IsEditRefusal edit limit f edit_errors.TooLarge)
 

@@ -23,7 +23,7 @@ use Rattle.aig_edits.specs.declared.pairing.Pairing.{Pairing}
 use Rattle.aig_format.specs.File.{File}
 use Rattle.aig_reader.specs.Verdicts.{Accepted, IsSettled, Memory, NoBads, Short, TooLarge, Verdict, verdict_of}
 use Rattle.aig_refutation.specs.declared.error.RefutationError.{RefutationError}
-use Rattle.aig_calls.specs.Statuses.{IsOfBounded, IsOfBoundedSolution, IsOfEdit, IsOfSolution, IsOfText, SaysSolution, Tells, done, has_bads, many_bads, misfit, no_output, said_by, said_of_other, said_of_proof, said_of_query, said_of_query_proof, said_of_window, said_of_window_proof, settled, small, unwritable}
+use Rattle.aig_calls.specs.Statuses.{IsOfBounded, IsOfBoundedSolution, IsOfEdit, IsOfSolution, IsOfText, SaysSolution, Tells, done, has_bads, many_bads, misfit, no_bad, no_output, said_by, said_of_other, said_of_proof, said_of_query, said_of_query_proof, said_of_window, said_of_window_proof, settled, small, unwritable}
 use Rattle.aig_calls.specs.declared.numbers.Listed.{Listed}
 use Rattle.aig_calls.specs.Calls.{AreFilesWith, IsEditText, IsFileWith, IsGiven, TellsEdit, TellsMisfit, TellsOfPair, TellsOfSize, edited_verdict}
 
@@ -104,6 +104,7 @@ pub record IsEditStatus (e : EditError) (status : ℕ) : Type 0 where
   pub several : status ≡ many_bads → e ≡ edit.ManyBads
   pub bads : status ≡ has_bads → e ≡ edit.HasBads
   pub output : status ≡ no_output → e ≡ edit.NoOutput
+  pub bad : status ≡ no_bad → e ≡ edit.NoBad
   pub format : status ≡ unwritable → e ≡ edit.TooLarge
   pub least : 2 ≤ status
 

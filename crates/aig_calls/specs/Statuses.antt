@@ -60,6 +60,10 @@ large_question = 35
 abbrev pub many_bads : ℕ
 many_bads = 36
 
+-- there is no bad literal of this number
+abbrev pub no_bad : ℕ
+no_bad = 37
+
 -- ---- what is said of a file's bytes
 
 -- what a status says of the bytes of the file, of two files the first one, if anything
@@ -180,6 +184,7 @@ is_refusal status =
 abbrev pub is_edit_fault : ℕ → Bool
 is_edit_fault status =
     status == unwritable || nat_le 33 status && nat_lt status 35 || status == many_bads
+    || status == no_bad
 
 -- a proof is refused
 abbrev pub is_proof_fault : ℕ → Bool

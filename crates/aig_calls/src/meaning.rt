@@ -58,6 +58,7 @@ fn words_of_file(status: u32) -> &'static [u8] {
         34 => b"no such output",
         35 => b"question passes the limit",
         36 => b"constraints and several bad state properties (aigedit compress makes these one)",
+        37 => b"no such bad state property",
         _ => b"no status",
     }
 }

@@ -77,6 +77,8 @@ const NO_OUTPUT: u32 = 34;
 const LARGE_QUESTION: u32 = 35;
 /// Constraints would be joined to the first of several bad literals alone.
 const MANY_BADS: u32 = 36;
+/// The file has no bad literal of the number.
+const NO_BAD: u32 = 37;
 /// A proof is refused. The fault's number is added.
 pub(crate) const PROOF: u32 = 40;
 /// A witness is refused. The fault's number is added.
@@ -155,11 +157,13 @@ pub(crate) fn of_edit(error: EditError) -> u32
         EditError::ManyBads => MANY_BADS,
         EditError::HasBads => HAS_BADS,
         EditError::NoOutput => NO_OUTPUT,
+        EditError::NoBad => NO_BAD,
         EditError::NoBads => NO_BADS,
         EditError::QuestionTooLarge => LARGE_QUESTION,
         EditError::PassesLimit => TOO_LARGE,
         EditError::TooLarge => UNWRITABLE,
-        EditError::Memory | EditError::Write => MEMORY,
+        // No call asks for a justice property.
+        EditError::NoJustice | EditError::Memory | EditError::Write => MEMORY,
     }
 }
 
@@ -326,7 +330,8 @@ pub(crate) fn of_check(error: CheckError) -> u32
 {
     match error {
         CheckError::Open => HEADER,
-        CheckError::Memory | CheckError::Write => MEMORY,
+        // No call has an error of proofs that a machine is safe.
+        CheckError::Memory | CheckError::Write | CheckError::Safe(_) => MEMORY,
         CheckError::Answer(error) => of_answer(error),
         CheckError::Solution(error) => of_solution(error),
         CheckError::Show(error) => of_show(error),

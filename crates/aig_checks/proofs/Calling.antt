@@ -34,6 +34,7 @@ among actions.Obligations = (8, omega arith, refl)
 among actions.Bounded = (9, omega arith, refl)
 among actions.RefutedTo = (10, omega arith, refl)
 among actions.WitnessTo = (11, omega arith, refl)
+among actions.Safe = (12, omega arith, refl)
 
 -- what holds of each in the list holds of each
 pub each : (P : Action → Type 0) → All P ALL → (a : Action) → P a

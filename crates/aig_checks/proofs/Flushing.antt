@@ -16,7 +16,9 @@ use Rattle.aig_checks.specs.declared.tool.CheckError.{CheckError}
 use Rattle.aig_checks.specs.declared.tool.CheckError.TheVariants as errors
 use Rattle.aig_checks.specs.Acting.{Acts, RunsFile, RunsProofs}
 use Rattle.aig_checks.specs.Opening.{OnOpening, Opening}
-use Rattle.aig_checks.specs.Pairs.{IsErrorOfPair, RunsPair, TellsOfPair, other_verdict_of}
+use Rattle.aig_checks.specs.Pairs.{IsErrorOfPair, RunsPair, TellsOfPair, other_verdict_of, safe_line}
+use Rattle.aig_checks.specs.Safe.{RunsSafe}
+use Rattle.aig_runs.specs.declared.window.Window.{Window}
 use Rattle.aig_checks.specs.Running.{Runs, nothing_fails, nothing_given, verdict_of}
 
 -- ---- files that are opened
@@ -117,6 +119,47 @@ module _ {W : Type 0} (held : W → Option (List ℕ)) (write_failed : W → Boo
         end (Err errors.Write) lost reads = record { reads = reads; kept = λ not. absurd (not refl); base_unread = λ no. absurd no; step_unread = λ no. absurd no; base_stream = λ is. cc; step_stream = λ is. cc }
         end (Err e) never reads = absurd never
 
+    safe_ended : {R P Q : Type 0} (left : R → Option (List ℕ)) (failed : R → Bool)
+        (base_left : P → Option (List ℕ)) (base_failed : P → Bool)
+        (step_left : Q → Option (List ℕ)) (step_failed : Q → Bool) (k : ℕ) (form : Window)
+        (optimize : Bool) (limit : ℕ) (r rest : R) (p used : P) (q spent : Q)
+        (done : Result Unit CheckError)
+        → RunsSafe left failed base_left base_failed step_left step_failed held write_failed k form
+        optimize limit r p q w (Ok u) rest used spent made
+        → EndsBy (write_failed flat) done
+        → RunsSafe left failed base_left base_failed step_left step_failed held write_failed k form
+        optimize limit r p q w done rest used spent flat
+    safe_ended left failed base_left base_failed step_left step_failed k form optimize limit r rest
+        p used q spent (Ok v) runs sound = record {
+          verdict = runs.verdict;
+          own = tt;
+          safe = λ taken. runs.safe tt;
+          ok = (appends_kept (held w) (held made) (held flat) safe_line runs.ok.0 keeps, sound);
+          stopped = λ is. cc;
+          kept = tt;
+          refusal = tt;
+          base_unread = tt;
+          step_unread = tt;
+          base_stream = λ is. cc;
+          step_stream = λ is. cc;
+        }
+    safe_ended left failed base_left base_failed step_left step_failed k form optimize limit r rest
+        p used q spent (Err errors.Write) runs lost = record {
+          verdict = runs.verdict;
+          own = tt;
+          safe = λ taken. runs.safe tt;
+          ok = tt;
+          stopped = λ is. stops safe_line runs.ok.0 lost;
+          kept = λ not. absurd (not refl);
+          refusal = tt;
+          base_unread = λ no. absurd no;
+          step_unread = λ no. absurd no;
+          base_stream = λ is. cc;
+          step_stream = λ is. cc;
+        }
+    safe_ended left failed base_left base_failed step_left step_failed k form optimize limit r rest
+        p used q spent (Err e) runs never = absurd never
+
 module _ {F W : Type 0} (opens : List ℕ → Result F OpenError → Type 0) (left : F → Option (List ℕ)) (failed : F → Bool) (held : W → Option (List ℕ)) (write_failed : W → Bool) (w made flat : W) (keeps : Keeps (held made) (held flat)) (u : Unit {0}) (done : Result Unit CheckError) (ends : EndsBy (write_failed flat) done) where
   file_ended : (limit : ℕ) (c : FileCommand) (further : List (List ℕ)) (r rest : F)
       → RunsFile opens left failed left failed held write_failed limit c further r w (Ok u) rest made
@@ -145,5 +188,19 @@ module _ {F W : Type 0} (opens : List ℕ → Result F OpenError → Type 0) (le
   acts_ended limit (commands.Pair c) (path ∷ beside ∷ []) further acts =
       opening_on _ _ _ _
       (λ r. opening_on _ _ _ _ (λ s so. (so.0, so.1, proofs_ended limit c further r so.0 s so.1 so.2)) (λ e no. let is = no.0 in cc) opens beside)
+      (λ e no. let is = no.0 in cc) opens path acts
+  acts_ended limit (commands.Safe k form optimize) (path ∷ []) (base ∷ step ∷ []) acts =
+      opening_on _ _ _ _
+      (λ r. opening_on _ _ _ _
+      (λ p. opening_on _ _ _ _
+      (λ q so. (
+        so.0,
+        so.1,
+        so.2,
+        safe_ended held write_failed w made flat keeps u left failed left failed left failed k form
+            optimize limit r so.0 p so.1 q so.2 done so.3 ends,
+      ))
+      (λ e no. let is = no.0 in cc) opens step)
+      (λ e no. let is = no.0 in cc) opens base)
       (λ e no. let is = no.0 in cc) opens path acts
   acts_ended limit c paths further acts = absurd acts

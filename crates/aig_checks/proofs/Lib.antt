@@ -4,6 +4,7 @@ mod Flushing
 mod Outcomes
 mod Pairing
 mod Placing
+mod Proving
 mod Shown
 mod Examples
 pub mod Refusing

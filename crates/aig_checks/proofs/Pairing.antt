@@ -1,8 +1,6 @@
 -- What a command on two files does, at each way out of it.
 use Rattle.aig_base.proofs.Words.{◌≡◌, ◌≢◌, ℕ, Bool, false, Option, Some, Ok, Err, List, [], ◌∷◌, ◌++◌, length, refl, subst, ◌∙◌, Appends, Appends-trans, on_err_weaker, on_ok_weaker}
 use Rattle.std.specs.Prelude.{IsTrue, Result, codes}
-use Rattle.aig_base.specs.declared.logic.literal.Lit.{Lit}
-use Rattle.aig_base.specs.Formula.{clauses_in}
 use Rattle.aig_answers.specs.declared.error.AnswerError.{AnswerError}
 use Rattle.aig_answers.specs.declared.windows.WindowClauses.{WindowClauses}
 use Rattle.aig_answers.specs.declared.error.AnswerError.TheVariants as answers

@@ -17,6 +17,8 @@ use Rattle.aig_reader.specs.declared.error.ReadError.{ReadError}
 use Rattle.aig_reader.specs.declared.error.ReadError.TheVariants as read
 use Rattle.aig_refutation.specs.declared.error.RefutationError.{RefutationError}
 use Rattle.aig_refutation.specs.declared.error.RefutationError.TheVariants as refutation
+use Rattle.aig_safety.specs.declared.error.SafetyError.{SafetyError}
+use Rattle.aig_safety.specs.declared.error.SafetyError.TheVariants as safety
 use Rattle.aig_solutions.specs.declared.error.SolutionError.{SolutionError}
 use Rattle.aig_solutions.specs.declared.error.SolutionError.TheVariants as solution
 use Rattle.aig_witness.specs.declared.error.WitnessError.{WitnessError}
@@ -129,6 +131,12 @@ about_bounded (bounded.Question questions.Memory) = nothing
 about_bounded (bounded.Refutation e) = about_refutation subjects.Given e
 about_bounded (bounded.Solution e) = about_solution e
 
+-- FILE, or one of the proofs beside it
+abbrev pub about_safety : SafetyError → About
+about_safety (safety.File e) = about_answer subjects.Given e
+about_safety (safety.Base e) = about_bounded e
+about_safety (safety.Step e) = about_answer subjects.Step e
+
 -- what an error of the program is about
 abbrev pub about_error : CheckError → About
 about_error errors.Open = whole subjects.Unopened
@@ -140,3 +148,4 @@ about_error (errors.Show e) = about_show e
 about_error (errors.Certificate e) = about_certificate e
 about_error (errors.Bounded e) = about_bounded e
 about_error (errors.Settled k) = whole subjects.File
+about_error (errors.Safe e) = about_safety e

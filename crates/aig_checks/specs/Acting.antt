@@ -17,6 +17,7 @@ use Rattle.aig_checks.specs.declared.tool.CheckError.{CheckError}
 use Rattle.aig_checks.specs.declared.tool.CheckError.TheVariants as errors
 use Rattle.aig_checks.specs.Opening.{Opening}
 use Rattle.aig_checks.specs.Pairs.{RunsPair}
+use Rattle.aig_checks.specs.Safe.{RunsSafe}
 use Rattle.aig_checks.specs.Running.{Runs, nothing_fails, nothing_given}
 use Rattle.aig_checks.specs.Words.{Give, IsCall}
 
@@ -80,6 +81,17 @@ Acts {F} opens left failed held write_failed limit (commands.Pair c) (path ∷ b
     (λ s. (rest : F) × (other : F)
     × RunsProofs opens left failed left failed left failed held write_failed limit c further r s w
     result rest other made)
+    (λ e. (result ≡ Err e) × (made ≡ w)))
+    (λ e. (result ≡ Err e) × (made ≡ w))
+Acts {F} opens left failed held write_failed limit (commands.Safe k form optimize) (path ∷ [])
+    (base ∷ step ∷ []) w result made =
+    Opening opens path
+    (λ r. Opening opens base
+    (λ p. Opening opens step
+    (λ q. (rest : F) × (used : F) × (spent : F)
+    × RunsSafe left failed left failed left failed held write_failed k form optimize limit r p q w
+    result rest used spent made)
+    (λ e. (result ≡ Err e) × (made ≡ w)))
     (λ e. (result ≡ Err e) × (made ≡ w)))
     (λ e. (result ≡ Err e) × (made ≡ w))
 Acts opens left failed held write_failed limit c paths further w result made = ⊥

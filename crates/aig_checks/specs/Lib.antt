@@ -2,6 +2,7 @@ pub mod Bounded
 pub mod Words
 pub mod Comments
 pub mod Running
+pub mod Safe
 pub mod Pairs
 pub mod Printing
 pub mod Asked

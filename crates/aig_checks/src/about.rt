@@ -13,6 +13,7 @@ use aig_edits::PairError;
 use aig_encode::EncodeError;
 use aig_reader::ReadError;
 use aig_refutation::RefutationError;
+use aig_safety::SafetyError;
 use aig_solutions::SolutionError;
 use aig_witness::{ShowError, WitnessError, WitnessFault};
 
@@ -213,6 +214,17 @@ fn about_bounded(error: BoundedAnswerError) -> About
     }
 }
 
+/// What an error of the proofs that a machine is safe is about.
+fn about_safety(error: SafetyError) -> About
+    ensures { result ≡ specs.about_safety error }
+{
+    match error {
+        SafetyError::File(error) => about_answer(Subject::Given, error),
+        SafetyError::Base(error) => about_bounded(error),
+        SafetyError::Step(error) => about_answer(Subject::Step, error),
+    }
+}
+
 /// What an error of the program is about.
 pub(crate) fn about_error(error: CheckError) -> About
     ensures { result ≡ specs.about_error error }
@@ -226,5 +238,6 @@ pub(crate) fn about_error(error: CheckError) -> About
         CheckError::Certificate(error) => about_certificate(error),
         CheckError::Bounded(error) => about_bounded(error),
         CheckError::Settled(_) => whole(Subject::File),
+        CheckError::Safe(error) => about_safety(error),
     }
 }

@@ -13,10 +13,12 @@ ghost use Rattle.aig_checks.specs.Words.{beside_of, paths_of, step_of};
 use crate::bounded::{print_bounded, print_refuted_to, print_witness_to};
 use crate::command::{Call, Command, FileCommand, PairCommand, call_of};
 use crate::pairs::{print_certified, print_equal, print_obligations};
+use crate::safe::print_safe;
 use crate::tool::{
     CheckError, print_clauses, print_inductive, print_refuted, print_run, print_window,
     print_witness,
 };
+use aig_answers::Window;
 use aig_base::{MemoryError, Sink, Source};
 use aig_command_line::{Ending, Flush, OpenError, Opens, Question, asked, write_text};
 use std::alloc::Global;
@@ -26,7 +28,8 @@ pub const USAGE: &str =
     "usage: aigcheck [--limit N] clauses FILE K [raw], window FILE K [distinct] [raw], refuted FILE K PROOF [raw], \
     inductive FILE K PROOF [distinct] [raw], witness FILE K SOLUTION [raw], run FILE WITNESS, \
     certified FILE CERT BASE STEP [raw], equal FILE OTHER K PROOF [raw], obligations FILE CERT [raw], \
-    bounded FILE K [raw], refuted FILE to K PROOF [raw], witness FILE to K SOLUTION [raw]";
+    bounded FILE K [raw], refuted FILE to K PROOF [raw], witness FILE to K SOLUTION [raw], \
+    safe FILE to K BASE STEP [distinct] [raw]";
 
 /// Its version.
 pub const VERSION: &str = "aigcheck 0.1.0";
@@ -252,6 +255,33 @@ fn run_pair<F: Opens, W: Sink>(
     )
 }
 
+/// Checks the proofs at two paths that the machine of the file at a path is safe.
+fn run_safe<F: Opens, W: Sink>(
+    alloc: Global,
+    limit: usize,
+    files: &F,
+    k: usize,
+    form: Window,
+    optimize: bool,
+    path: &str,
+    base: &str,
+    step: &str,
+    w: &mut W,
+) -> Result<(), CheckError>
+    requires limit { IsLimit limit }
+    requires small { k < 2 ^ 32 }
+    ensures { Acts (F.opens files.now) F.File.left F.File.failed W.held W.failed limit
+        (Command.Safe k form optimize) (path.now ∷ []) (base.now ∷ step.now ∷ []) w.old result
+        w.new }
+{
+    let mut file = files.open(path)?;
+    let mut base = files.open(base)?;
+    let mut step = files.open(step)?;
+    print_safe(
+        alloc, limit, k, form, optimize, &mut file, &mut base, &mut step, w,
+    )
+}
+
 /// Runs the command that words give on the files at its paths.
 fn run<F: Opens, W: Sink>(
     alloc: Global,
@@ -273,6 +303,10 @@ fn run<F: Opens, W: Sink>(
         Command::Pair(command) => {
             let beside = call.paths[1].as_str();
             run_pair(alloc, limit, files, command, path, beside, call.further, w)
+        }
+        Command::Safe { k, form, optimize } => {
+            let (base, step) = (call.further[0].as_str(), call.further[1].as_str());
+            run_safe(alloc, limit, files, k, form, optimize, path, base, step, w)
         }
     }
 }

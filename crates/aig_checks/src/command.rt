@@ -104,6 +104,15 @@ pub enum Command {
     File(FileCommand),
     /// A command on FILE and on CERT or OTHER.
     Pair(PairCommand),
+    /// Check proofs that no bad state is reached at any step of FILE.
+    Safe {
+        /// How many steps come before the last two of a window.
+        k: usize,
+        /// Which windows are looked at.
+        form: Window,
+        /// Whether exclusive ors and choices have clauses of their own.
+        optimize: bool,
+    },
 }
 
 /// A command without K and its settings.
@@ -133,6 +142,8 @@ pub enum Action {
     RefutedTo,
     /// `witness FILE to K SOLUTION [raw]`.
     WitnessTo,
+    /// `safe FILE to K BASE STEP [distinct] [raw]`.
+    Safe,
 }
 
 /// The form of a command on so many files and a step.
@@ -180,6 +191,7 @@ impl HasForm for Action {
             Action::Bounded => "bounded",
             Action::RefutedTo => "refuted",
             Action::WitnessTo => "witness",
+            Action::Safe => "safe",
         }
     }
 
@@ -190,6 +202,7 @@ impl HasForm for Action {
             Action::Refuted | Action::Witness => on_step(1, Step::At, 1, false),
             Action::RefutedTo | Action::WitnessTo => on_step(1, Step::UpTo, 1, false),
             Action::Inductive => on_step(1, Step::At, 1, true),
+            Action::Safe => on_step(1, Step::UpTo, 2, true),
             Action::Equal => on_step(2, Step::At, 1, false),
             Action::Run => Form {
                 paths: 1,
@@ -217,7 +230,7 @@ fn window_of(distinct: bool) -> Window
 
 impl Action {
     /// Each of them.
-    const ALL: [Action; 12] = [
+    const ALL: [Action; 13] = [
         Action::Clauses,
         Action::Window,
         Action::Refuted,
@@ -230,6 +243,7 @@ impl Action {
         Action::Bounded,
         Action::RefutedTo,
         Action::WitnessTo,
+        Action::Safe,
     ];
 
     /// The command, with K and the settings.
@@ -250,6 +264,7 @@ impl Action {
             Action::Bounded => Command::File(FileCommand::Bounded { k, optimize }),
             Action::RefutedTo => Command::File(FileCommand::RefutedTo { k, optimize }),
             Action::WitnessTo => Command::File(FileCommand::WitnessTo { k, optimize }),
+            Action::Safe => Command::Safe { k, form, optimize },
         }
     }
 }
@@ -293,7 +308,7 @@ pub fn call_of(words: &[String]) -> Option<Call<'_>>
 ///
 /// The words `--limit` and N may come first. The word after the command's name is FILE. The next is WITNESS of `run`, CERT of `certified`
 /// and `obligations`, and OTHER of `equal`. Then comes K, where the command has one, after the word `to` where it is on the steps up to K,
-/// and the words after that are PROOF of `refuted`, `inductive` and `equal`, SOLUTION of `witness`, and BASE and STEP of `certified`. It
+/// and the words after that are PROOF of `refuted`, `inductive` and `equal`, SOLUTION of `witness`, and BASE and STEP of `certified` and `safe`. It
 /// takes no memory.
 pub fn parse(words: &[String]) -> Option<Command>
     ensures exact { (c : Command) → (result ≡ Some c) ↔ Give (map string_bytes words.now) c }

@@ -11,6 +11,7 @@ mod explaining;
 mod line;
 mod noticing;
 mod pairs;
+mod safe;
 mod tool;
 
 pub use acting::{USAGE, act};
@@ -19,6 +20,7 @@ pub use command::{Command, FileCommand, PairCommand, parse};
 pub use explaining::explain;
 pub use noticing::notice;
 pub use pairs::{print_certified, print_equal, print_obligations};
+pub use safe::print_safe;
 pub use tool::{
     CheckError, print_clauses, print_inductive, print_refuted, print_run, print_window,
     print_witness,

@@ -29,6 +29,7 @@ use aig_dimacs::{write_circuit, write_dimacs};
 use aig_encode::Query;
 use aig_output::OutputBuffer;
 use aig_runs::{Unrolled, inductive_windows_are_safe};
+use aig_safety::SafetyError;
 use aig_solutions::{Places, SolutionError, checked_witness};
 use aig_witness::{ShowError, Shown, check_witness, known_witnesses_show, write_witness};
 use std::alloc::Global;
@@ -64,6 +65,9 @@ pub enum CheckError {
     /// No bad state is reached up to this step, so that there are no clauses to solve.
     #[error("no bad state up to step {0}")]
     Settled(usize),
+    /// It isn't shown that no bad state is reached at any step.
+    #[error("{0}")]
+    Safe(SafetyError),
 }
 
 impl HasStatus for CheckError {
@@ -122,6 +126,14 @@ impl From<BoundedAnswerError> for CheckError {
 
     fn from(error: BoundedAnswerError) -> CheckError {
         CheckError::Bounded(error)
+    }
+}
+
+impl From<SafetyError> for CheckError {
+    ghost from_gives = { λ e r. r ≡ errors.Safe e };
+
+    fn from(error: SafetyError) -> CheckError {
+        CheckError::Safe(error)
     }
 }
 

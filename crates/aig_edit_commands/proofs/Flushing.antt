@@ -92,6 +92,8 @@ module _ {R W : Type 0} (left : R → Option (List ℕ)) (failed : R → Bool) (
       (m, is, appends_kept (held w) (held made) (held flat) _ grows keeps, sound)
   print_flushed (files.Question k) f u sound (m, asks, grows, was) =
       (m, asks, appends_kept (held w) (held made) (held flat) _ grows keeps, sound)
+  print_flushed (files.Live j) f u sound (m, is, grows, was) =
+      (m, is, appends_kept (held w) (held made) (held flat) _ grows keeps, sound)
   print_flushed files.Info f u sound (text, is, grows, was) =
       (text, is, appends_kept (held w) (held made) (held flat) text grows keeps, sound)
 
@@ -102,6 +104,7 @@ module _ {R W : Type 0} (left : R → Option (List ℕ)) (failed : R → Bool) (
       (m, written.edit_of, stops _ grows lost)
   print_unflushed files.Reduction f u lost (m, is, grows, was) = (m, is, stops _ grows lost)
   print_unflushed (files.Question k) f u lost (m, asks, grows, was) = (m, asks, stops _ grows lost)
+  print_unflushed (files.Live j) f u lost (m, is, grows, was) = (m, is, stops _ grows lost)
   print_unflushed files.Info f u lost (text, is, grows, was) = (text, is, stops text grows lost)
 
   pub file_flushed : (u : Unit {0})

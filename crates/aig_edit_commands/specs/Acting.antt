@@ -19,6 +19,7 @@ use Rattle.aig_edits.specs.Edits.{IsEditOwn, IsEditUnwritten, PrintsEdit, ReadsF
 use Rattle.aig_edits.specs.Info.{PrintsInfo}
 use Rattle.aig_edits.specs.Joints.{IsOwn, IsUnwritten, PrintsJoint, first_verdict, second_verdict}
 use Rattle.aig_edits.specs.Pairs.{ReadsPair}
+use Rattle.aig_edits.specs.Lives.{PrintsLive}
 use Rattle.aig_edits.specs.Questions.{PrintsQuestion}
 use Rattle.aig_edits.specs.Reductions.{PrintsReduction}
 use Rattle.aig_format.specs.File.{File}
@@ -107,6 +108,7 @@ abbrev pub Prints : {W : Type 0} → (W → Option (List ℕ)) → (W → Bool) 
 Prints held failed limit (files.Edit edit) w made = PrintsEdit held failed edit limit w made
 Prints held failed limit files.Reduction w made = PrintsReduction held failed w made
 Prints held failed limit (files.Question k) w made = PrintsQuestion held failed k limit w made
+Prints held failed limit (files.Live j) w made = PrintsLive held failed j w made
 Prints held failed limit files.Info w made = PrintsInfo held failed w made
 
 -- What is printed of a file that is open, and after Ok it is flushed.

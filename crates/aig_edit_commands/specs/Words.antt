@@ -22,9 +22,12 @@ name_of actions.Unroll = codes "unroll"
 name_of actions.Move = codes "move"
 name_of actions.Compress = codes "compress"
 name_of actions.Bads = codes "bads"
+name_of actions.Property = codes "property"
+name_of actions.Possible = codes "possible"
 name_of actions.Reduce = codes "reduce"
 name_of actions.Cone = codes "cone"
 name_of actions.Question = codes "question"
+name_of actions.Live = codes "live"
 name_of actions.Info = codes "info"
 name_of actions.Miter = codes "miter"
 name_of actions.Join = codes "join"
@@ -33,8 +36,10 @@ name_of actions.Merge = codes "merge"
 -- what comes after it: FILE; FILE and a number; two paths
 abbrev pub form_of : Action → Form
 form_of actions.Unroll = record (of_paths 1) { step = At }
+form_of actions.Property = record (of_paths 1) { step = At }
 form_of actions.Cone = record (of_paths 1) { step = At }
 form_of actions.Question = record (of_paths 1) { step = At }
+form_of actions.Live = record (of_paths 1) { step = At }
 form_of actions.Miter = of_paths 2
 form_of actions.Join = of_paths 2
 form_of actions.Merge = of_paths 2
@@ -52,9 +57,12 @@ command_of actions.Unroll k = edit_by (edits.Unroll k)
 command_of actions.Move k = edit_by edits.Move
 command_of actions.Compress k = edit_by edits.Compress
 command_of actions.Bads k = edit_by edits.Bads
+command_of actions.Property k = edit_by (edits.Property k)
+command_of actions.Possible k = edit_by edits.Possible
 command_of actions.Reduce k = commands.File files.Reduction
 command_of actions.Cone k = edit_by (edits.Cone k)
 command_of actions.Question k = commands.File (files.Question k)
+command_of actions.Live k = commands.File (files.Live k)
 command_of actions.Info k = commands.File files.Info
 command_of actions.Miter k = commands.Pair pairings.Miter
 command_of actions.Join k = commands.Pair pairings.Certificate

@@ -16,7 +16,7 @@ use crate::command::{Command, FileCommand, call_of};
 use aig_base::{MemoryError, Sink, Source, StreamFault};
 use aig_command_line::{Ending, Flush, HasStatus, OpenError, Opens, Question, asked, write_text};
 use aig_edits::{
-    EditError, PairError, Pairing, print_edit, print_info, print_joint, print_question,
+    EditError, PairError, Pairing, print_edit, print_info, print_joint, print_live, print_question,
     print_reduction,
 };
 use aig_reader::ReadError;
@@ -26,8 +26,8 @@ use thiserror::Error;
 /// How the program is used.
 pub const USAGE: &str =
     "usage: aigedit [--limit N] refine FILE, reencode FILE, unroll FILE K, move FILE, compress FILE, bads FILE, \
-    reduce FILE, cone FILE N, question FILE K, info FILE, miter FILE OTHER, join FILE CERT, \
-    merge FILE OTHER";
+    property FILE N, possible FILE, reduce FILE, cone FILE N, question FILE K, live FILE J, info FILE, miter FILE OTHER, \
+    join FILE CERT, merge FILE OTHER";
 
 /// Its version.
 pub const VERSION: &str = "aigedit 0.1.0";
@@ -92,6 +92,7 @@ fn print_read<R: Source, W: Sink>(
         FileCommand::Edit(edit) => print_edit(alloc, edit, r, limit, w),
         FileCommand::Reduction => print_reduction(alloc, r, limit, w),
         FileCommand::Question(k) => print_question(alloc, *k, r, limit, w),
+        FileCommand::Live(j) => print_live(alloc, *j, r, limit, w),
         FileCommand::Info => print_info(alloc, r, limit, w),
     }
 }

@@ -17,6 +17,8 @@ pub enum FileCommand {
     Reduction,
     /// Print the question whether a bad state is reached up to this step.
     Question(usize),
+    /// Print the file whose bad states are the fair lassos of this justice property.
+    Live(usize),
     /// Print its counts.
     Info,
 }
@@ -45,12 +47,18 @@ pub enum Action {
     Compress,
     /// `bads FILE`: print a file with its outputs as its bad literals.
     Bads,
+    /// `property FILE N`: print a file with its bad literal N alone.
+    Property,
+    /// `possible FILE`: print a file that is bad wherever a run has come.
+    Possible,
     /// `reduce FILE`: print what of a file its bad literals and constraints reach.
     Reduce,
     /// `cone FILE N`: print the cone of output N of a file.
     Cone,
     /// `question FILE K`: print the question whether a bad state of a file is reached up to step K.
     Question,
+    /// `live FILE J`: print the file whose bad states are the fair lassos of justice property J of a file.
+    Live,
     /// `info FILE`: print the counts of a file.
     Info,
     /// `miter FILE OTHER`: print the miter of two files.
@@ -83,9 +91,12 @@ impl HasForm for Action {
             Action::Move => "move",
             Action::Compress => "compress",
             Action::Bads => "bads",
+            Action::Property => "property",
+            Action::Possible => "possible",
             Action::Reduce => "reduce",
             Action::Cone => "cone",
             Action::Question => "question",
+            Action::Live => "live",
             Action::Info => "info",
             Action::Miter => "miter",
             Action::Join => "join",
@@ -95,7 +106,8 @@ impl HasForm for Action {
 
     fn form(&self) -> Form {
         match self {
-            Action::Unroll | Action::Cone | Action::Question => NUMBERED,
+            Action::Unroll | Action::Property | Action::Cone | Action::Question | Action::Live =>
+                NUMBERED,
             Action::Miter | Action::Join | Action::Merge => Form::of_paths(2),
             _ => Form::of_paths(1),
         }
@@ -104,16 +116,19 @@ impl HasForm for Action {
 
 impl Action {
     /// Each of them.
-    const ALL: [Action; 13] = [
+    const ALL: [Action; 16] = [
         Action::Refine,
         Action::Reencode,
         Action::Unroll,
         Action::Move,
         Action::Compress,
         Action::Bads,
+        Action::Property,
+        Action::Possible,
         Action::Reduce,
         Action::Cone,
         Action::Question,
+        Action::Live,
         Action::Info,
         Action::Miter,
         Action::Join,
@@ -131,9 +146,12 @@ impl Action {
             Action::Move => edit_by(Edit::Move),
             Action::Compress => edit_by(Edit::Compress),
             Action::Bads => edit_by(Edit::Bads),
+            Action::Property => edit_by(Edit::Property(k)),
+            Action::Possible => edit_by(Edit::Possible),
             Action::Reduce => Command::File(FileCommand::Reduction),
             Action::Cone => edit_by(Edit::Cone(k)),
             Action::Question => Command::File(FileCommand::Question(k)),
+            Action::Live => Command::File(FileCommand::Live(k)),
             Action::Info => Command::File(FileCommand::Info),
             Action::Miter => Command::Pair(Pairing::Miter),
             Action::Join => Command::Pair(Pairing::Certificate),

@@ -7,7 +7,7 @@ use Rattle.aig_circuit.proofs.Words.{Circuit, only_false, edge_to, no_properties
 use Rattle.aig_format.specs.declared.FileKind.TheVariants.{Text}
 use Rattle.aig_format.specs.File.{File}
 use Rattle.aig_edit_laws.specs.Plain.{IsPlain}
-use Rattle.aig_edit_laws.specs.Shown.{HasBadBy, HasOutput, HasOutputAt, HasRun, HasWitness, IsAllowedMachineRun, IsConeOf, output_alone, outputs_as_bads}
+use Rattle.aig_edit_laws.specs.Shown.{HasBadAt, HasBadBy, HasOutput, HasOutputAt, HasRun, HasWitness, IsAllowedMachineRun, IsConeOf, IsPropertyOf, output_alone, outputs_as_bads}
 use Rattle.aig_edit_laws.proofs.Compressed.{or_false}
 
 -- ---- a machine
@@ -70,6 +70,16 @@ no_witness_of_step_0 : ¬ HasWitness toggle 0
 no_witness_of_step_0 (run, witness) =
     false≢true (sym witness.start.0 ∙ sym (or_false (run 0 1)) ∙ witness.bad)
 
+-- its one bad literal is number 0
+bad_0_of_step_1 : HasBadAt toggle 0 1
+bad_0_of_step_1 = (toggles, runs 1, refl)
+
+no_bad_0_of_step_0 : ¬ HasBadAt toggle 0 0
+no_bad_0_of_step_0 (run, allowed, shown) = false≢true (sym allowed.start.0 ∙ shown)
+
+no_bad_1 : (k : ℕ) → ¬ HasBadAt toggle 1 k
+no_bad_1 k (run, allowed, shown) = shown
+
 -- the same latch, which must be false
 abbrev held : File
 held =
@@ -126,6 +136,26 @@ no_cone_without_constraints : (n : ℕ) (e : AigEdge)
 no_cone_without_constraints n e of =
     let constraints =
     ap (λ (m : Circuit). length m.properties.constraints) of.exact in omega (arith, constraints)
+
+-- the circuit has one bad edge, and has it alone
+small-property : IsPropertyOf 0 small small
+small-property = record { bad = edge_to 0 true; there = refl; exact = refl }
+
+no_property_past_the_bads : (new : Circuit) → ¬ IsPropertyOf 1 small new
+no_property_past_the_bads new of = let there = of.there in cc
+
+-- outputs and constraints stay
+no_property_without_outputs : (n : ℕ) → ¬ IsPropertyOf n small
+    (record small { properties = record small.properties { outputs = [] } })
+no_property_without_outputs n of =
+    let outputs = ap (λ (m : Circuit). length m.properties.outputs) of.exact in
+    omega (arith, outputs)
+
+no_property_without_constraints : (n : ℕ) → ¬ IsPropertyOf n small
+    (record small { properties = record small.properties { constraints = [] } })
+no_property_without_constraints n of =
+    let constraints = ap (λ (m : Circuit). length m.properties.constraints) of.exact in
+    omega (arith, constraints)
 
 -- a leaf that is neither an input nor a latch's
 no_free_leaf : ¬ IsPlain (record small { inputs = [] })

@@ -7,6 +7,7 @@ pub mod PlainForms
 pub mod Paired
 pub mod Reduced
 pub mod Cones
+pub mod Asserted
 mod Carrying
 pub mod Witnesses
 pub mod Asked

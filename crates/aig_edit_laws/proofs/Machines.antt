@@ -10,7 +10,7 @@ use Rattle.aig_format.proofs.Words.{circuit_of, edge_of, File, used, Fits, value
 use Rattle.aig_format.proofs.Circuits.{used_by_section}
 use Rattle.aig_format_laws.specs.Nodes.{HasNodeValues, values_over}
 use Rattle.aig_runs.proofs.Rows.{any_zip}
-use Rattle.aig_edit_laws.specs.Shown.{HasBadBy, HasCircuitBadBy, HasCircuitOutput, HasCircuitOutputAt, HasCircuitRun, HasOutput, HasOutputAt, HasRun, IsAllowedMachineRun}
+use Rattle.aig_edit_laws.specs.Shown.{HasBadAt, HasBadBy, HasCircuitBadAt, HasCircuitBadBy, HasCircuitOutput, HasCircuitOutputAt, HasCircuitRun, HasOutput, HasOutputAt, HasRun, IsAllowedMachineRun}
 
 -- what holds of all entries holds of the one at a place
 at_place : {E : Type 0} (P : E → Type 0) (es : List E) (n : ℕ) → All P es
@@ -85,27 +85,37 @@ module _ (joined : Joined) (f : File) (limit k : ℕ) (fits : Fits f limit) wher
     outputs_same : list_any (edge_value c.nodes (x k)) c.properties.outputs ≡ list_any (value_of_literal (run k)) f.properties.outputs
     outputs_same = any_same k f.properties.outputs (keeps k (omega arith)).outputs
 
-    output_forth : (o : Option ℕ) → IfSome o (Keeps k)
+    one_forth : (o : Option ℕ) → IfSome o (Keeps k)
         → IsSomeAnd (option_map (edge_of f) o) (IsTrueEdge k)
         → IsSomeAnd o (IsTrueLiteral k)
-    output_forth (Some e) same is = sym same ∙ is
-    output_forth None same is = is
+    one_forth (Some e) same is = sym same ∙ is
+    one_forth None same is = is
 
-    output_back : (o : Option ℕ) → IfSome o (Keeps k) → IsSomeAnd o (IsTrueLiteral k)
+    one_back : (o : Option ℕ) → IfSome o (Keeps k) → IsSomeAnd o (IsTrueLiteral k)
         → IsSomeAnd (option_map (edge_of f) o) (IsTrueEdge k)
-    output_back (Some e) same is = same ∙ is
-    output_back None same is = is
+    one_back (Some e) same is = same ∙ is
+    one_back None same is = is
 
-    -- output n is true at the last step where its literal is
+    -- edge n of a list is true at the last step where its literal is
+    one_same : (literals : List ℕ) (n : ℕ) → All (Keeps k) literals
+        → IsSomeAnd (slice_get (map (edge_of f) literals) n) (IsTrueEdge k)
+        ↔ IsSomeAnd (slice_get literals n) (IsTrueLiteral k)
+    one_same literals n all =
+        let literal = slice_get literals n in
+        let same = at_place (Keeps k) literals n all in
+        let HasEdge = λ (o : Option AigEdge). IsSomeAnd o (IsTrueEdge k) in
+        let edges = slice_get-map (edge_of f) literals n in (
+          λ is. one_forth literal same (subst HasEdge edges is),
+          λ is. subst HasEdge (sym edges) (one_back literal same is),
+        )
+
     output_same : (n : ℕ) → IsSomeAnd (slice_get c.properties.outputs n) (IsTrueEdge k)
         ↔ IsSomeAnd (slice_get f.properties.outputs n) (IsTrueLiteral k)
-    output_same n =
-        let literals = f.properties.outputs in
-        let same = at_place (Keeps k) literals n (keeps k (omega arith)).outputs in
-        let edges = slice_get-map (edge_of f) literals n in (
-          λ is. output_forth (slice_get literals n) same (subst (λ o. IsSomeAnd o (IsTrueEdge k)) edges is),
-          λ is. subst (λ o. IsSomeAnd o (IsTrueEdge k)) (sym edges) (output_back (slice_get literals n) same is),
-        )
+    output_same n = one_same f.properties.outputs n (keeps k (omega arith)).outputs
+
+    bad_same : (n : ℕ) → IsSomeAnd (slice_get c.properties.bads n) (IsTrueEdge k)
+        ↔ IsSomeAnd (slice_get f.properties.bads n) (IsTrueLiteral k)
+    bad_same n = one_same f.properties.bads n (keeps k (omega arith)).bads
 
     bads_same : (t : ℕ) → t ≤ k → list_any (edge_value c.nodes (x t)) c.properties.bads ≡ list_any (value_of_literal (run t)) f.properties.bads
     bads_same t h = any_same t f.properties.bads (keeps t h).bads
@@ -115,43 +125,40 @@ module _ (joined : Joined) (f : File) (limit k : ℕ) (fits : Fits f limit) wher
   over : (x : ℕ → ℕ → Bool) → HasNodeValues f k x (values_over f x)
   over x t v h known = refl
 
-  pub outputs_shown : HasCircuitOutput c k ↔ HasOutput f k
-  outputs_shown = (
-    λ s.
-        let x = s.0 in
+  -- allowed runs of the circuit with a property are allowed runs of the machine with another, where
+  -- these are the same of runs with the same values
+  both_shown : (P Q : (ℕ → ℕ → Bool) → Type 0)
+      → ((x run : ℕ → ℕ → Bool) → HasNodeValues f k x run → P x ↔ Q run)
+      → ((x : ℕ → ℕ → Bool) × IsAllowedRun c k x × P x)
+      ↔ ((run : ℕ → ℕ → Bool) × IsAllowedMachineRun f k run × Q run)
+  both_shown P Q same = (
+    λ (x, allowed, shown).
         let run = values_over f x in
-        let is = joined.back f limit k x fits s.1.from_start.run in
-        (run, to_machine x run (over x) is s.1, sym (outputs_same x run (over x)) ∙ s.2),
-    λ s.
-        let found = joined.forth f limit k s.0 fits s.1.is_run in
-        (found.0, to_circuit found.0 s.0 found.2 found.1 s.1, outputs_same found.0 s.0 found.2 ∙ s.2),
+        let is = joined.back f limit k x fits allowed.from_start.run in
+        (run, to_machine x run (over x) is allowed, (same x run (over x)).0 shown),
+    λ (run, allowed, shown).
+        let found = joined.forth f limit k run fits allowed.is_run in
+        let x = found.0 in
+        let values = found.2 in
+        (x, to_circuit x run values found.1 allowed, (same x run values).1 shown),
   )
+
+  pub outputs_shown : HasCircuitOutput c k ↔ HasOutput f k
+  outputs_shown = both_shown _ _ (λ x run values.
+      let same = outputs_same x run values in
+      (λ is. sym same ∙ is, λ is. same ∙ is))
 
   pub output_shown : (n : ℕ) → HasCircuitOutputAt c n k ↔ HasOutputAt f n k
-  output_shown n = (
-    λ s.
-        let x = s.0 in
-        let run = values_over f x in
-        let is = joined.back f limit k x fits s.1.from_start.run in
-        (run, to_machine x run (over x) is s.1, (output_same x run (over x) n).0 s.2),
-    λ s.
-        let found = joined.forth f limit k s.0 fits s.1.is_run in
-        (found.0, to_circuit found.0 s.0 found.2 found.1 s.1, (output_same found.0 s.0 found.2 n).1 s.2),
-  )
+  output_shown n = both_shown _ _ (λ x run values. output_same x run values n)
+
+  pub bad_shown : (n : ℕ) → HasCircuitBadAt c n k ↔ HasBadAt f n k
+  bad_shown n = both_shown _ _ (λ x run values. bad_same x run values n)
 
   pub bads_shown : HasCircuitBadBy c k ↔ HasBadBy f k
-  bads_shown = (
-    λ s.
-        let x = s.0 in
-        let run = values_over f x in
-        let is = joined.back f limit k x fits s.1.from_start.run in
-        let at = s.2 in
-        (run, to_machine x run (over x) is s.1, (at.0, at.1, sym (bads_same x run (over x) at.0 at.1) ∙ at.2)),
-    λ s.
-        let found = joined.forth f limit k s.0 fits s.1.is_run in
-        let at = s.2 in
-        (found.0, to_circuit found.0 s.0 found.2 found.1 s.1, (at.0, at.1, bads_same found.0 s.0 found.2 at.0 at.1 ∙ at.2)),
-  )
+  bads_shown = both_shown _ _ (λ x run values. (
+    λ (t, h, is). (t, h, sym (bads_same x run values t h) ∙ is),
+    λ (t, h, is). (t, h, bads_same x run values t h ∙ is),
+  ))
 
   pub runs_shown : HasCircuitRun c k ↔ HasRun f k
   runs_shown = (

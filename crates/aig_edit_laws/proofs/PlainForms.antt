@@ -27,7 +27,7 @@ use Rattle.aig_unroll.specs.Places.{leaves_after}
 use Rattle.aig_unroll.specs.Unroll.{UnrollsTo, starts_of}
 use Rattle.aig_unroll.proofs.Added.{following-are, following-have}
 use Rattle.aig_edit_laws.specs.Plain.{IsPlain}
-use Rattle.aig_edit_laws.specs.Shown.{outputs_as_bads}
+use Rattle.aig_edit_laws.specs.Shown.{bad_alone, outputs_as_bads}
 
 -- ---- leaves and names
 
@@ -66,6 +66,9 @@ names_past c is names ns old k d h =
 
 pub plain-bads : (c : Circuit) → IsPlain c → IsPlain (outputs_as_bads c)
 plain-bads c plain = record { closed = plain.closed; start = plain.start; names = plain.names }
+
+pub plain-bad : (c : Circuit) (e : AigEdge) → IsPlain c → IsPlain (bad_alone c e)
+plain-bad c e plain = record { closed = plain.closed; start = plain.start; names = plain.names }
 
 pub plain-compressed : (old new : Circuit) → IsPlain old → CompressesBads old new → IsPlain new
 plain-compressed old new plain made = subst IsPlain (sym made.rest) (record {

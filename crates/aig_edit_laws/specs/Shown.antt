@@ -1,10 +1,11 @@
 -- Part of what is promised.
 -- What runs of a file's machine, and of a circuit, show. (AIGER 1.9, "Properties"; bounded model
 -- checking.)
-use Rattle.std.specs.Prelude.{◌≡◌, ℕ, ◌≤◌, Bool, IsTrue, Some, IsSomeAnd, List, [], ◌∷◌, slice_get}
+use Rattle.std.specs.Prelude.{◌≡◌, ℕ, ◌≤◌, Bool, true, IsTrue, Some, IsSomeAnd, List, [], ◌∷◌, slice_get}
 use Rattle.std.specs.List.{list_any}
 use Rattle.aig_circuit.specs.declared.edge.AigEdge.{AigEdge}
 use Rattle.aig_circuit.specs.Circuit.{Circuit}
+use Rattle.aig_circuit.specs.Edge.{edge_to}
 use Rattle.aig_circuit.specs.Properties.{no_properties}
 use Rattle.aig_circuit.specs.Tree.{edge_value}
 use Rattle.aig_change.specs.Runs.{IsAllowedRun}
@@ -38,6 +39,12 @@ HasOutputAt f n k =
     (run : ℕ → ℕ → Bool) × IsAllowedMachineRun f k run
     × IsSomeAnd (slice_get f.properties.outputs n) (λ e. IsTrue (value_of_literal (run k) e))
 
+-- such a run has bad literal n, of those from 0 on, at step k
+abbrev pub HasBadAt : File → ℕ → ℕ → Type 0
+HasBadAt f n k =
+    (run : ℕ → ℕ → Bool) × IsAllowedMachineRun f k run
+    × IsSomeAnd (slice_get f.properties.bads n) (λ e. IsTrue (value_of_literal (run k) e))
+
 -- such a run has some bad literal at one of its steps
 abbrev pub HasBadBy : File → ℕ → Type 0
 HasBadBy f k =
@@ -66,6 +73,12 @@ HasCircuitOutputAt c n k =
     (x : ℕ → ℕ → Bool) × IsAllowedRun c k x
     × IsSomeAnd (slice_get c.properties.outputs n) (λ e. IsTrue (edge_value c.nodes (x k) e))
 
+-- and of bad edge n
+abbrev pub HasCircuitBadAt : Circuit → ℕ → ℕ → Type 0
+HasCircuitBadAt c n k =
+    (x : ℕ → ℕ → Bool) × IsAllowedRun c k x
+    × IsSomeAnd (slice_get c.properties.bads n) (λ e. IsTrue (edge_value c.nodes (x k) e))
+
 -- and of a bad edge at one of the steps
 abbrev pub HasCircuitBadBy : Circuit → ℕ → Type 0
 HasCircuitBadBy c k =
@@ -78,6 +91,20 @@ outputs_as_bads c =
     record c {
       properties = record c.properties { outputs = []; bads = c.properties.outputs };
     }
+
+-- the circuit with this edge as its only bad edge
+abbrev pub bad_alone : Circuit → AigEdge → Circuit
+bad_alone c e = record c { properties = record c.properties { bads = e ∷ [] } }
+
+-- the circuit with its bad edge n as the only one
+pub record IsPropertyOf (n : ℕ) (c new : Circuit) : Type 0 where
+  pub bad : AigEdge
+  pub there : slice_get c.properties.bads n ≡ Some bad
+  pub exact : new ≡ bad_alone c bad
+
+-- the circuit with true as its only bad edge: bad wherever a run has come
+abbrev pub always_bad : Circuit → Circuit
+always_bad c = bad_alone c (edge_to 0 true)
 
 -- the circuit with this output and its constraints as the only properties
 abbrev pub output_alone : Circuit → AigEdge → Circuit

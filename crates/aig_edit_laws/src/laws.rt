@@ -1,16 +1,17 @@
 //! Laws of what an edited circuit's runs show.
 
-ghost use Rattle.std.specs.Prelude.{◌≡◌, ℕ, ◌≤◌, ◌↔◌, ◌⊎◌, [], length};
+ghost use Rattle.std.specs.Prelude.{◌≡◌, ℕ, ◌≤◌, ◌↔◌, ◌⊎◌, Bool, [], length};
 ghost use Rattle.aig_circuit.specs.Circuit.{Circuit, IsCircuit};
 ghost use Rattle.aig_change.specs.Changes.{CompressesBads, FoldsConstraints};
 ghost use Rattle.aig_change.specs.Merge.{merged};
+ghost use Rattle.aig_change.specs.Runs.{IsAllowedRun};
 ghost use Rattle.aig_format.specs.Circuit.{IsReadAgain, circuit_of};
 ghost use Rattle.aig_format.specs.File.{File};
 ghost use Rattle.aig_format.specs.Fits.{Fits};
 ghost use Rattle.aig_edit_laws.specs.Reduction.{HaveSameWitnesses};
-ghost use Rattle.aig_runs.specs.CircuitQueries.{HasCircuitWitness};
+ghost use Rattle.aig_runs.specs.CircuitQueries.{HasCircuitWitness, IsCircuitWitness};
 ghost use Rattle.aig_unroll.specs.Unroll.{UnrollsTo};
-ghost use Rattle.aig_edit_laws.specs.Shown.{HasBadBy, HasCircuitBadBy, HasCircuitOutput, HasCircuitOutputAt, HasCircuitRun, HasOutput, HasOutputAt, HasRun, HasWitness, IsConeOf, outputs_as_bads};
+ghost use Rattle.aig_edit_laws.specs.Shown.{HasBadAt, HasBadBy, HasCircuitBadAt, HasCircuitBadBy, HasCircuitOutput, HasCircuitOutputAt, HasCircuitRun, HasOutput, HasOutputAt, HasRun, HasWitness, IsConeOf, IsPropertyOf, always_bad, outputs_as_bads};
 
 use crate::reduction::runs_keep_witnesses;
 use aig_change::merging_pairs_runs;
@@ -45,6 +46,20 @@ pub fn outputs_become_bads()
         → HasCircuitWitness (outputs_as_bads c) k ↔ HasCircuitOutput c k }
 {}
 
+/// Law: a circuit with its bad edge n as the only one has a witness exactly where the circuit has such a run with that bad edge at
+/// its last step.
+pub fn properties_show_their_bad()
+    ensures { (c new : Circuit) (n k : ℕ) → IsPropertyOf n c new
+        → HasCircuitWitness new k ↔ HasCircuitBadAt c n k }
+{}
+
+/// Law: the witnesses of a circuit with true as its only bad edge are the circuit's runs from an initial state with every
+/// constraint at each step.
+pub fn always_bad_runs_are_runs()
+    ensures { (c : Circuit) (k : ℕ) (x : ℕ → ℕ → Bool) → IsCircuit c
+        → IsCircuitWitness (always_bad c) k x ↔ IsAllowedRun c k x }
+{}
+
 /// Law: the cone of a circuit's output shows that output exactly where the circuit does.
 pub fn cones_show_their_output()
     ensures { (c cone : Circuit) (n k : ℕ) → IsCircuit c → IsConeOf n c cone
@@ -77,6 +92,8 @@ pub fn shown_runs_are_machine_runs()
         → HasCircuitOutput (circuit_of f) k ↔ HasOutput f k }
     ensures output { (f : File) (limit n k : ℕ) → Fits f limit
         → HasCircuitOutputAt (circuit_of f) n k ↔ HasOutputAt f n k }
+    ensures bad { (f : File) (limit n k : ℕ) → Fits f limit
+        → HasCircuitBadAt (circuit_of f) n k ↔ HasBadAt f n k }
     ensures bads { (f : File) (limit k : ℕ) → Fits f limit
         → HasCircuitBadBy (circuit_of f) k ↔ HasBadBy f k }
 {

@@ -6,9 +6,10 @@ mod plain;
 mod reduction;
 
 pub use laws::{
-    changed_circuits_keep_witnesses, cones_show_their_output, merged_witnesses_are_pairs,
-    outputs_become_bads, shown_runs_are_machine_runs, unrolled_witnesses_are_runs,
-    written_circuits_have_outputs, written_circuits_have_witnesses,
+    always_bad_runs_are_runs, changed_circuits_keep_witnesses, cones_show_their_output,
+    merged_witnesses_are_pairs, outputs_become_bads, properties_show_their_bad,
+    shown_runs_are_machine_runs, unrolled_witnesses_are_runs, written_circuits_have_outputs,
+    written_circuits_have_witnesses,
 };
 pub use plain::{changed_circuits_are_plain, reductions_are_writable};
 pub use reduction::{

@@ -1,6 +1,7 @@
 //! Laws of circuits whose size alone can keep them from a written form.
 
 ghost use Rattle.std.specs.Prelude.{ℕ, List};
+ghost use Rattle.aig_circuit.specs.declared.edge.AigEdge.{AigEdge};
 ghost use Rattle.aig_circuit.specs.Circuit.{Circuit, IsCircuit};
 ghost use Rattle.aig_change.specs.Changes.{CompressesBads, FoldsConstraints};
 ghost use Rattle.aig_change.specs.Merge.{merged};
@@ -9,7 +10,7 @@ ghost use Rattle.aig_format.specs.Writable.{IsWritable};
 ghost use Rattle.aig_edit_laws.specs.Reduction.{IsReduced};
 ghost use Rattle.aig_unroll.specs.Unroll.{UnrollsTo};
 ghost use Rattle.aig_edit_laws.specs.Plain.{IsPlain};
-ghost use Rattle.aig_edit_laws.specs.Shown.{IsConeOf, outputs_as_bads};
+ghost use Rattle.aig_edit_laws.specs.Shown.{IsConeOf, bad_alone, outputs_as_bads};
 
 use crate::reduction::asked_circuits_are_circuits;
 use aig_cone::refining_is_circuit;
@@ -29,6 +30,7 @@ pub fn changed_circuits_are_plain()
     ensures merged { (first second : Circuit) → IsCircuit first → IsCircuit second
         → IsPlain first → IsPlain second → IsPlain (merged first second) }
     ensures bads { (c : Circuit) → IsPlain c → IsPlain (outputs_as_bads c) }
+    ensures bad { (c : Circuit) (e : AigEdge) → IsPlain c → IsPlain (bad_alone c e) }
 {}
 
 /// Law: where a circuit has a written form, its reduction has one.

@@ -1,7 +1,6 @@
 -- The question of a file as a file, and what is told of it.
 use Rattle.std.proofs.Common.{◌≡◌, ◌≢◌, ◌↔◌, ℕ, ◌<◌, ◌≤◌, ◌^◌, ◌==◌, Bool, Option, None, List, [], ◌∷◌, length, map, get_or, IsTrue, Err, refl, sym, ap, subst, ◌∙◌, arith}
-use Rattle.aig_base.proofs.Words.{All, IfSome, IsSomeAnd, IsUtf8, Contains, contains_key, get, get-empty, list_any, eqb-true, false≢true, Decides-eqb, All-from_recursion, All-nil, Any-from_list_any, IsDistinct-from_AllPairs, length-le_from_distinct_below}
-use Rattle.std.specs.Option.{is_some}
+use Rattle.aig_base.proofs.Words.{All, IfSome, IsSomeAnd, IsUtf8, Contains, get, get-empty, list_any, eqb-true, Decides-eqb, All-from_recursion, All-nil, Any-from_list_any, IsDistinct-from_AllPairs, length-le_from_distinct_below}
 use Rattle.std.specs.Ordering.{nat_cmp}
 use Rattle.aig_bounded.specs.Question.{IsQuestion}
 use Rattle.aig_bounded.specs.declared.place.Place.{Place}

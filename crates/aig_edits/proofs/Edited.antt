@@ -1,18 +1,18 @@
 -- What the parts of an edit tell, at each way out of them.
 use Rattle.aig_base.proofs.Words.{◌≡◌, ◌≢◌, ◌⊎◌, ℕ, Bool, List, Option, Some, None, Result, Ok, Err, refl, sym, ap, subst, inl, inr, Contains-append_cases, get_or_from_slice_get, slice_get_within}
-use Rattle.std.specs.Prelude.{Any, IfSome, IsErrOf, IsSomeAnd, IsTrue, slice_get}
+use Rattle.std.specs.Prelude.{All, Any, IfErr, IfOk, IfSome, IsErrOf, IsSomeAnd, IsTrue, slice_get}
 use Rattle.aig.specs.declared.aiger.WriteError.{WriteError}
 use Rattle.aig.specs.declared.aiger.WriteError.TheVariants as write
 use Rattle.aig.specs.Writing.{IsRefusal, IsVerdictOf}
 use Rattle.aig_circuit.specs.declared.edge.AigEdge.{AigEdge}
-use Rattle.aig_circuit.proofs.Words.{Circuit, HasFreeLeaf, IsCircuit, IsInRange, latch_leaves, HasConstantInit, HasNonConstantInit}
+use Rattle.aig_circuit.proofs.Words.{Circuit, HasFreeLeaf, IsInRange, latch_leaves, HasConstantInit, HasNonConstantInit}
 use Rattle.aig_edit_laws.specs.Plain.{IsPlain}
 use Rattle.aig_format.proofs.Words.{text_of, HasLineFeed, IsWritable, named_nodes}
 use Rattle.aig_output.specs.Sinks.{AppendsBeginning}
 use Rattle.aig_edits.specs.declared.edit.Edit.{Edit}
 use Rattle.aig_edits.specs.declared.edit_error.EditError.{EditError}
 use Rattle.aig_edits.specs.declared.edit_error.EditError.TheVariants as errors
-use Rattle.aig_edits.specs.Edits.{AreStepsWithin, edit_fault}
+use Rattle.aig_edits.specs.Edits.{AreStepsWithin, IsEdited, edit_fault}
 use Rattle.aig_edits.specs.EditParts.{CanEditCircuit, Edits, PrintsCircuit, WritesText, Yields}
 
 -- an error of a result is that one
@@ -25,13 +25,12 @@ err_of {T} {E} e x is = let error : E → Result T E = λ y. Err y in ap error i
 pub plain_of : (c : Circuit) → IsWritable c → IsPlain c
 plain_of c w = record { closed = w.closed; start = w.start; names = w.names }
 
--- a property edge that is there is in range
-pub in_range_at : (c : Circuit) (n : ℕ) (e : AigEdge) → IsCircuit c → slice_get c.properties.outputs
-    n ≡ Some e → IsInRange c.nodes e
-in_range_at c n e is at =
-    let outputs = c.properties.outputs in
-    subst (IsInRange c.nodes) (get_or_from_slice_get outputs n e e at) (is.properties.outputs n e
-    (slice_get_within outputs n e at))
+-- an edge of a list whose edges are in range is in range
+pub in_range_at : (c : Circuit) (es : List AigEdge) (n : ℕ) (e : AigEdge)
+    → All (IsInRange c.nodes) es → slice_get es n ≡ Some e → IsInRange c.nodes e
+in_range_at c es n e all at =
+    subst (IsInRange c.nodes) (get_or_from_slice_get es n e e at)
+    (all n e (slice_get_within es n e at))
 
 -- what is made where the edit can be made
 pub edits : (edit : Edit) (limit : ℕ) (c : Circuit) (r : Result Circuit EditError) → CanEditCircuit
@@ -40,6 +39,16 @@ pub edits : (edit : Edit) (limit : ℕ) (c : Circuit) (r : Result Circuit EditEr
 edits edit limit c (Ok m) can within y = (can, within, y.made.0, y.made.1)
 edits edit limit c (Err e) can within y = subst (λ e. Edits edit limit c (Err e)) (sym y.fault)
     (can, within)
+
+-- what is made of a circuit, where it is one circuit alone
+pub yields : (edit : Edit) (c new : Circuit) (r : Result Circuit EditError)
+    → IsEdited edit c new → IfOk r (λ m. (m ≡ new) × IsPlain m)
+    → IfErr r (λ e. e ≡ errors.Memory) → Yields edit c r
+yields edit c new (Ok m) is made fault = record {
+  made = (subst (IsEdited edit c) (sym made.0) is, made.1);
+  fault = tt;
+}
+yields edit c new (Err e) is made fault = record { made = tt; fault = fault }
 
 -- ---- its text
 

@@ -24,6 +24,8 @@ can_back edits.Move f (inl none) = inl (none_back f f.properties.constraints non
 can_back edits.Move f (inr few) = inr (subst (λ count. count ≤ 1) (length-map f.properties.bads
     (edge_of f)) few)
 can_back edits.Bads f can = none_back f f.properties.bads can
+can_back (edits.Property n) f can =
+    subst (λ count. n < count) (length-map f.properties.bads (edge_of f)) can
 can_back (edits.Cone n) f can = subst (λ count. n < count) (length-map f.properties.outputs (edge_of
     f)) can
 can_back edit f can = can
@@ -33,6 +35,8 @@ can_forth edits.Move f (inl none) = inl (ap (map (edge_of f)) none)
 can_forth edits.Move f (inr few) = inr (subst (λ count. count ≤ 1) (sym (length-map
     f.properties.bads (edge_of f))) few)
 can_forth edits.Bads f can = ap (map (edge_of f)) can
+can_forth (edits.Property n) f can =
+    subst (λ count. n < count) (sym (length-map f.properties.bads (edge_of f))) can
 can_forth (edits.Cone n) f can = subst (λ count. n < count) (sym (length-map f.properties.outputs
     (edge_of f))) can
 can_forth edit f can = can
@@ -81,6 +85,12 @@ module _ {W : Type 0} (held : W → Option (List ℕ)) (failed : W → Bool) (ed
     )
     of_circuit (Err errors.ManyBads) ((is, not), same) = (is, λ can. not (can_forth edit f can))
     of_circuit (Err errors.HasBads) ((is, not), same) = (is, λ can. not (can_forth edit f can))
+    of_circuit (Err errors.NoBad) ((n, is, not), same) = (
+      n,
+      is,
+      λ can. not (can_forth edit f
+          can),
+    )
     of_circuit (Err errors.NoOutput) ((n, is, not), same) = (
       n,
       is,
@@ -91,6 +101,7 @@ module _ {W : Type 0} (held : W → Option (List ℕ)) (failed : W → Bool) (ed
     of_circuit (Err errors.Memory) ((can, within), same) = (can_back edit f can, within)
     of_circuit (Err errors.NoBads) (wrong, same) = absurd wrong
     of_circuit (Err errors.QuestionTooLarge) (wrong, same) = absurd wrong
+    of_circuit (Err errors.NoJustice) (wrong, same) = absurd wrong
     of_circuit (Err (errors.Read e)) (wrong, same) = absurd wrong
 
     -- of the circuit that was read

@@ -9,3 +9,5 @@ pub mod ReadFiles
 pub mod Asking
 pub mod Depths
 mod Sets
+mod Written
+mod LiveFiles

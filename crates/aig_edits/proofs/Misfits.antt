@@ -1,5 +1,5 @@
 -- Counts that don't fit, and wrong ones, which the definition refuses.
-use Rattle.std.proofs.Common.{◌≡◌, ◌≢◌, ℕ, ◌<◌, length, refl, sym, ◌∙◌, arith}
+use Rattle.std.proofs.Common.{◌≡◌, ℕ, ◌<◌, refl, sym, ◌∙◌, arith}
 use Rattle.aig_format.proofs.Words.{File}
 use Rattle.aig_edits.specs.declared.misfit.Misfit.{Misfit}
 use Rattle.aig_edits.specs.declared.misfit.Misfit.TheVariants as misfits

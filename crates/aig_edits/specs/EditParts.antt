@@ -17,10 +17,11 @@ use Rattle.aig_edits.specs.Edits.{AreStepsWithin, IsEdited}
 -- ---- the circuit
 
 -- Constraints are joined where there are none, or at most one bad edge; outputs become bad edges
--- only where there are none; and a cone is that of an output.
+-- only where there are none; and a property or a cone is that of a bad edge or an output.
 abbrev pub CanEditCircuit : Edit → Circuit → Type 0
 CanEditCircuit edits.Move c = (c.properties.constraints ≡ []) ⊎ (length c.properties.bads ≤ 1)
 CanEditCircuit edits.Bads c = c.properties.bads ≡ []
+CanEditCircuit (edits.Property n) c = n < length c.properties.bads
 CanEditCircuit (edits.Cone n) c = n < length c.properties.outputs
 CanEditCircuit edit c = Unit {0}
 
@@ -35,6 +36,8 @@ Edits edit limit c (Ok m) =
     CanEditCircuit edit c × AreStepsWithin edit limit c × IsEdited edit c m × IsPlain m
 Edits edit limit c (Err errors.ManyBads) = (edit ≡ edits.Move) × (¬ CanEditCircuit edit c)
 Edits edit limit c (Err errors.HasBads) = (edit ≡ edits.Bads) × (¬ CanEditCircuit edit c)
+Edits edit limit c (Err errors.NoBad) =
+    (n : ℕ) × (edit ≡ edits.Property n) × (¬ CanEditCircuit edit c)
 Edits edit limit c (Err errors.NoOutput) =
     (n : ℕ) × (edit ≡ edits.Cone n) × (¬ CanEditCircuit edit c)
 Edits edit limit c (Err errors.PassesLimit) =

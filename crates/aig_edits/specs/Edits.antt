@@ -9,7 +9,7 @@ use Rattle.aig_change.specs.Changes.{CompressesBads, FoldsConstraints}
 use Rattle.aig_circuit.specs.Circuit.{Circuit}
 use Rattle.aig_circuit.specs.Reencode.{reencoded}
 use Rattle.aig_cone.specs.Refine.{AreKept, refined}
-use Rattle.aig_edit_laws.specs.Shown.{HasBadBy, HasOutput, HasOutputAt, HasWitness, IsConeOf, outputs_as_bads}
+use Rattle.aig_edit_laws.specs.Shown.{HasBadAt, HasBadBy, HasOutput, HasOutputAt, HasRun, HasWitness, IsConeOf, IsPropertyOf, always_bad, outputs_as_bads}
 use Rattle.aig_format.specs.Circuit.{IsReadAgain, circuit_of, file_of, text_of}
 use Rattle.aig_format.specs.declared.FileKind.TheVariants.{Text}
 use Rattle.aig_format.specs.File.{File}
@@ -30,10 +30,12 @@ use Rattle.aig_edits.specs.declared.edit_error.EditError.TheVariants as errors
 -- ---- the circuit
 
 -- Constraints are joined where there are none, or at most one bad literal; outputs become bad
--- literals only where there are none; and a cone is that of an output.
+-- literals only where there are none; and a property or a cone is that of a bad literal or an
+-- output that is there.
 abbrev pub CanEdit : Edit → File → Type 0
 CanEdit edits.Move f = (f.properties.constraints ≡ []) ⊎ (length f.properties.bads ≤ 1)
 CanEdit edits.Bads f = f.properties.bads ≡ []
+CanEdit (edits.Property n) f = n < length f.properties.bads
 CanEdit (edits.Cone n) f = n < length f.properties.outputs
 CanEdit edit f = Unit {0}
 
@@ -50,6 +52,8 @@ IsEdited (edits.Unroll k) c m = UnrollsTo c k m × UnrollsBySteps c k m
 IsEdited edits.Move c m = FoldsConstraints c m
 IsEdited edits.Compress c m = CompressesBads c m
 IsEdited edits.Bads c m = m ≡ outputs_as_bads c
+IsEdited (edits.Property n) c m = IsPropertyOf n c m
+IsEdited edits.Possible c m = m ≡ always_bad c
 IsEdited (edits.Cone n) c m = IsConeOf n c m
 
 -- at each step one machine is safe exactly where the other is
@@ -57,7 +61,8 @@ abbrev pub AreAsSafe : File → File → Type 0
 AreAsSafe f h = (k : ℕ) → IsSafeAt h k ↔ IsSafeAt f k
 
 -- What the machine of the written file h shows of that of the file f that was read: the safety of
--- each step; the bad literals of all steps at step 0; the outputs; or one of them.
+-- each step; the bad literals of all steps at step 0; the outputs; one bad literal; how long runs
+-- are; or one output.
 abbrev pub EditShows : Edit → File → File → Type 0
 EditShows edits.Refine f h = AreAsSafe f h
 EditShows edits.Reencode f h = AreAsSafe f h
@@ -65,6 +70,8 @@ EditShows (edits.Unroll k) f h = HasWitness h 0 ↔ HasBadBy f k
 EditShows edits.Move f h = AreAsSafe f h
 EditShows edits.Compress f h = AreAsSafe f h
 EditShows edits.Bads f h = (k : ℕ) → HasWitness h k ↔ HasOutput f k
+EditShows (edits.Property n) f h = (k : ℕ) → HasWitness h k ↔ HasBadAt f n k
+EditShows edits.Possible f h = (k : ℕ) → HasWitness h k ↔ HasRun f k
 EditShows (edits.Cone n) f h = (k : ℕ) → HasOutput h k ↔ HasOutputAt f n k
 
 -- the edit makes the circuit of the file's, and it fits the format
@@ -101,6 +108,8 @@ IsEditOwn e = Unit {0}
 abbrev pub IsEditRefusal : Edit → ℕ → File → EditError → Type 0
 IsEditRefusal edit limit f errors.ManyBads = (edit ≡ edits.Move) × (¬ CanEdit edit f)
 IsEditRefusal edit limit f errors.HasBads = (edit ≡ edits.Bads) × (¬ CanEdit edit f)
+IsEditRefusal edit limit f errors.NoBad =
+    (n : ℕ) × (edit ≡ edits.Property n) × (¬ CanEdit edit f)
 IsEditRefusal edit limit f errors.NoOutput = (n : ℕ) × (edit ≡ edits.Cone n) × (¬ CanEdit edit f)
 IsEditRefusal edit limit f errors.PassesLimit =
     CanEdit edit f × ¬ AreStepsWithin edit limit (circuit_of f)

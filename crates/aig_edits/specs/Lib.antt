@@ -9,3 +9,5 @@ pub mod Questions
 pub mod Reductions
 pub mod QuestionFaults
 pub mod QuestionParts
+pub mod Lives
+pub mod LiveParts

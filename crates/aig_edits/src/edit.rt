@@ -16,6 +16,10 @@ pub enum Edit {
     Compress,
     /// The circuit with its outputs as its bad edges, and no outputs: files from before AIGER 1.9 have no others.
     Bads,
+    /// The circuit with the bad edge of this number, from 0 on, as the only one.
+    Property(usize),
+    /// The circuit with true as its only bad edge: bad wherever a run that meets the constraints has come.
+    Possible,
     /// The circuit of what the output of this number, from 0 on, the constraints, the latches and the initial edges that aren't
     /// constant reach, with that output and the constraints as the only properties.
     Cone(usize),

@@ -26,6 +26,12 @@ pub enum EditError {
     /// The file has no output of the number that is asked for.
     #[error("no such output")]
     NoOutput,
+    /// The file has no bad literal of the number that is asked for.
+    #[error("no such bad state property")]
+    NoBad,
+    /// The file has no justice property of the number that is asked for.
+    #[error("no such justice property")]
+    NoJustice,
     /// The file has no bad literal, so that its question asks for nothing.
     #[error("no bad state property (aigedit bads makes outputs such)")]
     NoBads,

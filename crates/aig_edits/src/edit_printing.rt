@@ -20,9 +20,10 @@ use aig::Aig;
 use aig_base::{Sink, Source};
 use aig_cone::{refining_is_circuit, refining_keeps_runs};
 use aig_edit_laws::{
-    changed_circuits_keep_witnesses, cones_show_their_output, outputs_become_bads,
-    runs_keep_witnesses, shown_runs_are_machine_runs, unrolled_witnesses_are_runs,
-    written_circuits_have_outputs, written_circuits_have_witnesses,
+    always_bad_runs_are_runs, changed_circuits_keep_witnesses, cones_show_their_output,
+    outputs_become_bads, properties_show_their_bad, runs_keep_witnesses,
+    shown_runs_are_machine_runs, unrolled_witnesses_are_runs, written_circuits_have_outputs,
+    written_circuits_have_witnesses,
 };
 use aig_format_laws::files_are_circuits;
 use aig_renumber::reencoding_keeps_runs;
@@ -53,6 +54,8 @@ fn edited_files_show()
     changed_circuits_keep_witnesses();
     unrolled_witnesses_are_runs();
     outputs_become_bads();
+    properties_show_their_bad();
+    always_bad_runs_are_runs();
     cones_show_their_output();
     shown_runs_are_machine_runs();
     written_circuits_have_witnesses();
@@ -95,6 +98,7 @@ fn print_edited<W: Sink>(
 /// - `Read`: the file is refused.
 /// - `ManyBads`: constraints would be joined to the first bad literal, and the file has a constraint and more than one bad literal.
 /// - `HasBads`: outputs would become bad literals, and the file has some.
+/// - `NoBad`: the file has no bad literal of the number that is asked for.
 /// - `NoOutput`: the file has no output of the number whose cone is asked for.
 /// - `PassesLimit`: `n + k * (n - 1 - l)` passes `limit`, for `k` further steps of the `n` nodes and `l` latches of the circuit.
 /// - `TooLarge`: the circuit that was made has more than 2^31 nodes, or more than 2^32 - 1 entries in a list or a justice set.

@@ -1,12 +1,14 @@
 //! Editing the circuit of a file.
 
-ghost use Rattle.std.specs.Prelude.{◌≡◌, ◌≤◌, ◌↔◌, ℕ, List, [], IsTrue, Some, slice_get};
-ghost use Rattle.aig_circuit.specs.Circuit.{Circuit};
+ghost use Rattle.std.specs.Prelude.{◌≡◌, ◌≤◌, ◌↔◌, ℕ, List, [], IfErr, IfOk, IsTrue, Some, slice_get};
+ghost use Rattle.aig_circuit.specs.Circuit.{Circuit, IsInRange};
 ghost use Rattle.aig_edit_laws.specs.Plain.{IsPlain};
+ghost use Rattle.aig_edit_laws.specs.Shown.{bad_alone};
 ghost use Rattle.aig_format.specs.Writable.{IsWritable};
 ghost use Rattle.aig_unroll.specs.Places.{unrolled_size};
 ghost use Rattle.aig_edits.specs.EditParts.{CanEditCircuit, Edits, Yields};
 ghost use Rattle.aig_edits.specs.declared.edit.Edit.TheVariants as edits;
+ghost use Rattle.aig_edits.specs.declared.edit_error.EditError.TheVariants as errors;
 
 use crate::edit::Edit;
 use crate::edit_error::EditError;
@@ -77,6 +79,38 @@ fn with_outputs_as_bads(mut circuit: Aig) -> Result<Aig, EditError>
     Ok(circuit)
 }
 
+/// Makes an edge the only bad one.
+fn with_bad(mut circuit: Aig, bad: AigEdge) -> Result<Aig, EditError>
+    requires plain { IsWritable circuit }
+    requires there { IsInRange circuit.nodes bad }
+    ensures made { IfOk result (λ m. (m ≡ bad_alone circuit bad) × IsPlain m) }
+    ensures fault { IfErr result (λ e. e ≡ errors.Memory) }
+{
+    changed_circuits_are_plain();
+    circuit.clear_edges(PropList::Bads);
+    circuit.push_edge(PropList::Bads, bad)?;
+    Ok(circuit)
+}
+
+/// Keeps of the bad edges edge `n` alone.
+fn property(circuit: Aig, n: usize, bad: AigEdge) -> Result<Aig, EditError>
+    requires plain { IsWritable circuit }
+    requires there { slice_get circuit.properties.bads n ≡ Some bad }
+    ensures { Yields (edits.Property n) circuit result }
+{
+    let _nodes = circuit.nodes();
+    with_bad(circuit, bad)
+}
+
+/// Makes true the only bad edge.
+fn possible(circuit: Aig) -> Result<Aig, EditError>
+    requires { IsWritable circuit }
+    ensures { Yields edits.Possible circuit result }
+{
+    let _nodes = circuit.nodes();
+    with_bad(circuit, AigEdge::constant(true))
+}
+
 /// Keeps what output `n`, constraints and latches read, with that output and the constraints as the only properties.
 fn cone(mut graph: Aig, n: usize, output: AigEdge) -> Result<Aig, EditError>
     requires plain { IsWritable graph }
@@ -124,6 +158,12 @@ pub(crate) fn edited(edit: &Edit, circuit: Aig, limit: usize) -> Result<Aig, Edi
         Edit::Compress => compressed(circuit),
         Edit::Bads if !circuit.bads().is_empty() => Err(EditError::HasBads),
         Edit::Bads => with_outputs_as_bads(circuit),
+        Edit::Property(n) if *n >= circuit.bads().len() => Err(EditError::NoBad),
+        Edit::Property(n) => {
+            let bad = circuit.bads()[*n];
+            property(circuit, *n, bad)
+        }
+        Edit::Possible => possible(circuit),
         Edit::Cone(n) if *n >= circuit.outputs().len() => Err(EditError::NoOutput),
         Edit::Cone(n) => {
             let output = circuit.outputs()[*n];

@@ -6,7 +6,7 @@ ghost use Rattle.aig_format.specs.Writable.{FitsFormat};
 use aig_circuit::{AigEdge, CircuitView};
 
 /// How many nodes a file can have at most.
-const MOST_NODES: usize = 1 << 31;
+pub(crate) const MOST_NODES: usize = 1 << 31;
 
 /// The greatest number that a file can have.
 const GREATEST_NUMBER: usize = u32::MAX as usize;

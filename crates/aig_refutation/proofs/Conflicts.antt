@@ -1,18 +1,16 @@
--- Clauses that are in conflict at once: how they are found, and that the empty clause follows.
-use Rattle.std.proofs.Common.{◌≡◌, ◌≢◌, ℕ, zero, suc, ◌+◌, ◌-◌, ◌<◌, ◌≤◌, ◌^◌, Bool, true, false, inl, inr, List, [], ◌∷◌, length, slice_get, Some, Err, refl, sym, ap, subst, ◌∙◌, arith}
-use Rattle.aig_base.proofs.Words.{◌==◌, slice_set, eqb-true, eq-eqb, false≢true, ne_eqb, cond-true, cond-false, nat_tests, nat_eq_equiv, common_steps, same_Some, slice_get-get_or}
-use Rattle.std.specs.List.{Contains, fold}
+-- Clauses that are in conflict at once: how they are found, and that no assignment makes them true.
+use Rattle.std.proofs.Common.{◌≡◌, ◌≢◌, ℕ, zero, suc, ◌+◌, ◌-◌, ◌<◌, ◌≤◌, ◌^◌, Bool, true, false, not, ◌||◌, inl, inr, List, [], ◌∷◌, length, slice_get, Some, Ok, refl, sym, ap, subst, ◌∙◌, arith}
+use Rattle.aig_base.proofs.Words.{All-contains, ◌==◌, slice_set, eqb-true, false≢true, ne_eqb, nat_tests, nat_eq_equiv, common_steps, same_Some, slice_get-get_or}
+use Rattle.std.specs.List.{Contains}
+use Rattle.std.proofs.lemmas.List.Sums.{AllPass-from_list_all}
 use Rattle.aig_base.specs.declared.logic.literal.Lit.{Lit}
-use Rattle.aig_base.specs.Clauses.{inverse_lit, number_of_lit, variable_of}
-use Rattle.aig_refutation.specs.declared.error.RefutationError.{RefutationError}
-use Rattle.aig_refutation.specs.Checking.{IsInConflict, Live, added, all_live, are_all_in, are_in, clause_at, numbered_clause, with_next}
-use Rattle.aig_refutation.specs.Concluding.{FindsConflict, IsFormula}
-use Rattle.aig_refutation.specs.Tables.{Checked, HoldsFormula, Table, clause_by, entry_at}
-use Rattle.aig_refutation.specs.Words.{Tells}
-use Rattle.aig_refutation.proofs.Adding.{added_on}
+use Rattle.aig_base.specs.Clauses.{are_true, inverse_lit, is_true_clause, literal_value, number_of_lit, variable_of}
+use Rattle.aig_base.specs.Formula.{IsSatisfiable}
+use Rattle.aig_base.proofs.Literals.{literal_value-inverse_lit}
+use Rattle.aig_refutation.specs.Checking.{IsInConflict, are_all_in, are_in}
+use Rattle.aig_refutation.specs.Concluding.{ConcludesConflict, FindsConflict, IsFormula}
+use Rattle.aig_refutation.specs.Tables.{Checked, clause_by, entry_at}
 use Rattle.aig_refutation.proofs.Formulas.{contains_at, formula_inside, one_out, same_number}
-use Rattle.aig_refutation.proofs.Known.{tells_on}
-use Rattle.aig_refutation.proofs.Numbering.{is_next}
 
 -- ---- inverses
 
@@ -203,6 +201,16 @@ by_contains : (clauses : List (List Lit)) (n : ℕ) (clause : List Lit)
 by_contains clauses n clause is =
     let at = numbered_item clauses n clause is in contains_at clauses at.0 clause at.2
 
+contained_true : (clauses : List (List Lit)) (v : ℕ → Bool) → are_true v clauses ≡ true
+    → (clause : List Lit) → Contains clauses clause → is_true_clause v clause ≡ true
+contained_true clauses v all clause there =
+    All-contains (λ (c : List Lit). is_true_clause v c ≡ true) clauses clause
+    (AllPass-from_list_all (is_true_clause v) clauses all) there
+
+only_one : (b : Bool) → (b || false) ≡ true → b ≡ true
+only_one true e = refl
+only_one false e = e
+
 pub found_conflict : (clauses : List (List Lit)) (hints : List ℕ) → FindsConflict clauses hints
     → (hints ≡ [] → ⊥) → IsInConflict clauses
 found_conflict clauses [] finds some = absurd (some refl)
@@ -216,64 +224,29 @@ found_conflict clauses (n ∷ m ∷ []) finds some =
     )
 found_conflict clauses (n ∷ m ∷ o ∷ more) finds some = absurd finds
 
--- clauses that are there stay under their numbers
-live_kept : (clauses : List (List Lit)) (live : Live) (n : ℕ) → n ≤ length live.used
-    → clause_at (fold with_next live clauses) n ≡ clause_at live n
-live_kept [] live n within = refl
-live_kept (clause ∷ clauses) live n within =
-    live_kept clauses (with_next live clause) n (omega (arith, within))
-    ∙ cond-false (n == length live.used + 1) _ _
-    (ne_eqb n (length live.used + 1) (λ e. omega (arith, within)))
+-- they are in conflict where there are such numbers
+pub concludes_conflict : (clauses : List (List Lit)) (hints : List ℕ)
+    → FindsConflict clauses hints → (none : Bool) → none ≡ (length hints == 0)
+    → ConcludesConflict clauses (Ok (not none))
+concludes_conflict clauses [] finds true is = finds
+concludes_conflict clauses [] finds false is = cc
+concludes_conflict clauses (n ∷ more) finds false is =
+    found_conflict clauses (n ∷ more) finds (λ none. cc)
+concludes_conflict clauses (n ∷ more) finds true is =
+    absurd (false≢true (sym (ne_eqb (length (n ∷ more)) 0 (λ e. omega arith)) ∙ sym is))
 
-live_at : (clauses : List (List Lit)) (live : Live) (n i : ℕ) (clause : List Lit)
-    → slice_get clauses i ≡ Some clause → n ≡ length live.used + i + 1
-    → clause_at (fold with_next live clauses) n ≡ Some clause
-live_at [] live n i clause there is = cc
-live_at (one ∷ clauses) live n zero clause there is =
-    live_kept clauses (with_next live one) n (omega arith)
-    ∙ cond-true (n == length live.used + 1) _ _
-    (eq-eqb n (length live.used + 1) (omega arith)) ∙ there
-live_at (one ∷ clauses) live n (suc i) clause there is =
-    live_at clauses (with_next live one) n i clause there (omega arith)
-
--- and so those of a formula
-named_at : (clauses : List (List Lit)) (n : ℕ) (clause : List Lit)
-    → clause_by clauses n ≡ Some clause → clause_at (all_live clauses) n ≡ Some clause
-unfolding all_live
-named_at clauses n clause is =
-    let at = numbered_item clauses n clause is in
-    live_at clauses (record { clauses = []; used = [] }) n at.0 clause at.2 (omega (arith, at.1))
-
-module _ (variables number : ℕ) (clauses : List (List Lit)) where
-  -- the empty clause follows along these numbers
-  pub empty_added : (hints : List ℕ) → FindsConflict clauses hints → (hints ≡ [] → ⊥)
-      → added variables (all_live clauses) number [] hints
-      ≡ numbered_clause (all_live clauses) number []
-  empty_added [] finds some = absurd (some refl)
-  empty_added (n ∷ []) finds some =
-      let live = all_live clauses in
-      let here = named_at clauses n [] finds in
-      added_on variables live number [] (n ∷ []) refl (rw here refl) (rw here refl)
-  empty_added (n ∷ m ∷ []) finds some =
-      let live = all_live clauses in
-      let lit = finds.0 in
-      let first = named_at clauses n (inverse_lit lit ∷ []) finds.1 in
-      let second = named_at clauses m (lit ∷ []) finds.2 in
-      added_on variables live number [] (n ∷ m ∷ []) refl (rw (first, second) refl)
-      (rw (first, second, nat_eq_equiv.refl (number_of_lit (inverse_lit lit))) refl)
-  empty_added (n ∷ m ∷ o ∷ more) finds some = absurd finds
-
--- so a formula's clauses take it
-pub empty_taken : (old : Table) (before : HoldsFormula old) (number : ℕ)
-    → number ≡ old.added + 1 → (variables : ℕ) (hints : List ℕ)
-    → FindsConflict old.clauses hints → (hints ≡ [] → ⊥) → (e : RefutationError)
-    → Tells e (added variables (all_live old.clauses) number [] hints ≡ Err e) → Tells e ⊥
-empty_taken old before number is variables hints finds some e moves =
-    let said = added variables (all_live old.clauses) number [] hints in
-    tells_on e (said ≡ Err e) ⊥ (λ wrong.
-    let next = sym (is_next old before number is [])
-    ∙ sym (empty_added variables number old.clauses hints finds some) ∙ wrong in
-    cc) moves
+-- no assignment makes clauses true that are in conflict
+pub conflict_fails : (clauses : List (List Lit)) → IsInConflict clauses
+    → ¬ IsSatisfiable clauses
+conflict_fails clauses (inl none) can =
+    absurd (false≢true (contained_true clauses can.0 can.1 [] none))
+conflict_fails clauses (inr both) can =
+    let v = can.0 in
+    let lit = both.0 in
+    let one = only_one (literal_value v lit) (contained_true clauses v can.1 (lit ∷ []) both.1) in
+    let other = only_one (literal_value v (inverse_lit lit))
+    (contained_true clauses v can.1 (inverse_lit lit ∷ []) both.2) in
+    absurd (false≢true (ap not (sym one) ∙ sym (literal_value-inverse_lit v lit) ∙ other))
 
 -- what was found of the same clauses
 pub formula_finds : (checker : Checked) → IsFormula checker → (clauses : List (List Lit))

@@ -2,6 +2,9 @@ mod Rup
 mod Tautologies
 mod Once
 mod Refuting
+mod RatSteps
+mod RatExamples
+mod Taken
 mod Stamps
 mod Literals
 mod Following

@@ -12,7 +12,9 @@ use Rattle.aig_base.specs.declared.logic.literal.Lit.{Lit}
 use Rattle.aig_refutation.specs.Tables.{Holds, Table}
 use Rattle.aig_refutation.specs.Text.{lines_of}
 use Rattle.aig_refutation.specs.Words.{Leaves, Place, Says, Tells, lines_at, lines_past}
+use Rattle.aig_refutation.specs.Taken.{CanHold, KeepsLive}
 use Rattle.aig_refutation.proofs.Known.{leaves_on, says_now, says_on, tells, tells_on}
+use Rattle.aig_refutation.proofs.Taken.{last_fails, taken_keeps}
 
 -- ---- lines by the first of them that isn't passed over
 
@@ -88,12 +90,14 @@ module _ (variables : ℕ) (live : Live) where
 module _ (variables : ℕ) (t : Table) (live : Live) where
   -- a step was taken that isn't the last
   step_on : (step : Line) → TakesStep variables live t (Ok false) step → (next : Live) ×
-      Holds t next × ((place : Place) (bytes : List ℕ) → left_outcome variables live step place
-      bytes ≡ shown_of variables next (script_of variables (lines_at place.end bytes)))
+      Holds t next × KeepsLive live next × ((place : Place) (bytes : List ℕ)
+      → left_outcome variables live step place bytes
+      ≡ shown_of variables next (script_of variables (lines_at place.end bytes)))
   step_on (Plain step) h = absurd h
   step_on (Numbered step) h = (
     h.0,
     h.2,
+    taken_keeps variables live h.0 step h.1,
     λ place bytes. outcome_more variables live step (script_of variables (lines_at place.end
         bytes)).steps (script_of variables (lines_at place.end bytes)).fault h.0 h.1 (sym h.3),
   )
@@ -104,6 +108,11 @@ module _ (variables : ℕ) (t : Table) (live : Live) where
   step_last (Numbered step) h place bytes = outcome_last variables live step (script_of variables
       (lines_at place.end bytes)).steps (script_of variables (lines_at place.end bytes)).fault h.0
       h.1 (sym h.3)
+
+  -- the clauses can't all be true before the last step
+  pub step_fails : (step : Line) → TakesStep variables live t (Ok true) step → ¬ CanHold live
+  step_fails (Plain step) h = absurd h
+  step_fails (Numbered step) h = last_fails variables live h.0 step h.1 (sym h.3)
 
   step_wrong : (step : Line) (e : RefutationError) → TakesStep variables live t (Err e) step
       → Tells e ((place : Place) (bytes : List ℕ) → left_outcome variables live step place bytes ≡
@@ -153,7 +162,7 @@ module _ (variables : ℕ) (live : Live) (first : Line) (before : Place) (now : 
     next_same : (bytes : List ℕ) → left_outcome variables now step mid bytes ≡ shown_of variables
         next_live (script_said variables (next_said true variables mid bytes))
     unfolding next_live step_on
-    next_same bytes = (step_on variables t now step taken_on).2 mid bytes ∙ ap (shown_of variables
+    next_same bytes = (step_on variables t now step taken_on).3 mid bytes ∙ ap (shown_of variables
         next_live) (script_past variables (lines_at mid.end bytes))
 
     next_by : (bytes : List ℕ) (said : Option Said) → next_said true variables mid bytes ≡ said →
@@ -163,12 +172,13 @@ module _ (variables : ℕ) (live : Live) (first : Line) (before : Place) (now : 
         (script_said variables o)) is
 
     pub loop_more : (other : Line) (after : Place) → GivesStep true variables other mid
-        after (Ok true) → (next : Live) × Holds t next × GoesOn variables live first before next
-        other after
+        after (Ok true) → (next : Live) × Holds t next × KeepsLive now next × GoesOn variables
+        live first before next other after
     unfolding next_live step_on
     loop_more other after given = (
       next_live,
       (step_on variables t now step taken_on).1,
+      (step_on variables t now step taken_on).2,
       leaves_on before.feed mid.feed Same so_far after.feed (λ bytes rest. next_said true variables
           mid bytes ≡ Some (Ok other, lines_at after.end rest)) (λ bytes rest. left_outcome
           variables live first before bytes ≡ left_outcome variables next_live other after rest)

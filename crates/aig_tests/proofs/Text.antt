@@ -43,7 +43,7 @@ all_taken (Some xs) (Some ys) bytes taken known end taking =
     sym (append-nil taken) ∙ sym all ∙ same
 
 -- what was appended to nothing is all
-all_held : (old new : Option (List ℕ)) (out text : List ℕ) → old ≡ Some [] → new ≡ Some out
+pub all_held : (old new : Option (List ℕ)) (out text : List ℕ) → old ≡ Some [] → new ≡ Some out
     → Appends old new text → out ≡ text
 all_held None new out text first last grows = cc
 all_held (Some xs) None out text first last grows = absurd grows

@@ -11,7 +11,7 @@ use aig_base::Source;
 use std::alloc::Global;
 
 /// The limit on nodes.
-const LIMIT: usize = 1 << 24;
+pub(crate) const LIMIT: usize = 1 << 24;
 
 /// Whether a proof is taken that the machine of a file reaches no bad state at step `k`. What it says of the file is said where
 /// the bytes are known, as those of a slice are.

@@ -7,6 +7,7 @@ mod binary_proofs;
 mod certificates;
 mod examples;
 mod streams;
+mod taking;
 
 use aig::Aig;
 use aig_base::FromRead;

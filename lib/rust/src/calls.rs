@@ -10,6 +10,8 @@ unsafe extern "C" {
     pub fn aig_move_constraints(file: *const u8, file_len: usize, out: *mut u8, out_len: usize, needed: *mut usize) -> u32;
     pub fn aig_compress_bads(file: *const u8, file_len: usize, out: *mut u8, out_len: usize, needed: *mut usize) -> u32;
     pub fn aig_outputs_as_bads(file: *const u8, file_len: usize, out: *mut u8, out_len: usize, needed: *mut usize) -> u32;
+    pub fn aig_property_alone(file: *const u8, file_len: usize, n: usize, out: *mut u8, out_len: usize, needed: *mut usize) -> u32;
+    pub fn aig_possible(file: *const u8, file_len: usize, out: *mut u8, out_len: usize, needed: *mut usize) -> u32;
     pub fn aig_cone(file: *const u8, file_len: usize, n: usize, out: *mut u8, out_len: usize, needed: *mut usize) -> u32;
     pub fn aig_reduce(file: *const u8, file_len: usize, out: *mut u8, out_len: usize, needed: *mut usize) -> u32;
     pub fn aig_question(file: *const u8, file_len: usize, k: u64, out: *mut u8, out_len: usize, needed: *mut usize) -> u32;

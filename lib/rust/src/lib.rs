@@ -135,6 +135,16 @@ pub fn outputs_as_bads(file: &[u8]) -> Result<Vec<u8>> {
     given(ROOM, |out, len, needed| unsafe { calls::aig_outputs_as_bads(file.as_ptr(), file.len(), out, len, needed) })
 }
 
+/// The text form of a file's circuit with its bad state property `n`, from 0 on, as the only one.
+pub fn property_alone(file: &[u8], n: usize) -> Result<Vec<u8>> {
+    given(ROOM, |out, len, needed| unsafe { calls::aig_property_alone(file.as_ptr(), file.len(), n, out, len, needed) })
+}
+
+/// The text form of a file's circuit that is bad wherever a run has come: true is its only bad state property.
+pub fn possible(file: &[u8]) -> Result<Vec<u8>> {
+    given(ROOM, |out, len, needed| unsafe { calls::aig_possible(file.as_ptr(), file.len(), out, len, needed) })
+}
+
 /// The text form of what output `n` of a file, its constraints and its latches read.
 pub fn cone(file: &[u8], n: usize) -> Result<Vec<u8>> {
     given(ROOM, |out, len, needed| unsafe { calls::aig_cone(file.as_ptr(), file.len(), n, out, len, needed) })

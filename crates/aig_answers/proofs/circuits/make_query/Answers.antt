@@ -1,4 +1,4 @@
-use Rattle.aig_base.proofs.Words.{◌≡◌, ◌+◌, ◌-◌, ◌*◌, ◌<◌, ◌^◌, List, length, take, drop, sym, ap, ap₂, subst, ◌∙◌, arith, length-drop, take_all, All-drop, All-same, All-take}
+use Rattle.aig_base.proofs.Words.{◌≡◌, ◌-◌, ◌*◌, ◌<◌, ◌^◌, List, length, take, drop, sym, ap, ap₂, subst, ◌∙◌, arith, length-drop, take_all, All-drop, All-same, All-take}
 use Rattle.aig_base.specs.Clauses.{AreBelow}
 use Rattle.aig_circuit.specs.declared.edge.AigEdge.{AigEdge}
 use Rattle.aig_runs.proofs.Below.{edges_there, latchs_there, query_below}

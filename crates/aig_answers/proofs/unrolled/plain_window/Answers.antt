@@ -1,4 +1,4 @@
-use Rattle.std.proofs.Common.{◌++◌, sym, subst, ◌∙◌}
+use Rattle.std.proofs.Common.{sym, subst, ◌∙◌}
 use Rattle.std.proofs.lemmas.List.{append-nil}
 use Rattle.aig_base.specs.Clauses.{AreRelations}
 use Rattle.aig_runs.specs.WindowClauses.{induction_clauses}

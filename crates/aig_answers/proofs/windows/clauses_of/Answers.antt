@@ -4,11 +4,7 @@ use Rattle.aig_circuit.specs.Circuit.{Circuit}
 use Rattle.aig_unroll.specs.Unroll.{UnrollsTo}
 use Rattle.aig_runs.specs.WindowClauses.{count_free, induction_clauses, states_clauses}
 use Rattle.aig_answers.proofs.Asking.{asks, states_count}
-use Rattle.aig_runs.proofs.Below.{bads_count}
 use Rattle.aig_answers.proofs.windows.clauses_of.Goals as goal
-
-pub window_clauses-requires-clause-bads : goal.window_clauses-requires-clause-bads
-window_clauses-requires-clause-bads c = bads_count c.args.circuit.now c.args.unrolled.now (c.args.k + 1) c.requires.unrolls
 
 pub tell_apart-requires-clause-room : goal.tell_apart-requires-clause-room
 tell_apart-requires-clause-room c = omega (arith, c.requires.room, c.in_ok-clauses.ensures.clauses.count)

@@ -1,4 +1,4 @@
-use Rattle.aig_edit_laws.proofs.Machines.{bads_shown, output_shown, outputs_shown, runs_shown}
+use Rattle.aig_edit_laws.proofs.Machines.{bad_shown, bads_shown, output_shown, outputs_shown, runs_shown}
 use Rattle.aig_format_laws.specs.Nodes.{values_over}
 use Rattle.aig_edit_laws.proofs.laws.shown_runs_are_machine_runs.Goals as goal
 
@@ -11,6 +11,17 @@ pub returns-clause-output : goal.returns-clause-output
 returns-clause-output c f limit n k fits =
     let runs = c.joins_runs.ensures in
     output_shown (record { forth = runs.forth; back = runs.back; starts = runs.starts; literals = runs.literals; known = c.files_are_circuits.ensures.known }) f limit k fits n
+
+pub returns-clause-bad : goal.returns-clause-bad
+returns-clause-bad c f limit n k fits =
+    let runs = c.joins_runs.ensures in
+    bad_shown (record {
+      forth = runs.forth;
+      back = runs.back;
+      starts = runs.starts;
+      literals = runs.literals;
+      known = c.files_are_circuits.ensures.known;
+    }) f limit k fits n
 
 pub returns-clause-bads : goal.returns-clause-bads
 returns-clause-bads c f limit k fits =

@@ -1,5 +1,5 @@
 use Rattle.aig_edit_laws.proofs.Cones.{plain-cone}
-use Rattle.aig_edit_laws.proofs.PlainForms.{plain-bads, plain-compressed, plain-folded, plain-merged, plain-refined, plain-unrolled}
+use Rattle.aig_edit_laws.proofs.PlainForms.{plain-bad, plain-bads, plain-compressed, plain-folded, plain-merged, plain-refined, plain-unrolled}
 use Rattle.aig_edit_laws.proofs.plain.changed_circuits_are_plain.Goals as goal
 
 pub returns-clause-compressed : goal.returns-clause-compressed
@@ -16,6 +16,9 @@ returns-clause-refined c = plain-refined
 
 pub returns-clause-bads : goal.returns-clause-bads
 returns-clause-bads c = plain-bads
+
+pub returns-clause-bad : goal.returns-clause-bad
+returns-clause-bad c = plain-bad
 
 pub returns-clause-merged : goal.returns-clause-merged
 returns-clause-merged c = plain-merged

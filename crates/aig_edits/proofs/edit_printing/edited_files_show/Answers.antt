@@ -1,12 +1,12 @@
-use Rattle.aig_base.proofs.Words.{◌↔◌, ℕ, subst, sym}
+use Rattle.aig_base.proofs.Words.{◌↔◌, ℕ, Bool, subst, sym}
 use Rattle.aig_circuit.specs.Reencode.{new_number, reencoded}
 use Rattle.aig_cone.specs.Refine.{refined}
-use Rattle.aig_edit_laws.specs.Shown.{HasCircuitOutput}
+use Rattle.aig_edit_laws.specs.Shown.{HasCircuitOutput, HasCircuitRun}
 use Rattle.aig_format.specs.Circuit.{circuit_of, file_of}
 use Rattle.aig_format.specs.declared.FileKind.TheVariants.{Text}
 use Rattle.aig_edit_laws.specs.Reduction.{HaveSameWitnesses}
 use Rattle.aig_runs.specs.CircuitQueries.{HasCircuitWitness}
-use Rattle.aig_edits.specs.declared.edit.Edit.TheVariants.{Bads, Compress, Cone, Move, Reencode, Refine, Unroll}
+use Rattle.aig_edits.specs.declared.edit.Edit.TheVariants.{Bads, Compress, Cone, Move, Possible, Property, Reencode, Refine, Unroll}
 use Rattle.aig_edits.specs.Edits.{AreAsSafe, CanEdit, EditShows, IsEdited}
 use Rattle.aig_edits.proofs.EditedFiles.{can_forth}
 use Rattle.aig_edits.proofs.edit_printing.edited_files_show.Goals as goal
@@ -41,6 +41,17 @@ returns c = λ edit f limit m fits can made again.
           (c.outputs_become_bads.ensures circuit k) in
           let shown = c.shown_runs_are_machine_runs.ensures.outputs f limit k fits in
           (λ w. shown.0 (outputs.0 ((written k).1 w)), λ b. (written k).0 (outputs.1 (shown.1 b)))
+      | Property n ↦ λ can of k.
+          let bad = c.properties_show_their_bad.ensures circuit m n k of in
+          let shown = c.shown_runs_are_machine_runs.ensures.bad f limit n k fits in
+          (λ w. shown.0 (bad.0 ((written k).1 w)), λ b. (written k).0 (bad.1 (shown.1 b)))
+      | Possible ↦ λ can exact k.
+          let runs = λ (x : ℕ → ℕ → Bool). c.always_bad_runs_are_runs.ensures circuit k x is in
+          let all : HasCircuitWitness m k ↔ HasCircuitRun circuit k = subst (λ d.
+          HasCircuitWitness d k ↔ HasCircuitRun circuit k) (sym exact)
+          (λ w. (w.0, (runs w.0).0 w.1), λ s. (s.0, (runs s.0).1 s.1)) in
+          let shown = c.shown_runs_are_machine_runs.ensures.runs f limit k fits in
+          (λ w. shown.0 (all.0 ((written k).1 w)), λ b. (written k).0 (all.1 (shown.1 b)))
       | Cone n ↦ λ can of k.
           let cone = c.cones_show_their_output.ensures circuit m n k is of in
           let text = c.written_circuits_have_outputs.ensures m h k again in

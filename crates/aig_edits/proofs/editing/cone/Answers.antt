@@ -9,8 +9,8 @@ use Rattle.aig_edits.proofs.editing.cone.Goals as goal
 pub push_edge-requires : goal.push_edge-requires
 push_edge-requires c =
     let old = c.args.graph in
-    let there = in_range_at old c.args.n c.args.output c.nodes-nodes.ensures.circuit
-    c.requires.there in
+    let there = in_range_at old old.properties.outputs c.args.n c.args.output
+    c.nodes-nodes.ensures.circuit.properties.outputs c.requires.there in
     subst (λ (d : Circuit). IsInRange d.nodes c.args.output) (sym c.clear_edges.ensures) there
 
 pub returns : goal.returns

@@ -1,5 +1,5 @@
 use Rattle.aig_base.proofs.Words.{◌≡◌, ap, subst, sym, ◌∙◌, IfOk-weaker}
-use Rattle.aig_circuit.proofs.Words.{Circuit, IsCircuit, lists_circuit}
+use Rattle.aig_circuit.proofs.Words.{Circuit, IsCircuit}
 use Rattle.aig_cone.specs.Refine.{AreKept, refined}
 use Rattle.aig_strash.specs.Strash.{strashed}
 use Rattle.aig_edit_laws.specs.Reduction.{IsReduced, asked_alone}

@@ -8,23 +8,8 @@ use Rattle.aig_edit_laws.specs.Reduction.{IsReduced}
 use Rattle.aig_edits.specs.declared.edit_error.EditError.TheVariants as errors
 use Rattle.aig_edits.specs.Reductions.{PrintsReduction}
 use Rattle.aig_edits.proofs.ReadFiles.{taken_file}
+use Rattle.aig_edits.proofs.Written.{of_file}
 use Rattle.aig_edits.proofs.reduction.print_reduction.Goals as goal
-
--- the circuit is the file's, and has a written form
-abbrev IsOfFile : File → CircuitLists → Type 0
-IsOfFile f lists = (lists_circuit lists ≡ circuit_of f) × IsWritable (circuit_of f)
-
-of_file : {limit : ℕ} {old new : Option (List ℕ)} {lists : CircuitLists}
-    → (was : IsReadAs (λ bytes. Accepts bytes limit) AreListsOf old new lists)
-    → IsWritable (circuit_of was.file)
-    → IsReadAs (λ bytes. Accepts bytes limit) IsOfFile old new lists
-of_file was writable = record {
-  file = was.file;
-  bytes = was.bytes;
-  holds = was.holds;
-  means = (was.means, writable);
-  taken = was.taken;
-}
 
 pub new-requires : goal.new-requires
 new-requires g c =

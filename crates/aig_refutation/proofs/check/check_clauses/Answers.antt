@@ -1,12 +1,12 @@
-use Rattle.aig_base.proofs.Words.{◌≡◌, ℕ, Bool, false, ◌++◌, List, Ok, length, sym, ap, subst, ◌∙◌, err_from_is_err_and}
+use Rattle.aig_base.proofs.Words.{OnOk, ◌≡◌, ℕ, Bool, false, ◌++◌, List, Ok, length, sym, subst, ◌∙◌, err_from_is_err_and}
 use Rattle.aig_base.specs.declared.logic.literal.Lit.{Lit}
-use Rattle.aig_base.specs.Formula.{clauses_in}
+use Rattle.aig_base.specs.Formula.{IsSatisfiable, clauses_in}
 use Rattle.aig_refutation.specs.declared.error.RefutationError.TheVariants as errors
 use Rattle.aig_refutation.specs.Checking.{IsInConflict, Shows, are_all_in}
-use Rattle.aig_refutation.specs.Concluding.{ConcludesConflict, IsFormula}
-use Rattle.aig_refutation.specs.Tables.{Checked}
+use Rattle.aig_refutation.specs.Concluding.{ConcludesConflict}
 use Rattle.aig_refutation.specs.Words.{Tells}
 use Rattle.aig_refutation.proofs.Formulas.{formula_inside, shows_conflict, shows_memory, shows_refused}
+use Rattle.aig_refutation.proofs.Conflicts.{conflict_fails}
 use Rattle.aig_refutation.proofs.check.check_clauses.Goals as goal
 
 pub returns-in_err-number_clauses-clause-shown : goal.returns-in_err-number_clauses-clause-shown
@@ -49,16 +49,34 @@ returns-clause-shown g c formula same fresh =
     let checker = c.number_clauses.new.checker in
     let holds = c.in_ok-number_clauses.ensures.holds formula in
     let list = c.in_ok-number_clauses.ensures.formula in
-    let kept = c.in_ok-refutes_at_once.ensures.same c.if-branch.false in
     let count = c.num_vars.ensures.count in
-    let variables : c.refutes_at_once.new.checker.variables ≡ c.num_vars.result =
-    ap (λ checker. checker.variables) kept ∙ c.in_ok-number_clauses.ensures.variables ∙ same ∙ sym
-    count in
+    let variables : checker.variables ≡ c.num_vars.result =
+    c.in_ok-number_clauses.ensures.variables ∙ same ∙ sym count in
     let none : IsInConflict checker.table.clauses → ⊥ = subst (λ (b : Bool). ConcludesConflict
     checker.table.clauses (Ok b)) c.if-branch.false
     (c.in_ok-refutes_at_once.ensures.conflict holds) in
     subst (λ (n : ℕ). Shows n clauses (g.R.Source.left c.args.r.now) c.check_proof.result) count
     (c.check_proof.ensures.shown clauses fresh
-    (subst (λ (k : Checked). IsFormula k) (sym kept) holds)
-    (ap (λ (k : Checked). k.table.clauses) kept ∙ list) variables
+    holds list variables
     (subst (λ (list : List (List Lit)). IsInConflict list → ⊥) list none))
+
+pub returns-then-branch-clause-refuted : goal.returns-then-branch-clause-refuted
+returns-then-branch-clause-refuted g c formula same =
+    let checker = c.number_clauses.new.checker in
+    let holds = c.in_ok-number_clauses.ensures.holds formula in
+    let is : IsInConflict checker.table.clauses = subst (λ (b : Bool). ConcludesConflict
+    checker.table.clauses (Ok b)) c.if-branch.true
+    (c.in_ok-refutes_at_once.ensures.conflict holds) in
+    subst (λ (list : List (List Lit)). ¬ IsSatisfiable list)
+    c.in_ok-number_clauses.ensures.formula
+    (conflict_fails checker.table.clauses is)
+
+pub returns-clause-refuted : goal.returns-clause-refuted
+returns-clause-refuted g c formula same =
+    let checker = c.number_clauses.new.checker in
+    let holds = c.in_ok-number_clauses.ensures.holds formula in
+    let variables : checker.variables ≡ c.num_vars.result =
+    c.in_ok-number_clauses.ensures.variables ∙ same ∙ sym c.num_vars.ensures.count in
+    subst (λ (list : List (List Lit)). OnOk c.check_proof.result (¬ IsSatisfiable list))
+    c.in_ok-number_clauses.ensures.formula
+    (c.check_proof.ensures.refuted holds.holds variables)

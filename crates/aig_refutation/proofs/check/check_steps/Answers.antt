@@ -1,14 +1,17 @@
-use Rattle.aig_base.proofs.Words.{◌≡◌, Bool, true, false, None, Ok, Err, sym, ap, subst, ◌∙◌, err_from_is_err_and, false≢true}
+use Rattle.aig_base.proofs.Words.{OnOk, ◌≡◌, Bool, true, false, None, Ok, Err, sym, ap, subst, ◌∙◌, err_from_is_err_and, false≢true}
+use Rattle.aig_base.specs.Formula.{IsSatisfiable}
 use Rattle.aig_refutation.specs.declared.error.RefutationError.TheVariants as errors
-use Rattle.aig_refutation.specs.Checking.{are_in}
+use Rattle.aig_refutation.specs.Checking.{all_live, are_in}
 use Rattle.aig_refutation.specs.Concluding.{Concludes, ConcludesPlain, ShowsPlain, ShowsText, left_outcome, plain_left, text_outcome}
 use Rattle.aig_refutation.specs.Proofs.{Line}
 use Rattle.aig_refutation.specs.Reading.{GivesStep, said_by}
 use Rattle.aig_refutation.specs.Tables.{Checked, Holds}
+use Rattle.aig_refutation.specs.Taken.{CanHold}
 use Rattle.aig_refutation.specs.Words.{place}
 use Rattle.aig_refutation.specs.declared.step.Step as held
 use Rattle.aig_refutation.proofs.Outcomes.{by_truth, text_none, text_numbered, text_unnumbered, text_wrong}
 use Rattle.aig_refutation.proofs.Plainly.{first_none, first_numbered, first_plain, first_wrong, numbered_said, plain_same, shows_stays}
+use Rattle.aig_refutation.proofs.Showing.{formula_holds, ok_on}
 use Rattle.aig_refutation.proofs.check.check_steps.Goals as goal
 
 pub returns-in_err-there-clause-shown : goal.returns-in_err-there-clause-shown
@@ -204,3 +207,30 @@ returns-clause-plain g c clauses goes_on fresh ahead same =
     first_plain variables clauses before goes_on (said_by step) after given r
     (subst (λ (line : Line). ConcludesPlain after.feed clauses (plain_left variables line after) r)
     said concludes))
+
+pub returns-clause-refuted : goal.returns-clause-refuted
+returns-clause-refuted g c formula same =
+    let old = c.args.checker.now.table in
+    let clauses = old.clauses in
+    let step = c.read.new.self in
+    let searches = λ (n : step.is_numbered ≡ true). c.in_ok-search.ensures.numbered n in
+    let no_search : step.is_numbered ≡ true → c.in_ok-search.search ≡ None = λ n. let is = (searches
+    n).1 in cc in
+    let first = c.in_ok-refutes_at_first.ensures in
+    let r = c.take_steps.result in
+    by_truth (OnOk r (¬ IsSatisfiable clauses)) step.is_numbered
+    (λ n.
+    let begun = first.numbered (no_search n) in
+    let kept : c.refutes_at_first.new.checker ≡ c.args.checker.now = begun.0 ∙ (searches n).0 in
+    let here : Holds c.refutes_at_first.new.checker.table (all_live clauses) = subst
+    (λ (h : Checked). Holds h.table (all_live clauses)) (sym kept) formula.holds in
+    ok_on r (¬ CanHold (all_live clauses)) (¬ IsSatisfiable clauses)
+    (λ fails can. fails (formula_holds clauses can))
+    (c.take_steps.ensures.fails (all_live clauses) begun.1 here
+    (ap (λ h. h.variables) kept ∙ same)))
+    (λ n.
+    ok_on r (¬ IsSatisfiable c.refutes_at_first.new.checker.table.clauses)
+    (¬ IsSatisfiable clauses)
+    (λ refuted can. refuted
+    (can.0, first.implied can.0 (c.in_ok-search.ensures.implied can.0 can.1)))
+    (c.take_steps.ensures.refuted (first.same.3 (c.in_ok-search.ensures.searches n))))

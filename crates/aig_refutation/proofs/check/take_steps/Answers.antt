@@ -3,7 +3,7 @@ use Rattle.aig_refutation.specs.Concluding.{TakesLine, TakesStep}
 use Rattle.aig_refutation.specs.Reading.{GivesStep, said_by}
 use Rattle.aig_refutation.specs.Words.{place}
 use Rattle.aig_refutation.proofs.Following.{implied_on}
-use Rattle.aig_refutation.proofs.Outcomes.{loop_last, loop_more, loop_none, loop_unread, loop_wrong}
+use Rattle.aig_refutation.proofs.Outcomes.{loop_last, loop_more, loop_none, loop_unread, loop_wrong, step_fails}
 use Rattle.aig_refutation.proofs.Plainly.{is_plain, plain_more, plain_none, plain_unread, plain_wrong}
 use Rattle.aig_refutation.proofs.check.take_steps.Goals as goal
 
@@ -72,7 +72,11 @@ returns-then-not-branch-2-clause-shown g c live none holds same =
 
 pub steps-preserved : goal.steps-preserved
 steps-preserved g c = record {
-  implied = implied_on _ _ _ c.steps.invariant.implied c.in_ok-take_step.ensures.implied;
+  implied = λ searching.
+      let before = c.steps.invariant.implied searching in (
+        c.in_ok-take_step.ensures.searches before.0,
+        implied_on _ _ _ before.1 (c.in_ok-take_step.ensures.implied before.0),
+      );
   shown = λ live none holds same.
       let at = place g.R.Source.left g.R.Source.failed g.R.Source.pulls in
       let before = at c.args.words.now c.args.r.now in
@@ -99,7 +103,8 @@ steps-preserved g c = record {
         variables = numbered.2 ∙ s.variables;
         now = more.0;
         holds = more.1;
-        goes = more.2;
+        keeps = λ can. more.2 (s.keeps can);
+        goes = more.3;
       };
   plain = λ clauses searching ahead same inside.
       let at = place g.R.Source.left g.R.Source.failed g.R.Source.pulls in
@@ -211,3 +216,21 @@ returns-then-not-branch-2-clause-plain g c clauses searching ahead same inside =
     GivesStep b variables other mid after (Ok c.in_ok-read.field-0)) plain
     c.in_ok-read.ensures.step) in
     plain_none variables clauses first before s.now c.steps.step mid s.goes t on other after given
+
+pub returns-clause-fails : goal.returns-clause-fails
+returns-clause-fails g c live none holds same = λ can.
+    let variables = c.args.variables in
+    let step = said_by c.steps.step in
+    let t = c.take_step.new.checker.table in
+    let s = c.steps.invariant.shown live none holds same in
+    let on : TakesStep variables s.now t (Ok true) step = subst (λ (b : Bool). TakesStep variables
+    s.now t (Ok b) step) c.if-not-branch.false (subst (λ (n : ℕ). TakesStep n s.now t (Ok
+    c.in_ok-take_step.field-0) step) s.variables (c.in_ok-take_step.ensures.takes s.now s.search
+    s.holds)) in
+    step_fails variables t s.now step on (s.keeps can)
+
+pub returns-clause-refuted : goal.returns-clause-refuted
+returns-clause-refuted g c searching = λ can.
+    let before = c.steps.invariant.implied searching in
+    c.in_ok-take_step.ensures.refuted before.0 c.if-not-branch.false
+    (can.0, before.1 can.0 can.1)

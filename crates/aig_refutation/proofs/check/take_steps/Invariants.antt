@@ -6,6 +6,7 @@ use Rattle.aig_refutation.specs.Checking.{Live, are_in}
 use Rattle.aig_refutation.specs.Formula.{ImpliesAll}
 use Rattle.aig_refutation.specs.Reading.{said_by}
 use Rattle.aig_refutation.specs.Tables.{Holds}
+use Rattle.aig_refutation.specs.Taken.{KeepsLive}
 use Rattle.aig_refutation.specs.Words.{place, rest}
 use Rattle.aig_refutation.proofs.Outcomes.{GoesOn}
 use Rattle.aig_refutation.proofs.Plainly.{GoesPlain}
@@ -13,7 +14,8 @@ use Rattle.aig_refutation.proofs.check.take_steps.Given as goal
 
 abbrev pub invariant-steps : goal.invariant-steps
 invariant-steps g l = record {
-  implied : ImpliesAll l.fn.checker.table.clauses l.checker.table.clauses;
+  implied : IsSome l.fn.search
+      → IsSome l.search × ImpliesAll l.fn.checker.table.clauses l.checker.table.clauses;
   shown : (live : Live) → l.fn.search ≡ None → Holds l.fn.checker.table live
       → l.fn.checker.variables ≡ l.variables
       → record {
@@ -21,6 +23,7 @@ invariant-steps g l = record {
         variables : l.checker.variables ≡ l.variables;
         now : Live;
         holds : Holds l.checker.table now;
+        keeps : KeepsLive live now;
         goes : GoesOn l.variables live (said_by l.fn.step) (place g.R.Source.left g.R.Source.failed
             g.R.Source.pulls l.fn.words l.fn.r) now (said_by l.step) (place g.R.Source.left
             g.R.Source.failed g.R.Source.pulls l.words l.r);

@@ -21,7 +21,7 @@ invariant_of-self-2 c =
     )
 
 pub returns-clause-implied : goal.returns-clause-implied
-returns-clause-implied c =
+returns-clause-implied c follows =
     let given = c.args.self.now.table.clauses in
     let same : c.self.inside.numbered.clauses ≡ given = ap (λ t. t.table.clauses) c.self.view_is in
     let clause = c.args.clause.now in
@@ -29,4 +29,4 @@ returns-clause-implied c =
     let all : All (Contains kept) clause = rw c.deref.ensures.value c.in_ok-keep_once.ensures.all
     in
     added_implied c.add.result given c.self.inside.numbered.clauses c.add.new.self.clauses kept
-    same (kept_follows given clause kept all c.requires.follows) c.add.ensures.ok
+    same (kept_follows given clause kept all follows) c.add.ensures.ok

@@ -1,0 +1,34 @@
+//! What the command does that shows that a file's machine is safe.
+
+ghost use Rattle.std.specs.Prelude.{◌<◌, ◌^◌};
+ghost use Rattle.aig_command_line.specs.Limits.{IsLimit};
+ghost use Rattle.aig_checks.specs.Safe.{RunsSafe};
+
+use crate::tool::CheckError;
+use aig_answers::Window;
+use aig_base::{Sink, Source};
+use aig_command_line::write_text;
+use aig_safety::check_safe;
+use std::alloc::Global;
+
+/// Checks proofs that a file's machine reaches no bad state at any step, and prints so: `base`, that the clauses of `print_bounded`
+/// can't be satisfied, and `step`, that those of `print_window` can't. Requires that `k` is below 2^32.
+pub fn print_safe<R: Source, P: Source, Q: Source, W: Sink>(
+    alloc: Global,
+    limit: usize,
+    k: usize,
+    form: Window,
+    optimize: bool,
+    r: &mut R,
+    base: &mut P,
+    step: &mut Q,
+    w: &mut W,
+) -> Result<(), CheckError>
+    requires limit { IsLimit limit }
+    requires small { k < 2 ^ 32 }
+    ensures { RunsSafe R.left R.failed P.left P.failed Q.left Q.failed W.held W.failed k form
+        optimize limit r.old base.old step.old w.old result r.new base.new step.new w.new }
+{
+    check_safe(alloc, r, limit, k, optimize, base, form, optimize, step)?;
+    Ok(write_text(w, b"no bad state at any step")?)
+}

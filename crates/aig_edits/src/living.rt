@@ -1,0 +1,120 @@
+//! Printing the file whose bad states are the fair lassos of one file.
+
+ghost use Rattle.std.specs.Prelude.{◌≡◌, ◌≤◌, ◌^◌, ◌↔◌, ◌++◌, ℕ, IsTrue, IfOk, Some, length, slice_get};
+ghost use Rattle.aig_circuit.specs.Circuit.{Circuit, IsCircuit};
+ghost use Rattle.aig_format.specs.Circuit.{circuit_of};
+ghost use Rattle.aig_format.specs.File.{File};
+ghost use Rattle.aig_format.specs.Fits.{Fits};
+ghost use Rattle.aig_format.specs.Writable.{IsWritable};
+ghost use Rattle.aig_live.specs.Live.{live_size};
+ghost use Rattle.aig_edits.specs.Edits.{IsEditOwn, IsEditUnwritten, ReadsFile, edit_verdict};
+ghost use Rattle.aig_edits.specs.LiveParts.{IsLiveCircuit, MakesLive};
+ghost use Rattle.aig_edits.specs.Lives.{IsLiveFile, PrintsLive};
+
+use crate::edit_error::EditError;
+use crate::format::MOST_NODES;
+use aig_base::{MemoryError, Sink, Source};
+use aig_circuit::{AigEdge, CircuitLists, CircuitView};
+use aig_format_laws::files_are_circuits;
+use aig_live::{live, live_circuits_are_circuits};
+use aig_live_laws::{small_live_circuits_fit, written_live_circuits_show_lassos};
+use aig_writer::write_text;
+use std::alloc::Global;
+
+/// Law: the text of the live circuit of a file's circuit is a file, which shows the fair lassos.
+fn live_files_show()
+    ensures { (j limit : ℕ) (f : File) (m : Circuit) → Fits f limit → IsWritable (circuit_of f)
+        → IsLiveCircuit j (circuit_of f) m → IsLiveFile j f m }
+{
+    files_are_circuits();
+    small_live_circuits_fit();
+    written_live_circuits_show_lassos();
+}
+
+/// Whether the live circuit for so many edges has at most 2^31 nodes, by the bound of its size.
+fn is_small(circuit: &CircuitView<'_>, count: usize) -> bool
+    ensures { IsTrue result ↔ (live_size circuit.now count ≤ 2 ^ 31) }
+{
+    let nodes = circuit.nodes().len();
+    let latches = circuit.latchs().len();
+    if nodes > MOST_NODES || latches > MOST_NODES || count > MOST_NODES {
+        return false;
+    }
+    nodes + 3 + 8 * latches + 4 * count <= MOST_NODES
+}
+
+/// The edges of both lists.
+fn joined(alloc: Global, first: &[AigEdge], second: &[AigEdge]) -> Result<Vec<AigEdge>, MemoryError>
+    ensures { IfOk result (λ edges. edges.items ≡ first.now ++ second.now) }
+{
+    let mut edges = Vec::new(alloc);
+    edges.extend_from_slice(first)?;
+    edges.extend_from_slice(second)?;
+    Ok(edges)
+}
+
+/// The live circuit of these edges, which are those of justice property `j`, and of fairness, if it isn't too large.
+fn live_for(
+    alloc: Global,
+    circuit: &CircuitView<'_>,
+    j: usize,
+    own: &[AigEdge],
+) -> Result<CircuitLists, EditError>
+    requires circuit { IsCircuit circuit.now }
+    requires there { slice_get circuit.now.properties.justice j ≡ Some own.now }
+    ensures { MakesLive j circuit.now result }
+{
+    if !is_small(circuit, own.len() + circuit.fairness().len()) {
+        return Err(EditError::TooLarge);
+    }
+    let edges = joined(alloc, own, circuit.fairness())?;
+    Ok(live(circuit, &edges)?)
+}
+
+/// The live circuit of justice property `j`, if there is one and it isn't too large.
+fn live_of(alloc: Global, circuit: &CircuitView<'_>, j: usize) -> Result<CircuitLists, EditError>
+    requires { IsCircuit circuit.now }
+    ensures { MakesLive j circuit.now result }
+{
+    let sets = circuit.justice();
+    if j >= sets.len() {
+        return Err(EditError::NoJustice);
+    }
+    live_for(alloc, circuit, j, &sets[j])
+}
+
+/// Reads a file in the AIGER format, and writes the text form of its live circuit to `w`: its bad state is reached at a step
+/// exactly where justice property `j`, from 0 on, has a fair lasso that ends there (liveness to safety). It doesn't flush `w`.
+/// Requires `1 <= limit <= 2^31`.
+///
+/// # Errors
+///
+/// After `Write` a beginning of the text was written. Every other refusal leaves the writer as it was.
+///
+/// - `Read`: the file is refused.
+/// - `NoJustice`: the file has no justice property of this number.
+/// - `TooLarge`: `n + 3 + 8 * l + 4 * e` passes 2^31, for the `n` nodes and `l` latches of the circuit and the `e` edges of the
+///   justice property and of fairness.
+/// - `Memory`: memory was refused after the reading.
+/// - `Write`: the writer failed in this call.
+pub fn print_live<R: Source, W: Sink>(
+    alloc: Global,
+    j: usize,
+    r: &mut R,
+    limit: usize,
+    w: &mut W,
+) -> Result<(), EditError>
+    requires some { 1 ≤ limit }
+    requires few { limit ≤ 2 ^ 31 }
+    // The bytes that were read are a file, and what is written is the text form of its live circuit.
+    ensures reads { ReadsFile R.left R.failed limit
+        (PrintsLive W.held W.failed j w.old w.new) edit_verdict IsEditOwn r.old result r.new }
+    ensures kept { IsEditUnwritten result → w.new ≡ w.old }
+{
+    files_are_circuits();
+    live_circuits_are_circuits();
+    live_files_show();
+    let lists = aig_reader::read(alloc, r, limit)?;
+    let made = live_of(alloc, &CircuitView::new(&lists), j)?;
+    Ok(write_text(w, &CircuitView::new(&made))?)
+}

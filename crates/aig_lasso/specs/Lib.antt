@@ -1,0 +1,4 @@
+pub mod Met
+pub mod Saving
+pub mod Turning
+pub mod Rounds

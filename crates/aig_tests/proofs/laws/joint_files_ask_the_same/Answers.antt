@@ -1,0 +1,12 @@
+use Rattle.aig_tests.proofs.JointFiles.{query_same, window_same}
+use Rattle.aig_tests.proofs.laws.joint_files_ask_the_same.Goals as goal
+
+pub returns-clause-query : goal.returns-clause-query
+returns-clause-query c pairing f g h m limit k optimize one other joint accepts =
+    query_same c.reads_exactly.ensures.one pairing f g h m limit k optimize joint accepts
+    c.clauses_are_one.ensures one other
+
+pub returns-clause-window : goal.returns-clause-window
+returns-clause-window c pairing f g h m limit k optimize lists others further more joint accepts =
+    window_same c.reads_exactly.ensures.one pairing f g h m limit k optimize joint accepts
+    c.windows_are_one.ensures lists others further more

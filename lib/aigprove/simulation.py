@@ -1,0 +1,58 @@
+"""Runs of a circuit, simulated in three values, and many trials of one at once. What is believed of a run aigcheck says."""
+
+
+class Values:
+    """What is known in a step of each literal: a trial is a bit of `every`, and a literal has those in which it is known to be true."""
+
+    def __init__(self, circuit, every=1):
+        rows = [*circuit.latches, *circuit.inputs, *(gate for gate, _, _ in circuit.gates)]
+        self.places = {0: 0, **{literal: 2 * i for i, literal in enumerate(rows, 1)}}
+        self.known = [0, every, *[0] * (2 * len(rows))]
+
+    def place(self, literal):
+        return self.places[literal & ~1] ^ literal & 1
+
+    def true(self, literal):
+        """The trials in which a literal is known to be true."""
+        return self.known[self.place(literal)]
+
+    def __getitem__(self, literal):
+        """The value of a literal, where there is one trial."""
+        place = self.place(literal)
+        return "1" if self.known[place] else "0" if self.known[place ^ 1] else "x"
+
+
+def sides(t, row, left_out, every):
+    """What is known of the values of a row and of their inverses, one after the other."""
+    for i, value in enumerate(row):
+        own = every & ~left_out.get((t, i), 0) if left_out else every
+        yield own if value == "1" else 0
+        yield own if value == "0" else 0
+
+
+def run(circuit, start, steps, left_out={}, every=1):
+    """The values in each step, until the next is asked for. Some trials are without the value at a place: 0 and a latch, or t + 1 and an
+    input of step t."""
+    values = Values(circuit, every)
+    known, first = values.known, 2 + 2 * len(circuit.latches)
+    gates = [tuple(map(values.place, row)) for row in circuit.gates]
+    nexts = [values.place(literal) ^ side for literal in circuit.nexts for side in (0, 1)]
+    known[2:first] = sides(0, start, left_out, every)
+    for t, given in enumerate(steps, 1):
+        if t > 1:
+            known[2:first] = [known[place] for place in nexts]
+        known[first:first + 2 * len(circuit.inputs)] = sides(t, given, left_out, every)
+        for gate, left, right in gates:
+            known[gate], known[gate + 1] = known[left] & known[right], known[left ^ 1] | known[right ^ 1]
+        yield values
+
+
+def trials(circuit, told, bads, left_out, every):
+    """The trials of a run that meet every constraint and end where these bad states are."""
+    shown = every
+    for values in run(circuit, told.start, told.steps, left_out, every):
+        for literal in circuit.constraints:
+            shown &= values.true(literal)
+    for bad in bads:
+        shown &= values.true(circuit.bads[bad])
+    return shown

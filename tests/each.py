@@ -1,0 +1,464 @@
+#!/usr/bin/env python3
+"""Asks bin/aigprove --each about files with many properties, and a simulator or a search about each: each.py [--only NAME] [--seconds S]
+
+The designs are those of each/table.txt, each with a property that nobody decides in time. Icarus runs the twin for each property by itself,
+through all states that its runs come to: that says the first step that reaches it, or that there is none, as in twins.py. The table that is
+printed has to say the same (one run of a design may be longer), the fields in JSON and the cases in JUnit's form too, and check.sh has to
+show it again. Then tasks are spread by GNU parallel over two machines, each of which is a folder here, where a shell takes the place of
+ssh, and what they kept is gathered: the table has to be the same, and wrong lines and wrong proofs, which are put there, have to be
+refused. Of random files with justice properties the table has to have what live.py finds by a search over lassos, and over the states that
+are reached. The tools are yosys, cadical, ABC, Icarus Verilog (iverilog, vvp) and GNU parallel."""
+import concurrent.futures
+import dataclasses
+import json
+import os
+import random
+import re
+import shlex
+import shutil
+import sys
+import xml.etree.ElementTree as xml
+
+import harness
+import live
+from harness import PROVE, TESTS
+from twins import Design
+
+from aigprove import gather
+from aigprove.report import Answer
+from aigprove.witness import Witness
+
+TABLE = TESTS / "each" / "table.txt"
+LINE = re.compile(r"(register|input|also|next|assume|assert|cover|hard|unmet): (.*)")
+# Properties that nobody decides in time: lines of the design, and what holds. A register goes through nearly all of its 2^48 values, and
+# isn't at this one in the first three million steps; and one goes on by an odd number, so that it is at this product first after so many.
+STRIDE, STEPS = 0x9E3779B97F4B, 0x123456789ABC
+HARD = {
+    "walk": ("reg [47:0] w = 1; always @(posedge clk) w <= {w[46:0], w[47] ^ w[46] ^ w[20] ^ w[19]};", "w != 48'hdeadbeefcafe"),
+    "stride": (f"reg [47:0] w = 0; always @(posedge clk) w <= w + 48'd{STRIDE};", f"w != 48'd{STRIDE * STEPS % (1 << 48)}"),
+}
+TYPES = {
+    "version": str, "file": str, "answer": str, "seconds": float, "assumptions": dict, "properties": list,
+}
+FIELDS = {
+    "property": str, "number": int, "kind": str, "name": str, "place": (str, type(None)), "answer": str, "is_empty": bool,
+    "step": (int, type(None)), "engine": (str, type(None)), "seconds": (float, type(None)), "evidence": list,
+}
+ANSWERS = {
+    "assertion": {"holds", "fails", "undecided"},
+    "justice": {"met", "unmet", "undecided"},
+    "cover": {"covered", "impossible", "undecided"},
+}
+# How many random files there are with justice properties.
+FAIR = 12
+# An answer with a run, and of how many properties of a design the run may be longer than the shortest.
+AT_STEP, LATER = re.compile("(fails|covered) at step ([0-9]+)"), 1
+
+
+class Many:
+    """A design with many properties, its name and the words of each kind of line."""
+
+    def __init__(self, name, lines):
+        self.name, self.parts = name, {}
+        for kind, words in (found.groups() for found in map(LINE.fullmatch, lines) if found):
+            self.parts.setdefault(kind, []).append(words)
+
+    def of(self, kind):
+        return self.parts.get(kind, [])
+
+    def properties(self, kind):
+        """The names and the conditions of assertions or covers."""
+        return [line.split(": ", 1) for line in self.of(kind)]
+
+    def registers(self):
+        """The signal and the first value of each register, which may be open."""
+        return [(line.split(" = ") + [""])[:2] for line in self.of("register")]
+
+    def text(self, is_hard=True):
+        """The design in Verilog, with its hard property or without."""
+        lines, holds = HARD[self.of("hard")[0]] if is_hard else ("", "1")
+        width = lambda signal: "{1} {0}".format(*re.fullmatch(r"(\w+)(\[.*\])?", signal).groups(default=""))
+        inputs = "".join(f", input {width(it)}" for line in self.of("input") for it in line.split())
+        registers = [f"reg {width(signal)}{f' = {first}' * bool(first)};" for signal, first in self.registers()]
+        asserts = [f"always @* {name}: assert ({condition});" for name, condition in self.properties("assert")]
+        covers = [f"always @* {name}: cover ({condition});" for name, condition in self.properties("cover")]
+        assumes = [f"always @* assume ({condition});" for condition in self.of("assume")]
+        body = [*registers, *self.of("also"), "always @(posedge clk) begin", *self.of("next"), "end", lines]
+        hard = f"always @* hard: assert ({holds});" * is_hard
+        return "\n".join([f"module {self.name}(input clk{inputs});", *body, *assumes, *asserts, hard, *covers, "endmodule", ""])
+
+    def twin(self, bad):
+        """The twin, in which this is bad."""
+        named = [(signal.partition("[")[0], first) for signal, first in self.registers()]
+        parts = {
+            "state": " ".join(signal for signal, _ in self.registers()),
+            "free": " ".join(self.of("input")),
+            "first": " && ".join(f"{name} == {first}" for name, first in named if first) or "1",
+            "also": "\n".join(self.of("also")),
+            "next": "\n".join(self.of("next")),
+            "ok": " && ".join(f"({it})" for it in self.of("assume")) or "1",
+            "bad": bad,
+        }
+        return Design(self.name, "", parts)
+
+    def wanted(self, folder):
+        """The answer to each property by its name, as Icarus has it."""
+        found = {}
+        for kind, answers in [("assert", ["holds", "fails at {}"]), ("cover", ["can't be covered", "covered at {}"])]:
+            for name, condition in self.properties(kind):
+                here = folder / name
+                here.mkdir()
+                first = self.twin(f"!({condition})" if kind == "assert" else condition).first_bad(here)
+                empty = " (empty)" * bool(self.of("unmet"))
+                found[f"{self.name}.{name}"] = answers[0] + empty if first == "never" else answers[1].format(first)
+        return found
+
+
+def designs():
+    """The designs of the table."""
+    for text in TABLE.read_text(encoding="utf-8").split("\n== ")[1:]:
+        name, *lines = text.split("\n")
+        yield Many(name, lines)
+
+
+def rows(printed):
+    """The answer of each row of a printed table, by the name."""
+    lines = printed.splitlines()
+    begin = next((i for i, line in enumerate(lines) if line.startswith("property ")), len(lines))
+    cells = [re.split("  +", line) for line in lines[begin + 1:] if re.match("[bcj][0-9]+ ", line)]
+    return {name: answer for _, name, _, answer, *_ in cells}
+
+
+def is_later(wanted, given):
+    """Whether an answer has a run that is longer than the shortest one: on a busy machine the search for a shorter one may end too soon."""
+    found = [AT_STEP.fullmatch(answer or "") for answer in (wanted, given)]
+    return all(found) and found[0][1] == found[1][1] and int(found[0][2]) < int(found[1][2])
+
+
+def lasso(count):
+    """How a fair lasso of so many steps is told of."""
+    return f"fair run of {count} step{'s' * (count > 1)}"
+
+
+def schema_faults(text, printed):
+    """What is wrong of a table in JSON, beside the one that was printed."""
+    made, shown = json.loads(text), rows(printed)
+    yield from (f"{name} is {made.get(name)!r}" for name, kind in TYPES.items() if not isinstance(made.get(name), kind))
+    yield from [f"fields {set(made)}"] * (set(made) != set(TYPES))
+    yield from [f"assumptions {made['assumptions']}"] * (set(made["assumptions"]) != {"count", "met_up_to", "unmet_from"})
+    for it in made["properties"]:
+        yield from [f"fields {set(it)}"] * (set(it) != set(FIELDS))
+        yield from (f"{name} is {it[name]!r}" for name, kind in FIELDS.items() if not isinstance(it.get(name), kind))
+        yield from [f"{it}"] * (it["answer"] not in ANSWERS[it["kind"]])
+        spelled = {
+            "holds": "holds",
+            "impossible": "can't be covered",
+            "unmet": "no fair run",
+            "met": lasso((it["step"] or 0) + 1),
+            "fails": f"fails at step {it['step']}",
+            "covered": f"covered at step {it['step']}",
+            "undecided": "undecided" + f" up to step {it['step']}" * (it["step"] is not None),
+        }
+        said = spelled[it["answer"]] + " (empty)" * it["is_empty"]
+        yield from [f"{it} is {shown.get(it['name'])} in the table"] * (said != shown.get(it["name"]))
+
+
+def junit_faults(text, printed):
+    """What is wrong of a table in JUnit's form."""
+    root, shown = xml.fromstring(text), rows(printed)
+    suites = root.findall("testsuite")
+    cases = [case for suite in suites for case in suite.findall("testcase")]
+    failed = [case for case in cases if case.find("failure") is not None]
+    skipped = [case for case in cases if case.find("skipped") is not None]
+    counts = {"tests": len(cases), "failures": len(failed), "skipped": len(skipped), "errors": 0}
+    yield from [f"{root.tag} with {len(suites)} suites"] * (root.tag != "testsuites" or len(suites) != 1)
+    yield from (f"{name} is {suites[0].get(name)}" for name, count in counts.items() if suites[0].get(name) != str(count))
+    for case in cases:
+        said = shown[case.get("name").split(" ")[1]]
+        kind = "failure" if said.startswith(("fails", "fair")) else "skipped" if re.search("undecided|can't|empty", said) else None
+        given = next((child.tag for child in case), None)
+        yield from [f"{case.get('name')} has {given}, and is {said}"] * (kind != given)
+        yield from [f"{case.attrib}"] * (not {"name", "classname", "time"} <= set(case.attrib))
+
+
+def judged(design, folder, seconds):
+    """What is wrong of the table of a design, which has so many seconds."""
+    folder.mkdir()
+    wanted = design.wanted(folder)
+    (folder / "design.v").write_text(design.text())
+    words = ["--each", "--timeout", seconds, "--keep", "kept", "--json", "out.json", "--junit", "out.xml", "--vcd", "runs", "design.v"]
+    status, printed, said = harness.run([PROVE, *words], cwd=folder, timeout=600)
+    printed = printed.decode()
+    if not (folder / "out.json").exists():
+        return [f"status {status}: {printed} {said.decode()}"]
+    given = rows(printed)
+    hard = given.pop(f"{design.name}.hard", "none")
+    differing = [name for name in {**wanted, **given} if wanted.get(name) != given.get(name)]
+    later = [name for name in differing if is_later(wanted.get(name), given.get(name))]
+    differing = [name for name in differing if name not in later[:LATER]]
+    faults = [f"{name}: Icarus: {wanted.get(name)}; aigprove: {given.get(name)}" for name in differing]
+    faults += [f"hard: {hard}"] * (not hard.startswith("holds (empty)" if design.of("unmet") else "undecided"))
+    fails = any(answer.startswith("fails") for answer in given.values())
+    faults += [f"status {status}: {said}"] * (status != (10 if fails else 0))
+    unmet = design.of("unmet")
+    line = printed.splitlines()[-1]
+    says = f"can't be met from step {unmet[0]} on: the answer is empty" if unmet else "can be met up to step "
+    faults += [f"{line!r} about assumptions"] * bool(design.of("assume") and not line.startswith(f"the assumptions {says}"))
+    faults += [f"JSON: {why}" for why in schema_faults((folder / "out.json").read_text(), printed)]
+    faults += [f"JUnit: {why}" for why in junit_faults((folder / "out.xml").read_text(), printed)]
+    runs = {name for name in given if re.match("fails|covered", given[name])}
+    faults += [f"{len(os.listdir(folder / 'runs'))} dumps of {len(runs)} runs"] * (len(os.listdir(folder / "runs")) != len(runs))
+    faults += ["check.sh doesn't show it"] * (rows(harness.shown_again(folder / "kept") or "") != {**given, f"{design.name}.hard": hard})
+    return faults
+
+
+# A machine: what takes the place of ssh goes to the folder of its name, and has a shell run the words behind that there, as ssh does.
+REMOTE = """#!/bin/sh
+while :; do
+  case $1 in here-*) break ;; esac
+  shift
+done
+cd "$MACHINES/$1" || exit 1
+shift
+[ "$1" = -- ] && shift
+SHELL=/bin/sh exec sh -c "$*"
+"""
+
+
+# Designs whose assertions hold, with an assumption that can't be met from step 3 on, and one that can.
+HELD = """module held(input clk, input d);
+  reg [2:0] t = 0;
+  always @(posedge clk) if (t != 4) t <= t + 1;
+  always @* begin assume ({}); one: assert (t != 5); two: assert (t < 6); end
+endmodule
+"""
+STATUSES = [
+    ("t < 3", 0, "holds (empty)", "can't be met from step 3 on: the answer is empty"),
+    ("t < 5 || d", 20, "holds", "can be met up to step "),
+]
+
+
+def status_faults(tally, folder):
+    """The statuses of tables in which all assertions hold."""
+    for assumed, wanted, answer, said in STATUSES:
+        (folder / "held.v").write_text(HELD.format(assumed))
+        status, printed, _ = harness.run([PROVE, "--each", "held.v"], cwd=folder)
+        given = rows(printed.decode())
+        tally.wants(assumed, (wanted, {"held.one": answer, "held.two": answer}), (status, given))
+        tally.check(printed.decode().splitlines()[-1].startswith(f"the assumptions {said}"), f"{assumed}: {printed}")
+
+
+# Lines about a property, or about the whole file (`all: ..`), that aigcheck printed, and what follows of property 0. Of a window nothing
+# does: that none is reached at any step is for aigcheck to say.
+FOLLOWS = [
+    (["no bad state at step 0", "no bad state at step 1"], "undecided up to step 1"),
+    (["no bad state at step 1"], "undecided"),
+    (["no bad state up to step 3", "no bad state at step 5"], "undecided up to step 3"),
+    (["no bad state up to step 3", "all: no bad state at step 4"], "undecided up to step 4"),
+    (["no bad state at any step, if none up to step 0"], "undecided"),
+    (["no bad state up to step 1", "no bad state at any step, if none up to step 2"], "undecided up to step 1"),
+    (["no bad state at any step, if none up to step 2", "no bad state at step 2", "no bad state up to step 1"], "undecided up to step 2"),
+    (["all: no bad state at any step"], "holds"),
+    (["b0 at step 4"], "fails at step 4"),
+    (["all: b0 at step 4"], "fails at step 4"),
+    (["all: b1 at step 4"], "undecided"),
+    (["equal at step 0"], "undecided"),
+]
+
+
+def follow_faults(tally):
+    """What follows of lines."""
+    for lines, wanted in FOLLOWS:
+        answer, told = Answer("b", 0), Witness(0, "", [""] * 5)
+        made = [gather.Line("part", "", line.removeprefix("all: "), [], [("pdr", 1.0)]) for line in lines]
+        gather.conclude(answer, [(None, None if line.startswith("all: ") else 0, it, told) for line, it in zip(lines, made)])
+        tally.wants(lines, wanted, answer.text())
+
+
+# Words that have no meaning beside one another.
+REFUSED = ["--each --property 0", "--each --equal states.sv", "--each --aiger", "--tasks", "--json out", "--gather run --keep kept"]
+
+
+class Spread:
+    """Tasks that two machines run, and what is gathered of them."""
+
+    def __init__(self, folder):
+        self.folder, self.machines = folder, [folder / "machines" / name for name in ["here-1", "here-2"]]
+        for machine in self.machines:
+            machine.mkdir(parents=True)
+        (folder / "remote").write_text(REMOTE)
+        (folder / "remote").chmod(0o755)
+        shutil.copy(TESTS / "verilog" / "states.sv", folder)
+        path = os.pathsep.join([str(harness.TOP / "bin"), os.environ["PATH"]])
+        self.environment = {**os.environ, "PATH": path, "MACHINES": str(folder / "machines"), "PARALLEL_HOME": str(folder)}
+
+    def run(self, words, **how):
+        status, printed, said = harness.run(words, cwd=self.folder, env=self.environment, timeout=600, **how)
+        return status, printed.decode(), said.decode()
+
+    def gathered(self):
+        """What is said where the folder is gathered: the status, the rows, and standard error."""
+        status, printed, said = self.run([PROVE, "--gather", "run", "states.sv"])
+        return status, rows(printed), said
+
+    def spread(self):
+        """Runs the tasks on both machines, and copies what they kept."""
+        _, lines, _ = self.run([PROVE, "--tasks", "--timeout", "30", "--engine", "pdr,bmc3", "--keep", "run", "states.sv"])
+        for machine in self.machines:
+            shutil.copytree(self.folder / "run", machine / "run")
+        words = ["parallel", "--will-cite", "--ssh", str(self.folder / "remote"), "-S", "2/here-1,2/here-2"]
+        done = self.run(words, input=lines.encode())
+        for machine in self.machines:
+            shutil.copytree(machine / "run", self.folder / "run", dirs_exist_ok=True)
+        return lines, done
+
+    def plant(self, part, change):
+        """Puts a changed script of a folder into a new one."""
+        made = self.folder / "run" / f"planted-{part}"
+        shutil.copytree(self.folder / "run" / part, made, symlinks=True)
+        change(made)
+        return made
+
+
+def swap(old, new):
+    """A change of a script."""
+
+    def change(folder):
+        text = (folder / "check.sh").read_text()
+        assert old in text, (old, text)
+        (folder / "check.sh").write_text(text.replace(old, new))
+
+    return change
+
+
+def emptied(name):
+    """A change of a proof: it has no step any more."""
+    return lambda folder: (folder / name).write_text("")
+
+
+def spread_faults(tally, folder):
+    """Tasks on two machines, and what is planted there."""
+    made = Spread(folder)
+    for words in REFUSED:
+        status, printed, _ = made.run([PROVE, *words.split(), "states.sv"])
+        tally.wants(words, (2, ""), (status, printed))
+    lines, (status, _, said) = made.spread()
+    # Two safe properties, and a run by each engine to the third, have no status 0.
+    tally.wants("tasks", (6, 4), (len(lines.splitlines()), status))
+    tally.check(all(list((machine / "run").glob("property-*")) for machine in made.machines), f"one machine did nothing: {said}")
+    wanted = {"states.legal": "holds", "states.rom_ok": "holds", "states.seven": "fails at step 16"}
+    tally.wants("gathered", (10, wanted, ""), made.gathered())
+    for _ in range(2):
+        status, printed, said = made.run([PROVE, "--each", "--keep", "run", "states.sv"])
+        tally.wants("gone on", (10, wanted, ""), (status, rows(printed), said))
+        tally.wants("shown again", wanted, rows(harness.shown_again(folder / "run") or ""))
+    # Wrong lines and wrong proofs: without what shows them, no one is taken, and each is told of.
+    run = folder / "run"
+    plants = [
+        ("property-2-pdr", swap("'b0 at step 16'", "'b0 at step 3'")),
+        ("property-2-bmc3", swap("'b0 at step 16' run", "'no bad state at any step' run")),
+        ("property-0-pdr", emptied("step")),
+        ("property-1-pdr", swap("property file.aig", "property other.aig")),
+    ]
+    for part, change in plants:
+        planted = made.plant(part, change)
+        status, given, said = made.gathered()
+        tally.wants(f"{part} planted", (10, wanted, True), (status, given, f"{planted.relative_to(folder)}: not shown: " in said))
+        shutil.rmtree(planted)
+    for part in ["property-0-pdr", "property-0-bmc3"]:
+        shutil.rmtree(run / part)
+    shutil.copytree(run / "property-1-pdr", run / "property-0-pdr")
+    swap("property-1.aag", "property-0.aag")(run / "property-0-pdr")
+    (run / "property-0-pdr" / "property-1.aag").rename(run / "property-0-pdr" / "property-0.aag")
+    status, given, said = made.gathered()
+    # The invariant of one property may be one of another: then it is shown, and else refused.
+    wanted = "undecided" if "not shown" in said else "holds"
+    tally.wants(f"another's certificate, of which is said {said!r}", wanted, given["states.legal"])
+    (run / "property-1-pdr" / "file.aig").write_bytes((TESTS / "designs" / "gray.aig").read_bytes())
+    status, given, said = made.gathered()
+    told = "is another file than what is asked about" in said
+    tally.wants("another file", (10, "undecided", True), (status, given["states.rom_ok"].partition(" ")[0], told))
+
+
+def fair_machine(rng):
+    """A random machine with justice properties, whose properties have names."""
+    machine = live.random_machine(rng)
+    places = [f"{letter}{i}" for letter, own in [("b", machine.bads), ("j", machine.justice)] for i in range(len(own))]
+    machine.names = {place: f"is_{place}" for place in places}
+    return machine
+
+
+def fair_wanted(machine):
+    """Of each property, by its name, whether a run reaches it, or is fair."""
+    bads = ((f"is_b{i}", dataclasses.replace(machine, bads=[bad]).first_bad() is not None) for i, bad in enumerate(machine.bads))
+    fair = ((f"is_j{j}", live.has_lasso(machine, asked + machine.fairness)) for j, asked in enumerate(machine.justice))
+    return {**dict(bads), **dict(fair)}
+
+
+def fair_answers(given):
+    """The same, as rows of a table say it."""
+    said = {"fails": True, "fair": True, "holds": False, "no": False}
+    return {name: said.get(answer.split(" ")[0]) for name, answer in given.items()}
+
+
+def are_lassos(machine, given, folder):
+    """Whether the witnesses of fair runs are lassos, as long as the rows say."""
+    for j, asked in enumerate(machine.justice):
+        if given[f"is_j{j}"].startswith("fair"):
+            text = (folder / f"j{j}.witness").read_text()
+            if given[f"is_j{j}"] != lasso(len(text.split("\n")) - 5) or not live.is_lasso(machine, asked + machine.fairness, text, j):
+                return False
+    return True
+
+
+def judge_fair(tally, machine, folder):
+    """The table of a random file with justice properties; and what is gathered of tasks."""
+    folder.mkdir()
+    (folder / "file").write_text(machine.text())
+    run = lambda *words: harness.run([PROVE, *words], cwd=folder)
+    status, printed, said = run("--each", "--keep", "kept", "--witness", "runs", "--json", "out.json", "--junit", "out.xml", "file")
+    given, wanted, text = rows(printed.decode()), fair_wanted(machine), machine.text()
+    is_empty = b"the answer is empty" in printed
+    tally.wants(f"{text}{printed} {said}", (wanted, 10 if any(wanted.values()) else 0 if is_empty else 20), (fair_answers(given), status))
+    tally.check(are_lassos(machine, given, folder / "runs"), f"a lasso of {text}")
+    tally.wants(f"JSON of {text}", [], [*schema_faults((folder / "out.json").read_text(), printed.decode())])
+    tally.wants(f"JUnit's form of {text}", [], [*junit_faults((folder / "out.xml").read_text(), printed.decode())])
+    tally.wants(f"shown again of {text}", given, rows(harness.shown_again(folder / "kept") or ""))
+    for line in run("--tasks", "--keep", "run", "--engine", "bmc3,pdr", "file")[1].decode().splitlines():
+        run(*shlex.split(line)[1:])
+    status, printed, said = run("--gather", "run", "file")
+    tally.wants(f"gathered of {text}", (wanted, b""), (fair_answers(rows(printed.decode())), said))
+
+
+def fair_faults(tally, folder):
+    """Random files with justice properties."""
+    rng = random.Random(1)
+    for place in range(FAIR):
+        judge_fair(tally, fair_machine(rng), folder / str(place))
+
+
+def main():
+    words = harness.parser(__doc__)
+    words.add_argument("--only", metavar="NAME", help="this design alone, `spread` for tasks on two machines, or `fair` for justice")
+    words.add_argument("--seconds", metavar="S", default="40", help="how long a design has, all of which its hard property takes (40 s)")
+    given = words.parse_args()
+    only = given.only
+    tally = harness.Tally()
+    chosen = [it for it in designs() if only in (None, it.name)]
+    with harness.new_folder() as folder, concurrent.futures.ThreadPoolExecutor(2) as pool:
+        found = pool.map(judged, chosen, [folder / it.name for it in chosen], [given.seconds] * len(chosen))
+        for design, faults in zip(chosen, found):
+            tally.wants(design.name, [], faults)
+        if only in (None, "spread"):
+            (folder / "spread").mkdir()
+            follow_faults(tally)
+            status_faults(tally, folder)
+            spread_faults(tally, folder / "spread")
+        if only in (None, "fair"):
+            (folder / "fair").mkdir()
+            fair_faults(tally, folder / "fair")
+    return tally.end()
+
+
+if __name__ == "__main__":
+    sys.exit(main())
