@@ -38,21 +38,26 @@ pub fn read<R: Source>(alloc: Global, r: &mut R, limit: usize) -> Result<Circuit
     ensures never_open { IsErrOf result ReadError.Open → ⊥ }
 {
     let mut buffer = InputBuffer::new();
-    read_file(alloc, &mut buffer, r, limit)
+    read_with(alloc, &mut buffer, r, limit)
 }
 
-/// Reads a file, up to the end.
-fn read_file<R: Source>(
+/// Reads a file as `read` does, through the caller's buffer: first the bytes that are in it, and then those of `r`.
+///
+/// After an error the buffer still has the bytes that were pulled of `r` and not taken (`InputBuffer::window`): the last byte that was
+/// taken, where reading stopped, is the one before them. After a failed read there are none.
+pub fn read_with<R: Source>(
     alloc: Global,
     buffer: &mut InputBuffer,
     r: &mut R,
     limit: usize,
 ) -> Result<CircuitLists, ReadError>
     requires { limit ≤ 2 ^ 31 }
+    // The bytes that came are a file that is accepted, and the lists are those of its circuit.
     ensures circuit { IfOk result
         (IsReadAs (λ bytes. Accepts bytes limit) AreListsOf
         (feed R.left R.failed R.pulls buffer.old r.old).coming
         (feed R.left R.failed R.pulls buffer.new r.new).coming) }
+    // Each file that is accepted is taken, and a refusal says why.
     ensures verdict { Judges (λ _. Accepted) limit
         (feed R.left R.failed R.pulls buffer.old r.old).coming
         (feed R.left R.failed R.pulls buffer.new r.new).coming

@@ -14,9 +14,9 @@ at_first g c = rw c.new-buffer.ensures (prepend_known-nil (g.R.Source.left c.arg
 pub returns-clause-circuit : goal.returns-clause-circuit
 returns-clause-circuit g c =
     let start = at_first g (goal.at.returns-clause-circuit g c).After-new-buffer in
-    rw (← start) (read_at_end _ _ _ _ _ _ AreListsOf c.read_file.result c.read_file.ensures.verdict c.read_file.ensures.circuit)
+    rw (← start) (read_at_end _ _ _ _ _ _ AreListsOf c.read_with.result c.read_with.ensures.verdict c.read_with.ensures.circuit)
 
 pub returns-clause-verdict : goal.returns-clause-verdict
 returns-clause-verdict g c =
     let start = at_first g (goal.at.returns-clause-verdict g c).After-new-buffer in
-    rw (← start) (judged_at_end _ _ _ _ _ _ _ c.read_file.ensures.verdict)
+    rw (← start) (judged_at_end _ _ _ _ _ _ _ c.read_with.ensures.verdict)

@@ -10,7 +10,7 @@ use Rattle.aig_reader.proofs.Accepting.{Body, refused_header, refused_section, r
 use Rattle.aig_reader.proofs.HeaderLines.{header_good, header_small, header_within}
 use Rattle.aig_reader.proofs.FileCircuit.{circuit_is, nodes_distinct}
 use Rattle.aig_reader.proofs.ReadNames.{names_fault, names_in, no_names_in, no_names_left}
-use Rattle.aig_reader.proofs.reader.read_file.Goals as goal
+use Rattle.aig_reader.proofs.reader.read_with.Goals as goal
 
 pub returns-in_err-header-clause-verdict : goal.returns-in_err-header-clause-verdict
 returns-in_err-header-clause-verdict g c =
