@@ -3,8 +3,8 @@
 
 Each call that is exported and each law has to stand in a row, and each name of a row has to be one of them. tests/theorems.tsv has
 the clauses that their rows tell: a call with another clause fails, until its row tells that one too and --write has written it. A
-definition that the page quotes has to stand so in the file that the link before it leads to. --list prints the clauses of a call or
-law, and the words of specs/ that these cite, each with a link to its file.
+definition that the page quotes has to stand so in the file that the link before it leads to. --list prints the docstring of a call or
+law, its clauses, and the words of specs/ that these cite, each with a link to its file.
 """
 import collections
 import os
@@ -40,9 +40,17 @@ def calls_of(code):
     return calls, needed
 
 
+def docstrings_of(part):
+    """The docstrings of the functions of a part's crate that have its name."""
+    documented = re.compile(rf"((?:^ *///.*\n)+)(?:^ *#\[.*\n)*^ *(?:pub )?(?:extern \S+ )?fn {part.name}\b", re.MULTILINE)
+    for path in promises.files_below(promises.TOP / "crates" / part.crate / "src", ".rt"):
+        yield from (re.sub(r"^ */// ?", "", found[1], flags=re.MULTILINE) for found in documented.finditer(path.read_text()))
+
+
 def contract_of(calls, specs, item):
-    """The clauses of a call or law, and the words that these cite, as links."""
+    """The docstring and the clauses of a call or law, and the words that these cite, as links."""
     parts = calls.get(item, ())
+    yield from (text for part in parts for text in docstrings_of(part))
     yield from (f"{part.name or item}: {', '.join(part.ensures)}" for part in parts)
     words = {specs.constructors.get(word, word) for part in parts for cited in part.ensures.values() for word in cited}
     for word in sorted(words & specs.lines.keys(), key=lambda word: (word.name.lower(), word)):
