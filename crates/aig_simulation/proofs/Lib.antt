@@ -1,0 +1,4 @@
+pub mod Putting
+pub mod Tracking
+pub mod Filling
+mod Examples
