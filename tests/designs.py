@@ -140,7 +140,8 @@ def verilog_faults(words, wanted_status, wanted, folder):
         yield f"ended with status {status}: {printed}{said}"
     if wanted_status in ("10", "20"):
         yield from kept_faults(folder)
-    if wanted_status == "10" and "--equal" not in words:
+    # A fair run's is in a folder of its own.
+    if wanted_status == "10" and "--equal" not in words and (folder / "witness").exists():
         yield from spare_faults(folder)
 
 

@@ -15,12 +15,13 @@ from aigprove import VERSION, programs
 from aigprove.aiger import Fault
 from aigprove.files import sealed
 from aigprove.judge import Judge
-from aigprove.justice import Justice, Justices
+from aigprove.justice import Justice, Justices, lives
 from aigprove.properties import Property
 from aigprove.questions import cadical
-from aigprove.race import FAILED, OPEN, Race
+from aigprove.race import FAILED, OPEN, SAFE, UNSAFE, Race
 from aigprove.source import Given, Pair, Source
 from aigprove.table import Table
+from aigprove.verilog import ASSERT, COVER, FAIR, LIVE
 from aigprove.yosys import Late
 
 TOP = os.path.dirname(os.path.dirname(os.path.dirname(os.path.realpath(__file__))))
@@ -254,8 +255,11 @@ def parse(line):
     if names and names[0] < len(words.files) - 1 or names and words.top:
         made.error(f"unrecognized arguments: {' '.join(words.files[names[0] + 1 - bool(words.top):])}")
     words.top = words.files.pop() if names else words.top
-    words.covers, words.each = False, words.each or words.tasks or bool(words.gather)
+    words.each = words.each or words.tasks or bool(words.gather)
     check_each(made, words)
+    # What is asked about first of a design, and what by itself.
+    is_one = words.equal or words.certificate or words.run or words.aiger or words.property is not None
+    words.kind, words.later = ASSERT if words.justice is None else LIVE, set() if is_one else {LIVE, FAIR, *[COVER] * words.each}
     if words.justice is not None and (words.equal or words.certificate or words.run or words.each or words.property is not None):
         made.error("--justice goes with none of --equal, --certificate, --run, --each and --property")
     words.deadline = math.inf if words.timeout is None else time.monotonic() + words.timeout
@@ -299,30 +303,59 @@ def end(number, _):
 
 
 def asked(words, above, judge):
-    """What a command line asks about."""
+    """What a command line asks about: of a design its assertions, if it has some, and then each of its liveness assertions."""
     if words.justice is not None:
-        return Justice(Justices(Given(words.files, words, above, judge)), words.justice)
+        yield Justice(Justices(Given(words.files, words, above, judge)), words.justice)
+        return
     source = (Pair if words.equal else Source)(words, above, judge)
-    return source if words.property is None else Property(source, words.property)
+    is_later = not words.equal and source.has_later(words.later & {LIVE})
+    if not is_later or source.given.design.assertions:
+        yield source if words.property is None else Property(source, words.property)
+    if is_later:
+        whole = lives(words, above, judge, source.given)
+        yield from (Justice(whole, answer.number, is_alone=False) for answer in whole.answers())
+
+
+def raced(words, above, judge):
+    """Asks one question after the other, up to the first that something reaches, and gives the exit status of all together."""
+    races, statuses = [], []
+    try:
+        for source in asked(words, above, judge):
+            keep = os.path.join(words.keep, source.stem) if words.keep and races else words.keep
+            races.append(Race(argparse.Namespace(**{**vars(words), "keep": keep}), judge.programs, judge, above, source))
+            statuses.append(races[-1].run())
+            if statuses[-1] in (UNSAFE, FAILED) or words.aiger:
+                break
+            judge.programs.stop()
+            judge.programs = programs.Programs(words.jobs)
+    finally:
+        end_scripts(races if words.keep else [])
+    return next((it for it in (UNSAFE, FAILED, OPEN) if it in statuses), SAFE)
+
+
+def end_scripts(races):
+    """Ends the scripts of what was kept of races: that of the first runs those of the others, whose folders are in its own."""
+    for race in races[1:]:
+        race.evidence.end()
+        races[0].evidence.part(race.source.stem)
+    for race in races[:1]:
+        race.evidence.end()
 
 
 def answer(line):
     """Answers what a command line asks, and gives the exit status."""
     words = parse(line)
-    running = programs.Programs(words.jobs)
-    judge = Judge(running, *words.believed, words.limit)
+    judge = Judge(programs.Programs(words.jobs), *words.believed, words.limit)
     programs.adopt()
     above = tempfile.mkdtemp(prefix="aigprove-")
     try:
-        if words.each:
-            return Table(words, running, judge, above).run()
-        return Race(words, running, judge, above, asked(words, above, judge)).run()
+        return Table(words, judge.programs, judge, above).run() if words.each else raced(words, above, judge)
     except Late as why:
         programs.say(why)
         print("2\n." if words.aiger else "nothing was shown")
         return OPEN
     finally:
-        running.stop()
+        judge.programs.stop()
         programs.bury()
         programs.remove(above)
 

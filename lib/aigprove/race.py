@@ -301,8 +301,6 @@ class Race:
             status = FAILED if len(self.faults) == len(engines) else self.print_open()
         if status == SAFE and self.header.constraints:
             status = SAFE if self.print_met() else OPEN
-        if self.evidence:
-            self.evidence.end()
         return self.print_status(status, self.told)
 
     def raced(self, engines):
