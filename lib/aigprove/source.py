@@ -18,6 +18,8 @@ OF_DESIGNS = {
     **dict.fromkeys(["top", "reset", "parameter", "black_box", "multiclock"]),
     **dict.fromkeys(["define", "include"], [VERILOG]),
 }
+# How aigedit begins the names of latches of the other file.
+OTHER = b"other."
 # How many outputs that differ are named.
 NAMED = 100
 # How many registers that are open at first are named.
@@ -283,8 +285,15 @@ class Pair(Asked):
     def circuit(self):
         """The circuit of the miter, whose bad state properties have the names of what they compare."""
         circuit, first = self.judge.circuit(self.asked, "MITER"), self.first.circuit()
+        circuit.names = {place: self.outermost(name) for place, name in circuit.names.items()}
         circuit.names.update((("b", i), first.name(*place)) for i, place in enumerate(self.compared()))
         return circuit
+
+    def outermost(self, name):
+        """Of the names of a signal of a design the outermost, behind what says that it is one of the other file."""
+        is_other = name.startswith(OTHER)
+        prefix = OTHER if is_other else b""
+        return prefix + outermost(name[len(prefix):]) if (self.other if is_other else self.first).design else name
 
     def warnings(self):
         """Lines of what isn't compared."""
