@@ -177,6 +177,8 @@ def parser():
         "folders with a file for each run"
     tasks = "print a command for each property and engine, each of which keeps what it shows in a folder of its own in that of --keep"
     it.add_argument("--each", action="store_true", help=each)
+    shortest = "with --each: look for the shortest run to each property as long as it takes (2 seconds)"
+    it.add_argument("--shortest", action="store_true", help=shortest)
     it.add_argument("--tasks", action="store_true", help=tasks)
     it.add_argument("--property", metavar="N", type=count("[0-9]{1,10}", "a property"), help="ask about property N alone (from 0 on)")
     it.add_argument("--reset", metavar="SIGNAL[=V][:N]", type=reset, help=held)
@@ -275,7 +277,7 @@ def parse(line):
 
 def check_each(made, words):
     """Refuses words that have no meaning beside one another."""
-    alone = [f"--{name}" for name in ["json", "junit"] if getattr(words, name)]
+    alone = [f"--{name}" for name in ["json", "junit", "shortest"] if getattr(words, name)]
     if alone and not words.each:
         made.error(f"{alone[0]} is for the table of --each")
     for name in ["equal", "certificate", "run", "property", "aiger"] if words.each else ["equal"] if words.property is not None else []:
