@@ -2,9 +2,9 @@
 """Measures bin/aigprove on liveness beside ABC: liveness.py [SECONDS [DESIGN ..]]
 
 For each design of tests/fair, with each of its parameters, and each of its liveness assertions: seconds by the clock and of processor time
-of ABC's `l2s` and `pdr` on the file that yosys makes, for at most SECONDS (60), and of aigprove --justice on the same file with all that it
-runs, and what that answers; and of aigprove --justice on the design. `-` is no answer. At most twice ABC's time and a second by the clock is
-wanted on the file, where ABC answers, on four cores without other work; the last line has the most that it takes beyond twice ABC's."""
+of ABC's `l2s` and `pdr` on the file that yosys makes, for at most SECONDS (60), and of aigprove --justice on the same file with all that
+it runs, and what that answers; and of aigprove --justice on the design. `-` is no answer. At most twice ABC's time and a second by the
+clock is wanted on the file, where ABC answers, on four cores without other work; the last line has the most beyond twice ABC's."""
 import sys
 
 from designs import shown, timed

@@ -285,7 +285,8 @@ def follow_faults(tally):
 
 
 # Words that have no meaning beside one another.
-REFUSED = ["--shortest", "--each --property 0", "--each --equal states.sv", "--each --aiger", "--tasks", "--json out", "--gather run --keep kept"]
+REFUSED = ["--shortest", "--each --property 0", "--each --equal states.sv", "--each --aiger", "--tasks", "--json out"]
+REFUSED += ["--gather run --keep kept"]
 
 
 class Spread:

@@ -99,7 +99,8 @@ class Design:
             inputs=" ".join(f"reg [{width - 1}:0] {name};" for name, width in inputs.items()),
             ports=", ".join(f".{name}({name})" for name in inputs), free=", ".join(inputs), free_count=len(self.bits("free")),
             state=", ".join(f"dut.{name}" for name in self.signals("state")), state_count=len(self.bits("state")),
-            state_end=len(self.bits("state")) - 1, asked=joined(it[0] for it in lives.values()), live=joined(it[1] for it in lives.values()),
+            state_end=len(self.bits("state")) - 1,
+            asked=joined(it[0] for it in lives.values()), live=joined(it[1] for it in lives.values()),
             assumed=joined(it[0] for it in fair), fair=joined(it[1] for it in fair))
 
     def graph(self, folder):
@@ -115,7 +116,7 @@ Step = collections.namedtuple("Step", "asked lives assumed fair next")
 
 
 class Graph:
-    """The first state of a design, and its steps by the state and the inputs: which conditions and signals are true, as texts of 0 and 1."""
+    """The first state of a design, and its steps by the state and the inputs: what is true in them, as texts of 0 and 1."""
 
     def __init__(self, first, lines):
         self.first, self.steps = first, {(state, value): Step(*further) for state, value, *further in lines}

@@ -27,6 +27,8 @@ from aigprove.yosys import Late
 TOP = os.path.dirname(os.path.dirname(os.path.dirname(os.path.realpath(__file__))))
 # Engines, those first whose answers may come at once.
 ENGINES = ["bmc3", "pdr", "bounded", "steps", "windows"]
+# One for two files.
+REGISTERS = "registers"
 BELIEVED = ["aigtool", "aigedit", "aigcheck"]
 # What can go wrong: a thread that can't be started is a RuntimeError.
 FAULTS = (Fault, OSError, MemoryError, RuntimeError, UnicodeError)
@@ -57,6 +59,7 @@ Engines look for an answer side by side, and the first that is checked is printe
   bounded   asks a SAT solver one question about all steps up to 1, 2, 4 and so on
   steps     asks it about step 0, 1 and so on
   windows   asks it about K + 2 steps from any state, bad at the last alone (k-induction)
+  registers guesses which registers of two files are always equal, and asks it whether a step keeps them so
 An engine that isn't installed, lies or breaks is told of on standard error, and changes nothing else.
 
 With --equal outputs and bad states of FILE and OTHER are compared, on all runs of both that have the same inputs, and that the
@@ -138,14 +141,14 @@ def parameter(word):
 
 def engines(word):
     names = word.replace("abc", "bmc3,pdr").split(",")
-    if not set(names) <= set(ENGINES):
-        raise argparse.ArgumentTypeError(f"{word} names others than {', '.join(ENGINES)} and abc")
+    known = [*ENGINES, REGISTERS]
+    if not set(names) <= set(known):
+        raise argparse.ArgumentTypeError(f"{word} names others than {', '.join(known)} and abc")
     return names
 
 
-def parser():
-    """The words of the command line."""
-    it = Parser("aigprove", description=ABOUT, epilog=ENDS, formatter_class=argparse.RawDescriptionHelpFormatter)
+def add_designs(it):
+    """The words that say what is asked about, and how a design is read."""
     file = "a file in AIGER form, text or binary, which may be packed by gzip; or the files of a design, in order: Verilog (.v, .sv), " \
         "an .il file or a script (.ys) of yosys, or BLIF (.blif); - is standard input"
     listed = "put the words of this file here: files, -D, -I and -f, with # or // for comments"
@@ -153,26 +156,33 @@ def parser():
     held = "hold this input of a design at V (1) in the first N steps (1), in which assertions don't count; later it is free, and where " \
         "it is to stay released the design has to assume so; with --multiclock its steps are moments, in which a clock may stand still"
     boxes = "let the outputs of this module, of which there are the ports alone, have any values in each step"
-    aiger = "print the answer alone, as the AIGER report has it: 1 and a witness, 0 (none at any step) or 2 (neither), each with status 0"
     many = "take several clocks, and both edges: a step is a moment, in which each input may change, clocks too"
-    bound = "ask about the steps 0 to N; once they were shown, other engines have as long again, and a second (no bound)"
-    running, processors = "run so many programs at once, and others by turns (one for each processor)", len(os.sched_getaffinity(0))
-    limit = "take circuits of so many nodes, up to 2^31 (2^24)"
-    solver = "a SAT solver that writes a proof in text: it is given a DIMACS file and the proof's name (cadical)"
-    it.add_argument("files", metavar="FILE", type=nonempty, nargs="+", help=file)
     top = "the top module of a design (the one that no other has); a last word that may be a name, as TOP, says it too"
+    it.add_argument("files", metavar="FILE", type=nonempty, nargs="+", help=file)
     it.add_argument("--top", metavar="TOP", help=top)
-    loud = it.add_mutually_exclusive_group()
-    loud.add_argument("-v", "--verbose", action="store_true", help="say on standard error which engine answered, and when")
-    loud.add_argument("-q", "--quiet", action="store_true", help="print the line of the answer alone, and only faults on standard error")
-    it.add_argument("--aiger", action="store_true", help=aiger)
-    it.add_argument("--version", action="version", version=f"aigprove {VERSION}")
     it.add_argument("-f", metavar="LIST", help=listed)
     it.add_argument("-D", "--define", metavar="NAME[=TEXT]", type=macro, help="define a macro of Verilog (1)", **many_times)
     it.add_argument("-I", "--include", metavar="FOLDER", type=nonempty, help="look for included files here too", **many_times)
     it.add_argument("--parameter", metavar="NAME=NUMBER", type=parameter, help="set a parameter of the top module", **many_times)
     it.add_argument("--black-box", metavar="NAME", type=module, help=boxes, **many_times)
     it.add_argument("--multiclock", action="store_true", help=many)
+    it.add_argument("--reset", metavar="SIGNAL[=V][:N]", type=reset, help=held)
+
+
+def parser():
+    """The words of the command line."""
+    it = Parser("aigprove", description=ABOUT, epilog=ENDS, formatter_class=argparse.RawDescriptionHelpFormatter)
+    add_designs(it)
+    aiger = "print the answer alone, as the AIGER report has it: 1 and a witness, 0 (none at any step) or 2 (neither), each with status 0"
+    bound = "ask about the steps 0 to N; once they were shown, other engines have as long again, and a second (no bound)"
+    running, processors = "run so many programs at once, and others by turns (one for each processor)", len(os.sched_getaffinity(0))
+    limit = "take circuits of so many nodes, up to 2^31 (2^24)"
+    solver = "a SAT solver that writes a proof in text: it is given a DIMACS file and the proof's name (cadical)"
+    loud = it.add_mutually_exclusive_group()
+    loud.add_argument("-v", "--verbose", action="store_true", help="say on standard error which engine answered, and when")
+    loud.add_argument("-q", "--quiet", action="store_true", help="print the line of the answer alone, and only faults on standard error")
+    it.add_argument("--aiger", action="store_true", help=aiger)
+    it.add_argument("--version", action="version", version=f"aigprove {VERSION}")
     each = "ask about each property by itself, and print a table; --keep goes on in a folder that is there, and --witness and --vcd make " \
         "folders with a file for each run"
     tasks = "print a command for each property and engine, each of which keeps what it shows in a folder of its own in that of --keep"
@@ -181,7 +191,6 @@ def parser():
     it.add_argument("--shortest", action="store_true", help=shortest)
     it.add_argument("--tasks", action="store_true", help=tasks)
     it.add_argument("--property", metavar="N", type=count("[0-9]{1,10}", "a property"), help="ask about property N alone (from 0 on)")
-    it.add_argument("--reset", metavar="SIGNAL[=V][:N]", type=reset, help=held)
     fair = "ask about this justice property, from 0 on, and not about bad states: whether a run without end is fair"
     it.add_argument("--justice", metavar="J", type=count("[0-9]{1,10}", "a justice property"), help=fair)
     it.add_argument("--bound", metavar="N", type=count("[0-9]{1,10}", "steps"), help=bound)
@@ -266,7 +275,7 @@ def parse(line):
         made.error("--justice goes with none of --equal, --certificate, --run, --each and --property")
     words.deadline = math.inf if words.timeout is None else time.monotonic() + words.timeout
     given = words.certificate or words.run
-    words.engines = words.engine or ([] if given else ENGINES)
+    words.engines = words.engine or ([] if given else [*ENGINES, *[REGISTERS] * bool(words.equal)])
     words.certificate, words.run = (path and sealed(path, words.limit) for path in [words.certificate, words.run])
     words.believed = [believed(name, vars(words)[name]) for name in BELIEVED]
     words.solver = words.solver or cadical()

@@ -97,8 +97,8 @@ class Justice(Asked):
         return {i for i in super().opened(circuit, told) if not self.given.design or ("l", i) in circuit.names}
 
     def watching(self, circuit):
-        """The places of the inputs and latches by which yosys has liveness watched: the last ones, of each assertion an input that says from
-        which step on it fails, and two latches, and of each assumption a latch."""
+        """The places of the inputs and latches by which yosys has liveness watched: the last ones, of each assertion an input that says
+        from which step on it fails, and two latches, and of each assumption a latch."""
         counts = self.given.design.counts if self.given.design else {LIVE: 0, FAIR: 0}
         last = {"i": (len(circuit.inputs), counts[LIVE]), "l": (len(circuit.latches), 2 * counts[LIVE] + counts[FAIR])}
         return {f"{letter}{i}" for letter, (end, count) in last.items() for i in range(end - count, end)}
