@@ -2,9 +2,10 @@
 """Asks bin/aigprove about a RISC-V core of 2,000 registers, beside ABC's pdr: core.py
 
 The core is picorv32, with the assertions that its author gave it, as Debian's source package nextpnr has it, which is fetched by apt-get;
-where that can't be had the test says so and passes. Its assertions hold, as pdr says too. With one that is wrong, by hand, which says that
-an instruction is never fetched for a read, the run has to end where yosys sees that assertion fail, in the first step in which the core
-fetches: it is in reset at step 0, asks for its first instruction at step 1, and has its request out at step 2 at the earliest."""
+where that can't be had the test says so and passes. Its assertions hold, as pdr says too, and it is equal to what ABC makes of it. With one
+that is wrong, by hand, which says that an instruction is never fetched for a read, the run has to end where yosys sees that assertion fail,
+in the first step in which the core fetches: it is in reset at step 0, asks for its first instruction at step 1, and has its request out at
+step 2 at the earliest."""
 import os
 import re
 import subprocess
@@ -69,6 +70,12 @@ def main():
         pdr = timed([PROVE, "--engine", "pdr", folder / "kept" / "file.aig"])[2:]
         for name, (processor, clock) in [("all engines", ours), ("pdr and the checks", pdr)]:
             print(f"{name}: {processor:.1f} s of processor time, {clock:.1f} s by the clock")
+        plain, made = folder / "plain.aig", folder / "made.aig"
+        words = f"read_aiger {folder}/kept/file.aig; logic; undc; strash; zero; write_aiger {plain}; dc2; rewrite; write_aiger {made}"
+        harness.output(["berkeley-abc", "-q", words])
+        printed, status, processor, clock = timed([PROVE, "--engine", "registers", "--equal", made, plain])
+        tally.wants("the core beside what ABC makes of it", (20, "equal at every step", True), ended(status, printed))
+        print(f"registers that correspond: {processor:.1f} s of processor time, {clock:.1f} s by the clock")
         line = text[:text.index(TRUE)].count("\n") + 1
         (folder / NAME).write_text(text.replace(TRUE, FALSE, 1))
         printed, status, *_ = timed([PROVE, *WORDS, folder / NAME])

@@ -5,7 +5,10 @@ For each file of tests/designs the answer has to come within SECONDS (60), and t
 agree on: a bad state at that step or a later one, or none at any step. Those in Verilog, which yosys makes files, if it is there, stand
 in the rows of tests/verilog, and some have paths that are patterns or commands to yosys. What is kept is shown again by check.sh. It
 isn't with the first bad literal of the file's copy or of the certificate inverted, with another bad state or no end in the witness, or
-with a sign before a proof that is no step, where unit propagation alone doesn't show the line."""
+with a sign before a proof that is no step, where unit propagation alone doesn't show the line.
+
+Then some of the files are compared with what ABC makes of them, by the engine that guesses which registers correspond: that is equal, as
+ABC's dsec says too, and with an output or the bad literal inverted the engine has no answer."""
 import os
 import shlex
 import shutil
@@ -18,6 +21,9 @@ from harness import CHECK, PROVE, TESTS, TOP, rows
 from aigprove.aiger import Circuit, Header, Lines
 
 DESIGNS = TESTS / "designs"
+# Designs that are compared with what these commands of ABC make of them.
+RESYN = "balance; rewrite; refactor; balance; rewrite; rewrite -z; balance; refactor -z; rewrite -z; balance"
+REWRITTEN = [("fifo_ptr", "dc2"), ("credit_flow", RESYN), ("lru", "dc2; rewrite; refactor"), ("sha4", "balance; dc2")]
 # How many values a witness has at most whose every value is tried.
 SHORT = 60
 # How the last line of an answer about a file with constraints begins.
@@ -132,6 +138,32 @@ def file_faults(design, answer, folder, seconds):
         yield from spare_faults(folder)
 
 
+def rewritten(design, command, folder):
+    """A design as ABC has it with all latches 0 at first, and what commands of ABC make of that, which dsec has to find equal."""
+    plain, made = folder / "plain.aig", folder / "made.aig"
+    words = f"read_aiger {DESIGNS / design}.aig; logic; undc; strash; zero; write_aiger {plain}; {command}; write_aiger {made}"
+    harness.output(["berkeley-abc", "-q", words])
+    said = harness.output(["berkeley-abc", "-q", f"dsec {plain} {made}"])
+    return plain, made, "Networks are equivalent" in said
+
+
+def register_faults(design, command, folder, seconds):
+    """What is wrong of an answer about a design beside what ABC makes of it, and of one about that with an output inverted."""
+    folder.mkdir()
+    plain, made, is_equal = rewritten(design, command, folder)
+    if not is_equal:
+        yield f"{command} makes another design, as dsec says"
+    words = ["-q", "--engine", "registers", "--timeout", seconds, "--equal", plain]
+    told = answered(["--keep", folder / "kept", *words, made])
+    if told != (20, "equal at every step\n", ""):
+        yield f"by {command}: {told}"
+    yield from kept_faults(folder / "kept")
+    (folder / "wrong.aig").write_bytes(inverted(made.read_bytes()))
+    told = answered([*words, folder / "wrong.aig"])
+    if told != (0, "nothing was shown\n", ""):
+        yield f"by {command}, inverted: {told}"
+
+
 def verilog_faults(words, wanted_status, wanted, folder):
     """What is wrong of an answer about a design in Verilog, which is looked for by the engines that find the first step."""
     status, printed, said = answered(["--engine", "steps,windows", "--keep", folder, *words.split()])
@@ -140,7 +172,8 @@ def verilog_faults(words, wanted_status, wanted, folder):
         yield f"ended with status {status}: {printed}{said}"
     if wanted_status in ("10", "20"):
         yield from kept_faults(folder)
-    if wanted_status == "10" and "--equal" not in words:
+    # A fair run's is in a folder of its own.
+    if wanted_status == "10" and "--equal" not in words and (folder / "witness").exists():
         yield from spare_faults(folder)
 
 
@@ -211,6 +244,8 @@ def main():
     with harness.new_folder() as folder:
         for design, answer in rows(DESIGNS / "answers.tsv"):
             tally.wants(design, [], list(file_faults(design, answer, folder / design, seconds)))
+        for i, (design, command) in enumerate(REWRITTEN):
+            tally.wants(design, [], list(register_faults(design, command, folder / f"registers-{i}", seconds)))
         if shutil.which("yosys"):
             tally.wants("paths", [], list(path_faults(folder)))
             tally.wants("paths of several files", [], list(odd_faults(folder)))

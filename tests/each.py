@@ -1,13 +1,14 @@
 #!/usr/bin/env python3
 """Asks bin/aigprove --each about files with many properties, and a simulator or a search about each: each.py [--only NAME] [--seconds S]
 
-The designs are those of each/table.txt, each with a property that nobody decides in time. Icarus runs the twin for each property by itself,
-through all states that its runs come to: that says the first step that reaches it, or that there is none, as in twins.py. The table that is
-printed has to say the same (one run of a design may be longer), the fields in JSON and the cases in JUnit's form too, and check.sh has to
-show it again. Then tasks are spread by GNU parallel over two machines, each of which is a folder here, where a shell takes the place of
-ssh, and what they kept is gathered: the table has to be the same, and wrong lines and wrong proofs, which are put there, have to be
-refused. Of random files with justice properties the table has to have what live.py finds by a search over lassos, and over the states that
-are reached. The tools are yosys, cadical, ABC, Icarus Verilog (iverilog, vvp) and GNU parallel."""
+The designs are those of each/table.txt. Icarus runs the twin for each property by itself, through all states that its runs come to: that
+says the first step that reaches it, or that there is none, as in twins.py. The table of --each --shortest, which ends without a time limit,
+has to say the same, the fields in JSON and the cases in JUnit's form too, and check.sh has to show it again. Beside a property that nobody
+decides, which has some seconds, no answer may be another one: a run may be longer, and on a busy machine an answer missing. Then tasks are
+spread by GNU parallel over two machines, each of which is a folder here, where a shell takes the place of ssh, and what they kept is
+gathered: the table has to be the same, and wrong lines and wrong proofs, which are put there, have to be refused. Of random files with
+justice properties the table has to have what live.py finds by a search over lassos, and over the states that are reached. The tools are
+yosys, cadical, ABC, Icarus Verilog (iverilog, vvp) and GNU parallel."""
 import concurrent.futures
 import dataclasses
 import json
@@ -51,8 +52,8 @@ ANSWERS = {
 }
 # How many random files there are with justice properties.
 FAIR = 12
-# An answer with a run, and of how many properties of a design the run may be longer than the shortest.
-AT_STEP, LATER = re.compile("(fails|covered) at step ([0-9]+)"), 1
+# An answer with a run.
+AT_STEP = re.compile("(fails|covered) at step ([0-9]+)")
 
 
 class Many:
@@ -129,10 +130,11 @@ def rows(printed):
     return {name: answer for _, name, _, answer, *_ in cells}
 
 
-def is_later(wanted, given):
-    """Whether an answer has a run that is longer than the shortest one: on a busy machine the search for a shorter one may end too soon."""
-    found = [AT_STEP.fullmatch(answer or "") for answer in (wanted, given)]
-    return all(found) and found[0][1] == found[1][1] and int(found[0][2]) < int(found[1][2])
+def is_no_other(wanted, given):
+    """Whether an answer is the wanted one, or one with a longer run, or none yet."""
+    found = [AT_STEP.fullmatch(answer) for answer in (wanted, given)]
+    is_later = all(found) and found[0][1] == found[1][1] and int(found[0][2]) < int(found[1][2])
+    return wanted == given or is_later or given.startswith("undecided")
 
 
 def lasso(count):
@@ -182,34 +184,41 @@ def junit_faults(text, printed):
 
 
 def judged(design, folder, seconds):
-    """What is wrong of the table of a design, which has so many seconds."""
+    """What is wrong of the table of a design, and of that with the property that nobody decides, which has so many seconds."""
     folder.mkdir()
-    wanted = design.wanted(folder)
-    (folder / "design.v").write_text(design.text())
-    words = ["--each", "--timeout", seconds, "--keep", "kept", "--json", "out.json", "--junit", "out.xml", "--vcd", "runs", "design.v"]
+    wanted, faults = design.wanted(folder), []
+    status, given, more = asked(design, design.text(is_hard=False), folder / "table.all", ["--shortest"])
+    faults += [f"{name}: Icarus: {wanted.get(name)}; aigprove: {given.get(name)}" for name in {**wanted, **given}
+               if wanted.get(name) != given.get(name)]
+    fails = any(answer.startswith("fails") for answer in wanted.values())
+    faults += [f"status {status}"] * (status != (10 if fails else 0)) + more
+    status, given, more = asked(design, design.text(), folder / "table.hard", ["--timeout", seconds])
+    hard = given.pop(f"{design.name}.hard", "none")
+    faults += [f"hard: {hard}"] * (not hard.startswith("holds (empty)" if design.of("unmet") else "undecided"))
+    faults += [f"{name}: Icarus: {answer}; aigprove: {given.get(name)}" for name, answer in wanted.items()
+               if not is_no_other(answer, given.get(name, ""))]
+    fails = any(answer.startswith("fails") for answer in given.values())
+    return faults + [f"status {status}"] * (status != (10 if fails else 0)) + more
+
+
+def asked(design, text, folder, words):
+    """The status and the rows of a table of a design, and what is wrong of what goes with it."""
+    folder.mkdir()
+    (folder / "design.v").write_text(text)
+    words = ["--each", "--keep", "kept", "--json", "out.json", "--junit", "out.xml", "--vcd", "runs", *words, "design.v"]
     status, printed, said = harness.run([PROVE, *words], cwd=folder, timeout=600)
     printed = printed.decode()
     if not (folder / "out.json").exists():
-        return [f"status {status}: {printed} {said.decode()}"]
-    given = rows(printed)
-    hard = given.pop(f"{design.name}.hard", "none")
-    differing = [name for name in {**wanted, **given} if wanted.get(name) != given.get(name)]
-    later = [name for name in differing if is_later(wanted.get(name), given.get(name))]
-    differing = [name for name in differing if name not in later[:LATER]]
-    faults = [f"{name}: Icarus: {wanted.get(name)}; aigprove: {given.get(name)}" for name in differing]
-    faults += [f"hard: {hard}"] * (not hard.startswith("holds (empty)" if design.of("unmet") else "undecided"))
-    fails = any(answer.startswith("fails") for answer in given.values())
-    faults += [f"status {status}: {said}"] * (status != (10 if fails else 0))
-    unmet = design.of("unmet")
-    line = printed.splitlines()[-1]
+        return status, {}, [f"status {status}: {printed} {said.decode()}"]
+    given, line, unmet = rows(printed), printed.splitlines()[-1], design.of("unmet")
     says = f"can't be met from step {unmet[0]} on: the answer is empty" if unmet else "can be met up to step "
-    faults += [f"{line!r} about assumptions"] * bool(design.of("assume") and not line.startswith(f"the assumptions {says}"))
+    is_told = line.startswith(f"the assumptions {says}") or not any(answer.startswith("holds") for answer in given.values())
+    faults = [f"{line!r} about assumptions"] * bool(design.of("assume") and not is_told)
     faults += [f"JSON: {why}" for why in schema_faults((folder / "out.json").read_text(), printed)]
     faults += [f"JUnit: {why}" for why in junit_faults((folder / "out.xml").read_text(), printed)]
     runs = {name for name in given if re.match("fails|covered", given[name])}
     faults += [f"{len(os.listdir(folder / 'runs'))} dumps of {len(runs)} runs"] * (len(os.listdir(folder / "runs")) != len(runs))
-    faults += ["check.sh doesn't show it"] * (rows(harness.shown_again(folder / "kept") or "") != {**given, f"{design.name}.hard": hard})
-    return faults
+    return status, given, faults + ["check.sh doesn't show it"] * (rows(harness.shown_again(folder / "kept") or "") != given)
 
 
 # A machine: what takes the place of ssh goes to the folder of its name, and has a shell run the words behind that there, as ssh does.
@@ -276,7 +285,8 @@ def follow_faults(tally):
 
 
 # Words that have no meaning beside one another.
-REFUSED = ["--each --property 0", "--each --equal states.sv", "--each --aiger", "--tasks", "--json out", "--gather run --keep kept"]
+REFUSED = ["--shortest", "--each --property 0", "--each --equal states.sv", "--each --aiger", "--tasks", "--json out"]
+REFUSED += ["--gather run --keep kept"]
 
 
 class Spread:
@@ -440,7 +450,7 @@ def fair_faults(tally, folder):
 def main():
     words = harness.parser(__doc__)
     words.add_argument("--only", metavar="NAME", help="this design alone, `spread` for tasks on two machines, or `fair` for justice")
-    words.add_argument("--seconds", metavar="S", default="40", help="how long a design has, all of which its hard property takes (40 s)")
+    words.add_argument("--seconds", metavar="S", default="20", help="how long a design has, all of which its hard property takes (20 s)")
     given = words.parse_args()
     only = given.only
     tally = harness.Tally()

@@ -7,6 +7,8 @@ and that at which the machine of `aigedit miter` is bad, by a search over its st
 cadical's proof, and at that step it takes neither that proof nor the empty clause. ABC's `dsec`, and `cec` without latches, say the same
 of files that ABC reads, and `bin/aigprove --equal` of all; what that keeps isn't shown with an output of the other file inverted.
 
+The engine that guesses which registers correspond says nothing else alone, if anything.
+
 And a third as many invariants of ABC's pdr, for random files that are never bad: `aigcheck certified` takes each as a certificate. With
 one of its cubes less it takes it where a search over all states says that the rest is an invariant still, by cadical's proofs, and else
 no proofs of the whole.
@@ -141,6 +143,10 @@ class Pair(Files):
             self.fail(f"a search finds a difference at step {first}, and no run from step {unmet} on, and aigprove: {status} {printed} {said}")
         if ("\nequal at every step\n" in printed) != (first is None) or ("\na difference" in f"\n{printed}") == (first is None):
             self.fail(f"a search finds a difference at step {first}, and aigprove: {printed}")
+        status, _, said = harness.run([PROVE, "-q", "--engine", "registers", "--equal", self.other, self.file])
+        if status not in (0, 20) or status == 20 and first is not None:
+            self.fail(f"a search finds a difference at step {first}, and registers that correspond: {status} {said}")
+        self.counts["by registers"] += status == 20
         again = harness.shown_again(keep)
         (keep / "other.aag").write_bytes(inverted((keep / "other.aag").read_bytes()))
         if again is None or harness.shown_again(keep) is not None:

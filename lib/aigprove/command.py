@@ -15,17 +15,20 @@ from aigprove import VERSION, programs
 from aigprove.aiger import Fault
 from aigprove.files import sealed
 from aigprove.judge import Judge
-from aigprove.justice import Justice, Justices
+from aigprove.justice import Justice, Justices, lives
 from aigprove.properties import Property
 from aigprove.questions import cadical
-from aigprove.race import FAILED, OPEN, Race
+from aigprove.race import FAILED, OPEN, SAFE, UNSAFE, Race
 from aigprove.source import Given, Pair, Source
 from aigprove.table import Table
+from aigprove.verilog import ASSERT, COVER, FAIR, LIVE
 from aigprove.yosys import Late
 
 TOP = os.path.dirname(os.path.dirname(os.path.dirname(os.path.realpath(__file__))))
 # Engines, those first whose answers may come at once.
 ENGINES = ["bmc3", "pdr", "bounded", "steps", "windows"]
+# One for two files.
+REGISTERS = "registers"
 BELIEVED = ["aigtool", "aigedit", "aigcheck"]
 # What can go wrong: a thread that can't be started is a RuntimeError.
 FAULTS = (Fault, OSError, MemoryError, RuntimeError, UnicodeError)
@@ -56,6 +59,7 @@ Engines look for an answer side by side, and the first that is checked is printe
   bounded   asks a SAT solver one question about all steps up to 1, 2, 4 and so on
   steps     asks it about step 0, 1 and so on
   windows   asks it about K + 2 steps from any state, bad at the last alone (k-induction)
+  registers guesses which registers of two files are always equal, and asks it whether a step keeps them so
 An engine that isn't installed, lies or breaks is told of on standard error, and changes nothing else.
 
 With --equal outputs and bad states of FILE and OTHER are compared, on all runs of both that have the same inputs, and that the
@@ -137,14 +141,14 @@ def parameter(word):
 
 def engines(word):
     names = word.replace("abc", "bmc3,pdr").split(",")
-    if not set(names) <= set(ENGINES):
-        raise argparse.ArgumentTypeError(f"{word} names others than {', '.join(ENGINES)} and abc")
+    known = [*ENGINES, REGISTERS]
+    if not set(names) <= set(known):
+        raise argparse.ArgumentTypeError(f"{word} names others than {', '.join(known)} and abc")
     return names
 
 
-def parser():
-    """The words of the command line."""
-    it = Parser("aigprove", description=ABOUT, epilog=ENDS, formatter_class=argparse.RawDescriptionHelpFormatter)
+def add_designs(it):
+    """The words that say what is asked about, and how a design is read."""
     file = "a file in AIGER form, text or binary, which may be packed by gzip; or the files of a design, in order: Verilog (.v, .sv), " \
         "an .il file or a script (.ys) of yosys, or BLIF (.blif); - is standard input"
     listed = "put the words of this file here: files, -D, -I and -f, with # or // for comments"
@@ -152,33 +156,41 @@ def parser():
     held = "hold this input of a design at V (1) in the first N steps (1), in which assertions don't count; later it is free, and where " \
         "it is to stay released the design has to assume so; with --multiclock its steps are moments, in which a clock may stand still"
     boxes = "let the outputs of this module, of which there are the ports alone, have any values in each step"
-    aiger = "print the answer alone, as the AIGER report has it: 1 and a witness, 0 (none at any step) or 2 (neither), each with status 0"
     many = "take several clocks, and both edges: a step is a moment, in which each input may change, clocks too"
-    bound = "ask about the steps 0 to N; once they were shown, other engines have as long again, and a second (no bound)"
-    running, processors = "run so many programs at once, and others by turns (one for each processor)", len(os.sched_getaffinity(0))
-    limit = "take circuits of so many nodes, up to 2^31 (2^24)"
-    solver = "a SAT solver that writes a proof in text: it is given a DIMACS file and the proof's name (cadical)"
-    it.add_argument("files", metavar="FILE", type=nonempty, nargs="+", help=file)
     top = "the top module of a design (the one that no other has); a last word that may be a name, as TOP, says it too"
+    it.add_argument("files", metavar="FILE", type=nonempty, nargs="+", help=file)
     it.add_argument("--top", metavar="TOP", help=top)
-    loud = it.add_mutually_exclusive_group()
-    loud.add_argument("-v", "--verbose", action="store_true", help="say on standard error which engine answered, and when")
-    loud.add_argument("-q", "--quiet", action="store_true", help="print the line of the answer alone, and only faults on standard error")
-    it.add_argument("--aiger", action="store_true", help=aiger)
-    it.add_argument("--version", action="version", version=f"aigprove {VERSION}")
     it.add_argument("-f", metavar="LIST", help=listed)
     it.add_argument("-D", "--define", metavar="NAME[=TEXT]", type=macro, help="define a macro of Verilog (1)", **many_times)
     it.add_argument("-I", "--include", metavar="FOLDER", type=nonempty, help="look for included files here too", **many_times)
     it.add_argument("--parameter", metavar="NAME=NUMBER", type=parameter, help="set a parameter of the top module", **many_times)
     it.add_argument("--black-box", metavar="NAME", type=module, help=boxes, **many_times)
     it.add_argument("--multiclock", action="store_true", help=many)
+    it.add_argument("--reset", metavar="SIGNAL[=V][:N]", type=reset, help=held)
+
+
+def parser():
+    """The words of the command line."""
+    it = Parser("aigprove", description=ABOUT, epilog=ENDS, formatter_class=argparse.RawDescriptionHelpFormatter)
+    add_designs(it)
+    aiger = "print the answer alone, as the AIGER report has it: 1 and a witness, 0 (none at any step) or 2 (neither), each with status 0"
+    bound = "ask about the steps 0 to N; once they were shown, other engines have as long again, and a second (no bound)"
+    running, processors = "run so many programs at once, and others by turns (one for each processor)", len(os.sched_getaffinity(0))
+    limit = "take circuits of so many nodes, up to 2^31 (2^24)"
+    solver = "a SAT solver that writes a proof in text: it is given a DIMACS file and the proof's name (cadical)"
+    loud = it.add_mutually_exclusive_group()
+    loud.add_argument("-v", "--verbose", action="store_true", help="say on standard error which engine answered, and when")
+    loud.add_argument("-q", "--quiet", action="store_true", help="print the line of the answer alone, and only faults on standard error")
+    it.add_argument("--aiger", action="store_true", help=aiger)
+    it.add_argument("--version", action="version", version=f"aigprove {VERSION}")
     each = "ask about each property by itself, and print a table; --keep goes on in a folder that is there, and --witness and --vcd make " \
         "folders with a file for each run"
     tasks = "print a command for each property and engine, each of which keeps what it shows in a folder of its own in that of --keep"
     it.add_argument("--each", action="store_true", help=each)
+    shortest = "with --each: look for the shortest run to each property as long as it takes (2 seconds)"
+    it.add_argument("--shortest", action="store_true", help=shortest)
     it.add_argument("--tasks", action="store_true", help=tasks)
     it.add_argument("--property", metavar="N", type=count("[0-9]{1,10}", "a property"), help="ask about property N alone (from 0 on)")
-    it.add_argument("--reset", metavar="SIGNAL[=V][:N]", type=reset, help=held)
     fair = "ask about this justice property, from 0 on, and not about bad states: whether a run without end is fair"
     it.add_argument("--justice", metavar="J", type=count("[0-9]{1,10}", "a justice property"), help=fair)
     it.add_argument("--bound", metavar="N", type=count("[0-9]{1,10}", "steps"), help=bound)
@@ -254,13 +266,16 @@ def parse(line):
     if names and names[0] < len(words.files) - 1 or names and words.top:
         made.error(f"unrecognized arguments: {' '.join(words.files[names[0] + 1 - bool(words.top):])}")
     words.top = words.files.pop() if names else words.top
-    words.covers, words.each = False, words.each or words.tasks or bool(words.gather)
+    words.each = words.each or words.tasks or bool(words.gather)
     check_each(made, words)
+    # What is asked about first of a design, and what by itself.
+    is_one = words.equal or words.certificate or words.run or words.aiger or words.property is not None
+    words.kind, words.later = ASSERT if words.justice is None else LIVE, set() if is_one else {LIVE, FAIR, *[COVER] * words.each}
     if words.justice is not None and (words.equal or words.certificate or words.run or words.each or words.property is not None):
         made.error("--justice goes with none of --equal, --certificate, --run, --each and --property")
     words.deadline = math.inf if words.timeout is None else time.monotonic() + words.timeout
     given = words.certificate or words.run
-    words.engines = words.engine or ([] if given else ENGINES)
+    words.engines = words.engine or ([] if given else [*ENGINES, *[REGISTERS] * bool(words.equal)])
     words.certificate, words.run = (path and sealed(path, words.limit) for path in [words.certificate, words.run])
     words.believed = [believed(name, vars(words)[name]) for name in BELIEVED]
     words.solver = words.solver or cadical()
@@ -271,7 +286,7 @@ def parse(line):
 
 def check_each(made, words):
     """Refuses words that have no meaning beside one another."""
-    alone = [f"--{name}" for name in ["json", "junit"] if getattr(words, name)]
+    alone = [f"--{name}" for name in ["json", "junit", "shortest"] if getattr(words, name)]
     if alone and not words.each:
         made.error(f"{alone[0]} is for the table of --each")
     for name in ["equal", "certificate", "run", "property", "aiger"] if words.each else ["equal"] if words.property is not None else []:
@@ -299,30 +314,59 @@ def end(number, _):
 
 
 def asked(words, above, judge):
-    """What a command line asks about."""
+    """What a command line asks about: of a design its assertions, if it has some, and then each of its liveness assertions."""
     if words.justice is not None:
-        return Justice(Justices(Given(words.files, words, above, judge)), words.justice)
+        yield Justice(Justices(Given(words.files, words, above, judge)), words.justice)
+        return
     source = (Pair if words.equal else Source)(words, above, judge)
-    return source if words.property is None else Property(source, words.property)
+    is_later = not words.equal and source.has_later(words.later & {LIVE})
+    if not is_later or source.given.design.assertions:
+        yield source if words.property is None else Property(source, words.property)
+    if is_later:
+        whole = lives(words, above, judge, source.given)
+        yield from (Justice(whole, answer.number, is_alone=False) for answer in whole.answers())
+
+
+def raced(words, above, judge):
+    """Asks one question after the other, up to the first that something reaches, and gives the exit status of all together."""
+    races, statuses = [], []
+    try:
+        for source in asked(words, above, judge):
+            keep = os.path.join(words.keep, source.stem) if words.keep and races else words.keep
+            races.append(Race(argparse.Namespace(**{**vars(words), "keep": keep}), judge.programs, judge, above, source))
+            statuses.append(races[-1].run())
+            if statuses[-1] in (UNSAFE, FAILED) or words.aiger:
+                break
+            judge.programs.stop()
+            judge.programs = programs.Programs(words.jobs)
+    finally:
+        end_scripts(races if words.keep else [])
+    return next((it for it in (UNSAFE, FAILED, OPEN) if it in statuses), SAFE)
+
+
+def end_scripts(races):
+    """Ends the scripts of what was kept of races: that of the first runs those of the others, whose folders are in its own."""
+    for race in races[1:]:
+        race.evidence.end()
+        races[0].evidence.part(race.source.stem)
+    for race in races[:1]:
+        race.evidence.end()
 
 
 def answer(line):
     """Answers what a command line asks, and gives the exit status."""
     words = parse(line)
-    running = programs.Programs(words.jobs)
-    judge = Judge(running, *words.believed, words.limit)
+    judge = Judge(programs.Programs(words.jobs), *words.believed, words.limit)
     programs.adopt()
     above = tempfile.mkdtemp(prefix="aigprove-")
     try:
-        if words.each:
-            return Table(words, running, judge, above).run()
-        return Race(words, running, judge, above, asked(words, above, judge)).run()
+        return Table(words, judge.programs, judge, above).run() if words.each else raced(words, above, judge)
     except Late as why:
         programs.say(why)
         print("2\n." if words.aiger else "nothing was shown")
         return OPEN
     finally:
-        running.stop()
+        judge.programs.stop()
         programs.bury()
         programs.remove(above)
 

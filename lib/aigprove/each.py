@@ -3,6 +3,7 @@
 ABC's pdr is asked about all properties that are open, each for a second at most, then for four, and so on; beside its first run the other
 engines are asked about the whole file. What is left then is asked about alone."""
 import concurrent.futures
+import math
 import threading
 import time
 
@@ -16,8 +17,10 @@ from aigprove.race import TICK
 from aigprove.shared import BMC, PDR, Cones, Shared
 from aigprove.witness import Witness
 
-# Seconds of the first run of pdr for each property, of the time that all are asked about at once, and of the search for a shorter run.
+# Seconds of the first run of pdr for each property, of the time that all are asked about at once, and of the search for shorter runs.
 PASS, WHOLE, SHORTER = 1, 2, 2
+# Engines whose runs are the shortest.
+SHORTEST = {"bmc3", "bounded", "steps"}
 # Engines that aren't asked about the whole file beside pdr.
 OF_ABC = {"pdr", "bmc3"}
 
@@ -33,6 +36,8 @@ class Each(Alone):
         self.whole = self.whole_quest(self.stem, [name for name in words.engines if name not in OF_ABC])
         self.cones = Cones(self.whole.circuit)
         self.first, self.is_checking, self.part = threading.Event(), False, Part(programs, f"{self.stem}-pdr")
+        # The numbers of the properties of which shorter runs were looked for, which is done by one thread at a time.
+        self.looked, self.shortening = set(), threading.Lock()
 
     def circuit(self, number):
         return self.cones.of([number])
@@ -49,7 +54,8 @@ class Each(Alone):
                 begun = time.monotonic()
                 runs, certificate = shared.ask(self.cones.of(numbers), PDR.format(each=1000 * seconds))
                 self.is_checking = True
-                self.take_runs(shared, {numbers[place]: run for place, run in runs.items()})
+                self.in_turn(self.take_run, [(numbers[place], run, "pdr") for place, run in runs.items()])
+                self.shorten(shared)
                 if certificate:
                     self.take_certificate(certificate)
                 self.first.set()
@@ -62,20 +68,39 @@ class Each(Alone):
             self.fault("pdr", f"passed over: {why}")
         # Whatever ABC leaves, the other engines go on.
         except Exception as why:
-            self.fault("pdr", reason(why))
+            if not self.part.is_stopped:
+                self.fault("pdr", reason(why))
         finally:
             self.is_checking = False
             self.first.set()
 
-    def take_runs(self, shared, runs):
-        """Has runs to properties checked, and shorter ones, if there are any."""
-        self.in_turn(self.take_run, [(number, run, "pdr") for number, run in runs.items()])
-        lengths = {number: len(steps) for number, (_, steps) in runs.items() if len(steps) > 1}
-        if lengths and "bmc3" in self.words.engines:
-            numbers = list(lengths)
-            command = BMC.format(steps=max(lengths.values()) - 1, seconds=SHORTER)
-            found = {numbers[place]: run for place, run in shared.ask(self.cones.of(numbers), command)[0].items()}
-            self.in_turn(self.take_run, [(it, run, "bmc3") for it, run in found.items() if len(run[1]) < lengths[it]])
+    def shorten(self, shared):
+        """Has shorter runs to properties checked, if there are any, where the known run may be longer, and that wasn't looked at."""
+        with self.shortening:
+            inexact = [it for it in self.answers if it.told and it.engine not in SHORTEST and it.number not in self.looked]
+            lengths = {it.number: len(it.told.steps) for it in inexact if len(it.told.steps) > 1}
+            self.looked.update(lengths)
+            left = self.deadline - time.monotonic()
+            if lengths and left > 0 and "bmc3" in self.words.engines:
+                seconds = left if self.words.shortest else min(left, SHORTER)
+                numbers, limit = list(lengths), 0 if seconds == math.inf else math.ceil(seconds)
+                command = BMC.format(steps=max(lengths.values()) - 1, seconds=limit)
+                found = {numbers[place]: run for place, run in shared.ask(self.cones.of(numbers), command)[0].items()}
+                self.in_turn(self.take_run, [(it, run, "bmc3") for it, run in found.items() if len(run[1]) < lengths[it]])
+
+    def settle(self):
+        """Has shorter runs checked where engines that were asked about one property left longer ones."""
+        try:
+            self.shorten(Shared(self.words, self.part, self.above))
+        except (Stopped, Missing):
+            pass
+        except Exception as why:
+            if not self.part.is_stopped:
+                self.fault("bmc3", reason(why))
+
+    def round(self, numbers, seconds):
+        super().round(numbers, seconds)
+        self.settle()
 
     def take_run(self, item):
         """Has a run that a command of ABC found to a property checked."""
@@ -138,6 +163,7 @@ class Each(Alone):
             pass
         self.whole.end_all()
         super().run()
+        self.settle()
         self.end_all()
         for thread in threads:
             thread.join()

@@ -77,6 +77,10 @@ class Evidence:
         self.put(name, file)
         self.add("makes", name, *words)
 
+    def part(self, name):
+        """Adds the script of a folder in this one."""
+        self.lines.append(f"AIGCHECK=$check AIGEDIT=$edit ./{shlex.quote(name)}/check.sh || exit 1\n")
+
     def end(self):
         path = os.path.join(self.folder, "check.sh")
         files.write(path, (line.encode() for line in self.lines), "xb")

@@ -1,14 +1,16 @@
-"""A justice property of a file: what is asked about is the file that aigedit makes of it, whose bad state ends a fair lasso."""
+"""A justice property of a file: what is asked about is the file that aigedit makes of it, whose bad state ends a fair lasso. A liveness
+assertion of a design is one of a file of its own kind: a fair run on which it fails."""
 import functools
 
 from aigprove import waves
 from aigprove.programs import Fault
 from aigprove.report import Answer
-from aigprove.source import Asked, changes_of, counted
+from aigprove.source import Asked, Given, changes_of, counted, of_kind
+from aigprove.verilog import FAIR, LIVE
 
 
 class Justices(Asked):
-    """The justice properties of a file."""
+    """The justice properties of a file, of a design its liveness assertions."""
 
     # The letter of their numbers, what all and one of them are called among what is kept, and the option that asks about one.
     letter, stems, option = "j", ("justices", "justice"), "justice"
@@ -16,12 +18,21 @@ class Justices(Asked):
     def __init__(self, given):
         self.given, self.path, self.name, self.asked = given, given.path, given.name, given.file
         self.circuit, self.about, self.keep = given.circuit, given.about, given.keep
+        if given.design and not (given.design.has_lives and given.design.assertions):
+            raise Fault(f"{self.path}: {given.design.top} has no liveness assertion that can be asked about")
 
     def answers(self):
         """The properties, which have no answers yet, with their names."""
+        if self.given.design:
+            return [Answer(self.letter, i, *it) for i, it in enumerate(self.given.design.named())]
         names = self.circuit().names
         numbers = range(self.given.header().justice)
         return [Answer(self.letter, i, names.get((self.letter, i), b"").decode("utf-8", "surrogateescape")) for i in numbers]
+
+
+def lives(words, above, judge, first):
+    """The liveness assertions of a design of which something else was asked first: what was read of it is given."""
+    return Justices(Given(words.files, of_kind(LIVE, words, first), above, judge, "lives", first.given))
 
 
 class Justice(Asked):
@@ -30,8 +41,8 @@ class Justice(Asked):
     # What stands before lines of aigcheck, and by which command of aigedit the file is made.
     prefix, of_step, command = "live: ", "live: ", "live"
 
-    def __init__(self, whole, number):
-        self.given, self.path, self.number, self.circuit = whole.given, whole.path, number, whole.circuit
+    def __init__(self, whole, number, is_alone=True):
+        self.given, self.path, self.number, self.circuit, self.is_alone = whole.given, whole.path, number, whole.circuit, is_alone
         self.name, self.stem = f"justice-{number}.aag", f"{whole.stems[1]}-{number}"
         self.safe, self.so_far = f"no fair run of j{number}", f"no fair lasso of j{number}"
         if number >= self.given.header().justice:
@@ -46,12 +57,16 @@ class Justice(Asked):
         header = self.given.header()
         others = "other justice property", "other justice properties"
         unseen = [*counted(header.bads, "bad state property", "bad state properties"), *counted(header.justice - 1, *others)]
-        if unseen:
+        if unseen and self.is_alone:
             verb = "was" if header.bads + header.justice == 2 else "were"
             yield f"{self.path}: {' and '.join(unseen)} {verb} not looked at"
 
     def about(self):
-        yield from self.given.about()
+        """Lines of what is asked about."""
+        if self.is_alone or self.number == 0:
+            yield from self.given.about()
+        if self.given.design:
+            yield f"j{self.number}: {self.given.design.assertion(self.number)[0]}"
 
     def places(self, circuit):
         """How the AIGER report names what is asked about."""
@@ -64,7 +79,7 @@ class Justice(Asked):
 
     def found(self, shown, tolds):
         """The line that says where the loop of a lasso is: from the step that is saved to the last one."""
-        begin, last = [row[-1] for row in tolds[0].steps].index("1"), len(tolds[0].steps) - 1
+        begin, last = begin_of(tolds[0]), len(tolds[0].steps) - 1
         span = f"step {begin}" if begin == last else f"steps {begin} to {last}"
         return f"a fair run of {shown.place('j', self.number)}: {span} again and again"
 
@@ -72,7 +87,30 @@ class Justice(Asked):
         """Lines of a lasso: the latches that its literals read, or that are open at first and matter; and the inputs of each step."""
         lasso, literals = self.of_file(told), circuit.justice[self.number] + circuit.fairness
         read = set().union(*map(circuit.read_by, literals))
-        yield from shown.lines(lasso, read | self.opened(circuit, lasso), changes_of(shown, circuit, lasso, read))
+        read = (named(circuit, read) if self.given.design else read) | self.opened(circuit, lasso)
+        shown.hidden = self.watching(circuit)
+        yield from shown.lines(lasso, read, changes_of(shown, circuit, lasso, read))
+        yield from self.meaning(lasso)
+
+    def opened(self, circuit, told):
+        """The places of the latches that are open at first, and matter: of a design those with names."""
+        return {i for i in super().opened(circuit, told) if not self.given.design or ("l", i) in circuit.names}
+
+    def watching(self, circuit):
+        """The places of the inputs and latches by which yosys has liveness watched: the last ones, of each assertion an input that says
+        from which step on it fails, and two latches, and of each assumption a latch."""
+        counts = self.given.design.counts if self.given.design else {LIVE: 0, FAIR: 0}
+        last = {"i": (len(circuit.inputs), counts[LIVE]), "l": (len(circuit.latches), 2 * counts[LIVE] + counts[FAIR])}
+        return {f"{letter}{i}" for letter, (end, count) in last.items() for i in range(end - count, end)}
+
+    def meaning(self, lasso):
+        """Lines of how a lasso shows that a liveness assertion fails."""
+        design = self.given.design
+        if design:
+            own, text = design.assertion(self.number)
+            chosen = [row[self.number - design.counts[LIVE]] for row in lasso.steps]
+            yield f"{own} fails: from step {chosen.index('1')} on it is never met"
+            yield from [f"it says: {text}"] * bool(text)
 
     def dump(self, circuit, told):
         """The lines of a value change dump."""
@@ -84,3 +122,18 @@ class Justice(Asked):
         if not folder:
             self.given.keep(evidence)
         evidence.makes(self.name, self.asked, self.command, folder + self.given.name, str(self.number))
+
+
+def begin_of(told):
+    """The step at which the loop of a lasso begins: in a run of the made file the one whose state is saved."""
+    return [row[-1] for row in told.steps].index("1")
+
+
+def named(circuit, left):
+    """The places of the latches with names that these are, or read in earlier steps by others without."""
+    seen = set()
+    while left - seen:
+        nameless = {i for i in left - seen if ("l", i) not in circuit.names}
+        seen |= left
+        left = set().union(*(circuit.read_by(circuit.nexts[i]) for i in nameless))
+    return {i for i in seen if ("l", i) in circuit.names}

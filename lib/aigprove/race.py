@@ -12,6 +12,7 @@ from aigprove.evidence import Evidence
 from aigprove.minimal import minimal, simulated
 from aigprove.programs import Fault, Sealed, Stopped, reason, say, tell
 from aigprove.questions import Solver
+from aigprove.registers import Registers
 from aigprove.replay import SIMULATED
 from aigprove.shown import Shown
 
@@ -244,7 +245,8 @@ class Race:
             given["certificate"] = lambda: Certificate(self, words.certificate)
         if words.run:
             given["run"] = lambda: Run(self, words.run)
-        own = {"steps": Steps, "bounded": Bounded, "windows": Windows, **{name: functools.partial(Abc, name) for name in COMMANDS}}
+        own = {"steps": Steps, "bounded": Bounded, "windows": Windows, "registers": Registers}
+        own.update((name, functools.partial(Abc, name)) for name in COMMANDS)
         return given | {name: functools.partial(own[name], self) for name in words.engines}
 
     def start(self, name, make):
@@ -301,8 +303,6 @@ class Race:
             status = FAILED if len(self.faults) == len(engines) else self.print_open()
         if status == SAFE and self.header.constraints:
             status = SAFE if self.print_met() else OPEN
-        if self.evidence:
-            self.evidence.end()
         return self.print_status(status, self.told)
 
     def raced(self, engines):

@@ -40,6 +40,8 @@ class Shown:
         if circuit.header.is_old:
             self.names.update({"b" + place[1:]: name for place, name in self.names.items() if place[0] == "o"})
         self.buses = {"i": self.find_buses("i", len(circuit.inputs)), "l": self.find_buses("l", len(circuit.latches))}
+        # The places of what isn't printed.
+        self.hidden = set()
 
     def find_buses(self, letter, count):
         """The places of the bits of each word of one kind, whose name is a plain word."""
@@ -67,7 +69,7 @@ class Shown:
         """The values of inputs or latches: of all, or of those at these places."""
         shown = []
         for name, own in grouped(len(values), self.buses[letter]):
-            if places is None or not places.isdisjoint(own):
+            if f"{letter}{own[0]}" not in self.hidden and (places is None or not places.isdisjoint(own)):
                 bits = [values[i] for i in own]
                 shown.append(f"{name}={number(bits)}" if name else f"{self.signal(f'{letter}{own[0]}')}={number(bits)}")
         return shown

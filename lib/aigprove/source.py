@@ -12,12 +12,14 @@ from aigprove.programs import Fault, say
 from aigprove.replay import SIMULATED, Replay
 from aigprove.report import Answer
 from aigprove.shown import Shown, word
-from aigprove.verilog import BLIF, FRONTS, STANDARD_INPUT, VERILOG, Design, File, kind_of
+from aigprove.verilog import BLIF, COVER, FRONTS, LIVE, STANDARD_INPUT, VERILOG, Design, File, kind_of
 # Options that are for designs alone, or for those that certain front ends read.
 OF_DESIGNS = {
     **dict.fromkeys(["top", "reset", "parameter", "black_box", "multiclock"]),
     **dict.fromkeys(["define", "include"], [VERILOG]),
 }
+# How aigedit begins the names of latches of the other file.
+OTHER = b"other."
 # How many outputs that differ are named.
 NAMED = 100
 # How many registers that are open at first are named.
@@ -43,8 +45,8 @@ class Given:
             folder = tempfile.mkdtemp(prefix="design-", dir=above)
             files = [File(path, file.bytes()) for path, file in zip(paths, self.given)]
             self.design = Design(files, words, folder, judge.programs)
-        for line in self.design.left_out if self.design and not words.quiet else []:
-            if not (words.each and line.startswith("cover ")):
+        for kind, line in self.design.left_out if self.design and not words.quiet else []:
+            if kind not in words.later:
                 say(line)
         self.file = sealed(self.design.file, judge.limit) if self.design else self.given[0]
         self.line = self.file.line()
@@ -160,22 +162,22 @@ class Source(Asked):
     def __init__(self, words, above, judge, given=None):
         self.given, self.path = Given(words.files, words, above, judge, self.stem, given), words.files[0]
         self.name, self.asked, self.is_old = self.given.name, self.given.file, is_old(self.given.line)
-        if self.given.design and not self.given.design.assertions and BLIF not in self.given.kinds and not (words.each and self.covers):
+        if self.given.design and BLIF not in self.given.kinds and not (self.given.design.assertions or self.has_later(words.later)):
             raise Fault(f"{self.path}: {self.given.design.top} has no assertion")
         if self.is_old:
             self.name, self.asked = "bads.aag", judge.made("bads", self.asked)
         self.circuit, self.warnings, self.replay = self.given.circuit, self.given.warnings, None
 
-    @property
-    def covers(self):
-        """How many covers its design has."""
-        return self.given.design.covers if self.given.design else 0
+    def has_later(self, kinds):
+        """Whether its design has something of one of these kinds, which is asked about by itself."""
+        design = self.given.design
+        return bool(design) and (COVER in kinds and design.has_covers or LIVE in kinds and design.has_lives)
 
     def answers(self):
         """Its properties, which have no answers yet: of a design with the names and the places of its assertions."""
         circuit, design = self.circuit(), self.given.design
         if design and design.assertions:
-            named = [(f"{design.top}.{name}" if is_named else "", design.yosys.told(place)) for name, place, is_named in design.assertions]
+            named = design.named()
         else:
             letter = "o" if self.is_old else "b"
             names = [circuit.names.get((letter, i), b"") for i in range(len(circuit.outputs if self.is_old else circuit.bads))]
@@ -244,8 +246,12 @@ class Covers(Source):
     letter, stems, stem = "c", ("covers", "cover"), "covers"
 
     def __init__(self, words, above, judge, first):
-        words = argparse.Namespace(**{**vars(words), "quiet": True, "covers": True, "top": first.design.top})
-        super().__init__(words, above, judge, first.given)
+        super().__init__(of_kind(COVER, words, first), above, judge, first.given)
+
+
+def of_kind(kind, words, first):
+    """The words that ask about what a design has of a kind, where the first question told what isn't asked about."""
+    return argparse.Namespace(**{**vars(words), "quiet": True, "kind": kind, "top": first.design.top})
 
 
 class Pair(Asked):
@@ -279,8 +285,15 @@ class Pair(Asked):
     def circuit(self):
         """The circuit of the miter, whose bad state properties have the names of what they compare."""
         circuit, first = self.judge.circuit(self.asked, "MITER"), self.first.circuit()
+        circuit.names = {place: self.outermost(name) for place, name in circuit.names.items()}
         circuit.names.update((("b", i), first.name(*place)) for i, place in enumerate(self.compared()))
         return circuit
+
+    def outermost(self, name):
+        """Of the names of a signal of a design the outermost, behind what says that it is one of the other file."""
+        is_other = name.startswith(OTHER)
+        prefix = OTHER if is_other else b""
+        return prefix + outermost(name[len(prefix):]) if (self.other if is_other else self.first).design else name
 
     def warnings(self):
         """Lines of what isn't compared."""

@@ -10,7 +10,7 @@ from aigprove.aiger import LIMIT
 from aigprove.alone import Fair, show_progress
 from aigprove.each import Each
 from aigprove.gather import Gathered
-from aigprove.justice import Justices
+from aigprove.justice import Justices, lives
 from aigprove.kept import Kept
 from aigprove.programs import Fault, say
 from aigprove.properties import Within
@@ -19,6 +19,7 @@ from aigprove.race import FAILED, OPEN, SAFE, TICK, UNSAFE, header_of
 from aigprove.report import Report
 from aigprove.shown import Shown
 from aigprove.source import Covers, Source
+from aigprove.verilog import COVER, LIVE
 
 STATUS = {"fails": UNSAFE, "holds": SAFE, "undecided": OPEN}
 
@@ -33,12 +34,14 @@ class Table:
         resource.setrlimit(resource.RLIMIT_NOFILE, (most, most))
         first = Source(words, above, judge)
         self.sources = [first] if first.answers() else []
-        self.sources += [Covers(words, above, judge, first.given)] if first.covers else []
+        self.sources += [Covers(words, above, judge, first.given)] if first.has_later({COVER}) else []
         fair = [Justices(first.given)] if first.given.header().justice else []
+        fair += [lives(words, above, judge, first.given)] if first.has_later({LIVE}) else []
         self.sources += fair
         if not self.sources:
             raise Fault(f"{first.path}: {first.empty}")
-        self.lines = [] if words.quiet else [*([] if fair else first.warnings()), *first.about()]
+        asked = [first] * bool(first.answers()) + [source for source in fair if source.given.design]
+        self.lines = [] if words.quiet else [*([] if fair else first.warnings()), *(line for it in asked or [first] for line in it.about())]
         self.is_there = bool(words.keep) and os.path.lexists(words.keep)
         self.kept = Kept(words.keep, words.limit) if words.keep else None
         for source in self.sources if self.kept else []:

@@ -57,9 +57,15 @@ setundef -undriven -expose
 write_rtlil {made}/free.il
 write_json {made}/free.json
 """
-# What isn't asked about: covers, or assertions, where covers are asked for as assertions that fail.
-CHOSEN = {False: "chformal -cover -live -fair -remove", True: "chformal -assert -live -fair -remove\ntechmap -map {made}/cover.v t:$cover"}
-COVER = """(* techmap_celltype = "$cover" *)
+# By what is asked about: how the rest is left out. Covers become assertions that fail. Beside liveness assertions there are no outputs, so
+# that the file has only what bears on them: a run that comes back to a state has fewer signals to bring back.
+ASSERT, COVER, LIVE, FAIR = "$assert", "$cover", "$live", "$fair"
+CHOSEN = {
+    ASSERT: "chformal -cover -live -fair -remove",
+    COVER: "chformal -assert -live -fair -remove\ntechmap -map {made}/cover.v t:$cover",
+    LIVE: "chformal -assert -cover -remove\ndelete -output",
+}
+COVERED = """(* techmap_celltype = "$cover" *)
 module covered (input A, input EN);
   \\$assert _TECHMAP_REPLACE_ (.A(!A), .EN(EN));
 endmodule
@@ -84,7 +90,7 @@ abc -g AND
 opt_clean
 formalff -anyinit2ff -fine
 aigmap
-json -o asserted.json t:$assert
+json -o asserted.json t:$assert t:$live
 write_aiger -symbols -map design.aim design.aig
 """
 # The first steps: the signal is held, and no assertion is asked about. One at an edge of the clock is about the step before, or with
@@ -142,6 +148,8 @@ ASKED = ("$assert", "$assume")
 # The files of our own that cells are made by.
 MADE = re.compile(r"(/proc/self/fd/[0-9]+/|\./)?(cover|held|asked|late|free)\.v:")
 KINDS = {"$assert": "assertion", "$assume": "assumption", "$cover": "cover", "$live": "liveness assertion", "$fair": "fairness assumption"}
+# What is counted of what is asked about.
+COUNTED = {**dict.fromkeys([ASSERT, COVER], ["$assert", "$assume"]), LIVE: ["$live", "$fair", "$assume"]}
 WORD = re.compile(r"[A-Za-z_][A-Za-z0-9_$]*")
 PARAMETER = re.compile(r"^  parameter \\(\S+)", re.MULTILINE)
 # By what yosys says: what to do.
@@ -153,9 +161,9 @@ HINTS = {
 FAILED = re.compile(r"^Warning: Assert (\S+ \(.*\)) failed\.$", re.MULTILINE)
 
 
-def asked_below(cells, modules, kind="$assert"):
-    """How many assertions, or cells of another kind, these modules have."""
-    return sum(cell.type == kind and cell.module[1:] in modules for cell in cells)
+def asked_below(cells, modules):
+    """How many assertions, and such of liveness, these modules have."""
+    return sum(cell.type in (ASSERT, LIVE) and cell.module[1:] in modules for cell in cells)
 
 
 def place_of(source):
@@ -190,15 +198,15 @@ class Design:
         self.yosys.put("defines.v", "".join(f"`define {name} {value}\n" for name, value in words.define))
         with open(os.path.join(os.path.dirname(__file__), "free.v"), encoding="utf-8") as file:
             self.yosys.put("free.v", file.read())
-        self.yosys.put("cover.v", COVER)
+        self.yosys.put("cover.v", COVERED)
         if self.reset:
             self.put_reset()
         self.left_out = self.read(words.top)
         self.top, module = self.free()
         self.clock, self.constants = clock_of(self.top, module), constants(module)
-        self.counts = [len(cells_like(module, kind)) for kind in ("$assert", "$assume")]
+        self.counts = {kind: len(cells_like(module, kind)) for kind in COUNTED[words.kind]}
         # With several clocks the reset is among the assumptions by now.
-        self.counts[1] -= bool(self.reset and words.multiclock)
+        self.counts["$assume"] -= bool(self.reset and words.multiclock)
         self.assertions = self.write(module)
         self.file = self.yosys.place("design.aig")
 
@@ -214,8 +222,7 @@ class Design:
         if self.words.parameter:
             # Yosys sets parameters of a top module that is named.
             every, below = self.read_below(f"-top {self.top}{self.parameters()}")
-        self.covers = asked_below(every, below, "$cover")
-        lines = [f"{name} is a top module too, and not asked about" for name in others]
+        lines = [("", f"{name} is a top module too, and not asked about") for name in others]
         return lines + [line for cell in every for line in self.passed_over(cell, cell.module[1:] in below)]
 
     def script(self, top, further, made, copies, folders):
@@ -230,7 +237,7 @@ class Design:
 
     def chosen(self, made):
         """The lines that leave out what isn't asked about, where our folder is `made`."""
-        return CHOSEN[self.words.covers].format(made=made)
+        return CHOSEN[self.words.kind].format(made=made)
 
     def edges(self, made):
         """The lines that make registers of any clocks such of all steps, where that is wanted, in the folder where ours is so called."""
@@ -256,6 +263,8 @@ class Design:
             raise Fault(f"{self.yosys.told(place)}: an item of this case is x or z")
         modules = modules_of(text)
         below = {base_of(name) for name in modules}
+        kinds = {cell.type for cell in cells_of(text)}
+        self.has_covers, self.has_lives = COVER in kinds, LIVE in kinds and not self.words.multiclock
         if not below:
             raise Fault(f"{self.yosys.path} has no module")
         self.top = next((base_of(name) for name, own in modules.items() if TOP.search(own)), None)
@@ -288,10 +297,12 @@ class Design:
         return text
 
     def passed_over(self, cell, is_below):
-        """A line of an assertion, or another such cell, that isn't asked about: in no module below the top, or of a kind that no bad state
-        or constraint says."""
+        """A line of an assertion, or another such cell, that no bad state or constraint stands for, and its kind where another question may
+        be about it: it has to be in a module below the top, and one of liveness to have one clock."""
         if cell.type in KINDS and not (is_below and cell.type in ASKED):
-            yield f"{KINDS[cell.type]} {cell.label} ({self.yosys.told(cell.place)}) is not asked about"
+            is_later = is_below and (cell.type == COVER or self.has_lives)
+            why = " with --multiclock" * (self.words.multiclock and cell.type in (LIVE, FAIR))
+            yield is_later and cell.type, f"{KINDS[cell.type]} {cell.label} ({self.yosys.told(cell.place)}) is not asked about{why}"
 
     def free(self):
         """Makes inputs of what is free, where that isn't done, and gives the name of the top module and what it has."""
@@ -344,13 +355,18 @@ class Design:
 
     def about(self):
         """The line of what is asked about."""
-        counted = [f"{count} {what}{'s' * (count != 1)}" for count, what in zip(self.counts, ["assertion", "assumption"])]
+        counted = [f"{count} {KINDS[kind]}{'s' * (count != 1)}" for kind, count in self.counts.items()]
         return f"{self.top}: {', '.join(counted)}" + (f", {self.reset}" if self.reset else "")
 
-    def assertion(self, bad):
-        """The line of the assertion that a bad state property stands for, and what it is in the design's text."""
-        name, place, is_named = self.assertions[bad]
-        return f"assertion {self.top}{f'.{name}' if is_named else ''} ({self.yosys.told(place)})", self.spelled(self.yosys.told(place))
+    def named(self):
+        """The name and the place of each assertion, in the order of the file's properties."""
+        return [(f"{self.top}.{name}" if is_named else "", self.yosys.told(place)) for name, place, is_named in self.assertions]
+
+    def assertion(self, number):
+        """The line of the assertion that a property of the file stands for, and what it is in the design's text."""
+        name, place, is_named = self.assertions[number]
+        own = f"{KINDS[self.words.kind]} {self.top}{f'.{name}' if is_named else ''} ({self.yosys.told(place)})"
+        return own, self.spelled(self.yosys.told(place))
 
     def spelled(self, place):
         """The lines of the design's files at a place, as one, where they are known: what is counted in a line are signs without macros."""

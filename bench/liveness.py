@@ -1,0 +1,63 @@
+#!/usr/bin/env python3
+"""Measures bin/aigprove on liveness beside ABC: liveness.py [SECONDS [DESIGN ..]]
+
+For each design of tests/fair, with each of its parameters, and each of its liveness assertions: seconds by the clock and of processor time
+of ABC's `l2s` and `pdr` on the file that yosys makes, for at most SECONDS (60), and of aigprove --justice on the same file with all that
+it runs, and what that answers; and of aigprove --justice on the design. `-` is no answer. At most twice ABC's time and a second by the
+clock is wanted on the file, where ABC answers, on four cores without other work; the last line has the most beyond twice ABC's."""
+import sys
+
+from designs import shown, timed
+from measuring import PROVE, heads, new_folder, row, run
+
+import fair
+import harness
+from aiger import machine_of
+
+DONE = ["was asserted in frame", "Property proved", "Explored all reachable states"]
+
+
+def plain(file, number, made):
+    """Writes a file in the form that ABC reads, in which outputs say by their names what is asserted and assumed."""
+    machine = machine_of(harness.output([harness.TOOL, "text", str(file)]))
+    (justice,) = machine.justice[number]
+    machine.outputs = [justice ^ 1, *machine.fairness, *machine.constraints]
+    kinds = ["assert_fair", *["assume_fair"] * len(machine.fairness), *["assume_safety"] * len(machine.constraints)]
+    machine.names = {f"o{i}": f"{kind}_{i}" for i, kind in enumerate(kinds)}
+    machine.bads, machine.constraints, machine.justice, machine.fairness = [], [], [], []
+    made.write_bytes(machine.binary())
+
+
+def abc(file, seconds):
+    """Seconds of ABC, or None where it answers nothing."""
+    *took, printed = timed(["berkeley-abc", "-q", f"read_aiger {file}; logic; undc; strash; l2s; strash; pdr"], seconds)
+    return took if any(done in printed for done in DONE) else None
+
+
+def measured(design, folder, seconds):
+    """The rows of a design: what aigprove takes beyond twice ABC's time on each file."""
+    run([PROVE, "--tasks", "--keep", folder / "kept", *design.words()])
+    file = folder / "kept" / "lives.aig"
+    for number in range(len(design.asked()[0])):
+        plain(file, number, folder / "plain.aig")
+        by_abc, words = abc(folder / "plain.aig", seconds), ["--justice", str(number), "--timeout", str(seconds)]
+        *took, printed = timed([PROVE, *words, file], seconds + 5)
+        *all_took, _ = timed([PROVE, *words, *design.words()], seconds + 5)
+        answer = next((line for line in printed.splitlines() if line.startswith(("a fair", "no fair run"))), "-")
+        row(" ".join([design.name, *design.parameters]), shown(by_abc), shown(took), answer, shown(all_took))
+        yield took[0] - 2 * by_abc[0] if by_abc else 0
+
+
+def main():
+    seconds, *names = [*sys.argv[1:]] or ["60"]
+    heads("design", "l2s; pdr", "aigprove", "answer", "with yosys")
+    beyond = []
+    for design in fair.table():
+        if not names or design.name in names:
+            with new_folder() as folder:
+                beyond += measured(design, folder, float(seconds))
+    print(f"aigprove takes at most {max(beyond):.2f} s more than twice ABC's time, of {len(beyond)} questions")
+
+
+if __name__ == "__main__":
+    main()
