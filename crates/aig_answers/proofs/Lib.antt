@@ -4,6 +4,7 @@ mod Asking
 pub mod Verdicts
 pub mod Answering
 mod Alike
+pub mod Named
 mod Deciding
 mod Differing
 mod WindowRuns

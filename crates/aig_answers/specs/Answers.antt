@@ -2,6 +2,7 @@
 -- What is asked of a circuit, what an answer says of the bytes of a file and of a proof, and which
 -- errors a call has.
 use Rattle.std.specs.Prelude.{◌≡◌, ◌≢◌, ℕ, ◌+◌, ◌≤◌, ◌==◌, nat_lt, if◌then◌else◌, Bool, List, [], ◌++◌, length, Option, Result, Ok, Err}
+use Rattle.std.specs.FinMap.{empty}
 use Rattle.aig_base.specs.declared.logic.literal.Lit.{Lit}
 use Rattle.aig_base.specs.Clauses.{AreBelow}
 use Rattle.aig_base.specs.Formula.{clauses_in}
@@ -48,6 +49,14 @@ pub record IsCircuitQuery (c : Circuit) (k : ℕ) (optimize : Bool) (q : Circuit
 abbrev pub query_with : Circuit → WindowClauses → CircuitQuery
 query_with unrolled made =
     record { unrolled = unrolled; clauses = made.clauses; further = made.further }
+
+-- the circuit, without names
+abbrev pub without_names : Circuit → Circuit
+without_names c = record c { names = empty }
+
+-- it is the circuit of the file, names aside
+abbrev pub IsCircuitOf : File → Circuit → Type 0
+IsCircuitOf f c = without_names c ≡ without_names (circuit_of f)
 
 -- ---- files
 

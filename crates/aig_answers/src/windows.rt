@@ -1,14 +1,14 @@
 //! Windows of steps that keep a machine safe.
 
 ghost use Rattle.std.specs.Prelude.{◌≡◌, ◌≢◌, ◌+◌, ◌*◌, ◌≤◌, ◌<◌, ◌^◌, ◌↔◌, ◌++◌, [], IfErr, IfOk, IsErrOf, IsTrue, OnOk, false, length, map, replicate, ℕ};
-ghost use Rattle.aig_answers.specs.Answers.{IsAsked, IsOfInduction, IsOfWindow, IsSaidBy, TellsOfCircuitWindow, TellsOfWindow, circuit_window_verdict, verdict_of, window_size, window_verdict};
+ghost use Rattle.aig_answers.specs.Answers.{IsAsked, IsCircuitOf, IsOfInduction, IsOfWindow, IsSaidBy, TellsOfCircuitWindow, TellsOfWindow, circuit_window_verdict, verdict_of, window_size, window_verdict};
 ghost use Rattle.aig_base.specs.Clauses.{AreBelow};
 ghost use Rattle.aig_runs.specs.Induction.{IsKInductive};
 ghost use Rattle.aig_runs.specs.WindowClauses.{AsksWindow, count_free, states_clauses, watched};
 ghost use Rattle.aig_circuit.specs.Circuit.{Circuit, IsCircuit, latch_leaves};
 ghost use Rattle.aig_circuit.specs.Edge.{edge_to};
 ghost use Rattle.aig_circuit.specs.View.{lists_circuit};
-ghost use Rattle.aig_reader.specs.Reading.{AreListsOf, IsReadAs};
+ghost use Rattle.aig_reader.specs.Reading.{IsReadAs};
 ghost use Rattle.aig_reader.specs.Verdicts.{Accepted, Judges, verdict_by};
 ghost use Rattle.aig_format.specs.Circuit.{circuit_of};
 ghost use Rattle.aig_format.specs.File.{File};
@@ -288,8 +288,8 @@ pub fn check_window<R: Source, P: Source>(
 }
 
 /// Checks a proof, in the LRAT or the DRAT format, that the window clauses of a circuit can't be satisfied, as `check_window` does
-/// with those of a file: then no window of `k + 2` steps of a file that the circuit is of reaches a bad state first at its end. The
-/// circuit is dropped before the proof is read.
+/// with those of a file: then no window of `k + 2` steps of a file whose circuit it is, names aside, reaches a bad state first at its
+/// end. The circuit is dropped before the proof is read.
 pub fn check_window_of<P: Source>(
     alloc: Global,
     circuit: CircuitLists,
@@ -302,8 +302,8 @@ pub fn check_window_of<P: Source>(
     requires few { limit ≤ 2 ^ 31 }
     requires steps { k < 2 ^ 32 }
     requires circuit { IsCircuit (lists_circuit circuit) }
-    ensures answer { OnOk result ((f : File) (bound : ℕ) → Fits f bound → AreListsOf f circuit
-        → IsKInductive form f k) }
+    ensures answer { OnOk result ((f : File) (bound : ℕ) → Fits f bound
+        → IsCircuitOf f (lists_circuit circuit) → IsKInductive form f k) }
     // Which refusals come before the proof is read, and when.
     ensures said { IsSaidBy (circuit_window_verdict form limit k (lists_circuit circuit))
         (verdict_by verdict_of result) }

@@ -21,8 +21,8 @@ use Rattle.aig_bounded.specs.declared.error.BoundedError.TheVariants.{TooLarge}
 use Rattle.aig_bounded_answers.specs.declared.error.BoundedAnswerError.{BoundedAnswerError}
 use Rattle.aig_bounded_answers.specs.declared.error.BoundedAnswerError.TheVariants as errors
 use Rattle.aig_bounded_answers.specs.declared.clauses.BoundedClauses.{BoundedClauses}
-use Rattle.aig_bounded_answers.specs.Asking.{AsksBounded, IsAskedWithin, RefusesAnswer, RefusesSolution, TellsOfSize, verdict_of}
-use Rattle.aig_bounded_answers.specs.Encoded.{IsEncoded, IsEncodedQuestion, IsSaidOfBads}
+use Rattle.aig_bounded_answers.specs.Asking.{AsksBounded, AsksOfBads, IsAskedWithin, IsSaidOfBads, RefusesAnswer, RefusesSolution, TellsOfSize, verdict_of}
+use Rattle.aig_bounded_answers.specs.Encoded.{IsEncoded, IsEncodedQuestion}
 use Rattle.aig_bounded_answers.specs.Naming.{IsNamed}
 use Rattle.aig_bounded_answers.specs.Solving.{WitnessWithin}
 use Rattle.aig_bounded_answers.proofs.Single.{refused_same}
@@ -30,23 +30,23 @@ use Rattle.aig_bounded_answers.proofs.Verdicts.{count_of}
 use Rattle.aig_bounded_answers.specs.declared.naming.Named.{Named}
 use Rattle.aig_bounded.specs.declared.question.Question.{Question}
 
--- ---- of a file
+-- ---- of a circuit
 
--- the question of the circuit of a file is one of the file
-pub asks_of_lists : (k : ℕ) (optimize : Bool) (lists : CircuitLists) (f : File)
-    → AreListsOf f lists → (made : BoundedClauses)
-    → IsEncodedQuestion (lists_circuit lists) k optimize made → AsksBounded f k optimize made
-asks_of_lists k optimize lists f is made e = record {
+-- what is encoded is a question of the circuit
+pub asks_of : (c : Circuit) (k : ℕ) (optimize : Bool) (made : BoundedClauses)
+    → IsEncodedQuestion c k optimize made → AsksOfBads c k optimize made
+asks_of c k optimize made e = record {
   output = e.output;
-  asks = subst (λ c. IsQuestion c k (lists_circuit made.question.circuit) e.output
-      made.question.places.items) is e.asks;
-  named = subst (λ c. AllZip (IsNamed c) made.question.places.items made.named.items) is e.named;
+  asks = e.asks;
+  named = e.named;
   has_clauses = e.encoded.has_clauses;
   fixes = e.encoded.fixes;
   satisfied = e.encoded.satisfied;
   exact = e.encoded.exact ∙ ap (λ (p : Properties AigEdge). unit_clauses p.outputs)
       e.asks.properties;
 }
+
+-- ---- of a file
 
 pub lists_closed : (f : File) (bound : ℕ) (lists : CircuitLists) → Fits f bound
     → AreListsOf f lists → IsClosed (lists_circuit lists)
@@ -77,7 +77,9 @@ module _ (limit k : ℕ) (optimize : Bool) (lists : CircuitLists)
   asks_file : (made : BoundedClauses)
       → IsEncodedQuestion (lists_circuit lists) k optimize made
       → AsksBounded read.file k optimize made
-  asks_file = asks_of_lists k optimize lists read.file read.means
+  asks_file made e =
+      subst (λ c. AsksOfBads c k optimize made) read.means
+      (asks_of (lists_circuit lists) k optimize made e)
 
   pub asked_of : (made : BoundedClauses) → lists.properties.bads.items ≢ []
       → IsEncodedQuestion (lists_circuit lists) k optimize made
@@ -119,7 +121,7 @@ module _ (limit k : ℕ) (optimize : Bool) (lists : CircuitLists) (old new : Opt
     holds = (read.holds, bads_of limit k optimize lists old new read some);
     means = (
       (made, asks_file limit k optimize lists old new read made is),
-      λ other asks. refused_same read.file k optimize made other
+      λ other asks. refused_same (circuit_of read.file) k optimize made other
           (asks_file limit k optimize lists old new read made is) asks text refused
           (length read.file.properties.bads) e
           (subst (λ n. RefusesAnswer text refused n made e) (count_of

@@ -1,22 +1,23 @@
--- What refuted clauses of a question say of a file's machine.
+-- What refuted clauses of a question say of a circuit, and of a file's machine.
 use Rattle.aig_base.proofs.Words.{◌≡◌, ◌≤◌, ◌↔◌, ◌++◌, ◌∷◌, [], ◌||◌, ℕ, Bool, true, false, IsTrue, List, suc, refl, sym, ap, subst, ◌∙◌, arith, false≢true, All-cons, All-nil, list_all-append}
 use Rattle.std.specs.Prelude.{◌&&◌, All}
 use Rattle.aig_base.specs.declared.logic.literal.Lit.{Lit}
 use Rattle.aig_base.specs.Clauses.{Satisfies, are_true, is_true_clause, literal_value}
 use Rattle.aig_base.specs.Formula.{IsSatisfiable, clauses_in}
 use Rattle.aig_circuit.specs.declared.edge.AigEdge.{AigEdge}
-use Rattle.aig_circuit.proofs.Words.{Circuit, Properties, no_properties, edge_to, lit_of, edge_value, node_value, lists_circuit}
+use Rattle.aig_circuit.proofs.Words.{Circuit, IsCircuit, Properties, no_properties, edge_to, lit_of, edge_value, node_value, lists_circuit}
 use Rattle.aig_circuit.proofs.Trees.{node_value-false}
 use Rattle.aig_cnf.specs.Cnf.{FixesRoots, IsFixed, edge_in}
 use Rattle.aig_format.proofs.Words.{circuit_of, File, Fits}
 use Rattle.aig_format.proofs.Circuits.{IsCircuit-of_file}
 use Rattle.aig_runs.specs.Queries.{IsSafeTo}
+use Rattle.aig_runs.specs.Safety.{IsCircuitSafeAt}
 use Rattle.aig_runs.proofs.SafeSteps.{safe_is}
 use Rattle.aig_runs.proofs.Witnesses.{witness_back, witness_forth}
 use Rattle.aig_format_laws.specs.Nodes.{values_over}
 use Rattle.aig_bounded.proofs.Witnesses.{question_asks}
 use Rattle.aig_bounded_answers.specs.declared.clauses.BoundedClauses.{BoundedClauses}
-use Rattle.aig_bounded_answers.specs.Asking.{AsksBounded}
+use Rattle.aig_bounded_answers.specs.Asking.{AsksBounded, AsksOfBads}
 use Rattle.aig_runs.specs.CircuitQueries.{HasCircuitWitness}
 
 and_first : (a b : Bool) → (a && b) ≡ true → a ≡ true
@@ -79,8 +80,8 @@ output_holds asks made output fixes properties exact literals v h =
 
 -- ---- refuted clauses
 
-module _ (f : File) (k : ℕ) (optimize : Bool) (made : BoundedClauses)
-    (is : AsksBounded f k optimize made)
+module _ (c : Circuit) (k : ℕ) (optimize : Bool) (made : BoundedClauses)
+    (is : AsksOfBads c k optimize made)
     (literals : (v : ℕ → Bool) (e : AigEdge) → literal_value v (lit_of e) ≡ edge_in v e) where
   abbrev asks : Circuit
   asks = lists_circuit made.question.circuit
@@ -127,8 +128,8 @@ module _ (f : File) (k : ℕ) (optimize : Bool) (made : BoundedClauses)
 
 -- ---- a bad state that is reached
 
-module _ (f : File) (limit k : ℕ) (optimize : Bool) (made : BoundedClauses) (fits : Fits f limit)
-    (is : AsksBounded f k optimize made)
+module _ (c : Circuit) (k : ℕ) (optimize : Bool) (made : BoundedClauses) (circuit : IsCircuit c)
+    (is : AsksOfBads c k optimize made)
     (literals : (v : ℕ → Bool) (e : AigEdge) → literal_value v (lit_of e) ≡ edge_in v e) where
   abbrev question : Circuit
   question = lists_circuit made.question.circuit
@@ -136,30 +137,54 @@ module _ (f : File) (limit k : ℕ) (optimize : Bool) (made : BoundedClauses) (f
   abbrev NeverReached : Type 0
   NeverReached = (y : ℕ → Bool) → IsTrue (edge_value question.nodes y is.output) → ⊥
 
+  -- no bad edge is reached up to step k
+  abbrev SafeTo : Type 0
+  SafeTo = (n : ℕ) → n ≤ k → IsCircuitSafeAt c n
+
   asked : ((y : ℕ → Bool) × IsTrue (edge_value question.nodes y is.output))
-      ↔ ((t : ℕ) × (t ≤ k) × HasCircuitWitness (circuit_of f) t)
-  asked = question_asks (circuit_of f) k question is.output made.question.places.items
-      (IsCircuit-of_file f limit fits) is.asks
+      ↔ ((t : ℕ) × (t ≤ k) × HasCircuitWitness c t)
+  asked = question_asks c k question is.output made.question.places.items circuit is.asks
 
-  safe_where : NeverReached → IsSafeTo f k
-  safe_where none =
-      (safe_is f k).0 (λ t h w.
-      let x = witness_forth f limit t w.0 fits w.1 in
-      let y = asked.1 (t, h, (x.0, x.1)) in
-      none y.0 y.1)
+  never_is : NeverReached ↔ SafeTo
+  never_is = (
+    λ none n h w. let y = asked.1 (n, h, w) in none y.0 y.1,
+    λ safe y holds. let reached = asked.0 (y, holds) in safe reached.0 reached.1 reached.2,
+  )
 
-  none_where : IsSafeTo f k → NeverReached
-  none_where safe y holds =
-      let reached = asked.0 (y, holds) in
-      let t = reached.0 in
-      let x = reached.2.0 in
-      (safe_is f k).1 safe t reached.1 (values_over f x, witness_back f limit t x fits reached.2.1)
+  pub refuted_circuit : (¬ IsSatisfiable (clauses_in made.clauses ++ made.further)) ↔ SafeTo
+  refuted_circuit =
+      let never = refuted_never c k optimize made is literals in
+      (λ none. never_is.0 (never.0 none), λ safe. never.1 (never_is.1 safe))
 
-  pub refuted_is_safe : (¬ IsSatisfiable (clauses_in made.clauses ++ made.further)) ↔ IsSafeTo f k
-  refuted_is_safe =
-      let never = refuted_never f k optimize made is literals in
-      (λ none. safe_where (never.0 none), λ safe. never.1 (none_where safe))
+  pub folded_circuit : All (λ e. e ≡ edge_to 0 false) question.properties.outputs → SafeTo
+  folded_circuit all = never_is.0 (folded_never c k optimize made is literals all)
 
-  pub folded_is_safe : All (λ e. e ≡ edge_to 0 false) question.properties.outputs → IsSafeTo f k
-  folded_is_safe all =
-      safe_where (folded_never f k optimize made is literals all)
+-- ---- of a file
+
+module _ (f : File) (limit k : ℕ) (fits : Fits f limit) where
+  -- a file's machine is safe up to a step exactly where its circuit is
+  file_is : ((n : ℕ) → n ≤ k → IsCircuitSafeAt (circuit_of f) n) ↔ IsSafeTo f k
+  file_is = (
+    λ safe. (safe_is f k).0 (λ t h w.
+        let x = witness_forth f limit t w.0 fits w.1 in
+        safe t h (x.0, x.1)),
+    λ safe t h w.
+        (safe_is f k).1 safe t h (values_over f w.0, witness_back f limit t w.0 fits w.1),
+  )
+
+  module _ (optimize : Bool) (made : BoundedClauses) (is : AsksBounded f k optimize made)
+      (literals : (v : ℕ → Bool) (e : AigEdge) → literal_value v (lit_of e) ≡ edge_in v e) where
+    abbrev circuit : IsCircuit (circuit_of f)
+    circuit = IsCircuit-of_file f limit fits
+
+    pub refuted_is_safe : (¬ IsSatisfiable (clauses_in made.clauses ++ made.further))
+        ↔ IsSafeTo f k
+    refuted_is_safe =
+        let refuted = refuted_circuit (circuit_of f) k optimize made circuit is literals in
+        (λ none. file_is.0 (refuted.0 none), λ safe. refuted.1 (file_is.1 safe))
+
+    pub folded_is_safe : All (λ e. e ≡ edge_to 0 false)
+        (lists_circuit made.question.circuit).properties.outputs
+        → IsSafeTo f k
+    folded_is_safe all =
+        file_is.0 (folded_circuit (circuit_of f) k optimize made circuit is literals all)

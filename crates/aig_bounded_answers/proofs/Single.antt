@@ -1,4 +1,4 @@
--- A file's question has one list of clauses.
+-- A circuit's question has one list of clauses.
 use Rattle.aig_base.proofs.Words.{◌≡◌, ◌++◌, ◌∷◌, [], ℕ, Bool, false, Option, IfSome, List, length, Result, Ok, Err, sym, ap, ap₂, subst, ◌∙◌, All}
 use Rattle.aig_base.specs.Formula.{clauses_in}
 use Rattle.aig_base.specs.declared.logic.literal.Lit.{Lit}
@@ -6,7 +6,6 @@ use Rattle.aig_base.specs.Clauses.{are_true}
 use Rattle.aig_circuit.proofs.Words.{Circuit, edge_to, lit_of, lists_circuit}
 use Rattle.aig_cnf.specs.Cnf.{HasClauses}
 use Rattle.aig_cnf.proofs.OneList.{one_list}
-use Rattle.aig_format.proofs.Words.{circuit_of, File}
 use Rattle.aig_refutation.specs.Checking.{Shows}
 use Rattle.aig_solutions.specs.declared.error.SolutionError.{SolutionError}
 use Rattle.aig_solutions.specs.declared.error.SolutionError.TheVariants as solutions
@@ -15,10 +14,10 @@ use Rattle.aig_bounded.proofs.Single.{question_same}
 use Rattle.aig_bounded_answers.specs.declared.clauses.BoundedClauses.{BoundedClauses}
 use Rattle.aig_bounded_answers.specs.declared.error.BoundedAnswerError.{BoundedAnswerError}
 use Rattle.aig_bounded_answers.specs.declared.error.BoundedAnswerError.TheVariants as errors
-use Rattle.aig_bounded_answers.specs.Asking.{AsksBounded, IsSettled, RefusesAnswer, ShowsProof, TellsOfProof, assigned}
+use Rattle.aig_bounded_answers.specs.Asking.{AsksOfBads, IsSettled, RefusesAnswer, ShowsProof, TellsOfProof, assigned}
 
-module _ (f : File) (k : ℕ) (optimize : Bool) (one other : BoundedClauses)
-    (is : AsksBounded f k optimize one) (are : AsksBounded f k optimize other) where
+module _ (c : Circuit) (k : ℕ) (optimize : Bool) (one other : BoundedClauses)
+    (is : AsksOfBads c k optimize one) (are : AsksOfBads c k optimize other) where
   abbrev first : Circuit
   first = lists_circuit one.question.circuit
 
@@ -26,7 +25,7 @@ module _ (f : File) (k : ℕ) (optimize : Bool) (one other : BoundedClauses)
   second = lists_circuit other.question.circuit
 
   same : (first ≡ second) × (is.output ≡ are.output) × (one.question.places.items ≡ other.question.places.items)
-  same = question_same (circuit_of f) first second k is.output are.output one.question.places.items other.question.places.items is.asks are.asks
+  same = question_same c first second k is.output are.output one.question.places.items other.question.places.items is.asks are.asks
 
   same_clauses : one.clauses ≡ other.clauses
   same_clauses = one_list second optimize one.clauses other.clauses

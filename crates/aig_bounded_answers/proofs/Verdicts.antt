@@ -16,8 +16,7 @@ use Rattle.aig_solutions.specs.declared.error.SolutionError.TheVariants as solut
 use Rattle.aig_bounded_answers.specs.declared.clauses.BoundedClauses.{BoundedClauses}
 use Rattle.aig_bounded_answers.specs.declared.error.BoundedAnswerError.{BoundedAnswerError}
 use Rattle.aig_bounded_answers.specs.declared.error.BoundedAnswerError.TheVariants as errors
-use Rattle.aig_bounded_answers.specs.Asking.{IsOfCheck, IsOfQuestion, IsOfWitness, RefusesAnswer, TellsOfSize, bounded_verdict, verdict_of}
-use Rattle.aig_bounded_answers.specs.Encoded.{IsSaidOfBads}
+use Rattle.aig_bounded_answers.specs.Asking.{IsOfCheck, IsOfQuestion, IsOfWitness, IsSaidOfBads, RefusesAnswer, TellsOfSize, bounded_verdict, verdict_of}
 
 -- ---- of a file
 

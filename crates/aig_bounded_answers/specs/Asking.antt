@@ -36,19 +36,23 @@ use Rattle.aig_bounded_answers.specs.Naming.{IsNamed}
 abbrev pub IsAskedWithin : ℕ → List ℕ → File → Type 0
 IsAskedWithin limit bytes f = Accepts bytes limit f × (f.properties.bads ≢ [])
 
--- The clauses of the question whether the file's circuit reaches a bad state up to step k, and the
--- one that its output is true.
-pub record AsksBounded (f : File) (k : ℕ) (optimize : Bool) (made : BoundedClauses) : Type 0 where
+-- The clauses of the question whether the circuit reaches a bad state up to step k, and the one that
+-- its output is true.
+pub record AsksOfBads (c : Circuit) (k : ℕ) (optimize : Bool) (made : BoundedClauses) : Type 0 where
   pub output : AigEdge
-  pub asks : IsQuestion (circuit_of f) k (lists_circuit made.question.circuit) output
+  pub asks : IsQuestion c k (lists_circuit made.question.circuit) output
       made.question.places.items
   -- what stands at these places, one for one
-  pub named : AllZip (IsNamed (circuit_of f)) made.question.places.items made.named.items
+  pub named : AllZip (IsNamed c) made.question.places.items made.named.items
   -- which gates have which clauses; what satisfies them, and what they fix
   pub has_clauses : HasClauses (lists_circuit made.question.circuit) optimize made.clauses
   pub fixes : FixesRoots (lists_circuit made.question.circuit) made.clauses
   pub satisfied : NodeValuesSatisfy (lists_circuit made.question.circuit) made.clauses
   pub exact : made.further ≡ (lit_of output ∷ []) ∷ []
+
+-- those of the question of the file's circuit
+abbrev pub AsksBounded : File → ℕ → Bool → BoundedClauses → Type 0
+AsksBounded f = AsksOfBads (circuit_of f)
 
 -- the question's output is the constant false
 abbrev pub IsSettled : BoundedClauses → Type 0
@@ -59,6 +63,13 @@ IsSettled made = All (λ e. e ≡ edge_to 0 false) made.question.circuit.propert
 -- the verdict on a file that fits: it has no bad literal, or it is taken
 abbrev pub bounded_verdict : File → Verdict
 bounded_verdict f = if length f.properties.bads == 0 then NoBads else Accepted
+
+-- it is the verdict on a circuit with these bad edges, or Short where that circuit would be taken
+abbrev pub IsSaidOfBads : List AigEdge → Verdict → Type 0
+IsSaidOfBads bads Accepted = bads ≢ []
+IsSaidOfBads bads Short = bads ≢ []
+IsSaidOfBads bads NoBads = bads ≡ []
+IsSaidOfBads bads v = ⊥
 
 -- What an error says of the bytes. A question that is too large is told as memory that ran out: how
 -- large it is depends on what is folded, so that the file would be taken. One of a proof, or of a
@@ -123,14 +134,19 @@ pub record TellsOfProof {P : Type 0} (left : P → Option (List ℕ)) (made : Bo
   pub settled : IsSettled made → (result ≡ Ok tt) × (rest ≡ p)
   pub shown : ¬ IsSettled made → ShowsProof made (left p) result
 
--- the file has a question, and it is told so of the clauses of each: of those that any call gives
--- or prints, as there is one (`bounded_clauses_are_one`)
+-- the circuit has a question, and it is told so of the clauses of each: of those that any call gives
+-- or prints, as there is one (`circuit_questions_are_one`)
+abbrev pub AnswersCircuit : {P : Type 0} → (P → Option (List ℕ)) → ℕ → Bool → P → P → Circuit
+    → Result Unit BoundedAnswerError → Type 0
+AnswersCircuit left k optimize p rest c result =
+    ((made : BoundedClauses) × AsksOfBads c k optimize made)
+    × ((made : BoundedClauses) → AsksOfBads c k optimize made
+    → TellsOfProof left made p rest result)
+
+-- so of a file's circuit (`bounded_clauses_are_one`)
 abbrev pub AnswersProof : {P : Type 0} → (P → Option (List ℕ)) → ℕ → Bool → P → P → File
     → Result Unit BoundedAnswerError → Type 0
-AnswersProof left k optimize p rest f result =
-    ((made : BoundedClauses) × AsksBounded f k optimize made)
-    × ((made : BoundedClauses) → AsksBounded f k optimize made
-    → TellsOfProof left made p rest result)
+AnswersProof left k optimize p rest f = AnswersCircuit left k optimize p rest (circuit_of f)
 
 -- ---- a solver's answer
 

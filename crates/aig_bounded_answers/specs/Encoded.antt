@@ -1,12 +1,11 @@
 -- Serves private clauses alone.
 -- The names of leaves, and the clauses of a question.
-use Rattle.std.specs.Prelude.{◌≡◌, ◌≢◌, ℕ, Bool, false, Some, List, [], slice_index_or}
+use Rattle.std.specs.Prelude.{◌≡◌, ℕ, Bool, false, Some, List, slice_index_or}
 use Rattle.std.specs.List.{AllZip}
 use Rattle.aig_circuit.specs.declared.edge.AigEdge.{AigEdge}
 use Rattle.aig_circuit.specs.Circuit.{Circuit}
 use Rattle.aig_circuit.specs.View.{lists_circuit}
 use Rattle.aig_cnf.specs.Cnf.{FixesRoots, HasClauses, NodeValuesSatisfy}
-use Rattle.aig_reader.specs.Verdicts.{Accepted, NoBads, Short, Verdict}
 use Rattle.aig_runs.specs.Queries.{unit_clauses}
 use Rattle.aig_bounded.specs.declared.question.Question.{Question}
 use Rattle.aig_bounded.specs.Question.{IsQuestion}
@@ -43,12 +42,3 @@ pub record IsEncodedQuestion (c : Circuit) (last : ℕ) (optimize : Bool)
       made.question.places.items
   pub named : AllZip (IsNamed c) made.question.places.items made.named.items
   pub encoded : IsEncoded made.question made.named.items optimize made
-
--- ---- verdicts
-
--- it is the verdict on a file with these bad edges, or Short where that file would be taken
-abbrev pub IsSaidOfBads : List AigEdge → Verdict → Type 0
-IsSaidOfBads bads Accepted = bads ≢ []
-IsSaidOfBads bads Short = bads ≢ []
-IsSaidOfBads bads NoBads = bads ≡ []
-IsSaidOfBads bads v = ⊥

@@ -1,20 +1,21 @@
 //! Proofs of bounded checks.
 
-ghost use Rattle.std.specs.Prelude.{◌≡◌, ◌≢◌, ◌+◌, ◌<◌, ◌≤◌, ◌^◌, ◌++◌, ◌⊎◌, ℕ, IfErr, IfOk, IsErrOf, IsTrue, OnOk};
+ghost use Rattle.std.specs.Prelude.{◌≡◌, ◌≢◌, ◌+◌, ◌<◌, ◌≤◌, ◌^◌, ◌++◌, ◌⊎◌, ℕ, All, IfErr, IfOk, IsErrOf, IsTrue, OnOk};
 ghost use Rattle.aig_base.specs.Formula.{IsSatisfiable, clauses_in};
 ghost use Rattle.aig_circuit.specs.View.{lists_circuit};
-ghost use Rattle.aig_format.specs.File.{File};
-ghost use Rattle.aig_format.specs.Fits.{Fits};
-ghost use Rattle.aig_reader.specs.Reading.{AreListsOf, IsReadAs};
-ghost use Rattle.aig_reader.specs.Verdicts.{Accepted, IsSaidOf, Judges, verdict_by};
+ghost use Rattle.aig_circuit.specs.Circuit.{IsCircuit, IsClosed};
+ghost use Rattle.aig_circuit.specs.Edges.{HasConstantInit};
+ghost use Rattle.aig_reader.specs.Reading.{IsReadAs};
+ghost use Rattle.aig_reader.specs.Verdicts.{Accepted, Judges, verdict_by};
 ghost use Rattle.aig_runs.specs.Queries.{IsSafeTo};
+ghost use Rattle.aig_runs.specs.Safety.{IsCircuitSafeAt};
 ghost use Rattle.aig_bounded.specs.Question.{question_size};
 ghost use Rattle.aig_bounded_answers.specs.declared.error.BoundedAnswerError.TheVariants as errors;
-ghost use Rattle.aig_bounded_answers.specs.Asking.{AnswersProof, IsAskedWithin, IsOfCheck, IsSettled, TellsOfProof, TellsOfSize, bounded_verdict, verdict_of};
+ghost use Rattle.aig_bounded_answers.specs.Asking.{AnswersCircuit, AnswersProof, IsAskedWithin, IsOfCheck, IsSaidOfBads, IsSettled, TellsOfProof, TellsOfSize, bounded_verdict, verdict_of};
 
-use crate::clauses::{BoundedClauses, ask_file, bounded};
+use crate::clauses::{BoundedClauses, ask_lists, bounded};
 use crate::error::BoundedAnswerError;
-use crate::laws::refuted_questions_are_safe;
+use crate::laws::{refuted_circuit_questions_are_safe, refuted_questions_are_safe};
 use aig_base::Source;
 use aig_bounded::BoundedError;
 use aig_circuit::CircuitLists;
@@ -84,7 +85,8 @@ pub fn check_bounded<R: Source, P: Source>(
     refute(alloc, &made, proof)
 }
 
-/// Checks a proof as `check_bounded` does, of the circuit of a file that was read.
+/// Checks a proof as `check_bounded` does, of a circuit: each of its leaves is an input or a latch's, and each initial edge is
+/// constant.
 pub fn check_bounded_of<P: Source>(
     alloc: Global,
     circuit: &CircuitLists,
@@ -93,29 +95,30 @@ pub fn check_bounded_of<P: Source>(
     optimize: bool,
     proof: &mut P,
 ) -> Result<(), BoundedAnswerError>
+    requires circuit { IsCircuit (lists_circuit circuit.now) }
+    requires closed { IsClosed (lists_circuit circuit.now) }
+    requires starts { All HasConstantInit circuit.now.latchs.items }
     requires some { 1 ≤ limit }
     requires few { limit ≤ 2 ^ 31 }
-    requires file { (f : File) × (bound : ℕ) × Fits f bound × AreListsOf f circuit.now }
-    // No bad state of the file's machine is reached up to step k.
-    ensures answer { OnOk result ((f : File) (bound : ℕ) → Fits f bound → AreListsOf f circuit.now
-        → IsSafeTo f k) }
-    // A file without a bad literal is refused, and no other but for memory or the size of its question.
-    ensures said { (f : File) → AreListsOf f circuit.now
-        → IsSaidOf bounded_verdict f (verdict_by verdict_of result) }
+    // No bad edge of the circuit is reached at a step up to k.
+    ensures answer { OnOk result
+        ((n : ℕ) → n ≤ k → IsCircuitSafeAt (lists_circuit circuit.now) n) }
+    // A circuit without a bad edge is refused, and no other but for memory or the size of its question.
+    ensures said { IsSaidOfBads circuit.now.properties.bads.items (verdict_by verdict_of result) }
     ensures own { IfErr result IsOfCheck }
     // A question is too large only where its bound passes the limit.
     ensures large { IsErrOf result (BoundedAnswerError.Question BoundedError.TooLarge)
         → limit < question_size (lists_circuit circuit.now) k }
-    // The proof is read only where the file is taken.
+    // The proof is read only where the circuit is taken.
     ensures unread { verdict_by verdict_of result ≢ Accepted → proof.new ≡ proof.old }
     // Stream only where a read of the proof failed in this call.
     ensures stream { IsErrOf result (BoundedAnswerError.Refutation RefutationError.Stream)
         → IsTrue (P.failed proof.new) }
-    // Where the file is taken, the result is told of its question as by `check_bounded`.
-    ensures shown { verdict_by verdict_of result ≡ Accepted → (f : File)
-        → AreListsOf f circuit.now → AnswersProof P.left k optimize proof.old proof.new f result }
+    // Where the circuit is taken, the result is told of its question as by `check_bounded`.
+    ensures shown { verdict_by verdict_of result ≡ Accepted → AnswersCircuit P.left k optimize
+        proof.old proof.new (lists_circuit circuit.now) result }
 {
-    refuted_questions_are_safe();
-    let made = ask_file(alloc, circuit, limit, k, optimize)?;
+    refuted_circuit_questions_are_safe();
+    let made = ask_lists(alloc, circuit, limit, k, optimize)?;
     refute(alloc, &made, proof)
 }

@@ -9,8 +9,8 @@ ghost use Rattle.aig_circuit.specs.View.{lists_circuit};
 ghost use Rattle.aig_reader.specs.Reading.{IsReadAs};
 ghost use Rattle.aig_reader.specs.Verdicts.{Judges, verdict_by};
 ghost use Rattle.aig_bounded.specs.Question.{question_size};
-ghost use Rattle.aig_bounded_answers.specs.Asking.{AsksBounded, IsAskedWithin, IsOfQuestion, IsSettled, TellsOfSize, bounded_verdict, verdict_of};
-ghost use Rattle.aig_bounded_answers.specs.Encoded.{IsEncoded, IsEncodedQuestion, IsSaidOfBads};
+ghost use Rattle.aig_bounded_answers.specs.Asking.{AsksBounded, IsAskedWithin, IsOfQuestion, IsSaidOfBads, IsSettled, TellsOfSize, bounded_verdict, verdict_of};
+ghost use Rattle.aig_bounded_answers.specs.Encoded.{IsEncoded, IsEncodedQuestion};
 
 use crate::error::BoundedAnswerError;
 use crate::naming::{Named, name_places};
@@ -103,8 +103,8 @@ fn ask(
     Ok(made)
 }
 
-/// The clauses of the question of a file's circuit, unless nothing is asked of it.
-pub(crate) fn ask_file(
+/// The clauses of the question of a circuit, unless nothing is asked of it.
+pub(crate) fn ask_lists(
     alloc: Global,
     lists: &CircuitLists,
     limit: usize,
@@ -156,6 +156,6 @@ pub fn bounded<R: Source>(
         (R.left r.old) (R.left r.new)) }
 {
     let lists = read(alloc, r, limit)?;
-    let made = ask_file(alloc, &lists, limit, k, optimize)?;
+    let made = ask_lists(alloc, &lists, limit, k, optimize)?;
     Ok(made)
 }

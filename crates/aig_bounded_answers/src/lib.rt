@@ -14,6 +14,9 @@ mod values;
 pub use checking::{check_bounded, check_bounded_of};
 pub use clauses::{BoundedClauses, bounded};
 pub use error::BoundedAnswerError;
-pub use laws::{bounded_clauses_are_one, refuted_questions_are_safe};
+pub use laws::{
+    bounded_clauses_are_one, circuit_questions_are_one, refuted_circuit_questions_are_safe,
+    refuted_questions_are_safe,
+};
 pub use naming::Named;
 pub use solving::bounded_witness;

@@ -14,7 +14,7 @@ ghost use Rattle.aig_bounded_answers.specs.Asking.{AreSolution, IsAskedWithin, I
 ghost use Rattle.aig_bounded_answers.specs.Encoded.{IsEncodedQuestion};
 ghost use Rattle.aig_bounded_answers.specs.Solving.{WitnessWithin};
 
-use crate::clauses::{BoundedClauses, ask_file};
+use crate::clauses::{BoundedClauses, ask_lists};
 use crate::error::BoundedAnswerError;
 use crate::simulating::find_bad;
 use crate::values::said_values;
@@ -119,7 +119,7 @@ pub fn bounded_witness<R: Source, P: Source>(
 {
     known_witnesses_show();
     let lists = read(alloc, r, limit)?;
-    let made = ask_file(alloc, &lists, limit, k, optimize)?;
+    let made = ask_lists(alloc, &lists, limit, k, optimize)?;
     let witness = solve(alloc, &lists, &made, k, solution)?;
     Ok(witness)
 }

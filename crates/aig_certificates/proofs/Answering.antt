@@ -1,6 +1,7 @@
 -- What proofs of a joint circuit's clauses show of the two files.
 use Rattle.aig_base.proofs.Words.{◌≡◌, ℕ, ◌≤◌, Bool, List, Option, ◌++◌, Result, Ok, Err, refl, sym, subst, arith}
 use Rattle.std.specs.Prelude.{IfErr, IfOk, length}
+use Rattle.aig_answers.proofs.Named.{window_named}
 use Rattle.aig_base.specs.Clauses.{AreBelow}
 use Rattle.aig_base.specs.Formula.{IsSatisfiable, clauses_in}
 use Rattle.aig_base.specs.declared.logic.literal.Lit.{Lit}
@@ -8,7 +9,7 @@ use Rattle.aig_circuit.specs.Circuit.{Circuit, IsCircuit}
 use Rattle.aig_edits.specs.Joints.{IsJointOf}
 use Rattle.aig_edits.specs.declared.pairing.Pairing.TheVariants.{Certificate, Miter}
 use Rattle.aig_edit_laws.proofs.Written.{JoinsWitnesses, written_witnesses}
-use Rattle.aig_format.proofs.Words.{IsReadAgain, circuit_of, file_of, File, Fits}
+use Rattle.aig_format.proofs.Words.{IsReadAgain, circuit_of, file_of, without_other_names, File, Fits}
 use Rattle.aig_format.proofs.Circuits.{IsCircuit-of_file}
 use Rattle.aig_format.specs.declared.FileKind.TheVariants.{Text}
 use Rattle.aig_reader.specs.Verdicts.{Accepted, verdict_by}
@@ -25,7 +26,6 @@ use Rattle.aig_certificates.specs.declared.error.CertificateError.TheVariants as
 use Rattle.aig_certificates.specs.Certificates.{Certifies, Equals, IsOfClauses, IsOwn, Obliges, first_verdict, second_verdict}
 use Rattle.aig_certificates.specs.declared.asking.Obligations.{Obligations}
 use Rattle.aig_certificates.specs.Parts.{AsksBoth, HasNoWindow, HoldsBoth, HoldsStep}
-use Rattle.aig_certificates.proofs.Named.{window_named}
 use Rattle.aig_certificates.proofs.Telling.{induction_of_step, query_of_window}
 
 -- ---- both files were taken
@@ -139,7 +139,7 @@ module _ (m : Circuit) (h : File) (again : IsReadAgain m h) where
   always_safe known optimize safe (lists, further, asks, none) n =
       let circuit = subst IsCircuit again.1 (IsCircuit-of_file h (length m.nodes) fits) in
       let named = subst (λ c. AsksWindow Plain c 0 optimize lists further) (sym again.1)
-      (window_named m 0 optimize lists further circuit asks) in
+      (window_named (without_other_names m).names Plain m 0 optimize lists further circuit asks) in
       let kept = known.refuted Plain h (length m.nodes) 0 optimize lists further fits named none in
       known.inductive Plain h 0 (known.steps h 0 (at_none (file_safe 0 safe))) kept n
 

@@ -1,17 +1,18 @@
 -- Part of what is promised.
--- What an answer says of a file and of the proofs that its machine is safe, and what its errors
--- say. (Temporal induction: Sheeran, Singh and Stålmarck, 2000.)
+-- What an answer says of a circuit or a file and of the proofs that its machine is safe, and what its
+-- errors say. (Temporal induction: Sheeran, Singh and Stålmarck, 2000.)
 use Rattle.std.specs.Prelude.{ℕ, ◌+◌, ◌<◌, Bool, List, Option, Result, Ok, Err}
 use Rattle.aig_answers.specs.Answers as answering
-use Rattle.aig_answers.specs.Answers.{IsAsked, IsOfWindow, TellsOfWindow}
+use Rattle.aig_answers.specs.Answers.{IsAsked, IsOfWindow, TellsOfCircuitWindow}
 use Rattle.aig_answers.specs.declared.error.AnswerError.{AnswerError}
 use Rattle.aig_answers.specs.declared.error.AnswerError.TheVariants as answers
 use Rattle.aig_bounded.specs.Question.{question_size}
 use Rattle.aig_bounded.specs.declared.error.BoundedError.TheVariants.{TooLarge}
 use Rattle.aig_bounded_answers.specs.Asking as bounding
-use Rattle.aig_bounded_answers.specs.Asking.{AnswersProof}
+use Rattle.aig_bounded_answers.specs.Asking.{AnswersCircuit}
 use Rattle.aig_bounded_answers.specs.declared.error.BoundedAnswerError.{BoundedAnswerError}
 use Rattle.aig_bounded_answers.specs.declared.error.BoundedAnswerError.TheVariants as bounded
+use Rattle.aig_circuit.specs.Circuit.{Circuit}
 use Rattle.aig_encode.specs.declared.error.EncodeError.TheVariants as encode
 use Rattle.aig_format.specs.Circuit.{circuit_of}
 use Rattle.aig_format.specs.File.{File}
@@ -29,12 +30,6 @@ abbrev pub verdict_of : SafetyError → Verdict
 verdict_of (errors.File e) = answering.verdict_of e
 verdict_of (errors.Base e) = bounding.verdict_of e
 verdict_of (errors.Step e) = answering.verdict_of e
-
--- it is of the file
-abbrev pub IsOfFile : SafetyError → Type 0
-IsOfFile (errors.File e) = IsOfWindow e
-IsOfFile (errors.Base e) = ⊥
-IsOfFile (errors.Step e) = ⊥
 
 -- it is of the question of a file that is taken, or of its proof
 abbrev pub IsOfBase : BoundedAnswerError → Type 0
@@ -82,18 +77,27 @@ LeavesStep (Err e) = Unit {0}
 
 -- ---- answers
 
--- The file's machine reaches no bad state at any step, and the proofs show so: the first of the
--- file's question for the steps 0 to k, and the second of its window of k + 2 steps. Or one is
--- refused, and what comes before it is taken. The first is p before, and rest after it; the second
--- is q before it.
+-- What the proofs show of a circuit: the first of the clauses of its question for the steps 0 to k,
+-- and the second of those of its window of k + 2 steps. Or one is refused, and what comes before it
+-- is taken. The first is p before, and rest after it; the second is q before it.
+abbrev pub ShowsCircuit : {P Q : Type 0} → (P → Option (List ℕ)) → (Q → Option (List ℕ)) → ℕ
+    → Bool → Window → Bool → P → P → Q → Circuit → Result Unit SafetyError → Type 0
+ShowsCircuit left left_of k base_optimize form step_optimize p rest q c (Ok done) =
+    AnswersCircuit left k base_optimize p rest c (Ok tt)
+    × TellsOfCircuitWindow form k step_optimize (left_of q) c (Ok tt)
+ShowsCircuit left left_of k base_optimize form step_optimize p rest q c (Err (errors.File e)) = ⊥
+ShowsCircuit left left_of k base_optimize form step_optimize p rest q c (Err (errors.Base e)) =
+    AnswersCircuit left k base_optimize p rest c (Err e)
+ShowsCircuit left left_of k base_optimize form step_optimize p rest q c (Err (errors.Step e)) =
+    AnswersCircuit left k base_optimize p rest c (Ok tt)
+    × TellsOfCircuitWindow form k step_optimize (left_of q) c (Err e)
+
+-- the file's machine reaches no bad state at any step, as the proofs show of its circuit; or they
+-- don't
 abbrev pub Shows : {P Q : Type 0} → (P → Option (List ℕ)) → (Q → Option (List ℕ)) → ℕ → Bool
     → Window → Bool → P → P → Q → File → Result Unit SafetyError → Type 0
 Shows left left_of k base_optimize form step_optimize p rest q f (Ok done) =
-    ((n : ℕ) → IsSafeTo f n) × AnswersProof left k base_optimize p rest f (Ok tt)
-    × TellsOfWindow form k step_optimize (left_of q) f (Ok tt)
-Shows left left_of k base_optimize form step_optimize p rest q f (Err (errors.File e)) = ⊥
-Shows left left_of k base_optimize form step_optimize p rest q f (Err (errors.Base e)) =
-    AnswersProof left k base_optimize p rest f (Err e)
-Shows left left_of k base_optimize form step_optimize p rest q f (Err (errors.Step e)) =
-    AnswersProof left k base_optimize p rest f (Ok tt)
-    × TellsOfWindow form k step_optimize (left_of q) f (Err e)
+    ((n : ℕ) → IsSafeTo f n)
+    × ShowsCircuit left left_of k base_optimize form step_optimize p rest q (circuit_of f) (Ok tt)
+Shows left left_of k base_optimize form step_optimize p rest q f (Err e) =
+    ShowsCircuit left left_of k base_optimize form step_optimize p rest q (circuit_of f) (Err e)

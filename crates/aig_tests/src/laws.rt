@@ -4,6 +4,8 @@ ghost use Rattle.std.specs.Prelude.{◌≡◌, ℕ, Bool, List};
 ghost use Rattle.aig_answers.specs.Answers.{IsCircuitQuery};
 ghost use Rattle.aig_answers.specs.declared.circuits.CircuitQuery.{CircuitQuery};
 ghost use Rattle.aig_base.specs.declared.logic.literal.Lit.{Lit};
+ghost use Rattle.aig_bounded_answers.specs.Asking.{AsksBounded, AsksOfBads};
+ghost use Rattle.aig_bounded_answers.specs.declared.clauses.BoundedClauses.{BoundedClauses};
 ghost use Rattle.aig_circuit.specs.Circuit.{Circuit};
 ghost use Rattle.aig_edits.specs.Joints.{IsJointOf};
 ghost use Rattle.aig_edits.specs.declared.pairing.Pairing.{Pairing};
@@ -13,15 +15,16 @@ ghost use Rattle.aig_format.specs.Circuit.{circuit_of, text_of};
 ghost use Rattle.aig_format.specs.File.{File};
 ghost use Rattle.aig_format.specs.Fits.{Accepts};
 ghost use Rattle.aig_runs.specs.WindowClauses.{AsksWindow};
-ghost use Rattle.aig_runs.specs.declared.window.Window.TheVariants.{Plain};
+ghost use Rattle.aig_runs.specs.declared.window.Window.{Window};
 
+use aig_bounded_answers::circuit_questions_are_one;
 use aig_cnf::clauses_are_one;
 use aig_format::reads_exactly;
 use aig_runs::windows_are_one;
 
-/// Law: the file that the text of a joint circuit is has the clauses of the joint circuit's query, and those of its plain window. So
-/// `check_equal` judges a proof by the clauses that any call makes of the miter's text, and `check_certified` its proofs by those of the
-/// text of the file beside its certificate.
+/// Law: the file that the text of a joint circuit is has the clauses of the joint circuit's query, those of its windows, and those of
+/// its question for the steps up to one. So `check_equal` and `check_always_equal` judge proofs by the clauses that any call makes of
+/// the miter's text, and `check_certified` its proofs by those of the text of the file beside its certificate.
 pub fn joint_files_ask_the_same()
     ensures query { (pairing : Pairing) (f g h : File) (m : Circuit) (limit k : ℕ)
         (optimize : Bool) (one : Query) (other : CircuitQuery) → IsJointOf pairing f g m
@@ -29,12 +32,18 @@ pub fn joint_files_ask_the_same()
         → IsCircuitQuery m k optimize other
         → (one.encoded.clauses ≡ other.clauses) × (one.extra ≡ other.further) }
     ensures window { (pairing : Pairing) (f g h : File) (m : Circuit) (limit k : ℕ)
-        (optimize : Bool) (lists others : List (List (List Lit))) (further more : List (List Lit))
+        (form : Window) (optimize : Bool) (lists others : List (List (List Lit))) (further more : List (List Lit))
         → IsJointOf pairing f g m → Accepts (text_of m) limit h
-        → AsksWindow Plain (circuit_of h) k optimize lists further
-        → AsksWindow Plain m k optimize others more → (lists ≡ others) × (further ≡ more) }
+        → AsksWindow form (circuit_of h) k optimize lists further
+        → AsksWindow form m k optimize others more → (lists ≡ others) × (further ≡ more) }
+    ensures question { (pairing : Pairing) (f g h : File) (m : Circuit) (limit k : ℕ)
+        (optimize : Bool) (one other : BoundedClauses) → IsJointOf pairing f g m
+        → Accepts (text_of m) limit h → AsksBounded h k optimize one
+        → AsksOfBads m k optimize other
+        → (one.clauses ≡ other.clauses) × (one.further ≡ other.further) }
 {
     reads_exactly();
     clauses_are_one();
     windows_are_one();
+    circuit_questions_are_one();
 }

@@ -1,7 +1,7 @@
-use Rattle.aig_base.proofs.Words.{subst, on_ok_weaker}
-use Rattle.aig_circuit.specs.Circuit.{Circuit}
-use Rattle.aig_runs.specs.WindowClauses.{AsksWindow}
+use Rattle.aig_base.proofs.Words.{on_ok_weaker}
+use Rattle.aig_circuit.specs.View.{lists_circuit}
 use Rattle.aig_answers.proofs.Alike.{window_told}
+use Rattle.aig_answers.proofs.Named.{asks_of_file}
 use Rattle.aig_answers.proofs.windows.check_window_of.Goals as goal
 
 pub returns-clause-answer : goal.returns-clause-answer
@@ -10,7 +10,8 @@ returns-clause-answer g c =
     let made = c.in_ok-asked.asked in
     on_ok_weaker c.refute.result (λ none f bound fits is.
     c.refuted_windows_are_inductive.ensures form f bound c.args.k c.args.optimize _ _ fits
-    (subst (λ (d : Circuit). AsksWindow form d c.args.k c.args.optimize made.clauses made.further) is c.in_ok-asked.ensures.asks) none) c.refute.ensures.refuted
+    (asks_of_file form f bound (lists_circuit c.args.circuit) c.args.k c.args.optimize made.clauses made.further fits is
+    c.in_ok-asked.ensures.asks) none) c.refute.ensures.refuted
 
 pub returns-clause-shown : goal.returns-clause-shown
 returns-clause-shown g c taken =

@@ -1,4 +1,5 @@
 use Rattle.aig_base.proofs.Words.{Err, inl, inr, sym, subst, IfOk-weaker, err_from_is_err_and}
+use Rattle.aig_format.specs.Circuit.{circuit_of}
 use Rattle.aig_reader.specs.Verdicts.{Judges}
 use Rattle.aig_refutation.specs.declared.error.RefutationError.TheVariants as RefutationError
 use Rattle.aig_bounded_answers.specs.Asking.{bounded_verdict}
@@ -76,7 +77,7 @@ returns-clause-shown g c = λ taken.
       holds = o.holds;
       means = (
         (c.in_ok-made.made, o.means),
-        λ other asks. told_same o.file c.args.k c.args.optimize c.in_ok-made.made other o.means asks _ _ _ _ c.refute.ensures.told,
+        λ other asks. told_same (circuit_of o.file) c.args.k c.args.optimize c.in_ok-made.made other o.means asks _ _ _ _ c.refute.ensures.told,
       );
       taken = o.taken;
     }

@@ -5,18 +5,18 @@ use Rattle.aig_bounded_answers.proofs.Asked.{read_circuit, read_closed, read_sta
 use Rattle.aig_bounded_answers.proofs.Verdicts.{judged, refused_own}
 use Rattle.aig_bounded_answers.proofs.solving.bounded_witness.Goals as goal
 
-pub ask_file-requires-clause-circuit : goal.ask_file-requires-clause-circuit
-ask_file-requires-clause-circuit g c =
+pub ask_lists-requires-clause-circuit : goal.ask_lists-requires-clause-circuit
+ask_lists-requires-clause-circuit g c =
     read_circuit c.args.limit c.args.k c.args.optimize c.in_ok-lists.lists _ _
     c.in_ok-lists.ensures.circuit
 
-pub ask_file-requires-clause-closed : goal.ask_file-requires-clause-closed
-ask_file-requires-clause-closed g c =
+pub ask_lists-requires-clause-closed : goal.ask_lists-requires-clause-closed
+ask_lists-requires-clause-closed g c =
     read_closed c.args.limit c.args.k c.args.optimize c.in_ok-lists.lists _ _
     c.in_ok-lists.ensures.circuit
 
-pub ask_file-requires-clause-starts : goal.ask_file-requires-clause-starts
-ask_file-requires-clause-starts g c =
+pub ask_lists-requires-clause-starts : goal.ask_lists-requires-clause-starts
+ask_lists-requires-clause-starts g c =
     read_starts c.args.limit c.args.k c.args.optimize c.in_ok-lists.lists _ _
     c.in_ok-lists.ensures.circuit
 

@@ -1,39 +1,29 @@
-use Rattle.aig_base.proofs.Words.{Ok, Err, refl, sym, subst}
-use Rattle.aig_circuit.specs.Circuit.{Circuit, IsCircuit}
-use Rattle.aig_format.proofs.Circuits.{IsCircuit-of_file}
+use Rattle.aig_base.proofs.Words.{◌≤◌, ℕ, refl, subst}
+use Rattle.aig_circuit.specs.View.{lists_circuit}
 use Rattle.aig_answers.specs.Answers as answering
-use Rattle.aig_answers.specs.Answers.{IsSaidBy, TellsOfCircuitWindow}
+use Rattle.aig_answers.specs.Answers.{IsSaidBy}
 use Rattle.aig_bounded_answers.specs.Asking as bounding
-use Rattle.aig_safety.proofs.Telling.{base_own, base_taken, leaves_base, leaves_step, said_taken, step_own}
+use Rattle.aig_safety.proofs.Telling.{base_own, file_safe, leaves_base, leaves_step, said_taken, some_bads, step_own}
 use Rattle.aig_safety.proofs.safe.check_both.Goals as goal
-
-pub check_window_of-requires-clause-circuit : goal.check_window_of-requires-clause-circuit
-check_window_of-requires-clause-circuit g c =
-    let own = c.requires.file in
-    subst IsCircuit (sym own.3) (IsCircuit-of_file own.0 own.1 own.2)
 
 pub returns-in-Err-clause-said : goal.returns-in-Err-clause-said
 returns-in-Err-clause-said g c =
-    let f = c.requires.file.0 in
-    let is = c.requires.file.3 in
-    said_taken f (bounding.verdict_of c.in-Err.error)
-    (base_taken c.args.form c.args.limit c.args.k c.args.circuit f is c.requires.room)
-    (c.in-Err.ensures.said f is)
+    said_taken c.args.circuit.properties.bads.items (bounding.verdict_of c.in-Err.error)
+    (some_bads c.args.form c.args.limit c.args.k (lists_circuit c.args.circuit) c.requires.room)
+    c.in-Err.ensures.said
 
 pub returns-in-Err-clause-own : goal.returns-in-Err-clause-own
 returns-in-Err-clause-own g c =
-    let f = c.requires.file.0 in
-    let is = c.requires.file.3 in
     base_own c.in-Err.error c.in-Err.ensures.own
-    (said_taken f (bounding.verdict_of c.in-Err.error)
-    (base_taken c.args.form c.args.limit c.args.k c.args.circuit f is c.requires.room)
-    (c.in-Err.ensures.said f is))
+    (said_taken c.args.circuit.properties.bads.items (bounding.verdict_of c.in-Err.error)
+    (some_bads c.args.form c.args.limit c.args.k (lists_circuit c.args.circuit) c.requires.room)
+    c.in-Err.ensures.said)
 
 pub returns-in-Err-clause-large : goal.returns-in-Err-clause-large
 returns-in-Err-clause-large g c = λ is. c.in-Err.ensures.large cc
 
 pub returns-in-Err-clause-shown : goal.returns-in-Err-clause-shown
-returns-in-Err-clause-shown g c = λ taken f bound fits is. c.in-Err.ensures.shown taken f is
+returns-in-Err-clause-shown g c = λ taken. c.in-Err.ensures.shown taken
 
 pub returns-in-Err-clause-base_unread : goal.returns-in-Err-clause-base_unread
 returns-in-Err-clause-base_unread g c =
@@ -42,19 +32,20 @@ returns-in-Err-clause-base_unread g c =
 pub returns-in-Err-clause-base_stream : goal.returns-in-Err-clause-base_stream
 returns-in-Err-clause-base_stream g c = λ is. c.in-Err.ensures.stream cc
 
+pub returns-in-Ok-clause-answer : goal.returns-in-Ok-clause-answer
+returns-in-Ok-clause-answer g c =
+    let k = c.args.k in
+    let circuit = lists_circuit c.args.circuit in
+    λ f bound fits is.
+    let each = λ (n : ℕ) (low : n ≤ k).
+    (c.safe_circuits_are_safe_machines.ensures f bound n fits).0
+    (file_safe f circuit n is (c.in_default.ensures.answer n low)) in
+    c.inductive_windows_are_safe.ensures c.args.form f k
+    (c.safe_steps_are_safe.ensures f k each) (c.in-Ok.ensures.answer f bound fits is)
+
 pub returns-in-Ok-clause-shown : goal.returns-in-Ok-clause-shown
 returns-in-Ok-clause-shown g c =
-    let k = c.args.k in
-    let form = c.args.form in
-    let base = c.in_default.ensures in
-    let step = c.in-Ok.ensures in
-    λ taken f bound fits is. (
-      c.inductive_windows_are_safe.ensures form f k (base.answer f bound fits is)
-          (step.answer f bound fits is),
-      base.shown refl f is,
-      subst (λ (d : Circuit). TellsOfCircuitWindow form k c.args.step_optimize
-          (g.Q.Source.left c.args.step.now) d (Ok tt)) is (step.shown refl),
-    )
+    λ taken. (c.in_default.ensures.shown refl, c.in-Ok.ensures.shown refl)
 
 pub returns-in-Err-check_window_of-clause-said : goal.returns-in-Err-check_window_of-clause-said
 returns-in-Err-check_window_of-clause-said g c =
@@ -69,15 +60,7 @@ returns-in-Err-check_window_of-clause-own g c =
 
 pub returns-in-Err-check_window_of-clause-shown : goal.returns-in-Err-check_window_of-clause-shown
 returns-in-Err-check_window_of-clause-shown g c =
-    let k = c.args.k in
-    let form = c.args.form in
-    let e = c.in-Err-check_window_of.error in
-    λ taken f bound fits is. (
-      c.in_default.ensures.shown refl f is,
-      subst (λ (d : Circuit). TellsOfCircuitWindow form k c.args.step_optimize
-          (g.Q.Source.left c.args.step.now) d (Err e)) is
-          (c.in-Err-check_window_of.ensures.shown taken),
-    )
+    λ taken. (c.in_default.ensures.shown refl, c.in-Err-check_window_of.ensures.shown taken)
 
 pub returns-in-Err-check_window_of-clause-step_unread : goal.returns-in-Err-check_window_of-clause-step_unread
 returns-in-Err-check_window_of-clause-step_unread g c =
