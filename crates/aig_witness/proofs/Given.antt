@@ -69,7 +69,7 @@ module _ (nodes : List AigNode) (ordered : IsOrdered nodes) (y : ℕ → Lbool) 
   known_edge e = ap (lbool_not_if e.compl) (known_node e.node_id) ∙ known_not e.compl (node_value nodes x e.node_id)
 
 -- the value that a step leaves is the edge's
-value_is : (s : Simulation) (row : List Lbool) → IsCircuit s.circuit → (e : AigEdge) → IsInRange s.circuit.nodes e → value_in (stepped s row) e ≡ three_edge_value s.circuit.nodes (given_values s.circuit row s.state) e
+pub value_is : (s : Simulation) (row : List Lbool) → IsCircuit s.circuit → (e : AigEdge) → IsInRange s.circuit.nodes e → value_in (stepped s row) e ≡ three_edge_value s.circuit.nodes (given_values s.circuit row s.state) e
 value_is s row is e h =
     let nodes = s.circuit.nodes in
     let y = given_values s.circuit row s.state in

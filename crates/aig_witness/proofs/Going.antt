@@ -3,7 +3,7 @@ use Rattle.aig_base.proofs.Words.{◌≡◌, ◌≢◌, ℕ, Bool, true, false, 
 use Rattle.std.specs.Prelude.{IfSome, Vec, codes}
 use Rattle.std.specs.declared.alloc.Global.{Global}
 use Rattle.aig_base.specs.declared.logic.three.Lbool.{Lbool}
-use Rattle.aig_format.specs.Parse.{◌>>=◌, parse_ended, parse_map, strip}
+use Rattle.aig_format.specs.Parse.{◌>>=◌, parse_map, strip}
 use Rattle.aig_lexer.specs.Faults.{Cause, Tells}
 use Rattle.aig_lexer.specs.Takes.{Feed, Ends, Gives, Misses, Steps, Takes}
 use Rattle.aig_lexer.specs.Words.{parse_expected}
@@ -13,9 +13,10 @@ use Rattle.aig_lexer.proofs.Going.{GoesOn, goes_call, goes_done, goes_wrong, kno
 use Rattle.aig_witness.specs.declared.error.WitnessError.{WitnessError}
 use Rattle.aig_witness.specs.declared.error.WitnessError.TheVariants.{Memory, Stream, Status, Property, Values}
 use Rattle.aig_witness.specs.Faults.{EndsWithout, GivesOr, HasFault, IsFault, IsFaultAfterStatus, property_cause, values_cause, witness_cause}
-use Rattle.aig_witness.specs.Reading.{after_comments, parse_first, parse_next, parse_parts, parse_point_after, parse_property, parse_row_after, parse_steps_after, parse_values, parse_witness, value_of_letter, witness_from}
-use Rattle.aig_witness.specs.declared.witness.Witness as lists
-use Rattle.aig_witness.specs.Witness.{Witness, parts_of, rows_of, said_by}
+use Rattle.aig_witness.specs.Reading.{after_comments, claim_from, kind_of_letter, parse_claim, parse_first, parse_kind, parse_next, parse_next_claim, parse_parts, parse_point_after, parse_property, parse_row_after, parse_steps_after, parse_values, value_of_letter, witness_in}
+use Rattle.aig_witness.specs.declared.witness.Claim as claims
+use Rattle.aig_witness.specs.declared.witness.PropertyKind.{PropertyKind}
+use Rattle.aig_witness.specs.Witness.{Claim, claim_by, parts_of, rows_of}
 
 -- what is left is read by a call
 takes_rest : {Y : Type 0} (p q : List ℕ → Option (Y × List ℕ)) (before mid after : Feed) (y : Y)
@@ -169,38 +170,47 @@ rows_more lists list = map-append (λ (l : Vec Lbool Global). l.items) lists (li
 
 -- ---- the property
 
-pub property_begins : (b : ℕ) → b ≡ 98 → (bs : List ℕ) → parse_property (b ∷ bs) ≡ parse_ended 10 bs
-property_begins b is bs = subst (λ k. parse_property (k ∷ bs) ≡ parse_ended 10 bs) (sym is) refl
+module _ (justice : Bool) where
+  pub kind_none : parse_kind justice [] ≡ None
+  kind_none = refl
+
+  pub kind_read : (b : ℕ) (kind : PropertyKind) → kind_of_letter justice b ≡ Some kind → (bs : List ℕ)
+      → parse_kind justice (b ∷ bs) ≡ Some (kind, bs)
+  kind_read b kind is bs = ap (λ o. o >>= λ kind. Some (kind, bs)) is
+
+  pub kind_wrong : (b : ℕ) → kind_of_letter justice b ≡ None → (bs : List ℕ)
+      → parse_kind justice (b ∷ bs) ≡ None
+  kind_wrong b is bs = ap (λ (o : Option PropertyKind). o >>= λ kind. Some (kind, bs)) is
 
 -- ---- the lines after that of the status
 
-module _ (before mid : Feed) (bad : ℕ) (failed : Bool) where
+module _ (justice : Bool) (before mid : Feed) (property : PropertyKind × ℕ) (failed : Bool) where
   pub property_fault : (e : WitnessError)
-      → Tells (property_cause e) (Misses parse_property before) failed
-      → Tells (witness_cause e) (IfSome before.coming (IsFaultAfterStatus e)) failed
+      → Tells (property_cause e) (Misses (parse_property justice) before) failed
+      → Tells (witness_cause e) (IfSome before.coming (IsFaultAfterStatus justice e)) failed
   property_fault Stream h = h
   property_fault Property h = h
   property_fault Memory h = absurd h
   property_fault Status h = absurd h
   property_fault Values h = absurd h
 
-  pub values_fault : (e : WitnessError) → Takes parse_property before mid bad
+  pub values_fault : (e : WitnessError) → Takes (parse_property justice) before mid property
       → Tells (values_cause e) (Misses parse_values mid) failed
-      → Tells (witness_cause e) (IfSome before.coming (IsFaultAfterStatus e)) failed
+      → Tells (witness_cause e) (IfSome before.coming (IsFaultAfterStatus justice e)) failed
   values_fault Memory k h = tt
   values_fault Stream k h = h
   values_fault Values k h =
-      known_rest before.coming mid.coming k.taken (IsFaultAfterStatus Values)
+      known_rest before.coming mid.coming k.taken (IsFaultAfterStatus justice Values)
       (λ lines. parse_values lines ≡ None) k.advances.consumed h
-      (λ lines none. (bad, lines, k.reads lines, none))
+      (λ lines none. (property, lines, k.reads lines, none))
   values_fault Status k h = absurd h
   values_fault Property k h = absurd h
 
 -- ---- the status line
 
 -- of bytes of which the first came before
-abbrev pub IsFaultFrom : ℕ → WitnessError → List ℕ → Type 0
-IsFaultFrom first e bs = IsFault e (first ∷ bs)
+abbrev pub IsFaultFrom : Bool → ℕ → WitnessError → List ℕ → Type 0
+IsFaultFrom justice first e bs = IsFault justice e (first ∷ bs)
 
 -- whatever the bytes are
 known_all : (text : Option (List ℕ)) (P : List ℕ → Type 0) → ((bs : List ℕ) → P bs) → IfSome text P
@@ -210,18 +220,18 @@ known_all (Some bs) P h = h bs
 none_empty : (first : ℕ) (bs : List ℕ) → first ∷ bs ≢ []
 none_empty first bs is = cc
 
-pub status_wrong : (first : ℕ) → first ≢ 49 → (text : Option (List ℕ))
-    → IfSome text (IsFaultFrom first Status)
-status_wrong first ne text = known_all text (IsFaultFrom first Status)
+pub status_wrong : (justice : Bool) (first : ℕ) → first ≢ 49 → (text : Option (List ℕ))
+    → IfSome text (IsFaultFrom justice first Status)
+status_wrong justice first ne text = known_all text (IsFaultFrom justice first Status)
     (λ bs. (none_empty first bs, rw (other 49 first ne) refl))
 
-module _ (first : ℕ) (one : first ≡ 49) where
+module _ (justice : Bool) (first : ℕ) (one : first ≡ 49) where
   status_is : (bs : List ℕ) → strip (codes "1\n") (first ∷ bs) ≡ (parse_expected 10 bs >>= rest_of)
   status_is bs = subst (λ k. strip (codes "1\n") (k ∷ bs) ≡ (parse_expected 10 bs >>= rest_of))
       (sym one) (line_feed bs)
 
   pub status_long : (before : Feed) → Misses (parse_expected 10) before → IfSome before.coming
-      (IsFaultFrom first Status)
+      (IsFaultFrom justice first Status)
   status_long before m = IfSome_then before.coming m (λ bs none. (
     none_empty first bs,
     status_is bs
@@ -233,31 +243,32 @@ module _ (first : ℕ) (one : first ≡ 49) where
         lines
     status_ends lines = status_is (line.taken ++ lines) ∙ ap (λ o. o >>= rest_of) (line.reads lines)
 
-    goes_status : GoesOn (λ bs. parse_witness (first ∷ bs)) before
-        (parse_map witness_from parse_parts) mid
+    goes_status : GoesOn (λ bs. parse_claim justice (first ∷ bs)) before
+        (parse_map claim_from (parse_parts justice)) mid
     goes_status = record {
       taken = line.taken;
       goes = λ lines. ap
-          (λ o. o >>= parse_map witness_from parse_parts) (status_ends lines);
+          (λ o. o >>= parse_map claim_from (parse_parts justice)) (status_ends lines);
       advances =
           line.advances;
     }
 
-    fault_from : (e : WitnessError) (lines : List ℕ) → IsFaultAfterStatus e lines
-        → IsFaultFrom first e (line.taken ++ lines)
+    fault_from : (e : WitnessError) (lines : List ℕ) → IsFaultAfterStatus justice e lines
+        → IsFaultFrom justice first e (line.taken ++ lines)
     fault_from Status lines f = absurd f
     fault_from e lines f = (lines, status_ends lines, f)
 
     -- the lines after that of the status are read by a call
-    pub gives_after : (after : Feed) (r : Result lists.Witness WitnessError)
-        → GivesOr IsFaultAfterStatus parts_of mid after r parse_parts
-        → GivesOr (IsFaultFrom first) said_by before after r (λ bs. parse_witness (first ∷ bs))
-    gives_after after (Ok w) h = takes_rest (λ bs. parse_witness (first ∷ bs))
-        (parse_map witness_from parse_parts) before mid after (said_by w) goes_status
-        (takes_mapped witness_from parse_parts mid after (parts_of w) h)
+    pub gives_after : (after : Feed) (r : Result claims.Claim WitnessError)
+        → GivesOr (IsFaultAfterStatus justice) parts_of mid after r (parse_parts justice)
+        → GivesOr (IsFaultFrom justice first) claim_by before after r
+        (λ bs. parse_claim justice (first ∷ bs))
+    gives_after after (Ok c) h = takes_rest (λ bs. parse_claim justice (first ∷ bs))
+        (parse_map claim_from (parse_parts justice)) before mid after (claim_by c) goes_status
+        (takes_mapped claim_from (parse_parts justice) mid after (parts_of c) h)
     gives_after after (Err e) h = tells-weaker (witness_cause e) _ _ after.failed
-        (λ m. known_rest before.coming mid.coming line.taken (IsFaultFrom first e)
-        (IsFaultAfterStatus e) line.advances.consumed m (fault_from e)) h
+        (λ m. known_rest before.coming mid.coming line.taken (IsFaultFrom justice first e)
+        (IsFaultAfterStatus justice e) line.advances.consumed m (fault_from e)) h
 
 -- ---- comments
 
@@ -266,18 +277,19 @@ abbrev pub past_comments : Bool → List ℕ → Option (Unit {0} × List ℕ)
 past_comments inside bs = Some (tt, after_comments inside bs)
 
 -- the next witness in them
-abbrev pub next_from : Bool → List ℕ → Option (Option Witness × List ℕ)
-next_from inside bs = parse_first (after_comments inside bs)
+abbrev pub next_from : Bool → Bool → List ℕ → Option (Option Claim × List ℕ)
+next_from justice inside bs = parse_first justice (after_comments inside bs)
 
-abbrev first_in : Unit {0} × List ℕ → Option (Option Witness × List ℕ)
-first_in x = parse_first x.1
+abbrev first_in : Bool → Unit {0} × List ℕ → Option (Option Claim × List ℕ)
+first_in justice x = parse_first justice x.1
 
-pub goes_next : (inside : Bool) (before now : Feed) → GoesOn (past_comments false) before
-    (past_comments inside) now → GoesOn parse_next before (next_from inside) now
-unfolding parse_next
-goes_next inside before now h = record {
+pub goes_next : (justice inside : Bool) (before now : Feed) → GoesOn (past_comments false) before
+    (past_comments inside) now → GoesOn (parse_next_claim justice) before (next_from justice inside)
+    now
+unfolding parse_next_claim
+goes_next justice inside before now h = record {
   taken = h.taken;
-  goes = λ rest. ap (λ o. o >>= first_in)
+  goes = λ rest. ap (λ o. o >>= first_in justice)
       (h.goes rest);
   advances = h.advances;
 }
@@ -297,32 +309,34 @@ left_of None = []
 left_of (Some x) = x.1
 
 -- a fault of what follows the comments
-pub fault_next : (e : WitnessError) (b : ℕ) (before mid : Feed)
+pub fault_next : (justice : Bool) (e : WitnessError) (b : ℕ) (before mid : Feed)
     → GoesOn (past_comments false) before (λ bs. Some (tt, b ∷ bs)) mid
-    → IfSome mid.coming (IsFaultFrom b e) → HasFault e before.coming
-fault_next e b before mid h known =
-    known_rest before.coming mid.coming h.taken (λ bytes. IsFault e (after_comments false bytes))
-    (IsFaultFrom b e) h.advances.consumed known
-    (λ rest f. subst (IsFault e) (sym (ap left_of (h.goes rest))) f)
+    → IfSome mid.coming (IsFaultFrom justice b e) → HasFault justice e before.coming
+fault_next justice e b before mid h known =
+    known_rest before.coming mid.coming h.taken (λ bytes. IsFault justice e
+    (after_comments false bytes)) (IsFaultFrom justice b e) h.advances.consumed known
+    (λ rest f. subst (IsFault justice e) (sym (ap left_of (h.goes rest))) f)
 
-abbrev there : Witness × List ℕ → Option (Option Witness × List ℕ)
+abbrev there : Claim × List ℕ → Option (Option Claim × List ℕ)
 there x = Some (Some x.0, x.1)
 
 -- a witness, where no comment begins
-pub witness_begins : (b : ℕ) → b ≢ 99 → (bs : List ℕ) → next_from false (b ∷ bs) ≡
-    (parse_witness (b ∷ bs) >>= there)
-witness_begins b ne bs = rw (ne_eqb b 99 ne) refl
+pub witness_begins : (justice : Bool) (b : ℕ) → b ≢ 99 → (bs : List ℕ)
+    → next_from justice false (b ∷ bs) ≡ (parse_claim justice (b ∷ bs) >>= there)
+witness_begins justice b ne bs = rw (ne_eqb b 99 ne) refl
 
-pub witness_found : (b : ℕ) → b ≢ 99 → (w : Witness) (bs rest : List ℕ)
-    → parse_witness (b ∷ bs) ≡ Some (w, rest) → next_from false (b ∷ bs) ≡ Some (Some w, rest)
-witness_found b ne w bs rest is = witness_begins b ne bs ∙ ap (λ o. o >>= there) is
+pub witness_found : (justice : Bool) (b : ℕ) → b ≢ 99 → (c : Claim) (bs rest : List ℕ)
+    → parse_claim justice (b ∷ bs) ≡ Some (c, rest)
+    → next_from justice false (b ∷ bs) ≡ Some (Some c, rest)
+witness_found justice b ne c bs rest is = witness_begins justice b ne bs
+    ∙ ap (λ o. o >>= there) is
 
 -- no byte came: there is no witness
-pub nothing_left : (inside : Bool) (before now after : Feed) (o : Option ℕ)
+pub nothing_left : (justice inside : Bool) (before now after : Feed) (o : Option ℕ)
     → GoesOn (past_comments false) before (past_comments inside) now → Steps now after o → o ≡ None
-    → EndsWithout before after
-nothing_left inside before now after o comments c is =
-    let h = goes_next inside before now comments in
+    → EndsWithout (parse_next_claim justice) before after
+nothing_left justice inside before now after o comments c is =
+    let h = goes_next justice inside before now comments in
     let none : Ends now after [] = subst (Steps now after) is c in
     record {
       taken = h.taken ++ [];
@@ -335,6 +349,23 @@ nothing_left inside before now after o comments c is =
       };
     }
   where
-    ends : (inside : Bool) → next_from inside [] ≡ Some (None, [])
+    ends : (inside : Bool) → next_from justice inside [] ≡ Some (None, [])
     ends true = refl
     ends false = refl
+
+-- ---- of bad state properties alone
+
+pub takes_in : (before after : Feed) (c : Claim)
+    → Takes (parse_next_claim false) before after (Some c)
+    → Takes parse_next before after (Some c.witness)
+unfolding parse_next
+takes_in before after c h = takes_mapped witness_in (parse_next_claim false) before after (Some c) h
+
+pub ends_in : (before after : Feed) → EndsWithout (parse_next_claim false) before after
+    → EndsWithout parse_next before after
+unfolding parse_next
+ends_in before after h = record {
+  taken = h.taken;
+  none = ap (λ o. o >>= λ x. Some (witness_in x.0, x.1)) h.none;
+  ends = h.ends;
+}

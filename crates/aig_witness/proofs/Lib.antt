@@ -3,10 +3,10 @@ pub mod Going
 mod Pieces
 mod Examples
 pub mod Simulated
-mod Zips
+pub mod Zips
 pub mod Started
-mod ShownRuns
-mod Nexts
+pub mod ShownRuns
+pub mod Nexts
 pub mod Given
-mod Exact
+pub mod Exact
 mod ShowingExamples

@@ -12,14 +12,14 @@ use Rattle.aig_reader.proofs.Verdicts.{short_of}
 use Rattle.aig_witness.specs.declared.error.WitnessError.{WitnessError}
 use Rattle.aig_witness.specs.declared.error.WitnessError.TheVariants as witness
 use Rattle.aig_witness.specs.Faults.{EndsWithout, HasFault, IsFault}
-use Rattle.aig_witness.specs.Reading.{after_comments, parse_next}
+use Rattle.aig_witness.specs.Reading.{after_comments}
 use Rattle.aig_witness.specs.Witness.{Witness}
 use Rattle.aig_witness.specs.declared.fault.WitnessFault.{WitnessFault}
 use Rattle.aig_witness.specs.declared.fault.WitnessFault.TheVariants as faults
 use Rattle.aig_witness.specs.declared.file.ShowError.{ShowError}
 use Rattle.aig_witness.specs.declared.file.ShowError.TheVariants as errors
 use Rattle.aig_witness.specs.Answers.{IsWrong}
-use Rattle.aig_witness.specs.Files.{FailsNext, HasNoNext, HasNone, IsNextWitness, Refuses, verdict_of}
+use Rattle.aig_witness.specs.Files.{FailsNext, HasNoNext, HasNone, IsNext, IsNextWitness, Refuses, verdict_of}
 
 module _ {S : Type 0} (left : S → Option (List ℕ)) (failed : S → Bool) (pulls : S → ℕ) where
   -- nothing is held before the source
@@ -29,22 +29,25 @@ module _ {S : Type 0} (left : S → Option (List ℕ)) (failed : S → Bool) (pu
   alone : (P : List ℕ → Type 0) (s : S) → IfSome (start s).coming P → IfSome (left s) P
   alone P s h = subst (λ (text : Option (List ℕ)). IfSome text P) (prepend_known-nil (left s)) h
 
-  pub takes_next : (s : S) (after : Feed) (w : Witness) → Takes parse_next (start s) after (Some w)
-      → IsNextWitness (left s) w
-  takes_next s after w h = alone (λ bytes. (rest : List ℕ)
-      × (parse_next bytes ≡ Some (Some w, rest))) s
-      (known_after (start s).coming after.coming h.taken (λ bytes. (rest : List ℕ)
-      × (parse_next bytes ≡ Some (Some w, rest))) h.advances.consumed
-      (λ rest. (rest, h.reads rest)))
+  module _ {Y : Type 0} (next : List ℕ → Option (Option Y × List ℕ)) where
+    pub takes_next : (s : S) (after : Feed) (y : Y) → Takes next (start s) after (Some y)
+        → IsNext next (left s) y
+    takes_next s after y h = alone (λ bytes. (rest : List ℕ)
+        × (next bytes ≡ Some (Some y, rest))) s
+        (known_after (start s).coming after.coming h.taken (λ bytes. (rest : List ℕ)
+        × (next bytes ≡ Some (Some y, rest))) h.advances.consumed
+        (λ rest. (rest, h.reads rest)))
 
-  pub ends_none : (s : S) (after : Feed) → EndsWithout (start s) after → HasNone (left s)
-  ends_none s after h = alone (λ bytes. parse_next bytes ≡ Some (None, [])) s
-      (Consumes-whole (start s).coming after.coming h.taken (λ bytes. parse_next bytes ≡ Some
-      (None, [])) h.ends.consumed h.ends.at_end h.none)
+    pub ends_none : (s : S) (after : Feed) → EndsWithout next (start s) after
+        → HasNone next (left s)
+    ends_none s after h = alone (λ bytes. next bytes ≡ Some (None, [])) s
+        (Consumes-whole (start s).coming after.coming h.taken (λ bytes. next bytes ≡ Some
+        (None, [])) h.ends.consumed h.ends.at_end h.none)
 
   -- a fault after no bytes that are held
-  pub has_fault : (e : WitnessError) (s : S) → HasFault e (start s).coming → HasFault e (left s)
-  has_fault e s h = alone (λ bytes. IsFault e (after_comments false bytes)) s h
+  pub has_fault : (justice : Bool) (e : WitnessError) (s : S) → HasFault justice e (start s).coming
+      → HasFault justice e (left s)
+  has_fault justice e s h = alone (λ bytes. IsFault justice e (after_comments false bytes)) s h
 
 -- ---- a witness that isn't read
 

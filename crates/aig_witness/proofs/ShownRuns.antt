@@ -7,7 +7,7 @@ use Rattle.aig_base.specs.declared.logic.three.Lbool.TheVariants.{FALSE, TRUE, N
 use Rattle.aig_base.specs.Three.{Agrees}
 use Rattle.aig_circuit.specs.declared.edge.AigEdge.{AigEdge}
 use Rattle.aig_circuit.specs.declared.node.AigLatch.{AigLatch}
-use Rattle.aig_circuit.proofs.Words.{edge_to, Circuit, IsCircuit, IsInRange, latch_leaves}
+use Rattle.aig_circuit.proofs.Words.{edge_to, edge_value, Circuit, IsCircuit, IsInRange, latch_leaves}
 use Rattle.aig_circuit.proofs.Circuits.{AreLeaves-of_circuit}
 use Rattle.aig_format.proofs.Words.{File, LatchLine, Fits, value_of_literal, circuit_of, edge_of, latch_of, node_of_variable, IsKnown}
 use Rattle.aig_format.specs.Machine as machine
@@ -22,7 +22,7 @@ use Rattle.aig_runs.specs.Queries.{IsWitness}
 use Rattle.aig_ternary.specs.Ternary.{IsFilling, KnownValuesHold, given_values, simulation_of, stepped_all, value_in, values_in}
 use Rattle.aig_witness.specs.Witness.{Witness}
 use Rattle.aig_witness.specs.Machine.{HasGiven, ShowsBad}
-use Rattle.aig_witness.specs.Shown.{IsKnownWitness, named_bad, simulated}
+use Rattle.aig_witness.specs.Shown.{AreStarts, HoldsSteps, IsKnownWitness, named_bad, simulated}
 use Rattle.aig_witness.proofs.Simulated.{values_at}
 use Rattle.aig_witness.proofs.Started.{starts_hold}
 use Rattle.aig_witness.proofs.Zips.{value_for-zip, zip_made, zip_split, zip_unmade, zip_with}
@@ -110,12 +110,48 @@ module _ (f : File) (limit : ℕ) (w : Witness) (fits : Fits f limit) where
         let r = given_run f limit last chosen fits in
         (r.0, r.1, has_given r.0 some r.2.inputs r.2.latches)
 
+  -- ---- runs on which constraints are known to hold
+
+  is_circuit : IsCircuit (circuit_of f)
+  is_circuit = IsCircuit-of_file f limit fits
+
+  module _ (hold : KnownHold) (some : 0 < length w.steps) (run : ℕ → ℕ → Bool) (is_run : machine.IsMachineRun f last run) (given : HasGiven f w run) where
+    values : HasNodeValues f last (leaves_of f run) run
+    values = forth_values f limit last run fits is_run
+
+    -- what is known of an edge is its value
+    pub edge_agrees : (t : ℕ) (e : AigEdge) → t < length w.steps → IsInRange (circuit_of f).nodes e → Agrees (value_in (simulated (circuit_of f) w t) e) (edge_value (circuit_of f).nodes (leaves_of f run t) e)
+    edge_agrees t e h there =
+        let next : t + 1 ≡ suc t = omega arith in
+        let found : slice_get (values_in e (simulation_of (circuit_of f) w.state) w.steps) t ≡ Some (value_in (simulated (circuit_of f) w t) e) =
+        values_at e (simulation_of (circuit_of f) w.state) w.steps t h ∙ ap (λ n. Some (value_in (stepped_all (simulation_of (circuit_of f) w.state) (take n w.steps)) e)) (sym next) in
+        hold (circuit_of f) e w.state w.steps is_circuit there (leaves_of f run) (is_filling run is_run given) t (value_in (simulated (circuit_of f) w t) e) found
+
+    -- an edge that is known to be true is
+    pub edge_holds : (t : ℕ) (e : AigEdge) → t < length w.steps → IsInRange (circuit_of f).nodes e → value_in (simulated (circuit_of f) w t) e ≡ TRUE → IsTrue (edge_value (circuit_of f).nodes (leaves_of f run t) e)
+    edge_holds t e h there true_in = subst (λ v. Agrees v (edge_value (circuit_of f).nodes (leaves_of f run t) e)) true_in (edge_agrees t e h there)
+
+    -- and so is a literal whose edge is
+    pub holds : (t e : ℕ) → t < length w.steps → IsKnown f e → IsInRange (circuit_of f).nodes (edge_of f e) → value_in (simulated (circuit_of f) w t) (edge_of f e) ≡ TRUE → IsTrue (value_of_literal (run t) e)
+    holds t e h is there true_in =
+        let low : t ≤ last = omega arith in
+        sym (literal_is f last (leaves_of f run) run values t e low is) ∙ edge_holds t (edge_of f e) h there true_in
+
+    pub is_initial : AreStarts (circuit_of f).latchs w.state → machine.IsMachineInitial f run
+    is_initial start = (starts_agree f limit last (leaves_of f run) run fits values).1 (starts_hold (circuit_of f) w.state is_circuit start (leaves_of f run 0) (first_agrees run is_run given))
+
+    pub constraints_hold : HoldsSteps (circuit_of f) w → (t : ℕ) → t ≤ last → AllByRecursion (λ e. IsTrue (value_of_literal (run t) e)) f.properties.constraints
+    constraints_hold steps t low =
+        let used = used_by_section (IsKnown f) f (used_known f limit fits) in
+        recursion_from_All (λ e. IsTrue (value_of_literal (run t) e)) f.properties.constraints (λ i d h.
+        let within : t < length w.steps = omega arith in
+        holds t (get_or f.properties.constraints i d) within (used.properties.constraints i d h)
+        (All-from_map (edge_of f) (IsInRange (circuit_of f).nodes) f.properties.constraints is_circuit.properties.constraints i d h)
+        (All-from_map (edge_of f) (λ e. value_in (simulated (circuit_of f) w t) e ≡ TRUE) f.properties.constraints (steps.constraints t within) i d h))
+
   -- ---- known witnesses
 
   module _ (hold : KnownHold) (known : IsKnownWitness (circuit_of f) w) where
-    is_circuit : IsCircuit (circuit_of f)
-    is_circuit = IsCircuit-of_file f limit fits
-
     bads_long : w.bad < length f.properties.bads
     bads_long = omega (arith, known.named, length-map f.properties.bads (edge_of f))
 
@@ -125,42 +161,22 @@ module _ (f : File) (limit : ℕ) (w : Witness) (fits : Fits f limit) where
     named_is : named_bad (circuit_of f) w ≡ edge_of f named
     named_is = get_or-map (edge_of f) f.properties.bads w.bad 0 (edge_to 0 false) bads_long
 
-    module _ (run : ℕ → ℕ → Bool) (is_run : machine.IsMachineRun f last run) (given : HasGiven f w run) where
-      values : HasNodeValues f last (leaves_of f run) run
-      values = forth_values f limit last run fits is_run
-
-      -- a literal whose edge is known to be true
-      holds : (t e : ℕ) → t < length w.steps → IsKnown f e → IsInRange (circuit_of f).nodes (edge_of f e) → value_in (simulated (circuit_of f) w t) (edge_of f e) ≡ TRUE → IsTrue (value_of_literal (run t) e)
-      holds t e h is there true_in =
-          let next : t + 1 ≡ suc t = omega arith in
-          let low : t ≤ last = omega arith in
-          let seen = values_at (edge_of f e) (simulation_of (circuit_of f) w.state) w.steps t h in
-          let same : value_in (simulated (circuit_of f) w t) (edge_of f e) ≡ TRUE = true_in in
-          let found : slice_get (values_in (edge_of f e) (simulation_of (circuit_of f) w.state) w.steps) t ≡ Some TRUE =
-          seen ∙ ap (λ n. Some (value_in (stepped_all (simulation_of (circuit_of f) w.state) (take n w.steps)) (edge_of f e))) (sym next) ∙ ap (λ v. Some v) same in
-          sym (literal_is f last (leaves_of f run) run values t e low is)
-          ∙ hold (circuit_of f) (edge_of f e) w.state w.steps is_circuit there (leaves_of f run) (is_filling run is_run given) t TRUE found
-
-      is_witness : IsWitness f last run × IsTrue (value_of_literal (run last) named)
-      is_witness =
-          let some = known.some in
-          let end : last < length w.steps = omega arith in
-          let used = used_by_section (IsKnown f) f (used_known f limit fits) in
-          let bad : IsTrue (value_of_literal (run last) named) =
-          holds last named end (used.properties.bads w.bad 0 bads_long) (All-from_map (edge_of f) (IsInRange (circuit_of f).nodes) f.properties.bads is_circuit.properties.bads w.bad 0 bads_long)
-          (ap (value_in (simulated (circuit_of f) w last)) (sym named_is) ∙ known.bad) in (
-            record {
-              is_run = is_run;
-              start = (starts_agree f limit last (leaves_of f run) run fits values).1 (starts_hold (circuit_of f) w.state is_circuit known.start (leaves_of f run 0) (first_agrees run is_run given));
-              constraints = λ t low. recursion_from_All (λ e. IsTrue (value_of_literal (run t) e)) f.properties.constraints (λ i d h.
-                  let within : t < length w.steps = omega arith in
-                  holds t (get_or f.properties.constraints i d) within (used.properties.constraints i d h)
-                  (All-from_map (edge_of f) (IsInRange (circuit_of f).nodes) f.properties.constraints is_circuit.properties.constraints i d h)
-                  (All-from_map (edge_of f) (λ e. value_in (simulated (circuit_of f) w t) e ≡ TRUE) f.properties.constraints (known.steps.constraints t within) i d h));
-              bad = list_any_at (value_of_literal (run last)) f.properties.bads w.bad 0 bads_long bad;
-            },
-            bad,
-          )
+    is_witness : (run : ℕ → ℕ → Bool) (is_run : machine.IsMachineRun f last run) (given : HasGiven f w run) → IsWitness f last run × IsTrue (value_of_literal (run last) named)
+    is_witness run is_run given =
+        let some = known.some in
+        let end : last < length w.steps = omega arith in
+        let used = used_by_section (IsKnown f) f (used_known f limit fits) in
+        let bad : IsTrue (value_of_literal (run last) named) =
+        holds hold some run is_run given last named end (used.properties.bads w.bad 0 bads_long) (All-from_map (edge_of f) (IsInRange (circuit_of f).nodes) f.properties.bads is_circuit.properties.bads w.bad 0 bads_long)
+        (ap (value_in (simulated (circuit_of f) w last)) (sym named_is) ∙ known.bad) in (
+          record {
+            is_run = is_run;
+            start = is_initial hold some run is_run given known.start;
+            constraints = constraints_hold hold some run is_run given known.steps;
+            bad = list_any_at (value_of_literal (run last)) f.properties.bads w.bad 0 bads_long bad;
+          },
+          bad,
+        )
 
     pub shows_bad : ShowsBad f w
     shows_bad = record {

@@ -1,15 +1,17 @@
 -- Witnesses are read from the front exactly.
-use Rattle.aig_base.proofs.Words.{◌≡◌, ℕ, ◌^◌, ◌<◌, false, cond, eqb, List, [], ◌∷◌, ◌++◌, map, Some, None, refl, sym, ap, subst, ◌∙◌, append_assoc, append-nil, inl, inr, arith, decimal, flat_map, eqb-true, map-append, same_Some}
+use Rattle.aig_base.proofs.Words.{◌≡◌, ℕ, ◌^◌, ◌<◌, Bool, true, false, cond, eqb, List, [], ◌∷◌, ◌++◌, map, Some, None, refl, sym, ap, subst, ◌∙◌, append_assoc, append-nil, inl, inr, arith, decimal, flat_map, eqb-true, map-append, same_Some}
 use Rattle.aig_base.specs.declared.logic.three.Lbool.{Lbool}
 use Rattle.aig_base.specs.declared.logic.three.Lbool.TheVariants.{FALSE, TRUE, NONE}
 use Rattle.aig_format.proofs.Words.{◌then◌, Each, Ended, IsDigit, Just, ◌>>=◌, parse_both, parse_ended, parse_map, strip}
 use Rattle.aig_format.proofs.Entries.{chosen}
 use Rattle.aig_format.proofs.NumberReaders.{bind_some}
-use Rattle.aig_format.proofs.Joined.{Reads, Reads-both, Reads-ended, Reads-mapped}
+use Rattle.aig_format.proofs.Joined.{Begins, Reads, Reads-both, Reads-ended, Reads-mapped, Reads-same, Reads-seen, With}
 use Rattle.aig_format.proofs.Sections.{Reads-following}
 use Rattle.aig_format.proofs.Printed.{number_written}
-use Rattle.aig_witness.specs.Reading.{after_comments, parse_first, parse_next, parse_parts, parse_point_after, parse_property, parse_row_after, parse_steps_after, value_of_letter, parse_witness, witness_from}
-use Rattle.aig_witness.specs.Witness.{SpellsWitness, Witness, letter_of, row_text, witness_text}
+use Rattle.aig_witness.specs.declared.witness.PropertyKind.{PropertyKind}
+use Rattle.aig_witness.specs.declared.witness.PropertyKind.TheVariants.{Bad, Justice}
+use Rattle.aig_witness.specs.Reading.{after_comments, claim_from, kind_of_letter, parse_claim, parse_first, parse_kind, parse_next, parse_next_claim, parse_parts, parse_point_after, parse_property, parse_row_after, parse_steps_after, parse_witness, value_of_letter, witness_in}
+use Rattle.aig_witness.specs.Witness.{Claim, IsTaken, SpellsClaim, SpellsWitness, Witness, letter_of, letter_of_kind, of_bad, row_text, witness_text}
 
 -- ---- letters
 
@@ -166,47 +168,126 @@ Reads-steps = record {
       ap (parse_steps_after [] []) whole ∙ steps_complete [] steps rest;
 }
 
+-- ---- the property
+
+justice_taken : (justice : Bool) (k : PropertyKind)
+    → cond justice (Some Justice) None ≡ Some k → IsTaken justice k × (Justice ≡ k)
+justice_taken true k h =
+    let same : Justice ≡ k = same_Some Justice k h in (subst (IsTaken true) same tt, same)
+justice_taken false k h = absurd cc
+
+-- the letter is that of the kind, which is taken
+kind_sound : (justice : Bool) (b : ℕ) (k : PropertyKind) → kind_of_letter justice b ≡ Some k
+    → IsTaken justice k × (b ≡ letter_of_kind k)
+kind_sound justice b k h =
+    let second = cond justice (Some Justice) None in
+    elim (chosen (eqb b 98) (Some Bad) (cond (eqb b 106) second None) (Some k) h) [
+      | inl bad ↦
+          let same : Bad ≡ k = same_Some Bad k bad.1 in
+          (subst (IsTaken justice) same tt, eqb-true b 98 bad.0 ∙ ap letter_of_kind same)
+      | inr other ↦ elim (chosen (eqb b 106) second None (Some k) other.1) [
+        | inl just ↦
+            let t = justice_taken justice k just.1 in
+            (t.0, eqb-true b 106 just.0 ∙ ap letter_of_kind t.1)
+        | inr none ↦ absurd (nothing k none.1)
+      ]
+    ]
+  where
+    nothing : (k : PropertyKind) → None ≡ Some k → ⊥
+    nothing k h = cc
+
+kind_complete : (justice : Bool) (k : PropertyKind) → IsTaken justice k
+    → kind_of_letter justice (letter_of_kind k) ≡ Some k
+kind_complete justice Bad h = refl
+kind_complete true Justice h = refl
+kind_complete false Justice h = absurd h
+
+-- a kind that is taken, by its letter
+abbrev KindText : Bool → PropertyKind → List ℕ → Type 0
+KindText justice k = With (IsTaken justice) (λ k. Just (letter_of_kind k ∷ [])) k
+
+Reads-kind : (justice : Bool) → Reads (KindText justice) (parse_kind justice)
+Reads-kind justice = record { sound = sound; complete = complete }
+  where
+    sound : (bytes : List ℕ) (x : PropertyKind × List ℕ) → parse_kind justice bytes ≡ Some x
+        → Begins (KindText justice) bytes x
+    sound [] x h = absurd cc
+    sound (b ∷ bs) x h =
+        let found = bind_some (kind_of_letter justice b) (λ k. Some (k, bs)) x h in
+        let k = kind_sound justice b found.0 found.1 in
+        subst (Begins (KindText justice) (b ∷ bs)) (same_Some (found.0, bs) x found.2)
+        (letter_of_kind found.0 ∷ [], ap (λ l. l ∷ bs) k.1, (k.0, refl))
+
+    complete : (k : PropertyKind) (front rest : List ℕ) → KindText justice k front
+        → parse_kind justice (front ++ rest) ≡ Some (k, rest)
+    complete k front rest h =
+        ap (λ bytes. parse_kind justice (bytes ++ rest)) h.1
+        ∙ ap (λ o. o >>= λ k. Some (k, rest)) (kind_complete justice k h.0)
+
 -- ---- witnesses
 
-abbrev PartsText : ℕ × (List Lbool × List (List Lbool)) → List ℕ → Type 0
-PartsText x = (Just (98 ∷ []) then Ended 10 x.0) then Just (row_text x.1.0) then Lines x.1.1 then Just (46 ∷ 10 ∷ [])
+abbrev PartsText : Bool → (PropertyKind × ℕ) × (List Lbool × List (List Lbool)) → List ℕ → Type 0
+PartsText justice x = (KindText justice x.0.0 then Ended 10 x.0.1) then Just (row_text x.1.0) then Lines x.1.1 then Just (46 ∷ 10 ∷ [])
 
 no_digit : IsDigit 10 → ⊥
 no_digit h = omega arith
 
-Reads-parts : Reads PartsText parse_parts
-Reads-parts =
-    Reads-both (λ n. Just (98 ∷ []) then Ended 10 n) (λ _ y. Just (row_text y.0) then Lines y.1 then Just (46 ∷ 10 ∷ [])) parse_property (λ _. parse_both (parse_row_after []) (λ _. parse_steps_after [] []))
-    (Reads-following (98 ∷ []) (Ended 10) (parse_ended 10) (Reads-ended 10 no_digit))
+Reads-parts : (justice : Bool) → Reads (PartsText justice) (parse_parts justice)
+Reads-parts justice =
+    Reads-both (λ (p : PropertyKind × ℕ). KindText justice p.0 then Ended 10 p.1) (λ _ y. Just (row_text y.0) then Lines y.1 then Just (46 ∷ 10 ∷ [])) (parse_property justice) (λ _. parse_both (parse_row_after []) (λ _. parse_steps_after [] []))
+    (Reads-both (KindText justice) (λ _. Ended 10) (parse_kind justice) (λ _. parse_ended 10) (Reads-kind justice) (λ _. Reads-ended 10 no_digit))
     (λ _. Reads-both (λ row. Just (row_text row)) (λ _ steps. Lines steps then Just (46 ∷ 10 ∷ [])) (parse_row_after []) (λ _. parse_steps_after [] []) Reads-row (λ _. Reads-steps))
 
-abbrev parts : Witness → ℕ × (List Lbool × List (List Lbool))
-parts w = (w.bad, (w.state, w.steps))
+abbrev parts : Claim → (PropertyKind × ℕ) × (List Lbool × List (List Lbool))
+parts c = ((c.kind, c.witness.bad), (c.witness.state, c.witness.steps))
+
+-- a claim of a kind that is taken
+abbrev ClaimText : Bool → Claim → List ℕ → Type 0
+ClaimText justice = With (λ c. IsTaken justice c.kind) SpellsClaim
+
+pub Reads-claim : (justice : Bool) → Reads (ClaimText justice) (parse_claim justice)
+Reads-claim justice =
+    Reads-same (λ c. Just (49 ∷ 10 ∷ []) then PartsText justice (parts c)) (ClaimText justice) (parse_claim justice)
+    (Reads-following (49 ∷ 10 ∷ []) (λ c. PartsText justice (parts c)) (parse_map claim_from (parse_parts justice))
+    (Reads-mapped (PartsText justice) (λ c. PartsText justice (parts c)) (parse_parts justice) claim_from parts (Reads-parts justice) (λ x bytes h. h) (λ c bytes h. h) (λ c. refl)))
+    (λ c bytes h. (h.4.3.3.0, (h.0, h.1, h.2, h.3, (h.4.0, h.4.1, h.4.2, (h.4.3.0, h.4.3.1, h.4.3.2, h.4.3.3.1, h.4.3.4), h.4.4))))
+    (λ c bytes k. let h = k.1 in (h.0, h.1, h.2, h.3, (h.4.0, h.4.1, h.4.2, (h.4.3.0, h.4.3.1, h.4.3.2, (k.0, h.4.3.3), h.4.3.4), h.4.4)))
 
 pub Reads-witness : Reads SpellsWitness parse_witness
 Reads-witness =
-    Reads-following (49 ∷ 10 ∷ []) (λ w. PartsText (parts w)) (parse_map witness_from parse_parts)
-    (Reads-mapped PartsText (λ w. PartsText (parts w)) parse_parts witness_from parts Reads-parts (λ x bytes h. h) (λ w bytes h. h) (λ w. refl))
+    Reads-seen (ClaimText false) SpellsWitness (parse_claim false) (λ c. c.witness) (Reads-claim false)
+    (λ c bytes h. bad_only c bytes h) (λ w bytes h. (of_bad w, (tt, h), refl))
+  where
+    bad_only : (c : Claim) (bytes : List ℕ) → ClaimText false c bytes → SpellsWitness c.witness bytes
+    bad_only c bytes h = by c.kind h.0 h.1
+      where
+        by : (k : PropertyKind) → IsTaken false k → SpellsClaim (record { kind = k; witness = c.witness }) bytes → SpellsWitness c.witness bytes
+        by Bad t s = s
+        by Justice t s = absurd t
 
 -- where a witness is read, no comment stands
-pub next_is : (bytes rest : List ℕ) (w : Witness) → parse_witness bytes ≡ Some (w, rest) → parse_next bytes ≡ Some (Some w, rest)
-unfolding parse_next
-next_is [] rest w h = absurd cc
-next_is (b ∷ bs) rest w h =
-    let found = bind_some (cond (eqb 49 b) (strip (10 ∷ []) bs) None) (parse_map witness_from parse_parts) (w, rest) h in
+pub claim_next : (justice : Bool) (bytes rest : List ℕ) (c : Claim) → parse_claim justice bytes ≡ Some (c, rest) → parse_next_claim justice bytes ≡ Some (Some c, rest)
+unfolding parse_next_claim
+claim_next justice [] rest c h = absurd cc
+claim_next justice (b ∷ bs) rest c h =
+    let found = bind_some (cond (eqb 49 b) (strip (10 ∷ []) bs) None) (parse_map claim_from (parse_parts justice)) (c, rest) h in
     elim (chosen (eqb 49 b) (strip (10 ∷ []) bs) None (Some found.0) found.1) [
       | inl one ↦
           let same : 49 ≡ b = eqb-true 49 b one.0 in
-          subst (λ k. parse_witness (k ∷ bs) ≡ Some (w, rest) → parse_first (after_comments false (k ∷ bs)) ≡ Some (Some w, rest)) same
-          (λ (is : parse_witness (49 ∷ bs) ≡ Some (w, rest)). ap (λ o. o >>= λ x. Some (Some x.0, x.1)) is) h
+          subst (λ k. parse_claim justice (k ∷ bs) ≡ Some (c, rest) → parse_first justice (after_comments false (k ∷ bs)) ≡ Some (Some c, rest)) same
+          (λ (is : parse_claim justice (49 ∷ bs) ≡ Some (c, rest)). ap (λ o. o >>= λ x. Some (Some x.0, x.1)) is) h
       | inr other ↦ absurd (nothing found.0 other.1)
     ]
   where
     nothing : (rest : List ℕ) → None ≡ Some rest → ⊥
     nothing rest h = cc
 
+pub spelled_claim : (justice : Bool) (front rest : List ℕ) (c : Claim) → IsTaken justice c.kind → SpellsClaim c front → parse_next_claim justice (front ++ rest) ≡ Some (Some c, rest)
+spelled_claim justice front rest c taken h = claim_next justice (front ++ rest) rest c ((Reads-claim justice).complete c front rest (taken, h))
+
 pub spelled_next : (front rest : List ℕ) (w : Witness) → SpellsWitness w front → parse_next (front ++ rest) ≡ Some (Some w, rest)
-spelled_next front rest w h = next_is (front ++ rest) rest w (Reads-witness.complete w front rest h)
+unfolding parse_next
+spelled_next front rest w h = ap (λ o. o >>= λ x. Some (witness_in x.0, x.1)) (spelled_claim false front rest (of_bad w) tt h)
 
 pub written_spelled : (w : Witness) → w.bad < 2 ^ 32 → SpellsWitness w (witness_text w)
 unfolding witness_text

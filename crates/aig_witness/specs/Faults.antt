@@ -7,9 +7,11 @@ use Rattle.aig_lexer.specs.Words.{parse_expected}
 use Rattle.aig_format.specs.Parse.{strip}
 use Rattle.aig_witness.specs.declared.error.WitnessError.{WitnessError}
 use Rattle.aig_witness.specs.declared.error.WitnessError.TheVariants as errors
+use Rattle.aig_witness.specs.declared.witness.Claim as claims
+use Rattle.aig_witness.specs.declared.witness.PropertyKind.{PropertyKind}
 use Rattle.aig_witness.specs.declared.witness.Witness as lists
-use Rattle.aig_witness.specs.Reading.{after_comments, parse_next, parse_property, parse_values}
-use Rattle.aig_witness.specs.Witness.{said_by}
+use Rattle.aig_witness.specs.Reading.{after_comments, parse_next, parse_next_claim, parse_property, parse_values}
+use Rattle.aig_witness.specs.Witness.{claim_by, said_by}
 
 -- why a witness isn't read
 abbrev pub witness_cause : WitnessError → Cause
@@ -30,25 +32,27 @@ values_cause errors.Stream = Stream
 values_cause errors.Values = Other
 values_cause e = Never
 
--- ---- which line is the first that is malformed or cut
+-- ---- which line is the first that is malformed or cut, where witnesses of justice properties are
+-- taken or are not
 
 -- of those after a line of the status: that of the property, or one of the values
-abbrev pub IsFaultAfterStatus : WitnessError → List ℕ → Type 0
-IsFaultAfterStatus errors.Property bytes = parse_property bytes ≡ None
-IsFaultAfterStatus errors.Values bytes =
-    (bad : ℕ) × (lines : List ℕ) × (parse_property bytes ≡ Some (bad, lines))
-    × (parse_values lines ≡ None)
-IsFaultAfterStatus e bytes = ⊥
+abbrev pub IsFaultAfterStatus : Bool → WitnessError → List ℕ → Type 0
+IsFaultAfterStatus justice errors.Property bytes = parse_property justice bytes ≡ None
+IsFaultAfterStatus justice errors.Values bytes =
+    (property : PropertyKind × ℕ) × (lines : List ℕ)
+    × (parse_property justice bytes ≡ Some (property, lines)) × (parse_values lines ≡ None)
+IsFaultAfterStatus justice e bytes = ⊥
 
 -- of all lines, where there are any
-abbrev pub IsFault : WitnessError → List ℕ → Type 0
-IsFault errors.Status bytes = (bytes ≢ []) × (strip (codes "1\n") bytes ≡ None)
-IsFault e bytes =
-    (lines : List ℕ) × (strip (codes "1\n") bytes ≡ Some lines) × IsFaultAfterStatus e lines
+abbrev pub IsFault : Bool → WitnessError → List ℕ → Type 0
+IsFault justice errors.Status bytes = (bytes ≢ []) × (strip (codes "1\n") bytes ≡ None)
+IsFault justice e bytes =
+    (lines : List ℕ) × (strip (codes "1\n") bytes ≡ Some lines)
+    × IsFaultAfterStatus justice e lines
 
 -- where the bytes are known, of those after the comments
-abbrev pub HasFault : WitnessError → Option (List ℕ) → Type 0
-HasFault e text = IfSome text (λ bytes. IsFault e (after_comments false bytes))
+abbrev pub HasFault : Bool → WitnessError → Option (List ℕ) → Type 0
+HasFault justice e text = IfSome text (λ bytes. IsFault justice e (after_comments false bytes))
 
 -- ---- answers
 
@@ -66,16 +70,25 @@ EndsLine before after (Ok true) = Takes (parse_expected 10) before after 10
 EndsLine before after (Ok false) = Misses (parse_expected 10) before
 EndsLine before after (Err e) = after.failed ≡ true
 
--- the bytes that were taken have no witness, and nothing follows them
-pub record EndsWithout (before after : Feed) : Type 0 where
+-- by this reader the bytes that were taken have no witness, and nothing follows them
+pub record EndsWithout {Y : Type 0} (next : List ℕ → Option (Option Y × List ℕ))
+    (before after : Feed) : Type 0 where
   pub taken : List ℕ
-  pub none : parse_next taken ≡ Some (None, [])
+  pub none : next taken ≡ Some (None, [])
   pub ends : Ends before after taken
 
--- the next witness, or none at the end, or which line is the first that is malformed, or that a
--- read failed
+-- the next witness of a kind that is taken, or none at the end, or which line is the first that is
+-- malformed, or that a read failed
+abbrev pub GivesClaim : Bool → Feed → Feed → Result (Option claims.Claim) WitnessError → Type 0
+GivesClaim justice before after (Ok (Some c)) =
+    Takes (parse_next_claim justice) before after (Some (claim_by c))
+GivesClaim justice before after (Ok None) = EndsWithout (parse_next_claim justice) before after
+GivesClaim justice before after (Err e) =
+    Tells (witness_cause e) (HasFault justice e before.coming) after.failed
+
+-- the same of a bad state property alone
 abbrev pub GivesNext : Feed → Feed → Result (Option lists.Witness) WitnessError → Type 0
 GivesNext before after (Ok (Some w)) = Takes parse_next before after (Some (said_by w))
-GivesNext before after (Ok None) = EndsWithout before after
+GivesNext before after (Ok None) = EndsWithout parse_next before after
 GivesNext before after (Err e) =
-    Tells (witness_cause e) (HasFault e before.coming) after.failed
+    Tells (witness_cause e) (HasFault false e before.coming) after.failed

@@ -1,7 +1,7 @@
 -- Part of what is promised.
 -- What the answer of a check tells of the bytes of a file and of a witness. (AIGER format 20071012;
 -- AIGER 1.9, "Witness format".)
-use Rattle.std.specs.Prelude.{◌≡◌, ℕ, ◌-◌, Bool, List, [], length, Option, Some, None, IfSome}
+use Rattle.std.specs.Prelude.{◌≡◌, ℕ, ◌-◌, Bool, false, List, [], length, Option, Some, None, IfSome}
 use Rattle.aig_format.specs.File.{File}
 use Rattle.aig_format.specs.Fits.{Accepts}
 use Rattle.aig_format.specs.Circuit.{circuit_of}
@@ -24,14 +24,20 @@ use Rattle.aig_witness.specs.Shown.{IsKnownWitness}
 
 -- ---- the next witness
 
--- where the bytes are known, the next witness in them is this one
-abbrev pub IsNextWitness : Option (List ℕ) → Witness → Type 0
-IsNextWitness text w =
-    IfSome text (λ bytes. (rest : List ℕ) × (parse_next bytes ≡ Some (Some w, rest)))
+-- where the bytes are known, this reader's next witness in them is this one
+abbrev pub IsNext : {Y : Type 0} → (List ℕ → Option (Option Y × List ℕ)) → Option (List ℕ) → Y
+    → Type 0
+IsNext next text y =
+    IfSome text (λ bytes. (rest : List ℕ) × (next bytes ≡ Some (Some y, rest)))
 
--- where the bytes are known, there is no witness in them, but comments alone
-abbrev pub HasNone : Option (List ℕ) → Type 0
-HasNone text = IfSome text (λ bytes. parse_next bytes ≡ Some (None, []))
+-- the same of a bad state property
+abbrev pub IsNextWitness : Option (List ℕ) → Witness → Type 0
+IsNextWitness = IsNext parse_next
+
+-- where the bytes are known, by this reader there is no witness in them, but comments alone
+abbrev pub HasNone : {Y : Type 0} → (List ℕ → Option (Option Y × List ℕ)) → Option (List ℕ)
+    → Type 0
+HasNone next text = IfSome text (λ bytes. next bytes ≡ Some (None, []))
 
 -- the next witness of the text shows this bad state of the file's machine
 pub record ShowsNext (text : Option (List ℕ)) (f : File) (shown : Shown) : Type 0 where
@@ -53,8 +59,8 @@ pub record FailsNext (text : Option (List ℕ)) (f : File) (e : WitnessFault) : 
 -- why there is no next witness: a line is malformed, memory ran out or a read failed, or there are
 -- comments alone
 abbrev pub HasNoNext : Option (List ℕ) → Bool → ShowError → Type 0
-HasNoNext text failed (errors.Witness e) = Tells (witness_cause e) (HasFault e text) failed
-HasNoNext text failed errors.NoWitness = HasNone text
+HasNoNext text failed (errors.Witness e) = Tells (witness_cause e) (HasFault false e text) failed
+HasNoNext text failed errors.NoWitness = HasNone parse_next text
 HasNoNext text failed e = ⊥
 
 -- what a refusal tells of the witness, by the bytes that the file's reader has left before and

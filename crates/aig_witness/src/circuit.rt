@@ -13,7 +13,7 @@ use aig_base::{Lbool, MemoryError};
 use std::alloc::Global;
 
 /// Whether each latch that has an initial edge has the constant one of its value in the state.
-fn starts(latchs: &[AigLatch], state: &[Lbool]) -> bool
+pub fn starts(latchs: &[AigLatch], state: &[Lbool]) -> bool
     requires { length state.now ≡ length latchs.now }
     ensures yes { result ≡ true → AreStarts latchs.now state.now }
     ensures no { result ≡ false → ¬ AreStarts latchs.now state.now }
@@ -30,7 +30,7 @@ fn starts(latchs: &[AigLatch], state: &[Lbool]) -> bool
 }
 
 /// Whether all edges are known to be true in the last step.
-fn all_true(simulation: &TernarySimulate<'_>, edges: &[AigEdge]) -> bool
+pub fn all_true(simulation: &TernarySimulate<'_>, edges: &[AigEdge]) -> bool
     requires { All (HasValue simulation.now) edges.now }
     ensures yes { result ≡ true → AreTrueIn simulation.now edges.now }
     ensures no { result ≡ false → ¬ AreTrueIn simulation.now edges.now }
@@ -52,7 +52,7 @@ fn copied(alloc: Global, values: &[Lbool]) -> Result<Vec<Lbool>, MemoryError>
 
 /// Simulates the steps of a witness, and checks that each has a value for each input, and that all constraints are known to
 /// hold at each.
-fn check_steps(
+pub fn check_steps(
     alloc: Global,
     circuit: &Aig,
     simulation: &mut TernarySimulate<'_>,

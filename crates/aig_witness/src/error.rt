@@ -19,7 +19,7 @@ pub enum WitnessError {
     /// The first line is not the status `1`.
     #[error("no status line 1")]
     Status,
-    /// The second line is not `b` and the number of a bad state property.
+    /// The second line is not the letter of a kind of property, `b` or where they are taken `j`, and a number.
     #[error("bad property line")]
     Property,
     /// A line of values has another letter than `0`, `1` and `x`, or the stream ended before the line of a point.

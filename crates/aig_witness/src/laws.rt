@@ -1,10 +1,24 @@
 //! Laws of the text of witnesses.
 
-ghost use Rattle.std.specs.Prelude.{◌≡◌, ◌<◌, ◌^◌, ◌++◌, ℕ, List, Some};
-ghost use Rattle.aig_witness.specs.Reading.{parse_next, parse_witness};
-ghost use Rattle.aig_witness.specs.Witness.{SpellsWitness, Witness, witness_text};
+ghost use Rattle.std.specs.Prelude.{◌≡◌, ◌<◌, ◌^◌, ◌++◌, ℕ, Bool, List, Some};
+ghost use Rattle.aig_witness.specs.Reading.{parse_claim, parse_next, parse_next_claim, parse_witness};
+ghost use Rattle.aig_witness.specs.Witness.{Claim, IsTaken, SpellsClaim, SpellsWitness, Witness, witness_text};
 
-/// Law: what is read from the front is spelled so, what is spelled so is read, whatever follows it, and it is the next witness.
+/// Law: what is read from the front, of a kind of property that is taken, is spelled so; what is spelled so is read, whatever follows
+/// it, and it is the next witness.
+pub fn claims_are_spelled()
+    ensures sound { (justice : Bool) (bytes rest : List ℕ) (c : Claim)
+        → parse_claim justice bytes ≡ Some (c, rest)
+        → IsTaken justice c.kind
+        × ((front : List ℕ) × (bytes ≡ front ++ rest) × SpellsClaim c front) }
+    ensures complete { (justice : Bool) (front rest : List ℕ) (c : Claim) → IsTaken justice c.kind
+        → SpellsClaim c front → parse_claim justice (front ++ rest) ≡ Some (c, rest) }
+    ensures next { (justice : Bool) (front rest : List ℕ) (c : Claim) → IsTaken justice c.kind
+        → SpellsClaim c front → parse_next_claim justice (front ++ rest) ≡ Some (Some c, rest) }
+{}
+
+/// Law: what is read of a bad state property from the front is spelled so, what is spelled so is read, whatever follows it, and it is
+/// the next witness.
 pub fn witnesses_are_spelled()
     ensures sound { (bytes rest : List ℕ) (w : Witness) → parse_witness bytes ≡ Some (w, rest)
         → (front : List ℕ) × (bytes ≡ front ++ rest) × SpellsWitness w front }

@@ -1,5 +1,5 @@
-//! Witnesses of bad states, in the form of AIGER 1.9: their text, which is read from any source and written to any sink, and whether
-//! they show bad states of circuits and of the machines of AIGER files.
+//! Witnesses of bad states, in the form of AIGER 1.9: their text, which is read from any source, also where it is of a justice
+//! property, and written to any sink, and whether they show bad states of circuits and of the machines of AIGER files.
 #![tactic(auto)]
 
 mod circuit;
@@ -12,15 +12,15 @@ mod showing;
 mod witness;
 mod writing;
 
-pub use circuit::check_circuit;
+pub use circuit::{all_true, check_circuit, check_steps, starts};
 pub use error::WitnessError;
 pub use fault::WitnessFault;
 pub use file::{ShowError, Shown, check_witness};
-pub use laws::{witnesses_are_read, witnesses_are_spelled};
-pub use reading::read_witness;
+pub use laws::{claims_are_spelled, witnesses_are_read, witnesses_are_spelled};
+pub use reading::{read_claim, read_witness};
 pub use showing::{
     given_witnesses_are_known, known_witnesses_show, witnesses_are_unsafe,
     wrong_witnesses_show_nothing,
 };
-pub use witness::Witness;
+pub use witness::{Claim, PropertyKind, Witness};
 pub use writing::write_witness;

@@ -2,12 +2,12 @@
 
 ghost use Rattle.std.specs.Prelude.{◌≡◌, ◌∷◌, []};
 ghost use Rattle.aig_lexer.specs.Takes.{Gives, feed};
-ghost use Rattle.aig_witness.specs.Faults.{EndsLine, GivesNext, GivesOr, IsFault, IsFaultAfterStatus, property_cause, values_cause};
-ghost use Rattle.aig_witness.specs.Reading.{parse_parts, parse_property, parse_row_after, parse_steps_after, parse_values, value_of_letter, parse_witness};
-ghost use Rattle.aig_witness.specs.Witness.{parts_of, rows_of, said_by, values_of};
+ghost use Rattle.aig_witness.specs.Faults.{EndsLine, GivesClaim, GivesNext, GivesOr, IsFault, IsFaultAfterStatus, property_cause, values_cause};
+ghost use Rattle.aig_witness.specs.Reading.{kind_of_letter, parse_claim, parse_kind, parse_parts, parse_property, parse_row_after, parse_steps_after, parse_values, value_of_letter};
+ghost use Rattle.aig_witness.specs.Witness.{claim_by, parts_of, rows_of, values_of};
 
 use crate::error::WitnessError;
-use crate::witness::Witness;
+use crate::witness::{Claim, PropertyKind, Witness};
 use aig_base::{Lbool, Source, StreamFault};
 use aig_lexer::{InputBuffer, LexError, append, ended};
 use std::alloc::Global;
@@ -102,17 +102,55 @@ fn read_steps<R: Source>(
     Err(WitnessError::Values)
 }
 
-/// Reads the line of a bad state property: `b` and its number.
-fn read_property<R: Source>(buffer: &mut InputBuffer, r: &mut R) -> Result<u32, WitnessError>
-    ensures { Gives property_cause (λ bad. bad)
-        (feed R.left R.failed R.pulls buffer.old r.old)
-        (feed R.left R.failed R.pulls buffer.new r.new) result parse_property }
+/// The kind of property of a letter, if it is that of one; those of justice may be left out.
+fn kind_of(letter: u8, justice: bool) -> Option<PropertyKind>
+    ensures { result ≡ kind_of_letter justice letter }
 {
-    let Some(b'b') = buffer.next(r)? else {
+    match letter {
+        b'b' => Some(PropertyKind::Bad),
+        b'j' => {
+            if justice {
+                Some(PropertyKind::Justice)
+            } else {
+                None
+            }
+        }
+        _ => None,
+    }
+}
+
+/// Reads the letter of a kind of property.
+fn read_kind<R: Source>(
+    buffer: &mut InputBuffer,
+    r: &mut R,
+    justice: bool,
+) -> Result<PropertyKind, WitnessError>
+    ensures { Gives property_cause (λ kind. kind)
+        (feed R.left R.failed R.pulls buffer.old r.old)
+        (feed R.left R.failed R.pulls buffer.new r.new) result (parse_kind justice) }
+{
+    let Some(letter) = buffer.next(r)? else {
         return Err(WitnessError::Property);
     };
+    match kind_of(letter, justice) {
+        Some(kind) => Ok(kind),
+        None => Err(WitnessError::Property),
+    }
+}
+
+/// Reads the line of a property: the letter of its kind, and its number.
+fn read_property<R: Source>(
+    buffer: &mut InputBuffer,
+    r: &mut R,
+    justice: bool,
+) -> Result<(PropertyKind, u32), WitnessError>
+    ensures { Gives property_cause (λ property. property)
+        (feed R.left R.failed R.pulls buffer.old r.old)
+        (feed R.left R.failed R.pulls buffer.new r.new) result (parse_property justice) }
+{
+    let kind = read_kind(buffer, r, justice)?;
     match ended(buffer, r, b'\n') {
-        Ok(bad) => Ok(bad),
+        Ok(number) => Ok((kind, number)),
         Err(LexError::Stream) => Err(WitnessError::Stream),
         Err(LexError::Shape) => Err(WitnessError::Property),
     }
@@ -138,13 +176,16 @@ fn read_parts<R: Source>(
     alloc: Global,
     buffer: &mut InputBuffer,
     r: &mut R,
-) -> Result<Witness, WitnessError>
-    ensures { GivesOr IsFaultAfterStatus parts_of (feed R.left R.failed R.pulls buffer.old r.old)
-        (feed R.left R.failed R.pulls buffer.new r.new) result parse_parts }
+    justice: bool,
+) -> Result<Claim, WitnessError>
+    ensures { GivesOr (IsFaultAfterStatus justice) parts_of
+        (feed R.left R.failed R.pulls buffer.old r.old)
+        (feed R.left R.failed R.pulls buffer.new r.new) result (parse_parts justice) }
 {
-    let bad = read_property(buffer, r)?;
+    let (kind, bad) = read_property(buffer, r, justice)?;
     let (state, steps) = read_values(alloc, buffer, r)?;
-    Ok(Witness { bad, state, steps })
+    let witness = Witness { bad, state, steps };
+    Ok(Claim { kind, witness })
 }
 
 /// Reads a witness whose first byte, which was read before, is `first`.
@@ -152,11 +193,13 @@ fn read_after<R: Source>(
     alloc: Global,
     buffer: &mut InputBuffer,
     r: &mut R,
+    justice: bool,
     first: u8,
-) -> Result<Witness, WitnessError>
-    ensures { GivesOr (λ e bs. IsFault e (first ∷ bs)) said_by
+) -> Result<Claim, WitnessError>
+    ensures { GivesOr (λ e bs. IsFault justice e (first ∷ bs)) claim_by
         (feed R.left R.failed R.pulls buffer.old r.old)
-        (feed R.left R.failed R.pulls buffer.new r.new) result (λ bs. parse_witness (first ∷ bs)) }
+        (feed R.left R.failed R.pulls buffer.new r.new) result
+        (λ bs. parse_claim justice (first ∷ bs)) }
 {
     if first != b'1' {
         return Err(WitnessError::Status);
@@ -164,28 +207,29 @@ fn read_after<R: Source>(
     if !ends_line(buffer, r)? {
         return Err(WitnessError::Status);
     }
-    read_parts(alloc, buffer, r)
+    read_parts(alloc, buffer, r, justice)
 }
 
 /// Reads the next witness of a stream, after comments, or returns none where only comments are left (AIGER 1.9, "Witness
-/// format").
+/// format"). It is of a bad state property, or, where `justice` says that these are taken, of a justice property.
 ///
-/// A witness is the line `1`, a line `b` and the number of one bad state property, a line of a value for each latch, a line of
-/// a value for each input for every step, and the line `.`. A value is `0`, `1` or `x`. A comment is a line that begins with
-/// `c`; it stands between witnesses, and its line may be ended by the stream. Other statuses than `1`, justice properties and
-/// lists of properties are refused.
+/// A witness is the line `1`, a line `b` or `j` and the number of one property of that kind, a line of a value for each latch, a
+/// line of a value for each input for every step, and the line `.`. A value is `0`, `1` or `x`. A comment is a line that begins
+/// with `c`; it stands between witnesses, and its line may be ended by the stream. Other statuses than `1` and lists of
+/// properties are refused.
 ///
 /// # Errors
 ///
 /// `Status`, `Property` and `Values` name the first line that is malformed or cut; `Stream` where a read failed; `Memory`.
-pub fn read_witness<R: Source>(
+pub fn read_claim<R: Source>(
     alloc: Global,
     buffer: &mut InputBuffer,
     r: &mut R,
-) -> Result<Option<Witness>, WitnessError>
+    justice: bool,
+) -> Result<Option<Claim>, WitnessError>
     // A witness stands after comments in the bytes that were taken, whatever follows them; or these are comments alone, and
     // nothing follows; or the error names the first line after comments that is malformed in known bytes, or a read failed.
-    ensures { GivesNext (feed R.left R.failed R.pulls buffer.old r.old)
+    ensures { GivesClaim justice (feed R.left R.failed R.pulls buffer.old r.old)
         (feed R.left R.failed R.pulls buffer.new r.new) result }
 {
     let mut inside = false;
@@ -195,9 +239,32 @@ pub fn read_witness<R: Source>(
         } else if b == b'c' {
             inside = true;
         } else {
-            let witness = read_after(alloc, buffer, r, b)?;
-            return Ok(Some(witness));
+            let claim = read_after(alloc, buffer, r, justice, b)?;
+            return Ok(Some(claim));
         }
     }
     Ok(None)
+}
+
+/// Reads the next witness of a bad state of a stream, after comments, or returns none where only comments are left (AIGER 1.9,
+/// "Witness format").
+///
+/// It is read as `read_claim` reads it, and witnesses of justice properties are refused.
+///
+/// # Errors
+///
+/// `Status`, `Property` and `Values` name the first line that is malformed or cut; `Stream` where a read failed; `Memory`.
+pub fn read_witness<R: Source>(
+    alloc: Global,
+    buffer: &mut InputBuffer,
+    r: &mut R,
+) -> Result<Option<Witness>, WitnessError>
+    // As of `read_claim`, of a bad state property alone.
+    ensures { GivesNext (feed R.left R.failed R.pulls buffer.old r.old)
+        (feed R.left R.failed R.pulls buffer.new r.new) result }
+{
+    match read_claim(alloc, buffer, r, false)? {
+        Some(claim) => Ok(Some(claim.witness)),
+        None => Ok(None),
+    }
 }

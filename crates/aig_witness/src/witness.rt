@@ -1,4 +1,4 @@
-//! Witnesses of bad states.
+//! Witnesses of bad states, and of properties of either kind.
 
 use aig_base::Lbool;
 
@@ -12,4 +12,22 @@ pub struct Witness {
     pub state: Vec<Lbool>,
     /// For each step the values of the inputs, in their order.
     pub steps: Vec<Vec<Lbool>>,
+}
+
+/// A kind of property that a witness can be of. (AIGER 1.9, "Witness format".)
+#[derive(Clone, Copy, Debug, PartialEq, Eq)]
+pub enum PropertyKind {
+    /// A bad state property: `b`.
+    Bad,
+    /// A justice property: `j`.
+    Justice,
+}
+
+/// A witness of a property of either kind.
+#[derive(Drop)]
+pub struct Claim {
+    /// The kind of property.
+    pub kind: PropertyKind,
+    /// The witness, whose number is that of a property of this kind.
+    pub witness: Witness,
 }

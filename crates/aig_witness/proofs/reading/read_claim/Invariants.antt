@@ -2,7 +2,7 @@ use Rattle.std.proofs.Common.{false}
 use Rattle.aig_lexer.specs.Takes.{feed}
 use Rattle.aig_lexer.proofs.Going.{GoesOn}
 use Rattle.aig_witness.proofs.Going.{past_comments}
-use Rattle.aig_witness.proofs.reading.read_witness.Given as goal
+use Rattle.aig_witness.proofs.reading.read_claim.Given as goal
 
 abbrev pub invariant-loop-b : goal.invariant-loop-b
 invariant-loop-b g l =

@@ -1,0 +1,5 @@
+mod States
+mod Marks
+mod Lassos
+mod Exact
+mod Nexts

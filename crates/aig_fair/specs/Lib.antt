@@ -1,0 +1,5 @@
+pub mod Lassos
+pub mod Machine
+pub mod Answers
+pub mod Files
+pub mod Loops
