@@ -125,7 +125,7 @@ unfolding node_value tree_of
 no_start can =
     let z = can low in
     let same : not (z.0 1) ≡ z.0 1 =
-        z.2 0 (latch leaf None) (omega arith) (λ has. absurd (omega (arith, has.1))) in
+    z.2 0 (latch leaf None) (omega arith) (λ has. absurd (omega (arith, has.1))) in
     not_itself (z.0 1) same
 
 -- and stands in no order
@@ -134,5 +134,5 @@ unfolding node_value tree_of
 no_order order =
     let one : ℕ → Bool = λ n. n == 1 in
     let same : true ≡ false =
-        order.1 low one (λ n apart. sym (ne_eqb n 1 (λ e. apart (0, omega arith, sym e)))) in
+    order.1 low one (λ n apart. sym (ne_eqb n 1 (λ e. apart (0, omega arith, sym e)))) in
     false≢true (sym same)

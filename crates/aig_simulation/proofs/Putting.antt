@@ -43,8 +43,8 @@ module _ {X : Type 0} (leaf : X → ℕ) (value : X → Bool) (y : ℕ → Bool)
       let same : length (map leaf xs) ≡ length xs = length-map xs leaf in
       let within : suc k < suc (length (map leaf xs)) = omega (arith, h, same) in
       let apart : leaf x ≢ leaf (get_or xs k d) =
-          subst (λ n. leaf x ≢ n) (get_or-map leaf xs k d (leaf d) low)
-          (distinct zero (suc k) (leaf d) (omega arith) within) in
+      subst (λ n. leaf x ≢ n) (get_or-map leaf xs k d (leaf d) low)
+      (distinct zero (suc k) (leaf d) (omega arith) within) in
       put_other (leaf x) (value x) (puts leaf value xs y) (leaf (get_or xs k d))
       (λ e. apart (sym e))
       ∙ puts_each xs
