@@ -7,8 +7,8 @@ use Rattle.aig_checks.proofs.pairs.write_obligations.Goals as goal
 
 pub returns-in_err-write_part : goal.returns-in_err-write_part
 returns-in_err-write_part g c =
-    let base = rw c.joint.ensures.value at c.in_err-write_part.ensures in
-    let step = rw c.stepped.ensures at c.tell_circuit.ensures in
+    let base = rw c.unrolled-joint.ensures.value at c.in_err-write_part.ensures in
+    let step = rw c.new-stepped.ensures at c.tell_circuit.ensures in
     let text = part_text (codes "c step") (clauses_with step.0 c.args.asked.now.step.further) in
     record {
       base = base.lists;
@@ -23,8 +23,8 @@ returns-in_err-write_part g c =
 pub returns : goal.returns
 returns g c =
     let o = c.args.asked.now in
-    let base = rw c.joint.ensures.value at c.in_ok-write_part.ensures in
-    let step = rw c.stepped.ensures at c.write_part-2.ensures in
+    let base = rw c.unrolled-joint.ensures.value at c.in_ok-write_part.ensures in
+    let step = rw c.new-stepped.ensures at c.write_part-2.ensures in
     record {
       base = base.lists;
       base_has = base.has;
