@@ -73,8 +73,8 @@ def main():
         plain, made = folder / "plain.aig", folder / "made.aig"
         words = f"read_aiger {folder}/kept/file.aig; logic; undc; strash; zero; write_aiger {plain}; dc2; rewrite; write_aiger {made}"
         harness.output(["berkeley-abc", "-q", words])
-        printed, status, processor, clock = timed([PROVE, "--engine", "registers", "--equal", made, plain])
-        tally.wants("the core beside what ABC makes of it", (20, "equal at every step", True), ended(status, printed))
+        printed, status, processor, clock = timed([PROVE, "-q", "--engine", "registers", "--equal", made, plain])
+        tally.wants("the core beside what ABC makes of it", (20, "equal at every step\n"), (status, printed))
         print(f"registers that correspond: {processor:.1f} s of processor time, {clock:.1f} s by the clock")
         line = text[:text.index(TRUE)].count("\n") + 1
         (folder / NAME).write_text(text.replace(TRUE, FALSE, 1))
