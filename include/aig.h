@@ -93,7 +93,7 @@ enum aig_status {
   AIG_PROOF_TWICE = 44,      /* A number was used before. */
   AIG_PROOF_LARGE = 45,      /* A number is 65,540 or more above four times how many were used. */
   AIG_PROOF_STEP = 46,       /* A clause doesn't follow. */
-  AIG_PROOF_ASYMMETRY = 47,  /* A step is one by resolution asymmetry (RAT). */
+  AIG_PROOF_ASYMMETRY = 47,  /* A step with hints for other clauses has not the RAT property. */
   AIG_PROOF_BINARY = 48,     /* Neither text nor binary DRAT. */
   AIG_PROOF_UNFINISHED = 49, /* The proof ends before the empty clause. */
 

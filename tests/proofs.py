@@ -181,6 +181,26 @@ def follows(clauses, clause, hints):
     return False
 
 
+def parted(numbers):
+    """The hints at the front of a line's numbers, and those behind each negative one, by it."""
+    hints, groups = [], collections.defaultdict(list)
+    into = hints
+    for number in numbers:
+        if number < 0:
+            into = groups[-number]
+        else:
+            into.append(number)
+    return hints, groups
+
+
+def is_rat(clauses, clause, hints, groups):
+    """Whether what follows of a clause and each other one that has the inverse of its first literal does so along the hints and those
+    for that other one (RAT)."""
+    opposed = [item for item in clauses.all.items() if clause and -clause[0] in item[1]]
+    resolvents = {number: [*clause, *(literal for literal in other if literal != -clause[0])] for number, other in opposed}
+    return bool(clause) and all(follows(clauses, made, [*hints, *groups.get(number, [])]) for number, made in resolvents.items())
+
+
 def check_numbered(formula, lines):
     """Takes the lines of an LRAT file up to the empty clause, or refuses them."""
     clauses = Clauses(formula.clauses)
@@ -196,8 +216,10 @@ def check_numbered(formula, lines):
         clause, hints = numbers_of(line[1:])
         hints, rest = numbers_of(hints)
         number = int(line[0])
-        needs(not rest and min([number, *hints]) > 0 and formula.has(clause) and number not in used)
-        needs(clauses.all.keys() >= set(hints) and follows(clauses, clause, hints))
+        needs(not rest and number > 0 and formula.has(clause) and number not in used)
+        needs(clauses.all.keys() >= set(map(abs, hints)))
+        hints, groups = parted(hints)
+        needs(follows(clauses, clause, hints) or is_rat(clauses, clause, hints, groups))
         if not clause:
             return
         clauses.add(number, tuple(clause))

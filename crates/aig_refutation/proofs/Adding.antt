@@ -1,33 +1,33 @@
 -- Steps that are taken, case by case.
 use Rattle.std.proofs.Common.{◌≡◌, ℕ, Bool, true, false, cond, List, [], ◌∷◌, Result, Ok, Err, OnOk, refl, ap}
-use Rattle.aig_base.proofs.Words.{list_all}
 use Rattle.aig_base.specs.declared.logic.literal.Lit.{Lit}
 use Rattle.aig_refutation.specs.declared.error.RefutationError.{RefutationError}
 use Rattle.aig_refutation.specs.declared.error.RefutationError.TheVariants as errors
-use Rattle.aig_refutation.specs.Checking.{Live, added, are_in, deleted, follows, is_named, numbered_clause, without_clause}
+use Rattle.aig_refutation.specs.Checking.{Live, added, are_in, are_named, deleted, is_named, numbered_clause, stands, why_not, without_clause}
 use Rattle.aig_refutation.specs.Tables.{Holds, Moves, OnlyMemory, Table}
 use Rattle.aig_refutation.proofs.Known.{tells_on}
 
-module _ (variables : ℕ) (live : Live) (number : ℕ) (clause : List Lit) (hints : List ℕ) where
-  pub added_literal : are_in variables clause ≡ false → added variables live number clause hints ≡
-      Err errors.Literal
+module _ (variables : ℕ) (live : Live) (number : ℕ) (clause : List Lit) (hints : List ℕ)
+    (groups : List (Bool × ℕ)) where
+  pub added_literal : are_in variables clause ≡ false → added variables live number clause hints
+      groups ≡ Err errors.Literal
   unfolding added
   added_literal is = rw is refl
 
   module _ (inside : are_in variables clause ≡ true) where
-    pub added_unnamed : list_all (is_named live) hints ≡ false → added variables live number clause
-        hints ≡ Err errors.Unnamed
+    pub added_unnamed : are_named live hints groups ≡ false → added variables live number clause
+        hints groups ≡ Err errors.Unnamed
     unfolding added
     added_unnamed is = rw (inside, is) refl
 
-    module _ (named : list_all (is_named live) hints ≡ true) where
-      pub added_step : follows live clause hints ≡ false → added variables live number clause hints
-          ≡ Err errors.Step
+    module _ (named : are_named live hints groups ≡ true) where
+      pub added_not : stands live clause hints groups ≡ false → added variables live number clause
+          hints groups ≡ Err (why_not groups)
       unfolding added
-      added_step is = rw (inside, named, is) refl
+      added_not is = rw (inside, named, is) refl
 
-      pub added_on : follows live clause hints ≡ true → added variables live number clause hints ≡
-          numbered_clause live number clause
+      pub added_on : stands live clause hints groups ≡ true → added variables live number clause
+          hints groups ≡ numbered_clause live number clause
       unfolding added
       added_on is = rw (inside, named, is) refl
 

@@ -68,19 +68,19 @@ same_twice = refl
 new_variable : is_rup (slice_get four) (plain 2 ∷ []) (0 ∷ 1 ∷ 2 ∷ 3 ∷ []) ≡ false
 new_variable = refl
 
-refutes_four : is_refutation four (Adds 5 (plain 0 ∷ []) (1 ∷ 2 ∷ []) ∷ Adds 6 [] (5 ∷ 3 ∷ 4 ∷ []) ∷ []) ≡ true
+refutes_four : is_refutation four (Adds 5 (plain 0 ∷ []) (1 ∷ 2 ∷ []) [] ∷ Adds 6 [] (5 ∷ 3 ∷ 4 ∷ []) [] ∷ []) ≡ true
 refutes_four = refl
 
 -- the first step's clause is needed
-step_left_out : is_refutation four (Adds 6 [] (5 ∷ 3 ∷ 4 ∷ []) ∷ []) ≡ false
+step_left_out : is_refutation four (Adds 6 [] (5 ∷ 3 ∷ 4 ∷ []) [] ∷ []) ≡ false
 step_left_out = refl
 
 -- a clause that was deleted names nothing
-deleted_hint : is_refutation four (Deletes (2 ∷ []) ∷ Adds 5 (plain 0 ∷ []) (1 ∷ 2 ∷ []) ∷ Adds 6 [] (5 ∷ 3 ∷ 4 ∷ []) ∷ []) ≡ false
+deleted_hint : is_refutation four (Deletes (2 ∷ []) ∷ Adds 5 (plain 0 ∷ []) (1 ∷ 2 ∷ []) [] ∷ Adds 6 [] (5 ∷ 3 ∷ 4 ∷ []) [] ∷ []) ≡ false
 deleted_hint = refl
 
 -- the empty clause isn't reached
-unfinished : is_refutation four (Adds 5 (plain 0 ∷ []) (1 ∷ 2 ∷ []) ∷ []) ≡ false
+unfinished : is_refutation four (Adds 5 (plain 0 ∷ []) (1 ∷ 2 ∷ []) [] ∷ []) ≡ false
 unfinished = refl
 
 no_steps : is_refutation four [] ≡ false
@@ -260,9 +260,9 @@ module _ (text : Option (List ℕ)) where
 
 abbrev three_steps : List Step
 three_steps =
-    Adds 5 (plain 0 ∷ []) (1 ∷ 2 ∷ [])
+    Adds 5 (plain 0 ∷ []) (1 ∷ 2 ∷ []) []
     ∷ Deletes (1 ∷ 2 ∷ [])
-    ∷ Adds 6 [] (5 ∷ 3 ∷ 4 ∷ [])
+    ∷ Adds 6 [] (5 ∷ 3 ∷ 4 ∷ []) []
     ∷ []
 
 written : proof_text 4 three_steps ≡ codes "5 1 0 1 2 0\n5 d 1 2 0\n6 0 5 3 4 0\n"
@@ -275,7 +275,7 @@ unfolding script_if script_of words_of words_after word_at lines_after line_in w
 unshifted = refl
 
 hints_first : steps_in 2 (codes "5 1 2 0 1 0\n") ≡ Some (record {
-  steps = Adds 5 (plain 0 ∷ plain 1 ∷ []) (1 ∷ []) ∷ [];
+  steps = Adds 5 (plain 0 ∷ plain 1 ∷ []) (1 ∷ []) [] ∷ [];
   fault = errors.Unfinished;
 })
 unfolding script_if script_of words_of words_after word_at lines_after line_in word_in number_in digits_after after_first after_number after_word clause_from clause_in after_clause numbers_from numbers_in ended

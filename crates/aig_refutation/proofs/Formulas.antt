@@ -118,6 +118,7 @@ formula_empty variables = record {
         };
       };
       there = λ n. tt;
+      own = tt;
       used = λ n. refl;
       added = refl;
     };

@@ -5,6 +5,7 @@ mod Refuting
 mod RatSteps
 mod RatExamples
 mod Taken
+mod Apart
 mod Stamps
 mod Literals
 mod Following

@@ -7,10 +7,10 @@ use Rattle.aig_refutation.specs.declared.words.End.{End}
 use Rattle.aig_refutation.specs.declared.words.End.TheVariants as ends
 use Rattle.aig_refutation.specs.declared.words.Number as code_number
 use Rattle.aig_refutation.specs.declared.words.Word.TheVariants as words
-use Rattle.aig_refutation.specs.Proofs.{Line, Numbered, Plain, after_clause, after_first, after_number, after_word, clause_from, clause_in, clause_number, drops, ended, is_zero, line_in, literal_of, missing, number_of, numbers_from, numbers_in}
-use Rattle.aig_refutation.specs.Reading.{reads_added, reads_after, reads_clause, reads_deleted, reads_dropped, reads_numbers, whole_line}
+use Rattle.aig_refutation.specs.Proofs.{Line, Numbered, Plain, adds, after_clause, after_first, after_number, after_word, clause_from, clause_in, clause_number, drops, ended, hint_number, is_zero, line_in, literal_of, missing, number_of, numbers_from, numbers_in}
+use Rattle.aig_refutation.specs.Reading.{reads_added, reads_after, reads_clause, reads_deleted, reads_dropped, whole_line}
 use Rattle.aig_refutation.specs.Skipping.{end_line}
-use Rattle.aig_refutation.specs.Steps.{Step, Adds, Deletes, Drops, Learns}
+use Rattle.aig_refutation.specs.Steps.{Step, Deletes, Drops, Learns}
 use Rattle.aig_refutation.specs.Text as text
 use Rattle.aig_refutation.specs.Text.{◌>>=◌, begins, word_in}
 use Rattle.aig_refutation.specs.Words.{end_of, fault_of, first_in, held_word, is_last, next_in, next_number, said_number}
@@ -135,32 +135,35 @@ module _ (numbered : Bool) (variables : ℕ) (n : Bool × ℕ) (last : Bool) whe
 
 -- ---- numbers that end a line
 
-module _ (negative : RefutationError) (step : List ℕ → Step) where
-  abbrev stepping : List ℕ → Result Line RefutationError
+module _ {A : Type 0} (one : Bool × ℕ → Result A RefutationError) (step : List A → Step) where
+  abbrev stepping : List A → Result Line RefutationError
   stepping numbers = Ok (Numbered (step numbers))
 
   abbrev pub numbers_step : Bool × ℕ → Bool → List (List ℕ) → Said
-  numbers_step m last ws = numbers_from negative last m ws >>= stepping >>= whole_line
+  numbers_step m last ws = numbers_from one last m ws >>= stepping >>= whole_line
 
-  abbrev numbered_now : List ℕ → Result (List ℕ × List (List ℕ)) RefutationError
-  numbered_now numbers = Ok (numbers, [])
+  -- what is kept of the numbers says which step it is
+  module _ {B : Type 0} (keep : List A → B) (of : B → Step)
+      (same : (numbers : List A) → step numbers ≡ of (keep numbers))
+      (m : Bool × ℕ) (last : Bool) (ws : List (List ℕ)) where
+    abbrev kept_now : List A → Result (B × List (List ℕ)) RefutationError
+    kept_now numbers = Ok (keep numbers, [])
 
-  module _ (m : Bool × ℕ) (last : Bool) (ws : List (List ℕ)) where
-    pub numbers_step_ok : (numbers : List ℕ) (more : List (List ℕ)) → reads_numbers negative m []
-        last ws ≡ Ok (numbers, more) → numbers_step m last ws ≡ Ok (Numbered (step numbers), more)
-    numbers_step_ok numbers more is =
-        let b = bound_ok (numbers_from negative last m ws) numbered_now (numbers, more) is in
-        let p = pair_parts {A = List ℕ} {B = List (List ℕ)} (b.0, []) (numbers, more) (numbered_now
+    pub numbers_step_ok : (kept : B) (more : List (List ℕ)) → (numbers_from one last m ws >>=
+        kept_now) ≡ Ok (kept, more) → numbers_step m last ws ≡ Ok (Numbered (of kept), more)
+    numbers_step_ok kept more is =
+        let b = bound_ok (numbers_from one last m ws) kept_now (kept, more) is in
+        let p = pair_parts {A = B} {B = List (List ℕ)} (keep b.0, []) (kept, more) (kept_now
         b.0) refl b.2 in
-        ap (λ x. x >>= stepping >>= whole_line) b.1 ∙ ap (λ (ns : List ℕ). whole_line (Numbered (step
-        ns))) p.0 ∙ ap (λ (list : List (List ℕ)). Ok (Numbered (step numbers), list)) p.1
+        ap (λ x. x >>= stepping >>= whole_line) b.1 ∙ ap (λ (s : Step). whole_line (Numbered s))
+        (same b.0 ∙ ap of p.0) ∙ ap (λ (list : List (List ℕ)). Ok (Numbered (of kept), list)) p.1
 
-    pub numbers_step_err : (e : RefutationError) → reads_numbers negative m [] last ws ≡ Err e →
-        numbers_step m last ws ≡ Err e
-    numbers_step_err e is = ap (λ x. x >>= stepping >>= whole_line) (by (numbers_from negative last
+    pub numbers_step_err : (e : RefutationError) → (numbers_from one last m ws >>= kept_now) ≡
+        Err e → numbers_step m last ws ≡ Err e
+    numbers_step_err e is = ap (λ x. x >>= stepping >>= whole_line) (by (numbers_from one last
         m ws) is)
       where
-        by : (x : Result (List ℕ) RefutationError) → (x >>= numbered_now) ≡ Err e → x ≡ Err e
+        by : (x : Result (List A) RefutationError) → (x >>= kept_now) ≡ Err e → x ≡ Err e
         by (Ok y) h = absurd cc
         by (Err f) h = let same : f ≡ e = cc in ap (λ k. Err k) same
 
@@ -168,7 +171,7 @@ module _ (negative : RefutationError) (step : List ℕ → Step) where
 
 module _ (n : Bool × ℕ) (last : Bool) (ws : List (List ℕ)) where
   deleting : ℕ → Result Line RefutationError
-  deleting number = numbers_in errors.Line last ws >>= λ numbers. Ok (Numbered (Deletes numbers))
+  deleting number = numbers_in clause_number last ws >>= λ numbers. Ok (Numbered (Deletes numbers))
 
   deletion : reads_deleted n last ws ≡ (clause_number n >>= deleting >>= whole_line)
   unfolding after_word deleting
@@ -179,11 +182,11 @@ module _ (n : Bool × ℕ) (last : Bool) (ws : List (List ℕ)) where
   deleted_refused e is = deletion ∙ ap (λ x. x >>= deleting >>= whole_line) is
 
   pub deleted_number : (k : ℕ) (m : Bool × ℕ) (more : List (List ℕ)) → clause_number n ≡ Ok k →
-      next_number last ws ≡ Ok (m, more) → reads_deleted n last ws ≡ numbers_step errors.Line
+      next_number last ws ≡ Ok (m, more) → reads_deleted n last ws ≡ numbers_step clause_number
       Deletes m last more
   unfolding deleting
   deleted_number k m more is there = deletion ∙ ap (λ x. x >>= deleting >>= whole_line) is ∙ ap (λ
-      x. x >>= (λ numbers. Ok (Numbered (Deletes numbers))) >>= whole_line) (numbers_next errors.Line
+      x. x >>= (λ numbers. Ok (Numbered (Deletes numbers))) >>= whole_line) (numbers_next clause_number
       last ws more m there)
 
   pub deleted_number_wrong : (k : ℕ) (e : RefutationError) → clause_number n ≡ Ok k → next_number
@@ -191,7 +194,7 @@ module _ (n : Bool × ℕ) (last : Bool) (ws : List (List ℕ)) where
   unfolding deleting
   deleted_number_wrong k e is there = deletion ∙ ap (λ x. x >>= deleting >>= whole_line) is ∙ ap (λ
       x. x >>= (λ numbers. Ok (Numbered (Deletes numbers))) >>= whole_line) (numbers_next_wrong
-      errors.Line last ws e there)
+      clause_number last ws e there)
 
 -- ---- an addition
 
@@ -229,8 +232,8 @@ module _ (numbered : Bool) (variables : ℕ) (n : Bool × ℕ) (last : Bool) whe
     added_none = refl
 
     hinted : (words : List (List ℕ)) → Bool × ℕ → Result Line RefutationError
-    hinted words hint = clause_number n >>= λ number. numbers_from errors.Asymmetry last hint words
-        >>= λ hints. Ok (Numbered (Adds number clause hints))
+    hinted words hint = clause_number n >>= λ number. numbers_from hint_number last hint words
+        >>= λ numbers. Ok (Numbered (adds number clause numbers))
 
     added_some : (word : List ℕ) (more : List (List ℕ)) → added_after numbered variables n clause
         last (word ∷ more) ≡ (word_in word >>= number_of >>= hinted more >>= whole_line)
@@ -288,15 +291,15 @@ module _ (numbered : Bool) (variables : ℕ) (n : Bool × ℕ) (last : Bool) whe
               variables n clause last ws ≡ Err e
           unfolding hinted
           added_refused e there = added_hint ∙ ap (λ x. x >>= (λ number. numbers_from
-              errors.Asymmetry last (said_number hint) more >>= λ hints. Ok (Numbered (Adds number clause
-              hints))) >>= whole_line) there
+              hint_number last (said_number hint) more >>= λ numbers. Ok (Numbered (adds number clause
+              numbers))) >>= whole_line) there
 
           pub added_hints : (k : ℕ) → clause_number n ≡ Ok k → added_after numbered variables n
-              clause last ws ≡ numbers_step errors.Asymmetry (Adds k clause) (said_number hint) last
+              clause last ws ≡ numbers_step hint_number (adds k clause) (said_number hint) last
               more
           unfolding hinted
-          added_hints k there = added_hint ∙ ap (λ x. x >>= (λ number. numbers_from errors.Asymmetry
-              last (said_number hint) more >>= λ hints. Ok (Numbered (Adds number clause hints))) >>=
+          added_hints k there = added_hint ∙ ap (λ x. x >>= (λ number. numbers_from hint_number
+              last (said_number hint) more >>= λ numbers. Ok (Numbered (adds number clause numbers))) >>=
               whole_line) there
 
     pub added_wrong : (ws : List (List ℕ)) (e : RefutationError) → next_in last ws ≡ Err e →
@@ -416,4 +419,4 @@ module _ (numbered : Bool) (variables : ℕ) (end : End) (n : Bool × ℕ) (clau
       → after_clause numbered variables (is_last (Some end)) n clause []
       ≡ Ok (cond numbered (Numbered step) (Plain (cond deletes (Drops now) (Learns now))))
   unfolding after_clause
-  end_added lit deletes step now is adds more there = rw (is, adds, more, there) refl
+  end_added lit deletes step now is kept more there = rw (is, kept, more, there) refl

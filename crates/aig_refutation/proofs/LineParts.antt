@@ -1,5 +1,5 @@
 -- What the parts of a line are.
-use Rattle.std.proofs.Common.{◌≡◌, ◌⊎◌, inl, inr, ℕ, Bool, true, false, List, [], ◌∷◌, ◌++◌, Result, Ok, Err, refl, sym, ap, ◌∙◌, append_assoc, append-nil}
+use Rattle.aig_base.proofs.Words.{◌≡◌, ◌⊎◌, inl, inr, ℕ, Bool, true, false, if◌then◌else◌, List, [], ◌∷◌, ◌++◌, Result, Ok, Err, refl, sym, ap, ◌∙◌, append_assoc, append-nil}
 use Rattle.aig_base.specs.declared.logic.literal.Lit.{Lit}
 use Rattle.aig_refutation.specs.declared.error.RefutationError.{RefutationError}
 use Rattle.aig_refutation.specs.declared.error.RefutationError.TheVariants as errors
@@ -7,8 +7,8 @@ use Rattle.aig_refutation.specs.declared.words.End.{End}
 use Rattle.aig_refutation.specs.declared.words.Number as code_number
 use Rattle.aig_refutation.specs.declared.words.Word as code
 use Rattle.aig_refutation.specs.declared.words.Word.TheVariants as words
-use Rattle.aig_refutation.specs.Proofs.{clause_from, clause_in, ended, is_zero, literal_of, missing, number_of, numbers_from, numbers_in, with_first, with_number}
-use Rattle.aig_refutation.specs.Reading.{appended, appended_numbers, reads_clause, reads_numbers}
+use Rattle.aig_refutation.specs.Proofs.{clause_from, clause_in, ended, groups_at, hint_number, hints_at, is_zero, literal_of, missing, number_of, numbers_from, numbers_in, with_first, with_number}
+use Rattle.aig_refutation.specs.Reading.{appended, appended_numbers, parted, reads_clause, reads_hints, reads_numbers}
 use Rattle.aig_refutation.specs.Skipping.{end_line}
 use Rattle.aig_refutation.specs.Text as text
 use Rattle.aig_refutation.specs.Text.{◌>>=◌, word_in}
@@ -310,67 +310,143 @@ clause_err variables last n lits ws e is = err_of {B = List Lit × List (List �
 
 -- ---- numbers of clauses
 
-module _ (negative : RefutationError) (last : Bool) where
+module _ {A : Type 0} (one : Bool × ℕ → Result A RefutationError) (last : Bool) where
   pub numbers_next : (ws more : List (List ℕ)) (n : Bool × ℕ) → next_number last ws ≡ Ok (n, more)
-      → numbers_in negative last ws ≡ numbers_from negative last n more
+      → numbers_in one last ws ≡ numbers_from one last n more
   unfolding numbers_in numbers_from
-  numbers_next ws more n is = let w = number_is last ws more n is in ap (numbers_in negative last)
-      w.1 ∙ ap (λ x. x >>= λ m. numbers_from negative last m more) w.2
+  numbers_next ws more n is = let w = number_is last ws more n is in ap (numbers_in one last)
+      w.1 ∙ ap (λ x. x >>= λ m. numbers_from one last m more) w.2
 
   pub numbers_next_wrong : (ws : List (List ℕ)) (e : RefutationError) → next_number last ws ≡ Err e
-      → numbers_in negative last ws ≡ Err e
+      → numbers_in one last ws ≡ Err e
   unfolding numbers_in numbers_from next_number
   numbers_next_wrong [] e is = cc
-  numbers_next_wrong (word ∷ more) e is = err_on (λ n. numbers_from negative last n more) {C =
+  numbers_next_wrong (word ∷ more) e is = err_on (λ n. numbers_from one last n more) {C =
       (Bool × ℕ) × List (List ℕ)} (λ n. (n, more)) (word_in word >>= number_of) e is
 
-  module _ (n : Bool × ℕ) (numbers : List ℕ) (ws : List (List ℕ)) where
-    numbers_zero : is_zero n ≡ true → numbers_from negative last n ws ≡ (ended ws >>= λ end. Ok [])
+  module _ (n : Bool × ℕ) (numbers : List A) (ws : List (List ℕ)) where
+    numbers_zero : is_zero n ≡ true → numbers_from one last n ws ≡ (ended ws >>= λ end. Ok [])
     unfolding numbers_from
     numbers_zero is = rw is refl
 
     pub numbers_done : is_zero n ≡ true → (rest : List (List ℕ)) (done : Unit {0}) → end_line last
-        ws ≡ Ok (done, rest) → reads_numbers negative n numbers last ws ≡ Ok (numbers, rest)
+        ws ≡ Ok (done, rest) → reads_numbers one n numbers last ws ≡ Ok (numbers, rest)
     numbers_done is rest done there =
         let w = ended_ok last ws rest done there in
         ap (λ x. x >>= appended_numbers numbers) (numbers_zero is ∙ ap (λ x. x >>= λ end. Ok [])
         w.0)
-        ∙ ap (λ (list : List ℕ). Ok (list, [])) (append-nil numbers) ∙ ap (λ (list : List (List
+        ∙ ap (λ (list : List A). Ok (list, [])) (append-nil numbers) ∙ ap (λ (list : List (List
         ℕ)). Ok (numbers, list)) (sym w.1)
 
     pub numbers_not_done : is_zero n ≡ true → (e : RefutationError) → end_line last ws ≡ Err e →
-        reads_numbers negative n numbers last ws ≡ Err e
+        reads_numbers one n numbers last ws ≡ Err e
     numbers_not_done is e there =
         ap (λ x. x >>= appended_numbers numbers) (numbers_zero is ∙ ap (λ x. x >>= λ end. Ok [])
         (ended_err last ws e there))
 
     module _ (more : is_zero n ≡ false) where
-      pub numbers_refused : n.0 ≡ false → reads_numbers negative n numbers last ws ≡ Err negative
+      numbers_go : reads_numbers one n numbers last ws ≡ (one n >>= (λ x. numbers_in one last ws
+          >>= with_number x) >>= appended_numbers numbers)
       unfolding numbers_from
-      numbers_refused is = rw (more, is) refl
+      numbers_go = rw more refl
 
-      module _ (is : n.0 ≡ true) where
-        numbers_go : reads_numbers negative n numbers last ws ≡ (numbers_in negative last ws >>=
-            with_number n.1 >>= appended_numbers numbers)
-        unfolding numbers_from
-        numbers_go = rw (more, is) refl
+      pub numbers_refused : (e : RefutationError) → one n ≡ Err e → reads_numbers one n numbers last
+          ws ≡ Err e
+      numbers_refused e is = numbers_go ∙ ap (λ y. y >>= (λ x. numbers_in one last ws >>=
+          with_number x) >>= appended_numbers numbers) is
+
+      module _ (x : A) (is : one n ≡ Ok x) where
+        numbers_on : reads_numbers one n numbers last ws ≡ (numbers_in one last ws >>=
+            with_number x >>= appended_numbers numbers)
+        numbers_on = numbers_go ∙ ap (λ y. y >>= (λ x. numbers_in one last ws >>=
+            with_number x) >>= appended_numbers numbers) is
 
         pub numbers_more : (m : Bool × ℕ) (rest : List (List ℕ)) → next_number last ws ≡ Ok (
           m,
           rest,
-        ) → reads_numbers negative n numbers last ws ≡ reads_numbers negative m (numbers ++
-            n.1 ∷ []) last rest
-        numbers_more m rest there = numbers_go ∙ ap (λ x. x >>= with_number n.1 >>=
-            appended_numbers numbers) (numbers_next ws rest m there) ∙ by (numbers_from negative
+        ) → reads_numbers one n numbers last ws ≡ reads_numbers one m (numbers ++
+            x ∷ []) last rest
+        numbers_more m rest there = numbers_on ∙ ap (λ r. r >>= with_number x >>=
+            appended_numbers numbers) (numbers_next ws rest m there) ∙ by (numbers_from one
             last m rest)
           where
-            by : (x : Result (List ℕ) RefutationError) → (x >>= with_number n.1 >>=
-                appended_numbers numbers) ≡ (x >>= appended_numbers (numbers ++ n.1 ∷ []))
-            by (Ok y) = ap (λ (list : List ℕ). Ok (list, [])) (sym (append_assoc numbers (n.1 ∷ [])
+            by : (r : Result (List A) RefutationError) → (r >>= with_number x >>=
+                appended_numbers numbers) ≡ (r >>= appended_numbers (numbers ++ x ∷ []))
+            by (Ok y) = ap (λ (list : List A). Ok (list, [])) (sym (append_assoc numbers (x ∷ [])
                 y))
             by (Err e) = refl
 
         pub numbers_broken : (e : RefutationError) → next_number last ws ≡ Err e → reads_numbers
-            negative n numbers last ws ≡ Err e
-        numbers_broken e there = numbers_go ∙ ap (λ x. x >>= with_number n.1 >>= appended_numbers
+            one n numbers last ws ≡ Err e
+        numbers_broken e there = numbers_on ∙ ap (λ r. r >>= with_number x >>= appended_numbers
             numbers) (numbers_next_wrong ws e there)
+
+-- hints, and those for other clauses
+module _ (last : Bool) (first : Bool × ℕ) (ws : List (List ℕ)) where
+  pub parted_ok : (numbers : List (Bool × ℕ)) (more : List (List ℕ))
+      → reads_numbers hint_number first [] last ws ≡ Ok (numbers, more)
+      → reads_hints first last ws ≡ Ok ((hints_at numbers, groups_at numbers), more)
+  parted_ok numbers more is = by (numbers_from hint_number last first ws) is
+    where
+      by : (x : Result (List (Bool × ℕ)) RefutationError)
+          → (x >>= appended_numbers []) ≡ Ok (numbers, more)
+          → (x >>= parted) ≡ Ok ((hints_at numbers, groups_at numbers), more)
+      by (Ok y) h =
+          let p = pair_parts {A = List (Bool × ℕ)} {B = List (List ℕ)} (y, []) (numbers, more)
+          (Ok (y, [])) refl h in
+          ap (λ (list : List (Bool × ℕ)). Ok ((hints_at list, groups_at list), [])) p.0
+          ∙ ap (λ (list : List (List ℕ)). Ok ((hints_at numbers, groups_at numbers), list)) p.1
+      by (Err e) h = absurd cc
+
+  pub parted_err : (e : RefutationError) → reads_numbers hint_number first [] last ws ≡ Err e
+      → reads_hints first last ws ≡ Err e
+  parted_err e is = by (numbers_from hint_number last first ws) is
+    where
+      by : (x : Result (List (Bool × ℕ)) RefutationError) → (x >>= appended_numbers []) ≡ Err e
+          → (x >>= parted) ≡ Err e
+      by (Ok y) h = absurd cc
+      by (Err f) h = let same : f ≡ e = cc in ap (λ k. Err k) same
+
+-- a number more behind those of a line
+module _ (n : Bool × ℕ) where
+  pub hint_pushed : (numbers : List (Bool × ℕ)) → n.0 ≡ true → groups_at numbers ≡ []
+      → (hints_at (numbers ++ n ∷ []) ≡ hints_at numbers ++ n.1 ∷ [])
+      × (groups_at (numbers ++ n ∷ []) ≡ groups_at numbers)
+  hint_pushed [] positive none = rw positive (refl, refl)
+  hint_pushed (m ∷ numbers) positive none = by m.0 none (hint_pushed numbers positive)
+    where
+      by : (b : Bool) → (if b then groups_at numbers else m ∷ numbers) ≡ []
+          → (groups_at numbers ≡ []
+          → (hints_at (numbers ++ n ∷ []) ≡ hints_at numbers ++ n.1 ∷ [])
+          × (groups_at (numbers ++ n ∷ []) ≡ groups_at numbers))
+          → ((if b then m.1 ∷ hints_at (numbers ++ n ∷ []) else [])
+          ≡ (if b then m.1 ∷ hints_at numbers else []) ++ n.1 ∷ [])
+          × ((if b then groups_at (numbers ++ n ∷ []) else m ∷ (numbers ++ n ∷ []))
+          ≡ (if b then groups_at numbers else m ∷ numbers))
+      by true e later =
+          let h = later e in (ap (λ (list : List ℕ). m.1 ∷ list) h.0, h.1)
+      by false e later = absurd cc
+
+  pub group_pushed : (numbers : List (Bool × ℕ)) → (n.0 ≡ true → groups_at numbers ≡ [] → ⊥)
+      → (hints_at (numbers ++ n ∷ []) ≡ hints_at numbers)
+      × (groups_at (numbers ++ n ∷ []) ≡ groups_at numbers ++ n ∷ [])
+  group_pushed [] behind = by n.0 (λ e. behind e refl)
+    where
+      by : (b : Bool) → (b ≡ true → ⊥) → ((if b then n.1 ∷ [] else []) ≡ [])
+          × ((if b then [] else n ∷ []) ≡ n ∷ [])
+      by true wrong = absurd (wrong refl)
+      by false wrong = (refl, refl)
+  group_pushed (m ∷ numbers) behind = by m.0 behind (group_pushed numbers)
+    where
+      by : (b : Bool)
+          → (n.0 ≡ true → (if b then groups_at numbers else m ∷ numbers) ≡ [] → ⊥)
+          → ((n.0 ≡ true → groups_at numbers ≡ [] → ⊥)
+          → (hints_at (numbers ++ n ∷ []) ≡ hints_at numbers)
+          × (groups_at (numbers ++ n ∷ []) ≡ groups_at numbers ++ n ∷ []))
+          → ((if b then m.1 ∷ hints_at (numbers ++ n ∷ []) else [])
+          ≡ (if b then m.1 ∷ hints_at numbers else []))
+          × ((if b then groups_at (numbers ++ n ∷ []) else m ∷ (numbers ++ n ∷ []))
+          ≡ (if b then groups_at numbers else m ∷ numbers) ++ n ∷ [])
+      by true wrong later =
+          let h = later wrong in (ap (λ (list : List ℕ). m.1 ∷ list) h.0, h.1)
+      by false wrong later = (refl, refl)

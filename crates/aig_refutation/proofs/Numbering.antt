@@ -1,7 +1,7 @@
 -- A table of numbers, beside the clauses that are there.
 use Rattle.std.proofs.Common.{◌≡◌, ◌≢◌, inl, inr, ℕ, zero, suc, ◌+◌, ◌-◌, ◌*◌, ◌<◌, ◌≤◌, ◌^◌, Bool, true, false, cond, not, ◌||◌, List, [], ◌∷◌, ◌++◌, length, length-append, slice_get, Option, Some, None, refl, sym, ap, subst, ◌∙◌, arith}
 use Rattle.std.specs.Prelude.{◌==◌, ◌/◌, OnOk, min, nat_le, nat_lt, slice_index_or, is_some, Result, Ok, Err}
-use Rattle.aig_base.proofs.Words.{lookup, false≢true, eqb-true, ne_eqb, cond-true, cond-false, nat_tests, nat_eq_equiv, common_steps, slice_get-get_or, slice_get_past}
+use Rattle.aig_base.proofs.Words.{AllByRecursion, lookup, false≢true, eqb-true, ne_eqb, cond-true, cond-false, nat_tests, nat_eq_equiv, common_steps, slice_get-get_or, slice_get_past}
 use borrow.Author.Tests.{ltb-true}
 use Rattle.aig_base.specs.declared.logic.literal.Lit.{Lit}
 use Rattle.aig_refutation.specs.Checking.{Live, all_live, are_in, clause_at, is_named, is_too_large, is_used, numbered_clause, with_clause, with_next, without_clause}
@@ -73,6 +73,10 @@ last_number numbers number i e = grind (arith, common_steps)
 front_number : (numbers : List ℕ) (number i : ℕ) → i < length numbers → slice_index_or (numbers ++
     number ∷ []) i 0 ≡ slice_index_or numbers i 0
 front_number numbers number i h = grind (arith, common_steps)
+
+-- each of some clauses is that of its number
+abbrev Own : Live → List (ℕ × List Lit) → Type 0
+Own live = AllByRecursion (λ entry. clause_at live entry.0 ≡ Some entry.1)
 
 -- ---- a clause is added
 
@@ -155,9 +159,29 @@ module _ (old new : Table) (live : Live) (number : ℕ) (clause said : List Lit)
       ) refl
       by false e = rw (e, entry_old n e) (before.used n)
 
+  -- a number that was never used names none of the clauses
+  own_more : entry_at old.places number ≡ 0 → (some : List (ℕ × List Lit)) → Own live some → Own
+      (with_clause live number said) some
+  own_more none [] each = tt
+  own_more none (entry ∷ some) each = (
+    by (entry.0 == number) refl,
+    own_more none some each.1,
+  )
+    where
+      no_other : SaysSame (clause_in old number) (clause_at live number) → clause_at live number ≡
+          Some entry.1 → ⊥
+      no_other s is = rw (none, is) at s
+
+      by : (b : Bool) → (entry.0 == number) ≡ b → cond (entry.0 == number) (Some said) (clause_at
+          live entry.0) ≡ Some entry.1
+      by true e = absurd (no_other (before.there number) (ap (clause_at live) (sym (eqb-true entry.0
+          number e)) ∙ each.0))
+      by false e = rw e each.0
+
   pub holds_added : ((holds : Lit → Bool) → reading_of holds clause ≡ reading_of holds said) →
+      entry_at old.places number ≡ 0 →
       new.added ≡ min (old.added + 1) (2 ^ 64 - 1) → Holds new (with_clause live number said)
-  holds_added same more = record {
+  holds_added same none more = record {
     table = record {
       count = rw (numbers, clauses) (length-append old.numbers (number ∷ []) ∙ ap (λ k. k + 1)
           before.table.count ∙ sym (length-append old.clauses (clause ∷ [])));
@@ -168,6 +192,10 @@ module _ (old new : Table) (live : Live) (number : ℕ) (clause said : List Lit)
       };
     };
     there = there same;
+    own = (
+      cond-true (number == number) (Some said) (clause_at live number) (nat_eq_equiv.refl number),
+      own_more none live.clauses before.own,
+    );
     used = used;
     added = let so_far = before.added in omega arith;
   }
@@ -239,6 +267,21 @@ module _ (old new : Table) (live : Live) (number : ℕ) (before : Holds old live
   stays : (n : ℕ) → (n == number) ≡ false → entry_at new.places n ≡ entry_at old.places n
   stays n is = entries n ∙ cond-false (n == number) _ _ is
 
+  own_without : (some : List (ℕ × List Lit)) → Own live some → Own (without_clause live number)
+      (without (number ∷ []) some)
+  own_without [] each = tt
+  own_without (entry ∷ some) each = by (number == entry.0) refl (own_without some each.1)
+    where
+      by : (b : Bool) → (number == entry.0) ≡ b → Own (without_clause live number) (without (number
+          ∷ []) some) → Own (without_clause live number) (cond (not (b || false)) (entry ∷ without
+          (number ∷ []) some) (without (number ∷ []) some))
+      by true e later = later
+      by false e later = (
+        lookup_without entry.0 number live.clauses ∙ cond-false (entry.0 == number) None (clause_at
+            live entry.0) (nat_eq_equiv.symm entry.0 number ∙ e) ∙ each.0,
+        later,
+      )
+
   pub holds_removed : new.added ≡ old.added → Holds new (without_clause live number)
   holds_removed same = record {
     table = record {
@@ -250,6 +293,7 @@ module _ (old new : Table) (live : Live) (number : ℕ) (before : Holds old live
       };
     };
     there = λ n. there n (n == number) refl;
+    own = own_without live.clauses before.own;
     used = λ n. used n (n == number) refl;
     added = same ∙ before.added;
   }
@@ -301,6 +345,7 @@ holds_moved old new live before moved same = record {
       named = λ n i is h. named n i (before.table.numbering.within n) is h;
     };
   };
+  own = before.own;
   there = λ n. there n (before.table.numbering.within n);
   used = λ n. before.used n ∙ ap not (sym (zero_same n (before.table.numbering.within n)));
   added = same ∙ before.added;

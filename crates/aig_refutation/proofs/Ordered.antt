@@ -105,11 +105,11 @@ are_in-below variables (lit ∷ lits) below = rw (within (variable_of lit) below
     within n h = grind (arith, nat_tests)
 
 module _ (variables : ℕ) (fault : RefutationError) where
-  added_ok : (clauses : List (ℕ × List Lit)) (live : Live) (number : ℕ) (clause : List Lit) (hints : List ℕ) (steps : List Step) → AreFound clauses live
-      → IsStep variables (Adds number clause hints) → AreInOrder live (Adds number clause hints ∷ steps) → is_rup (found clauses) clause hints ≡ true
-      → added variables live number clause hints ≡ Ok (with_clause live number clause)
+  added_ok : (clauses : List (ℕ × List Lit)) (live : Live) (number : ℕ) (clause : List Lit) (hints : List ℕ) (groups : List (Bool × ℕ)) (steps : List Step) → AreFound clauses live
+      → IsStep variables (Adds number clause hints groups) → AreInOrder live (Adds number clause hints groups ∷ steps) → is_rup (found clauses) clause hints ≡ true
+      → added variables live number clause hints groups ≡ Ok (with_clause live number clause)
   unfolding added
-  added_ok clauses live number clause hints steps are is order rup =
+  added_ok clauses live number clause hints groups steps are is order rup =
       let inside = are_in-below variables clause (recursion_from_All (λ lit. variable_of lit < variables) clause is.1) in
       let there : is_rup (clause_at live) clause hints ≡ true = ap (λ (f : ℕ → Option (List Lit)). is_rup f clause hints) (sym (fun_ext are)) ∙ rup in
       rw (inside, order.0, there, order.1, order.2) refl
@@ -118,9 +118,9 @@ module _ (variables : ℕ) (fault : RefutationError) where
       → outcome variables live steps fault ≡ Ok tt
   unfolding outcome taken
   refuted_ok [] clauses live are all order is = absurd (false≢true is)
-  refuted_ok (Adds number clause hints ∷ steps) clauses live are all order is =
+  refuted_ok (Adds number clause hints groups ∷ steps) clauses live are all order is =
       let parts = and_parts (is_rup (found clauses) clause hints) (is_empty clause || refutes ((number, clause) ∷ clauses) steps) is in
-      rw (added_ok clauses live number clause hints steps are all.0 order parts.0)
+      rw (added_ok clauses live number clause hints groups steps are all.0 order parts.0)
       (by (is_empty clause) (λ later. refuted_ok steps ((number, clause) ∷ clauses) (with_clause live number clause) more all.1 order.3 later) parts.1)
     where
       more : AreFound ((number, clause) ∷ clauses) (with_clause live number clause)

@@ -5,13 +5,13 @@ use Rattle.aig_refutation.specs.declared.error.RefutationError.TheVariants as er
 use Rattle.aig_refutation.specs.Checking.{Live, added, deleted, is_last_step, outcome, taken}
 use Rattle.aig_refutation.specs.Concluding.{Concludes, ShowsText, TakesStep, left_outcome, shown_of, text_outcome}
 use Rattle.aig_refutation.specs.Proofs.{Line, Numbered, Plain, Script, if_numbered, is_comment, is_none, line_in, script_if, script_of, then_lines}
-use Rattle.aig_refutation.specs.Reading.{GivesStep, next_said, plain_by, said_by, said_line}
+use Rattle.aig_refutation.specs.Reading.{GivesStep, next_said, plain_by, said_by, said_line, step_by}
 use Rattle.aig_refutation.specs.Steps.{Step, Adds, Deletes, PlainStep, is_empty}
 use Rattle.aig_refutation.specs.declared.step.Step as held
 use Rattle.aig_base.specs.declared.logic.literal.Lit.{Lit}
 use Rattle.aig_refutation.specs.Tables.{Holds, Table}
 use Rattle.aig_refutation.specs.Text.{lines_of}
-use Rattle.aig_refutation.specs.Words.{Leaves, Place, Says, Tells, lines_at, lines_past}
+use Rattle.aig_refutation.specs.Words.{Leaves, Place, Says, Tells, lines_at, lines_past, said_numbers}
 use Rattle.aig_refutation.specs.Taken.{CanHold, KeepsLive}
 use Rattle.aig_refutation.proofs.Known.{leaves_on, says_now, says_on, tells, tells_on}
 use Rattle.aig_refutation.proofs.Taken.{last_fails, taken_keeps}
@@ -296,8 +296,7 @@ module _ (variables : ℕ) (live : Live) (before : Place) (open_line : before.en
       s) before after (Ok there) → (r : Result (Unit {0}) RefutationError) → ShowsText before.feed
       (text_outcome variables live) r
   text_unnumbered is true given r = text_other variables live before open_line (said_by s) after
-      (plain_by s) (ap (λ (b : Bool). cond b (Numbered (cond s.deletes (Deletes s.numbers.items)
-      (Adds s.number s.clause.items s.numbers.items))) (Plain (plain_by s))) is) given r
+      (plain_by s) (ap (λ (b : Bool). cond b (Numbered (step_by s)) (Plain (plain_by s))) is) given r
   text_unnumbered is false given r = text_none variables live before open_line (said_by s) after
       given r
 
@@ -306,8 +305,7 @@ module _ (variables : ℕ) (live : Live) (before : Place) (open_line : before.en
       true) → (r : Result (Unit {0}) RefutationError) → Concludes after.feed (left_outcome variables
       live (said_by s) after) r → ShowsText before.feed (text_outcome variables live) r
   text_numbered is given r says =
-      let step : Step = cond s.deletes (Deletes s.numbers.items) (Adds s.number s.clause.items
-      s.numbers.items) in
+      let step : Step = step_by s in
       text_shown variables live before open_line (said_by s) after step (ap (λ (b : Bool). cond b
       (Numbered step) (Plain (plain_by s))) is) given r says
 
@@ -318,10 +316,11 @@ module _ (variables : ℕ) (live : Live) where
   unfolding taken
   taken_deletes numbers = refl
 
-  taken_adds : (number : ℕ) (clause : List Lit) (hints : List ℕ) → taken variables live (Adds number
-      clause hints) ≡ added variables live number clause hints
+  taken_adds : (number : ℕ) (clause : List Lit) (hints : List ℕ) (groups : List (Bool × ℕ))
+      → taken variables live (Adds number clause hints groups)
+      ≡ added variables live number clause hints groups
   unfolding taken
-  taken_adds number clause hints = refl
+  taken_adds number clause hints groups = refl
 
   held_by : (b : Bool) (plain : PlainStep) (step said : Step)
       → cond b (Numbered step) (Plain plain) ≡ Numbered said → step ≡ said
@@ -329,13 +328,16 @@ module _ (variables : ℕ) (live : Live) where
   held_by false plain step said is = absurd cc
 
   module _ (s : held.Step) (said : Step) (is : said_by s ≡ Numbered said) where
-    pub said_deletes : s.deletes ≡ true → Deletes s.numbers.items ≡ said
-    said_deletes d = ap (λ (b : Bool). cond b (Deletes s.numbers.items) (Adds s.number
-        s.clause.items s.numbers.items)) (sym d) ∙ held_by s.is_numbered (plain_by s) _ said is
+    abbrev held_adds : Step
+    held_adds = Adds s.number s.clause.items s.numbers.items (said_numbers s.groups.items)
 
-    pub said_adds : s.deletes ≡ false → Adds s.number s.clause.items s.numbers.items ≡ said
-    said_adds d = ap (λ (b : Bool). cond b (Deletes s.numbers.items) (Adds s.number s.clause.items
-        s.numbers.items)) (sym d) ∙ held_by s.is_numbered (plain_by s) _ said is
+    pub said_deletes : s.deletes ≡ true → Deletes s.numbers.items ≡ said
+    said_deletes d = ap (λ (b : Bool). cond b (Deletes s.numbers.items) held_adds) (sym d)
+        ∙ held_by s.is_numbered (plain_by s) _ said is
+
+    pub said_adds : s.deletes ≡ false → held_adds ≡ said
+    said_adds d = ap (λ (b : Bool). cond b (Deletes s.numbers.items) held_adds) (sym d)
+        ∙ held_by s.is_numbered (plain_by s) _ said is
 
     pub deletes_taken : s.deletes ≡ true → taken variables live said ≡ deleted live s.numbers.items
     deletes_taken d = ap (taken variables live) (sym (said_deletes d)) ∙ taken_deletes
@@ -345,9 +347,9 @@ module _ (variables : ℕ) (live : Live) where
     deletes_more d = ap is_last_step (sym (said_deletes d))
 
     pub adds_taken : s.deletes ≡ false → taken variables live said ≡ added variables live s.number
-        s.clause.items s.numbers.items
+        s.clause.items s.numbers.items (said_numbers s.groups.items)
     adds_taken d = ap (taken variables live) (sym (said_adds d)) ∙ taken_adds s.number
-        s.clause.items s.numbers.items
+        s.clause.items s.numbers.items (said_numbers s.groups.items)
 
     pub adds_last : s.deletes ≡ false → is_last_step said ≡ is_empty s.clause.items
     adds_last d = ap is_last_step (sym (said_adds d))

@@ -11,8 +11,8 @@ use Rattle.aig_refutation.specs.Ahead.{IsAhead}
 use Rattle.aig_refutation.specs.Checking.{IsRefusal, are_in}
 use Rattle.aig_refutation.specs.Concluding.{ConcludesPlain, ShowsPlain, TakesLine, plain_left}
 use Rattle.aig_refutation.specs.Proofs.{Line, Numbered, Plain, Script, is_comment, is_none, line_in, plain_of, script_if, then_plain}
-use Rattle.aig_refutation.specs.Reading.{GivesStep, next_said, plain_by, said_by, said_line}
-use Rattle.aig_refutation.specs.Steps.{Adds, Deletes, Drops, Follows, Learns, PlainStep, Refute, Stand, Step, adds_empty, are_same, is_empty, without_one}
+use Rattle.aig_refutation.specs.Reading.{GivesStep, next_said, plain_by, said_by, said_line, step_by}
+use Rattle.aig_refutation.specs.Steps.{Drops, Follows, Learns, PlainStep, Refute, Stand, Step, adds_empty, are_same, is_empty, without_one}
 use Rattle.aig_refutation.specs.Tables.{Table}
 use Rattle.aig_refutation.specs.Text.{lines_of}
 use Rattle.aig_refutation.specs.Words.{Leaves, Place, Says, Tells, lines_at, lines_past}
@@ -96,8 +96,7 @@ inside_said : (variables : ℕ) (s : held.Step) → are_in variables s.clause.it
     → IsInside variables (said_by s)
 inside_said variables s inside = by s.is_numbered s.deletes
   where
-    by : (numbered deletes : Bool) → IsInside variables (cond numbered (Numbered (cond s.deletes
-        (Deletes s.numbers.items) (Adds s.number s.clause.items s.numbers.items)))
+    by : (numbered deletes : Bool) → IsInside variables (cond numbered (Numbered (step_by s))
         (Plain (cond deletes (Drops s.clause.items) (Learns s.clause.items))))
     by true deletes = tt
     by false true = tt
@@ -229,21 +228,17 @@ pub is_plain : (variables : ℕ) (now : List (List Lit)) (s : held.Step) (t : Ta
     → TakesLine variables now (said_by s) t (Ok done) → s.is_numbered ≡ false
 is_plain variables now s t done h = by s.is_numbered refl h
   where
-    by : (b : Bool) → s.is_numbered ≡ b → TakesLine variables now (cond b (Numbered (cond s.deletes
-        (Deletes s.numbers.items) (Adds s.number s.clause.items s.numbers.items)))
+    by : (b : Bool) → s.is_numbered ≡ b → TakesLine variables now (cond b (Numbered (step_by s))
         (Plain (plain_by s))) t (Ok done) → s.is_numbered ≡ false
     by true e k = absurd k
     by false e k = e
 
 -- steps as they are held
-pub numbered_said : (s : held.Step) → s.is_numbered ≡ true → said_by s ≡ Numbered (cond s.deletes
-    (Deletes s.numbers.items) (Adds s.number s.clause.items s.numbers.items))
-numbered_said s is = ap (λ (b : Bool). cond b (Numbered (cond s.deletes (Deletes s.numbers.items)
-    (Adds s.number s.clause.items s.numbers.items))) (Plain (plain_by s))) is
+pub numbered_said : (s : held.Step) → s.is_numbered ≡ true → said_by s ≡ Numbered (step_by s)
+numbered_said s is = ap (λ (b : Bool). cond b (Numbered (step_by s)) (Plain (plain_by s))) is
 
 plain_is : (s : held.Step) → s.is_numbered ≡ false → said_by s ≡ Plain (plain_by s)
-plain_is s is = ap (λ (b : Bool). cond b (Numbered (cond s.deletes (Deletes s.numbers.items)
-    (Adds s.number s.clause.items s.numbers.items))) (Plain (plain_by s))) is
+plain_is s is = ap (λ (b : Bool). cond b (Numbered (step_by s)) (Plain (plain_by s))) is
 
 pub plain_same : (now before : held.Step) → now.is_numbered ≡ before.is_numbered
     → now.deletes ≡ before.deletes → now.clause.items ≡ before.clause.items

@@ -1,9 +1,9 @@
 -- What the definitions say of small refutations with RAT steps: some hold, and wrong ones don't.
-use Rattle.aig_base.proofs.Words.{◌≡◌, ℕ, true, false, List, [], ◌∷◌, refl}
+use Rattle.aig_base.proofs.Words.{◌≡◌, ℕ, Bool, true, false, List, [], ◌∷◌, refl}
 use Rattle.aig_base.specs.declared.logic.literal.Lit.{Lit}
 use Rattle.aig_base.specs.Clauses.{lit_to}
-use Rattle.aig_refutation.specs.Rat.{Adds, Deletes, is_rat, is_rat_refutation}
-use Rattle.aig_refutation.specs.Steps.{numbered, without}
+use Rattle.aig_refutation.specs.Rat.{is_rat, is_rat_refutation}
+use Rattle.aig_refutation.specs.Steps.{Adds, Deletes, numbered, without}
 
 -- a variable, and its inverse
 abbrev plain : ℕ → Lit
@@ -11,6 +11,13 @@ plain n = lit_to n true
 
 abbrev inverted : ℕ → Lit
 inverted n = lit_to n false
+
+-- the number of a clause for which hints follow, and a hint
+abbrev for : ℕ → Bool × ℕ
+for n = (false, n)
+
+abbrev hint : ℕ → Bool × ℕ
+hint n = (true, n)
 
 -- all four clauses of two variables
 abbrev four : List (List Lit)
@@ -30,21 +37,22 @@ pivot_second : is_rat (numbered 1 four) (plain 0 ∷ plain 2 ∷ []) [] [] ≡ f
 pivot_second = refl
 
 -- what follows of the clause and each of the two does so along the hints for its number
-groups : is_rat (numbered 1 four) (plain 0 ∷ plain 2 ∷ []) [] ((3, 1 ∷ []) ∷ (4, 2 ∷ []) ∷ [])
-    ≡ true
+groups : is_rat (numbered 1 four) (plain 0 ∷ plain 2 ∷ []) []
+    (for 3 ∷ hint 1 ∷ for 4 ∷ hint 2 ∷ []) ≡ true
 groups = refl
 
 -- a clause that has the inverse is passed over, or its hints are those of another
-group_left_out : is_rat (numbered 1 four) (plain 0 ∷ plain 2 ∷ []) [] ((3, 1 ∷ []) ∷ []) ≡ false
+group_left_out : is_rat (numbered 1 four) (plain 0 ∷ plain 2 ∷ []) [] (for 3 ∷ hint 1 ∷ [])
+    ≡ false
 group_left_out = refl
 
-exchanged : is_rat (numbered 1 four) (plain 0 ∷ plain 2 ∷ []) [] ((3, 2 ∷ []) ∷ (4, 1 ∷ []) ∷ [])
-    ≡ false
+exchanged : is_rat (numbered 1 four) (plain 0 ∷ plain 2 ∷ []) []
+    (for 3 ∷ hint 2 ∷ for 4 ∷ hint 1 ∷ []) ≡ false
 exchanged = refl
 
 -- a clause that was deleted isn't looked at
 deleted : is_rat (without (4 ∷ []) (numbered 1 four)) (plain 0 ∷ plain 2 ∷ []) []
-    ((3, 1 ∷ []) ∷ []) ≡ true
+    (for 3 ∷ hint 1 ∷ []) ≡ true
 deleted = refl
 
 -- a variable that stands for the and of two, and then the refutation

@@ -4,8 +4,8 @@ use Rattle.aig_base.specs.declared.logic.literal.Lit.{Lit}
 use Rattle.aig_base.specs.Clauses.{inverse_lit, is_positive, is_true_clause, literal_value, variable_of, with_polarity}
 use Rattle.aig_base.specs.Formula.{IsSatisfiable}
 use Rattle.aig_refutation.specs.Propagation.{has, is_lit, is_rup, is_tautology}
-use Rattle.aig_refutation.specs.Rat.{Adds, Deletes, RatStep, hints_for, is_apart, is_rat, is_rat_refutation, refutes_by_rat, resolvent, without_lit}
-use Rattle.aig_refutation.specs.Steps.{is_empty, numbered, without}
+use Rattle.aig_refutation.specs.Rat.{hints_for, is_apart, is_rat, is_rat_refutation, refutes_by_rat, resolvent, without_lit}
+use Rattle.aig_refutation.specs.Steps.{Step, Adds, Deletes, is_empty, numbered, without}
 use Rattle.aig_refutation.proofs.Refuting.{AllTrue, empty_false, found_true, kept_true, numbered_true}
 use Rattle.aig_refutation.proofs.Rup.{rup_is_true}
 use Rattle.aig_refutation.proofs.Tautologies.{tautology_is_true}
@@ -141,15 +141,16 @@ is_not true h = absurd (false≢true h)
 is_not false h = refl
 
 module _ (clauses : List (ℕ × List Lit)) (v : ℕ → Bool) (are : AllTrue v clauses) (pivot : Lit)
-    (clause : List Lit) (hints : List ℕ) (groups : List (ℕ × List ℕ))
+    (clause : List Lit) (hints : List ℕ) (groups : List (Bool × ℕ))
     (isnt : is_true_clause v clause ≡ false) where
   -- a clause that keeps out of the way stays true
   turned : (entry : ℕ × List Lit) → is_true_clause v entry.1 ≡ true
       → is_apart (λ n. lookup (λ m. n == m) clauses) pivot clause hints groups entry ≡ true
       → is_true_clause (with_true v pivot) entry.1 ≡ true
   turned entry is apart = by (or_cases (not (has entry.1 (inverse_lit pivot)))
-      (is_tautology (resolvent pivot clause entry.1) || is_rup (λ n. lookup (λ m. n == m) clauses)
-      (resolvent pivot clause entry.1) (hints ++ hints_for groups entry.0)) apart)
+      (is_rup (λ n. lookup (λ m. n == m) clauses) (resolvent pivot clause entry.1)
+      (hints ++ hints_for entry.0 false groups) || is_tautology (resolvent pivot clause entry.1))
+      apart)
     where
       made : is_true_clause v (resolvent pivot clause entry.1) ≡ true
           → is_true_clause (with_true v pivot) entry.1 ≡ true
@@ -165,19 +166,19 @@ module _ (clauses : List (ℕ × List Lit)) (v : ℕ → Bool) (are : AllTrue v 
           rest (inr later) = rest_stays v pivot entry.1 later
 
       by : (not (has entry.1 (inverse_lit pivot)) ≡ true)
-          ⊎ ((is_tautology (resolvent pivot clause entry.1) || is_rup
-          (λ n. lookup (λ m. n == m) clauses) (resolvent pivot clause entry.1)
-          (hints ++ hints_for groups entry.0)) ≡ true)
+          ⊎ ((is_rup (λ n. lookup (λ m. n == m) clauses) (resolvent pivot clause entry.1)
+          (hints ++ hints_for entry.0 false groups) || is_tautology (resolvent pivot clause
+          entry.1)) ≡ true)
           → is_true_clause (with_true v pivot) entry.1 ≡ true
       by (inl none) = clause_stays v pivot entry.1 is
           (is_not (has entry.1 (inverse_lit pivot)) none)
-      by (inr some) = elim (or_cases (is_tautology (resolvent pivot clause entry.1))
-          (is_rup (λ n. lookup (λ m. n == m) clauses) (resolvent pivot clause entry.1)
-          (hints ++ hints_for groups entry.0)) some) [
-            | inl always ↦ made (tautology_is_true v (resolvent pivot clause entry.1) always)
-            | inr rup ↦ made (rup_is_true v (λ n. lookup (λ m. n == m) clauses)
+      by (inr some) = elim (or_cases (is_rup (λ n. lookup (λ m. n == m) clauses)
+          (resolvent pivot clause entry.1) (hints ++ hints_for entry.0 false groups))
+          (is_tautology (resolvent pivot clause entry.1)) some) [
+            | inl rup ↦ made (rup_is_true v (λ n. lookup (λ m. n == m) clauses)
                 (found_true v clauses are) (resolvent pivot clause entry.1)
-                (hints ++ hints_for groups entry.0) rup)
+                (hints ++ hints_for entry.0 false groups) rup)
+            | inr always ↦ made (tautology_is_true v (resolvent pivot clause entry.1) always)
           ]
 
   all_turned : (some : List (ℕ × List Lit)) → AllTrue v some
@@ -191,43 +192,42 @@ module _ (clauses : List (ℕ × List Lit)) (v : ℕ → Bool) (are : AllTrue v 
       some) apart in
       (turned entry true_all.0 parts.0, all_turned some true_all.1 parts.1)
 
--- a clause that follows, or has the RAT property, leaves some assignment
+-- a clause that has the RAT property leaves some assignment
+pub rat_goes_on : (clauses : List (ℕ × List Lit)) (v : ℕ → Bool) → AllTrue v clauses
+    → (clause : List Lit) (hints : List ℕ) (groups : List (Bool × ℕ))
+    → is_rat clauses clause hints groups ≡ true
+    → (w : ℕ → Bool) × AllTrue w clauses × (is_true_clause w clause ≡ true)
+rat_goes_on clauses v are [] hints groups h = absurd (false≢true h)
+rat_goes_on clauses v are (pivot ∷ lits) hints groups rat =
+    elim (bool_cases (is_true_clause v (pivot ∷ lits))) [
+      | inl is ↦ (v, are, is)
+      | inr isnt ↦ (
+        with_true v pivot,
+        all_turned clauses v are pivot (pivot ∷ lits) hints groups isnt clauses are rat,
+        pivot_clause v pivot (pivot ∷ lits)
+            (or_left (is_lit pivot pivot) (has lits pivot) (eq-eqb pivot.code pivot.code refl)),
+      )
+    ]
+
+-- and so does one that follows
 goes_on : (clauses : List (ℕ × List Lit)) (v : ℕ → Bool) → AllTrue v clauses → (clause : List Lit)
-    (hints : List ℕ) (groups : List (ℕ × List ℕ))
+    (hints : List ℕ) (groups : List (Bool × ℕ))
     → (is_rup (λ n. lookup (λ m. n == m) clauses) clause hints || is_rat clauses clause hints
     groups) ≡ true
     → (w : ℕ → Bool) × AllTrue w clauses × (is_true_clause w clause ≡ true)
-goes_on clauses v are [] hints groups h =
-    elim (or_cases (is_rup (λ n. lookup (λ m. n == m) clauses) [] hints) false h) [
+goes_on clauses v are clause hints groups h =
+    elim (or_cases (is_rup (λ n. lookup (λ m. n == m) clauses) clause hints)
+    (is_rat clauses clause hints groups) h) [
       | inl rup ↦ (
         v,
         are,
         rup_is_true v (λ n. lookup (λ m. n == m) clauses)
-            (found_true v clauses are) [] hints rup,
+            (found_true v clauses are) clause hints rup,
       )
-      | inr never ↦ absurd (false≢true never)
-    ]
-goes_on clauses v are (pivot ∷ lits) hints groups h =
-    elim (or_cases (is_rup (λ n. lookup (λ m. n == m) clauses) (pivot ∷ lits) hints)
-    (is_rat clauses (pivot ∷ lits) hints groups) h) [
-      | inl rup ↦ (
-        v,
-        are,
-        rup_is_true v (λ n. lookup (λ m. n == m) clauses)
-            (found_true v clauses are) (pivot ∷ lits) hints rup,
-      )
-      | inr rat ↦ elim (bool_cases (is_true_clause v (pivot ∷ lits))) [
-        | inl is ↦ (v, are, is)
-        | inr isnt ↦ (
-          with_true v pivot,
-          all_turned clauses v are pivot (pivot ∷ lits) hints groups isnt clauses are rat,
-          pivot_clause v pivot (pivot ∷ lits)
-              (or_left (is_lit pivot pivot) (has lits pivot) (eq-eqb pivot.code pivot.code refl)),
-        )
-      ]
+      | inr rat ↦ rat_goes_on clauses v are clause hints groups rat
     ]
 
-no_rat_refutation : (steps : List RatStep) (clauses : List (ℕ × List Lit)) (v : ℕ → Bool)
+no_rat_refutation : (steps : List Step) (clauses : List (ℕ × List Lit)) (v : ℕ → Bool)
     → AllTrue v clauses → refutes_by_rat clauses steps ≡ true → ⊥
 no_rat_refutation [] clauses v are r = false≢true r
 no_rat_refutation (Deletes numbers ∷ steps) clauses v are r =
@@ -244,7 +244,7 @@ no_rat_refutation (Adds number clause hints groups ∷ steps) clauses v are r =
           later
     ]
 
-pub rat_refuted : (clauses : List (List Lit)) (steps : List RatStep)
+pub rat_refuted : (clauses : List (List Lit)) (steps : List Step)
     → IsTrue (is_rat_refutation clauses steps) → ¬ IsSatisfiable clauses
 rat_refuted clauses steps r (v, all) = no_rat_refutation steps (numbered 1 clauses) v
     (numbered_true v 1 clauses all) r

@@ -45,7 +45,7 @@ module _ (v : ℕ → Bool) where
   no_refutation [] clauses are r = false≢true r
   no_refutation (Deletes numbers ∷ steps) clauses are r = no_refutation steps (without numbers
       clauses) (kept_true (λ entry. not (list_any (λ n. n == entry.0) numbers)) clauses are) r
-  no_refutation (Adds number clause hints ∷ steps) clauses are r =
+  no_refutation (Adds number clause hints groups ∷ steps) clauses are r =
       let find = λ (n : ℕ). lookup (λ (m : ℕ). n == m) clauses in
       let parts = and_parts (is_rup find clause hints) (is_empty clause || refutes ((
         number,

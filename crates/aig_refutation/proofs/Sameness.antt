@@ -42,7 +42,7 @@ same_test a b there back =
     and_from (list_all (has b) a) (list_all (has a) b) (in_test a b there) (in_test b a back)
 
 -- two tests that are true together
-alike : (p q : Bool) → (p ≡ true → q ≡ true) → (q ≡ true → p ≡ true) → p ≡ q
+pub alike : (p q : Bool) → (p ≡ true → q ≡ true) → (q ≡ true → p ≡ true) → p ≡ q
 alike true q there back = sym (there refl)
 alike false true there back = back refl
 alike false false there back = refl

@@ -1,13 +1,15 @@
 -- A step that is taken keeps clauses satisfiable.
-use Rattle.aig_base.proofs.Words.{◌≡◌, ℕ, Bool, true, false, cond, not, inl, inr, Result, Ok, Err, List, [], ◌∷◌, refl, sym, subst, list_any, list_all, or_cases, ◌==◌, false≢true}
+use Rattle.aig_base.proofs.Words.{◌≡◌, ℕ, Bool, true, false, cond, not, inl, inr, Result, Ok, Err, List, [], ◌∷◌, refl, sym, subst, list_any, or_cases, ◌==◌, false≢true}
 use Rattle.aig_base.specs.declared.logic.literal.Lit.{Lit}
 use Rattle.aig_base.specs.Clauses.{is_true_clause}
 use Rattle.aig_refutation.specs.declared.error.RefutationError.{RefutationError}
 use Rattle.aig_refutation.specs.declared.error.RefutationError.TheVariants as errors
-use Rattle.aig_refutation.specs.Checking.{Live, added, are_in, clause_at, deleted, follows, is_last_step, is_named, is_too_large, is_used, taken, with_clause, without_clause}
+use Rattle.aig_refutation.specs.Checking.{Live, added, are_in, are_named, clause_at, deleted, follows, is_last_step, is_named, is_too_large, is_used, stands, taken, why_not, with_clause, without_clause}
 use Rattle.aig_refutation.specs.Propagation.{is_rup, is_tautology}
+use Rattle.aig_refutation.specs.Rat.{is_rat}
 use Rattle.aig_refutation.specs.Steps.{Step, Adds, Deletes}
 use Rattle.aig_refutation.specs.Taken.{CanHold, KeepsLive}
+use Rattle.aig_refutation.proofs.RatSteps.{rat_goes_on}
 use Rattle.aig_refutation.proofs.Refuting.{AllTrue, empty_false, found_true, kept_true}
 use Rattle.aig_refutation.proofs.Rup.{rup_is_true}
 use Rattle.aig_refutation.proofs.Tautologies.{tautology_is_true}
@@ -31,26 +33,36 @@ follows_true v live clause hints are is =
       | inr always ↦ tautology_is_true v clause always
     ]
 
+-- where the clauses can hold, they can so with one that may be added
+stands_on : (live : Live) (clause : List Lit) (hints : List ℕ) (groups : List (Bool × ℕ))
+    → CanHold live → stands live clause hints groups ≡ true
+    → (w : ℕ → Bool) × AllTrue w live.clauses × (is_true_clause w clause ≡ true)
+stands_on live clause hints groups can is =
+    elim (or_cases (follows live clause hints) (is_rat live.clauses clause hints groups) is) [
+      | inl follows ↦ (can.0, can.1, follows_true can.0 live clause hints can.1 follows)
+      | inr rat ↦ rat_goes_on live.clauses can.0 can.1 clause hints groups rat
+    ]
+
 module _ (variables : ℕ) (live next : Live) where
-  added_is : (number : ℕ) (clause : List Lit) (hints : List ℕ)
-      → added variables live number clause hints ≡ Ok next
-      → (follows live clause hints ≡ true) × (with_clause live number clause ≡ next)
+  added_is : (number : ℕ) (clause : List Lit) (hints : List ℕ) (groups : List (Bool × ℕ))
+      → added variables live number clause hints groups ≡ Ok next
+      → (stands live clause hints groups ≡ true) × (with_clause live number clause ≡ next)
   unfolding added
-  added_is number clause hints is =
+  added_is number clause hints groups is =
       let a = chosen (not (are_in variables clause)) errors.Literal _ next is in
-      let b = chosen (not (list_all (is_named live) hints)) errors.Unnamed _ next a.1 in
-      let c = chosen (not (follows live clause hints)) errors.Step _ next b.1 in
+      let b = chosen (not (are_named live hints groups)) errors.Unnamed _ next a.1 in
+      let c = chosen (not (stands live clause hints groups)) (why_not groups) _ next b.1 in
       let d = chosen (is_used live number) errors.Twice _ next c.1 in
       let e = chosen (is_too_large live number) errors.Large _ next d.1 in
       let same : with_clause live number clause ≡ next = let f = e.1 in cc in
-      (not_false (follows live clause hints) c.0, same)
+      (not_false (stands live clause hints groups) c.0, same)
 
-  added_keeps : (number : ℕ) (clause : List Lit) (hints : List ℕ)
-      → added variables live number clause hints ≡ Ok next → KeepsLive live next
-  added_keeps number clause hints is can =
-      let on = added_is number clause hints is in
-      subst CanHold on.1
-      (can.0, (follows_true can.0 live clause hints can.1 on.0, can.1))
+  added_keeps : (number : ℕ) (clause : List Lit) (hints : List ℕ) (groups : List (Bool × ℕ))
+      → added variables live number clause hints groups ≡ Ok next → KeepsLive live next
+  added_keeps number clause hints groups is can =
+      let on = added_is number clause hints groups is in
+      let w = stands_on live clause hints groups can on.0 in
+      subst CanHold on.1 (w.0, (w.2, w.1))
 
 deleted_keeps : (numbers : List ℕ) (live next : Live) → deleted live numbers ≡ Ok next
     → KeepsLive live next
@@ -72,17 +84,17 @@ deleted_keeps (n ∷ numbers) live next is can =
 pub taken_keeps : (variables : ℕ) (live next : Live) (step : Step)
     → taken variables live step ≡ Ok next → KeepsLive live next
 unfolding taken
-taken_keeps variables live next (Adds number clause hints) is =
-    added_keeps variables live next number clause hints is
+taken_keeps variables live next (Adds number clause hints groups) is =
+    added_keeps variables live next number clause hints groups is
 taken_keeps variables live next (Deletes numbers) is = deleted_keeps numbers live next is
 
 -- the last step leaves clauses that can't all be true
 pub last_fails : (variables : ℕ) (live next : Live) (step : Step)
     → taken variables live step ≡ Ok next → is_last_step step ≡ true → CanHold live → ⊥
 unfolding taken
-last_fails variables live next (Adds number clause hints) is last can =
-    let on = added_is variables live next number clause hints is in
+last_fails variables live next (Adds number clause hints groups) is last can =
+    let on = added_is variables live next number clause hints groups is in
     let after : CanHold (with_clause live number clause) =
-    subst CanHold (sym on.1) (added_keeps variables live next number clause hints is can) in
+    subst CanHold (sym on.1) (added_keeps variables live next number clause hints groups is can) in
     empty_false after.0 clause last after.1.0
 last_fails variables live next (Deletes numbers) is last can = false≢true last

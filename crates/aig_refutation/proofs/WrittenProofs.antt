@@ -10,8 +10,8 @@ use Rattle.aig_refutation.specs.Forms.{steps_in}
 use Rattle.aig_refutation.specs.Proofs.{Numbered, is_comment, is_none, line_in, script_if, script_of}
 use Rattle.aig_refutation.specs.Steps.{Step, Adds, Deletes}
 use Rattle.aig_refutation.specs.Text.{begins, lines_of}
-use Rattle.aig_refutation.specs.Written.{IsNumber, IsStep, added_line, deleted_line, literal_text, number_text, proof_text}
-use Rattle.aig_refutation.proofs.WrittenLines.{added_read, added_words, deleted_read, deleted_words}
+use Rattle.aig_refutation.specs.Written.{AreGroups, IsNumber, IsStep, added_line, deleted_line, literal_text, number_text, proof_text, signed_text}
+use Rattle.aig_refutation.proofs.WrittenLines.{AreNumbers, added_read, added_words, all_hints, are_all, deleted_read, deleted_words}
 use Rattle.aig_refutation.proofs.WrittenWords.{begins-number, reads_lines}
 use Rattle.aig_refutation.proofs.Texts.{end_first}
 
@@ -30,30 +30,33 @@ module _ (variables : ℕ) (clauses : List (List Lit)) (bytes : List ℕ) (fits 
 
 -- the number that a step's line begins with, and the words after it
 abbrev step_number : ℕ → Step → ℕ
-step_number last (Adds number clause hints) = number
+step_number last (Adds number clause hints groups) = number
 step_number last (Deletes numbers) = last
 
 abbrev step_words : Step → List (List ℕ)
-step_words (Adds number clause hints) = map literal_text clause ++ codes "0 " ∷ (map number_text hints ++ codes "0\n" ∷ [])
+step_words (Adds number clause hints groups) = map literal_text clause ++ codes "0 " ∷ (map signed_text (all_hints hints groups) ++ codes "0\n" ∷ [])
 step_words (Deletes numbers) = codes "d " ∷ (map number_text numbers ++ codes "0\n" ∷ [])
+
+are_hints : (hints : List ℕ) (groups : List (Bool × ℕ)) → All IsNumber hints → AreGroups groups → AreNumbers (all_hints hints groups)
+are_hints hints groups are behind = are_all hints groups (recursion_from_All IsNumber hints are) (recursion_from_All (λ hint. IsNumber hint.1) groups behind.0)
 
 module _ (variables : ℕ) (few : variables < 2 ^ 32) where
   number_is : (last : ℕ) (step : Step) → IsNumber last → IsStep variables step → IsNumber (step_number last step)
-  number_is last (Adds number clause hints) before is = is.0
+  number_is last (Adds number clause hints groups) before is = is.0
   number_is last (Deletes numbers) before is = before
 
   step_lines : (last : ℕ) (step : Step) (steps : List Step) → IsNumber last → IsStep variables step
       → lines_of (proof_text last (step ∷ steps)) ≡ (number_text (step_number last step) ∷ step_words step) ∷ lines_of (proof_text (step_number last step) steps)
   unfolding proof_text
-  step_lines last (Adds number clause hints) steps before is =
-      reads_lines _ _ _ (added_words variables few number is.0 (proof_text number steps) clause hints (recursion_from_All (λ lit. variable_of lit < variables) clause is.1) (recursion_from_All IsNumber hints is.2))
+  step_lines last (Adds number clause hints groups) steps before is =
+      reads_lines _ _ _ (added_words variables few number is.0 (proof_text number steps) clause hints groups (recursion_from_All (λ lit. variable_of lit < variables) clause is.1) (are_hints hints groups is.2 is.3))
   step_lines last (Deletes numbers) steps before is =
       reads_lines _ _ _ (deleted_words variables few last before (proof_text last steps) numbers (recursion_from_All IsNumber numbers is))
 
   step_read : (numbered is_last : Bool) (last : ℕ) (step : Step) → IsNumber last → IsStep variables step
       → line_in numbered variables is_last (number_text (step_number last step)) (step_words step) ≡ Ok (Numbered step)
-  step_read numbered is_last last (Adds number clause hints) before is =
-      added_read variables few numbered is_last number is.0 clause hints (recursion_from_All (λ lit. variable_of lit < variables) clause is.1) (recursion_from_All IsNumber hints is.2)
+  step_read numbered is_last last (Adds number clause hints groups) before is =
+      added_read variables few numbered is_last number is.0 clause hints groups (recursion_from_All (λ lit. variable_of lit < variables) clause is.1) (are_hints hints groups is.2 is.3) is.3.1
   step_read numbered is_last last (Deletes numbers) before is =
       deleted_read variables few numbered is_last last before numbers (recursion_from_All IsNumber numbers is)
 
@@ -85,8 +88,8 @@ module _ (variables : ℕ) (few : variables < 2 ^ 32) where
 
   begins-step : (k last : ℕ) (step : Step) (steps : List Step) → IsNumber last → IsStep variables step → is_digit k ≡ false → begins k (proof_text last (step ∷ steps)) ≡ false
   unfolding proof_text
-  begins-step k last (Adds number clause hints) steps before is apart =
-      let regroup : added_line number clause hints ++ proof_text number steps ≡ number_text number ++ (flat_map literal_text clause ++ (codes "0 " ++ (flat_map number_text hints ++ (codes "0\n" ++ proof_text number steps)))) = simp append_assoc in
+  begins-step k last (Adds number clause hints groups) steps before is apart =
+      let regroup : added_line number clause hints groups ++ proof_text number steps ≡ number_text number ++ (flat_map literal_text clause ++ (codes "0 " ++ (flat_map number_text hints ++ (flat_map signed_text groups ++ (codes "0\n" ++ proof_text number steps))))) = simp append_assoc in
       ap (begins k) regroup ∙ begins-number k number is.0.1 apart _
   begins-step k last (Deletes numbers) steps before is apart =
       let regroup : deleted_line last numbers ++ proof_text last steps ≡ number_text last ++ (codes "d " ++ (flat_map number_text numbers ++ (codes "0\n" ++ proof_text last steps))) = simp append_assoc in

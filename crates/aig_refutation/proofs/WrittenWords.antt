@@ -10,7 +10,7 @@ use Rattle.aig_format.proofs.Printed.{number_written}
 use Rattle.aig_refutation.specs.Text.{Number, begins, digits_after, ends_word, is_blank, lines_after, lines_of, number_in, signed, word_at, word_in, words_after, words_of}
 use Rattle.aig_refutation.specs.Words.{left_after}
 use Rattle.aig_refutation.specs.declared.words.End.TheVariants as ends
-use Rattle.aig_refutation.specs.Written.{literal_text, number_text}
+use Rattle.aig_refutation.specs.Written.{literal_text, number_text, signed_text}
 use Rattle.aig_refutation.proofs.Texts.{digit_no_blank, digit_no_line, digit_on, first_digit, left_end, word_goes, word_minus, word_plain}
 
 -- ---- where words end
@@ -141,6 +141,12 @@ signed_read false n small = word_minus (number_text n) ∙ ap (signed false) (nu
 signed_spaced : (positive : Bool) (n : ℕ) → n < 2 ^ 32 → IsSpaced (sign positive ++ number_text n)
 signed_spaced true n small = number_spaced n small
 signed_spaced false n small = (45 ∷ decimal n, ((refl, (decimal_word n small).0), λ e. cc), refl)
+
+pub hint_read : (hint : Bool × ℕ) → hint.1 < 2 ^ 32 → word_in (signed_text hint) ≡ Ok (Number hint.0 hint.1)
+hint_read hint small = signed_read hint.0 hint.1 small
+
+pub hint_spaced : (hint : Bool × ℕ) → hint.1 < 2 ^ 32 → IsSpaced (signed_text hint)
+hint_spaced hint small = signed_spaced hint.0 hint.1 small
 
 pub literal_read : (lit : Lit) → variable_of lit + 1 < 2 ^ 32 → word_in (literal_text lit) ≡ Ok (Number (is_positive lit) (variable_of lit + 1))
 literal_read lit small = signed_read (is_positive lit) (variable_of lit + 1) small

@@ -1,6 +1,6 @@
 -- Part of what is promised.
 -- Which steps are taken, one after another. (LRAT and DRAT.)
-use Rattle.std.specs.Prelude.{◌≡◌, ◌⊎◌, ℕ, ◌+◌, ◌*◌, ◌==◌, Bool, true, false, not, ◌||◌, nat_le, nat_lt, if◌then◌else◌, List, [], ◌∷◌, length, is_some, Option, None, option_map, IfSome, Result, Ok, Err}
+use Rattle.std.specs.Prelude.{◌≡◌, ◌⊎◌, ℕ, ◌+◌, ◌*◌, ◌==◌, Bool, true, false, not, ◌&&◌, ◌||◌, nat_le, nat_lt, if◌then◌else◌, List, [], ◌∷◌, length, is_some, Option, None, option_map, IfSome, Result, Ok, Err}
 use Rattle.std.specs.List.{Contains, fold, list_any, list_all}
 use Rattle.std.specs.Map.{lookup}
 use Rattle.aig_base.specs.declared.logic.literal.Lit.{Lit}
@@ -10,6 +10,7 @@ use Rattle.aig_refutation.specs.declared.error.RefutationError.TheVariants as er
 use Rattle.aig_refutation.specs.Propagation.{is_rup, is_tautology}
 use Rattle.aig_refutation.specs.Forms.{plain_steps_in, steps_in}
 use Rattle.aig_refutation.specs.Proofs.{Script}
+use Rattle.aig_refutation.specs.Rat.{is_rat}
 use Rattle.aig_refutation.specs.Steps.{Step, Adds, Deletes, PlainStep, Stand, adds_empty, is_empty, without}
 use Rattle.aig_refutation.specs.Text.{◌>>=◌}
 
@@ -42,6 +43,21 @@ are_in variables clause = list_all (λ lit. nat_lt (variable_of lit) variables) 
 abbrev pub follows : Live → List Lit → List ℕ → Bool
 follows live clause hints = is_rup (clause_at live) clause hints || is_tautology clause
 
+-- a clause may be added: it follows, or has the RAT property on its first literal
+abbrev pub stands : Live → List Lit → List ℕ → List (Bool × ℕ) → Bool
+stands live clause hints groups =
+    follows live clause hints || is_rat live.clauses clause hints groups
+
+-- whether all hints name clauses, and so does each number of the groups
+abbrev pub are_named : Live → List ℕ → List (Bool × ℕ) → Bool
+are_named live hints groups =
+    list_all (is_named live) hints && list_all (λ hint. is_named live hint.1) groups
+
+-- why a clause isn't added that has these groups of hints
+abbrev pub why_not : List (Bool × ℕ) → RefutationError
+why_not [] = errors.Step
+why_not (hint ∷ groups) = errors.Asymmetry
+
 -- one clause more under a number
 abbrev pub with_clause : Live → ℕ → List Lit → Live
 with_clause live number clause = record {
@@ -56,13 +72,14 @@ numbered_clause live number clause =
     else if is_too_large live number then Err errors.Large
     else Ok (with_clause live number clause)
 
--- a clause of literals of so many variables is added under a number, where it follows along hints
+-- a clause of literals of so many variables is added under a number, where it stands along hints
 -- that all name clauses
-unfoldable pub added : ℕ → Live → ℕ → List Lit → List ℕ → Result Live RefutationError
-added variables live number clause hints =
+unfoldable pub added : ℕ → Live → ℕ → List Lit → List ℕ → List (Bool × ℕ)
+    → Result Live RefutationError
+added variables live number clause hints groups =
     if not (are_in variables clause) then Err errors.Literal
-    else if not (list_all (is_named live) hints) then Err errors.Unnamed
-    else if not (follows live clause hints) then Err errors.Step
+    else if not (are_named live hints groups) then Err errors.Unnamed
+    else if not (stands live clause hints groups) then Err (why_not groups)
     else numbered_clause live number clause
 
 -- the clauses without that of this number
@@ -77,12 +94,13 @@ deleted live (n ∷ numbers) =
 
 -- a step is taken
 unfoldable pub taken : ℕ → Live → Step → Result Live RefutationError
-taken variables live (Adds number clause hints) = added variables live number clause hints
+taken variables live (Adds number clause hints groups) =
+    added variables live number clause hints groups
 taken variables live (Deletes numbers) = deleted live numbers
 
 -- whether a step adds the empty clause
 abbrev pub is_last_step : Step → Bool
-is_last_step (Adds number clause hints) = is_empty clause
+is_last_step (Adds number clause hints groups) = is_empty clause
 is_last_step (Deletes numbers) = false
 
 -- Steps are taken up to the first empty clause: what follows it doesn't matter. Without one the

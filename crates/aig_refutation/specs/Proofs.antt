@@ -63,24 +63,41 @@ ended [] = Ok tt
 ended (word ∷ words) = word_in word >>= λ more. Err errors.Line
 
 -- a number before others
-abbrev pub with_number : ℕ → List ℕ → Result (List ℕ) RefutationError
+abbrev pub with_number : {A : Type 0} → A → List A → Result (List A) RefutationError
 with_number n numbers = Ok (n ∷ numbers)
 
--- numbers of clauses up to the 0 that ends the line, where a negative one is this error
-unfoldable pub numbers_in : RefutationError → Bool → List (List ℕ) → Result (List ℕ) RefutationError
-numbers_in negative is_last [] = Err (missing is_last)
-numbers_in negative is_last (word ∷ words) = word_in word >>= number_of >>= λ n.
+-- numbers up to the 0 that ends the line, each of which is this
+unfoldable pub numbers_in : {A : Type 0} → (Bool × ℕ → Result A RefutationError) → Bool
+    → List (List ℕ) → Result (List A) RefutationError
+numbers_in one is_last [] = Err (missing is_last)
+numbers_in one is_last (word ∷ words) = word_in word >>= number_of >>= λ n.
     if is_zero n then (ended words >>= λ end. Ok [])
-    else if n.0 then (numbers_in negative is_last words >>= with_number n.1)
-    else Err negative
+    else (one n >>= λ x. numbers_in one is_last words >>= with_number x)
 
 -- the same, where the first of them was read
-unfoldable pub numbers_from : RefutationError → Bool → Bool × ℕ → List (List ℕ)
-    → Result (List ℕ) RefutationError
-numbers_from negative is_last n words =
+unfoldable pub numbers_from : {A : Type 0} → (Bool × ℕ → Result A RefutationError) → Bool
+    → Bool × ℕ → List (List ℕ) → Result (List A) RefutationError
+numbers_from one is_last n words =
     if is_zero n then (ended words >>= λ end. Ok [])
-    else if n.0 then (numbers_in negative is_last words >>= with_number n.1)
-    else Err negative
+    else (one n >>= λ x. numbers_in one is_last words >>= with_number x)
+
+-- a hint, or the number of a clause for which hints follow, which has a minus
+abbrev pub hint_number : Bool × ℕ → Result (Bool × ℕ) RefutationError
+hint_number n = Ok n
+
+-- the hints before the first number with a minus
+abbrev pub hints_at : List (Bool × ℕ) → List ℕ
+hints_at [] = []
+hints_at (n ∷ numbers) = if n.0 then n.1 ∷ hints_at numbers else []
+
+-- the numbers from the first with a minus on
+abbrev pub groups_at : List (Bool × ℕ) → List (Bool × ℕ)
+groups_at [] = []
+groups_at (n ∷ numbers) = if n.0 then groups_at numbers else n ∷ numbers
+
+-- a clause is added under a number, along these hints
+abbrev pub adds : ℕ → List Lit → List (Bool × ℕ) → Step
+adds number clause numbers = Adds number clause (hints_at numbers) (groups_at numbers)
 
 -- ---- lines
 
@@ -105,14 +122,14 @@ after_clause numbered variables is_last n clause [] =
     if numbered then Err (missing is_last) else (literal_of variables n >>= learns clause)
 after_clause numbered variables is_last n clause (word ∷ words) =
     word_in word >>= number_of >>= λ hint. clause_number n >>= λ number.
-    numbers_from errors.Asymmetry is_last hint words >>= λ hints. Ok (Numbered (Adds number clause
-    hints))
+    numbers_from hint_number is_last hint words >>= λ numbers. Ok (Numbered (adds number clause
+    numbers))
 
 -- what a line says after a number and this word
 unfoldable pub after_word : Bool → ℕ → Bool → Bool × ℕ → Word → List (List ℕ)
     → Result Line RefutationError
 after_word numbered variables is_last n text.Deletes words = clause_number n >>= λ number.
-    numbers_in errors.Line is_last words >>= λ numbers. Ok (Numbered (Deletes numbers))
+    numbers_in clause_number is_last words >>= λ numbers. Ok (Numbered (Deletes numbers))
 after_word numbered variables is_last n (text.Number positive value) words =
     clause_from variables is_last (positive, value) words >>= λ rest.
     after_clause numbered variables is_last n rest.0 rest.1

@@ -1,57 +1,53 @@
--- Part of what laws say, and of no promise of a call.
--- Refutations with RAT steps: a clause that need not follow, but keeps clauses satisfiable.
--- (Resolution asymmetric tautologies, RAT: Järvisalo, Heule and Biere, 2012. LRAT has hints to
--- begin with, and then, behind its negative number, for each clause that has the pivot's inverse.)
-use Rattle.std.specs.Prelude.{ℕ, ◌==◌, Bool, false, not, ◌&&◌, ◌||◌, List, [], ◌∷◌, ◌++◌, Option, Some, None}
+-- Part of what is promised.
+-- RAT steps: a clause that need not follow, but keeps clauses satisfiable. (Resolution asymmetric
+-- tautologies, RAT: Järvisalo, Heule and Biere, 2012. In LRAT, Cruz-Filipe, Heule, Hunt, Kaufmann
+-- and Schneider-Kamp, 2017, a step has hints to begin with, and then, behind its number with a
+-- minus, for each clause that has the pivot's inverse.)
+use Rattle.std.specs.Prelude.{ℕ, ◌==◌, Bool, false, not, ◌&&◌, ◌||◌, if◌then◌else◌, List, [], ◌∷◌, ◌++◌, Option}
 use Rattle.std.specs.List.{filter, list_all}
 use Rattle.std.specs.Map.{lookup}
 use Rattle.aig_base.specs.declared.logic.literal.Lit.{Lit}
 use Rattle.aig_base.specs.Clauses.{inverse_lit}
 use Rattle.aig_refutation.specs.Propagation.{has, is_lit, is_rup, is_tautology}
-use Rattle.aig_refutation.specs.Steps.{is_empty, numbered, without}
+use Rattle.aig_refutation.specs.Steps.{Step, Adds, Deletes, is_empty, numbered, without}
 
 -- the clause without a literal, however often it has it
 abbrev pub without_lit : Lit → List Lit → List Lit
 without_lit lit clause = filter (λ other. not (is_lit lit other)) clause
 
--- what follows of a clause and another one that has the pivot's inverse
+-- what follows of the clause and another one that has the pivot's inverse
 abbrev pub resolvent : Lit → List Lit → List Lit → List Lit
 resolvent pivot clause other = clause ++ without_lit (inverse_lit pivot) other
 
--- the hints that are given, or none
-abbrev pub given_hints : Option (List ℕ) → List ℕ
-given_hints (Some hints) = hints
-given_hints None = []
-
--- the hints for the clause of a number
-abbrev pub hints_for : List (ℕ × List ℕ) → ℕ → List ℕ
-hints_for groups n = given_hints (lookup (λ m. n == m) groups)
+-- the hints for the clause of a number: those behind it, up to the next number with a minus; and
+-- whether the first ones are
+abbrev pub hints_for : ℕ → Bool → List (Bool × ℕ) → List ℕ
+hints_for n here [] = []
+hints_for n here (hint ∷ groups) =
+    if hint.0
+    then (if here then hint.1 ∷ hints_for n here groups else hints_for n here groups)
+    else hints_for n (n == hint.1) groups
 
 -- a clause of this number keeps out of the way of the pivot: it hasn't its inverse, or what follows
--- of the two holds always, or follows by reverse unit propagation
-abbrev pub is_apart : (ℕ → Option (List Lit)) → Lit → List Lit → List ℕ → List (ℕ × List ℕ)
+-- of the two follows by reverse unit propagation, or holds always
+abbrev pub is_apart : (ℕ → Option (List Lit)) → Lit → List Lit → List ℕ → List (Bool × ℕ)
     → ℕ × List Lit → Bool
 is_apart clause_of pivot clause hints groups entry =
     not (has entry.1 (inverse_lit pivot))
-    || (is_tautology (resolvent pivot clause entry.1)
-    || is_rup clause_of (resolvent pivot clause entry.1) (hints ++ hints_for groups entry.0))
+    || (is_rup clause_of (resolvent pivot clause entry.1) (hints ++ hints_for entry.0 false groups)
+    || is_tautology (resolvent pivot clause entry.1))
 
 -- a clause has the RAT property on its first literal
-abbrev pub is_rat : List (ℕ × List Lit) → List Lit → List ℕ → List (ℕ × List ℕ) → Bool
+abbrev pub is_rat : List (ℕ × List Lit) → List Lit → List ℕ → List (Bool × ℕ) → Bool
 is_rat clauses [] hints groups = false
 is_rat clauses (pivot ∷ lits) hints groups =
     list_all (is_apart (λ n. lookup (λ m. n == m) clauses) pivot (pivot ∷ lits) hints groups)
     clauses
 
--- a step: a clause with its number and hints, and further ones for other clauses; or the numbers of
--- clauses that are dropped
-pub data RatStep : Type 0 where
-  Adds : (number : ℕ) → (clause : List Lit) → (hints : List ℕ) → (groups : List (ℕ × List ℕ))
-      → RatStep
-  Deletes : (numbers : List ℕ) → RatStep
+-- ---- refutations
 
 -- whether each step up to the first empty clause follows or has the RAT property, and there is one
-abbrev pub refutes_by_rat : List (ℕ × List Lit) → List RatStep → Bool
+abbrev pub refutes_by_rat : List (ℕ × List Lit) → List Step → Bool
 refutes_by_rat clauses [] = false
 refutes_by_rat clauses (Deletes numbers ∷ steps) = refutes_by_rat (without numbers clauses) steps
 refutes_by_rat clauses (Adds number clause hints groups ∷ steps) =
@@ -59,5 +55,5 @@ refutes_by_rat clauses (Adds number clause hints groups ∷ steps) =
     && (is_empty clause || refutes_by_rat ((number, clause) ∷ clauses) steps)
 
 -- the steps are a refutation of the clauses, which are numbered from 1 on
-abbrev pub is_rat_refutation : List (List Lit) → List RatStep → Bool
+abbrev pub is_rat_refutation : List (List Lit) → List Step → Bool
 is_rat_refutation clauses steps = refutes_by_rat (numbered 1 clauses) steps

@@ -4,11 +4,11 @@ use Rattle.std.specs.Prelude.{◌≡◌, ℕ, Bool, true, false, if◌then◌els
 use Rattle.aig_base.specs.declared.logic.literal.Lit.{Lit}
 use Rattle.aig_refutation.specs.declared.error.RefutationError.{RefutationError}
 use Rattle.aig_refutation.specs.declared.step.Step as held
-use Rattle.aig_refutation.specs.Proofs.{Line, Numbered, Plain, after_first, after_number, after_word, clause_from, is_none, line_in, numbers_from}
-use Rattle.aig_refutation.specs.Steps.{Adds, Deletes, PlainStep, Drops, Learns}
+use Rattle.aig_refutation.specs.Proofs.{Line, Numbered, Plain, after_first, after_number, after_word, clause_from, groups_at, hint_number, hints_at, is_none, line_in, numbers_from}
+use Rattle.aig_refutation.specs.Steps.{Step, Adds, Deletes, PlainStep, Drops, Learns}
 use Rattle.aig_refutation.specs.Text as text
 use Rattle.aig_refutation.specs.Text.{◌>>=◌}
-use Rattle.aig_refutation.specs.Words.{Leaves, Place, Says, Tells, lines_at, lines_past}
+use Rattle.aig_refutation.specs.Words.{Leaves, Place, Says, Tells, lines_at, lines_past, said_numbers}
 
 -- ---- parts of a line
 
@@ -24,14 +24,25 @@ reads_clause variables first lits is_last words =
     clause_from variables is_last first words >>= appended lits
 
 -- numbers after others, and the line has ended
-abbrev pub appended_numbers : List ℕ → List ℕ → Result (List ℕ × List (List ℕ)) RefutationError
+abbrev pub appended_numbers : {A : Type 0} → List A → List A
+    → Result (List A × List (List ℕ)) RefutationError
 appended_numbers numbers more = Ok (numbers ++ more, [])
 
--- numbers of clauses after these, where the first was read
-abbrev pub reads_numbers : RefutationError → Bool × ℕ → List ℕ → Bool → List (List ℕ)
-    → Result (List ℕ × List (List ℕ)) RefutationError
-reads_numbers negative first numbers is_last words =
-    numbers_from negative is_last first words >>= appended_numbers numbers
+-- numbers after these, where the first was read
+abbrev pub reads_numbers : {A : Type 0} → (Bool × ℕ → Result A RefutationError) → Bool × ℕ
+    → List A → Bool → List (List ℕ) → Result (List A × List (List ℕ)) RefutationError
+reads_numbers one first numbers is_last words =
+    numbers_from one is_last first words >>= appended_numbers numbers
+
+-- hints, and the numbers from the first with a minus on
+abbrev pub parted : List (Bool × ℕ)
+    → Result ((List ℕ × List (Bool × ℕ)) × List (List ℕ)) RefutationError
+parted numbers = Ok ((hints_at numbers, groups_at numbers), [])
+
+-- the same of a line, where the first number was read
+abbrev pub reads_hints : Bool × ℕ → Bool → List (List ℕ)
+    → Result ((List ℕ × List (Bool × ℕ)) × List (List ℕ)) RefutationError
+reads_hints first is_last words = numbers_from hint_number is_last first words >>= parted
 
 -- the line has ended
 abbrev pub whole_line : Line → Result (Line × List (List ℕ)) RefutationError
@@ -67,13 +78,15 @@ reads_added numbered variables first second is_last words =
 abbrev pub plain_by : held.Step → PlainStep
 plain_by s = if s.deletes then Drops s.clause.items else Learns s.clause.items
 
+-- and as one that has numbers
+abbrev pub step_by : held.Step → Step
+step_by s =
+    if s.deletes then Deletes s.numbers.items
+    else Adds s.number s.clause.items s.numbers.items (said_numbers s.groups.items)
+
 -- what is held
 abbrev pub said_by : held.Step → Line
-said_by s =
-    if s.is_numbered
-    then Numbered (if s.deletes then Deletes s.numbers.items
-    else Adds s.number s.clause.items s.numbers.items)
-    else Plain (plain_by s)
+said_by s = if s.is_numbered then Numbered (step_by s) else Plain (plain_by s)
 
 -- what the first line says, and the lines after it
 abbrev pub said_line : Bool → ℕ → List (List (List ℕ))

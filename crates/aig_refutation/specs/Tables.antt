@@ -1,12 +1,13 @@
 -- Serves private clauses alone.
 -- The table of numbers by which clauses are found, beside the clauses that are there.
-use Rattle.std.specs.Prelude.{◌≡◌, ◌⊎◌, ℕ, ◌+◌, ◌-◌, ◌^◌, ◌<◌, ◌≤◌, ◌==◌, max, min, Bool, true, false, not, nat_lt, if◌then◌else◌, List, length, slice_get, slice_index_or, is_some, map, Option, Some, None, Result, Ok, Err}
-use Rattle.std.specs.List.{list_all}
+use Rattle.std.specs.Prelude.{◌≡◌, ◌⊎◌, ℕ, ◌+◌, ◌-◌, ◌^◌, ◌<◌, ◌≤◌, ◌==◌, max, min, Bool, true, false, not, nat_lt, if◌then◌else◌, List, [], length, slice_get, slice_index_or, is_some, map, Option, Some, None, option_map, Result, Ok, Err}
+use Rattle.std.specs.List.{AllByRecursion, list_all}
 use Rattle.aig_base.specs.declared.logic.literal.Lit.{Lit}
 use Rattle.aig_refutation.specs.declared.error.RefutationError.{RefutationError}
 use Rattle.aig_refutation.specs.declared.error.RefutationError.TheVariants as errors
 use Rattle.aig_refutation.specs.Checking.{Live, all_live, are_in, clause_at, is_used}
 use Rattle.aig_refutation.specs.Propagation.{reading_of}
+use Rattle.aig_refutation.specs.Rat.{is_apart}
 use Rattle.aig_refutation.specs.Words.{Tells}
 
 -- clauses by their places, the number of each place, for each number one more than its clause's
@@ -43,6 +44,27 @@ clause_by clauses entry = if entry == 0 then None else slice_get clauses (entry 
 abbrev pub clause_in : Table → ℕ → Option (List Lit)
 clause_in t n = clause_by t.clauses (entry_at t.places n)
 
+-- the number that names the clause at a place, if one does
+abbrev pub name_in : Table → ℕ → Option ℕ
+name_in t i =
+    if entry_at t.places (slice_index_or t.numbers i 0) == i + 1
+    then Some (slice_index_or t.numbers i 0) else None
+
+-- the clause at a place, and the number that names it
+abbrev pub entry_in : Table → ℕ → Option (ℕ × List Lit)
+entry_in t i = option_map (λ n. (n, slice_index_or t.clauses i [])) (name_in t i)
+
+-- the places of the clauses of numbers
+abbrev pub places_of : Table → List ℕ → List ℕ
+places_of t numbers = map (λ n. entry_at t.places n - 1) numbers
+
+-- a clause with its number, if it is there, keeps out of the way of the pivot
+abbrev pub is_apart_if : (ℕ → Option (List Lit)) → Lit → List Lit → List ℕ → List (Bool × ℕ)
+    → Option (ℕ × List Lit) → Bool
+is_apart_if clause_of pivot clause hints groups None = true
+is_apart_if clause_of pivot clause hints groups (Some entry) =
+    is_apart clause_of pivot clause hints groups entry
+
 -- clauses that say the same wherever literals are true
 abbrev pub SaysSame : Option (List Lit) → Option (List Lit) → Type 0
 SaysSame None None = Unit {0}
@@ -68,6 +90,7 @@ pub record IsTable (t : Table) : Type 0 where
 pub record Holds (t : Table) (live : Live) : Type 0 where
   pub table : IsTable t
   pub there : (n : ℕ) → SaysSame (clause_in t n) (clause_at live n)
+  pub own : AllByRecursion (λ entry. clause_at live entry.0 ≡ Some entry.1) live.clauses
   pub used : (n : ℕ) → is_used live n ≡ not (entry_at t.places n == 0)
   pub added : t.added ≡ min (length live.used) (2 ^ 64 - 1)
 
@@ -109,7 +132,7 @@ IsMoved clauses before live numbers now = IsMovedUpTo (length clauses) clauses b
 
 -- the places of the clauses that hints name are found, or one names none
 abbrev pub FindsHints : {E : Type 0} → Table → List ℕ → List ℕ → Result Bool E → Type 0
-FindsHints t hints places (Ok true) = (places ≡ map (λ h. entry_at t.places h - 1) hints)
+FindsHints t hints places (Ok true) = (places ≡ places_of t hints)
     × (list_all (λ h. is_some (place_in t h)) hints ≡ true)
 FindsHints t hints places (Ok false) = list_all (λ h. is_some (place_in t h)) hints ≡ false
 FindsHints t hints places (Err e) = Unit {0}

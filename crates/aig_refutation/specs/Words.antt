@@ -1,6 +1,6 @@
 -- Serves private clauses alone.
 -- How a text is read, word by word: what is still to come, and what was taken.
-use Rattle.std.specs.Prelude.{◌≡◌, ℕ, ◌+◌, ◌<◌, ◌≤◌, ◌==◌, Bool, true, false, if◌then◌else◌, List, [], ◌∷◌, Option, Some, None, Result, Ok, Err}
+use Rattle.std.specs.Prelude.{◌≡◌, ℕ, ◌+◌, ◌<◌, ◌≤◌, ◌==◌, Bool, true, false, if◌then◌else◌, List, [], ◌∷◌, map, Option, Some, None, Result, Ok, Err}
 use Rattle.aig_lexer.specs.Takes.{Feed, feed}
 use Rattle.aig_refutation.specs.declared.error.RefutationError.{RefutationError}
 use Rattle.aig_refutation.specs.declared.error.RefutationError.TheVariants as errors
@@ -175,6 +175,10 @@ next_number is_last (word ∷ more) = word_in word >>= number_of >>= λ n. Ok (n
 -- a number as the text says it
 abbrev pub said_number : Number → Bool × ℕ
 said_number n = (n.positive, n.value)
+
+-- and so each of these
+abbrev pub said_numbers : List Number → List (Bool × ℕ)
+said_numbers numbers = map said_number numbers
 
 -- a line has ended where this word is its end
 abbrev pub ClosesAt : Word → Option End → Type 0

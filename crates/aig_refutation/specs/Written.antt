@@ -1,12 +1,13 @@
 -- Part of what laws say, and of no promise of a call.
 -- The texts of proofs, as solvers write them. (LRAT: Cruz-Filipe, Heule, Hunt, Kaufmann and
 -- Schneider-Kamp, 2017. DRAT: Wetzler, Heule and Hunt, 2014.)
-use Rattle.std.specs.Prelude.{◌≡◌, ℕ, ◌+◌, ◌*◌, ◌^◌, ◌<◌, true, false, if◌then◌else◌, List, [], ◌∷◌, ◌++◌, Ok, All, codes, decimal}
-use Rattle.std.specs.List.{flat_map, list_all}
+use Rattle.std.specs.Prelude.{◌≡◌, ℕ, ◌+◌, ◌*◌, ◌^◌, ◌<◌, Bool, true, false, if◌then◌else◌, List, [], ◌∷◌, ◌++◌, Ok, All, codes, decimal}
+use Rattle.std.specs.List.{flat_map}
 use Rattle.aig_base.specs.declared.logic.literal.Lit.{Lit}
 use Rattle.aig_base.specs.Clauses.{is_positive, variable_of}
 use Rattle.aig_format.specs.Written.{delta_of}
-use Rattle.aig_refutation.specs.Checking.{Live, deleted, is_named, is_too_large, is_used, with_clause}
+use Rattle.aig_refutation.specs.Checking.{Live, are_named, deleted, is_too_large, is_used, with_clause}
+use Rattle.aig_refutation.specs.Proofs.{hints_at}
 use Rattle.aig_refutation.specs.Steps.{Step, Adds, Deletes, PlainStep, Drops, Learns}
 
 -- ---- what a text can say
@@ -19,10 +20,14 @@ IsNumber n = (0 < n) × (n < 2 ^ 32)
 abbrev pub IsClause : ℕ → List Lit → Type 0
 IsClause variables clause = All (λ lit. variable_of lit < variables) clause
 
+-- numbers that stand behind hints: the first has a minus, if there is one
+abbrev pub AreGroups : List (Bool × ℕ) → Type 0
+AreGroups groups = All (λ hint. IsNumber hint.1) groups × (hints_at groups ≡ [])
+
 -- a step over so many variables that a text can say
 abbrev pub IsStep : ℕ → Step → Type 0
-IsStep variables (Adds number clause hints) =
-    IsNumber number × IsClause variables clause × All IsNumber hints
+IsStep variables (Adds number clause hints groups) =
+    IsNumber number × IsClause variables clause × All IsNumber hints × AreGroups groups
 IsStep variables (Deletes numbers) = All IsNumber numbers
 
 -- a step without a number
@@ -34,8 +39,8 @@ IsPlainStep variables (Drops clause) = IsClause variables clause
 -- clause is a new one that doesn't skip too many
 abbrev pub AreInOrder : Live → List Step → Type 0
 AreInOrder live [] = Unit {0}
-AreInOrder live (Adds number clause hints ∷ steps) =
-    (list_all (is_named live) hints ≡ true)
+AreInOrder live (Adds number clause hints groups ∷ steps) =
+    (are_named live hints groups ≡ true)
     × (is_used live number ≡ false)
     × (is_too_large live number ≡ false)
     × AreInOrder (with_clause live number clause) steps
@@ -48,17 +53,22 @@ AreInOrder live (Deletes numbers ∷ steps) =
 abbrev pub number_text : ℕ → List ℕ
 number_text n = decimal n ++ 32 ∷ []
 
--- a literal: its variable's number and one more, after a minus where it is inverted, and a space
+-- a number, after a minus or not, and a space
+abbrev pub signed_text : Bool × ℕ → List ℕ
+signed_text n = (if n.0 then [] else codes "-") ++ number_text n.1
+
+-- a literal: its variable's number and one more, after a minus where it is inverted
 abbrev pub literal_text : Lit → List ℕ
-literal_text lit = (if is_positive lit then [] else codes "-") ++ number_text (variable_of lit + 1)
+literal_text lit = signed_text (is_positive lit, variable_of lit + 1)
 
 -- ---- LRAT
 
--- a line that adds a clause: its number, its literals and a 0, its hints and a 0
-abbrev pub added_line : ℕ → List Lit → List ℕ → List ℕ
-added_line number clause hints =
+-- a line that adds a clause: its number, its literals and a 0, its hints, those for other clauses
+-- and a 0
+abbrev pub added_line : ℕ → List Lit → List ℕ → List (Bool × ℕ) → List ℕ
+added_line number clause hints groups =
     number_text number ++ flat_map literal_text clause ++ codes "0 " ++ flat_map number_text hints
-    ++ codes "0\n"
+    ++ flat_map signed_text groups ++ codes "0\n"
 
 -- a line that deletes clauses: a number, a `d`, the clauses' numbers and a 0
 abbrev pub deleted_line : ℕ → List ℕ → List ℕ
@@ -69,8 +79,8 @@ deleted_line number numbers =
 -- `last`
 unfoldable pub proof_text : ℕ → List Step → List ℕ
 proof_text last [] = []
-proof_text last (Adds number clause hints ∷ steps) =
-    added_line number clause hints ++ proof_text number steps
+proof_text last (Adds number clause hints groups ∷ steps) =
+    added_line number clause hints groups ++ proof_text number steps
 proof_text last (Deletes numbers ∷ steps) = deleted_line last numbers ++ proof_text last steps
 
 -- ---- DRAT

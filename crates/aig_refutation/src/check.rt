@@ -90,7 +90,7 @@ fn take_numbered(checker: &mut Checker, step: &Step) -> Result<bool, RefutationE
         checker.delete(&step.numbers)?;
         return Ok(false);
     }
-    checker.add(step.number, &step.clause, &step.numbers)?;
+    checker.add(step.number, &step.clause, &step.numbers, &step.groups)?;
     Ok(step.clause.is_empty())
 }
 
@@ -497,8 +497,9 @@ fn check_clauses<R: Source>(
     check_proof(alloc, r, checker, step, cnf.num_vars())
 }
 
-/// Checks a proof that clauses can't be satisfied: the text of an LRAT file, or a DRAT file, text or
-/// binary, whose steps follow by reverse unit propagation. The clauses of `cnf`, variable by variable,
+/// Checks a proof that clauses can't be satisfied: the text of an LRAT file, whose steps follow by
+/// reverse unit propagation or have the RAT property, or a DRAT file, text or binary, whose steps
+/// follow. The clauses of `cnf`, variable by variable,
 /// and those of `further` after them are numbered from 1 on, and variable v is written as v + 1.
 ///
 /// Clauses of which a literal has no variable are refused as `Variable`. Others in conflict at once
@@ -510,6 +511,11 @@ fn check_clauses<R: Source>(
 /// `M`. A number names one clause alone: one that was used before is refused as `Twice`, whether
 /// its clause is still there or not.
 ///
+/// A clause of such a line may also have the RAT property on its first literal `L`: what follows of
+/// it and each clause that is there and has the inverse of `L` does so along the hints. Behind them
+/// stand, before the last 0, `-M` and further hints for the clause of the number `M`, for each that
+/// needs some. The cost of such a step is that of a pass over all clauses.
+///
 /// The lines of a DRAT file are `L.. 0` and `d L.. 0`. Hints are searched for; a clause of one
 /// literal is never deleted, and to delete one that isn't there does nothing.
 ///
@@ -518,8 +524,8 @@ fn check_clauses<R: Source>(
 /// after the empty clause don't matter.
 ///
 /// A proof is binary where it begins with `a`, or with `d` and a byte 0 is among the first 1,024. The
-/// first line of a text says which form all have. Steps by resolution asymmetry (RAT) are refused: as
-/// `Asymmetry` where a hint is negative, and as `Step` where there are no hints.
+/// first line of a text says which form all have. A clause that can't be added is refused as `Step`,
+/// and as `Asymmetry` where it has hints for other clauses. RAT steps of a DRAT file are refused.
 ///
 /// The proof is read through a buffer of 16,384 bytes, up to the empty clause, and nothing is
 /// trusted of it. The memory is that of the clauses that are not deleted, a few times over, and

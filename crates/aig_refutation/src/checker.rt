@@ -5,18 +5,20 @@ ghost use Rattle.std.specs.List.{Contains, IsDistinct, list_all};
 ghost use Rattle.aig_base.specs.declared.logic.literal.Lit.{Lit};
 ghost use Rattle.aig_base.specs.Clauses.{variable_of};
 ghost use Rattle.aig_refutation.specs.Ahead.{AddsAhead, IsAhead, StaysAhead};
-ghost use Rattle.aig_refutation.specs.Checking.{Live, added, are_in, deleted, numbered_clause};
+ghost use Rattle.aig_refutation.specs.Checking.{Live, added, are_in, deleted, numbered_clause, why_not};
 ghost use Rattle.aig_refutation.specs.Formula.{Implies, ImpliesAll};
-ghost use Rattle.aig_refutation.specs.Propagation.{FitsMarks, is_lit, is_rup, is_tautology, reading_of};
+ghost use Rattle.aig_refutation.specs.Propagation.{FitsMarks, is_lit, reading_of};
 ghost use Rattle.aig_refutation.specs.Steps.{Follows, without_one};
-ghost use Rattle.aig_refutation.specs.Tables.{FindsHints, Holds, HoldsFormula, Moves, RefusesClause};
+ghost use Rattle.aig_refutation.specs.Tables.{Holds, HoldsFormula, Moves, RefusesClause};
+ghost use Rattle.aig_refutation.specs.Words.{said_numbers};
 
 use crate::closure::is_entailed;
 use crate::compare::are_same;
 use crate::error::RefutationError;
 use crate::marks::Marks;
 use crate::numbered::Numbered;
-use crate::propagation::{is_rup, is_tautology};
+use crate::standing::{Resolvent, are_named, find_hints, is_implied};
+use crate::words::Number;
 use aig_base::{Lit, LitVvec, MemoryError};
 use std::alloc::Global;
 use std::marker::Model;
@@ -32,6 +34,8 @@ pub(crate) struct Checker {
     hints: Vec<usize>,
     /// The literals of the clause at hand, each once.
     kept: Vec<Lit>,
+    /// What follows of the clause at hand and another one.
+    resolvent: Resolvent,
 }
 
 impl Model for Checker {
@@ -60,19 +64,6 @@ fn is_below(clause: &[Lit], variables: usize) -> bool
     true
 }
 
-/// Whether a clause follows: by reverse unit propagation along the clauses at these places, or from
-/// nothing. The marks are used, whatever they are.
-fn is_implied(clauses: &LitVvec, marks: &mut Marks, clause: &[Lit], hints: &[usize]) -> bool
-    requires clauses { All (FitsMarks marks.old) clauses.now }
-    requires clause { FitsMarks marks.old clause.now }
-    ensures length { length marks.new ≡ length marks.old }
-    ensures implied { IsTrue result → Implies clauses.now clause.now }
-    ensures exact { result
-        ≡ (is_rup (slice_get clauses.now) clause.now hints.now || is_tautology clause.now) }
-{
-    is_rup(clauses, marks, clause, hints) || is_tautology(marks, clause)
-}
-
 /// Appends the literals of a clause to an empty list, each of them once. The marks are used,
 /// whatever they are.
 fn keep_once(marks: &mut Marks, clause: &[Lit], kept: &mut Vec<Lit>) -> Result<(), MemoryError>
@@ -95,22 +86,16 @@ fn keep_once(marks: &mut Marks, clause: &[Lit], kept: &mut Vec<Lit>) -> Result<(
     Ok(())
 }
 
-/// Finds the places of the clauses that hints name, and says whether they all name one.
-fn find_hints(
-    numbered: &Numbered,
-    hints: &[u32],
-    places: &mut Vec<usize>,
-) -> Result<bool, MemoryError>
-    ensures { FindsHints numbered.now hints.now places.new.items result }
+/// Why a clause isn't added that has these groups of hints.
+fn refusal(groups: &[Number]) -> RefutationError
+    ensures refusal { result ≡ why_not (said_numbers groups.now) }
+    ensures no_stream { result ≡ RefutationError.Stream → ⊥ }
 {
-    places.clear();
-    for hint in hints {
-        match numbered.place(*hint) {
-            Some(place) => places.push(place)?,
-            None => return Ok(false),
-        }
+    if groups.is_empty() {
+        RefutationError::Step
+    } else {
+        RefutationError::Asymmetry
     }
-    Ok(true)
 }
 
 /// Lets numbers name no clause.
@@ -141,6 +126,7 @@ impl Checker {
             variables,
             hints: Vec::new(alloc),
             kept: Vec::new(alloc),
+            resolvent: Resolvent::new(alloc),
         })
     }
 
@@ -199,31 +185,38 @@ impl Checker {
     }
 
     /// Adds a clause, under a number, if it follows by reverse unit propagation along the clauses
-    /// that the hints name, or has a literal and its inverse. Each of its literals is kept once.
+    /// that the hints name, or has a literal and its inverse, or has the RAT property on its first
+    /// literal. Each of its literals is kept once.
     pub(crate) fn add(
         &mut self,
         number: u32,
         clause: &[Lit],
         hints: &[u32],
+        groups: &[Number],
     ) -> Result<(), RefutationError>
         ensures variables { self.new.variables ≡ self.old.variables }
         ensures moves { (live : Live) → Holds self.old.table live → Moves self.new.table result
-            (added self.old.variables live number clause.now hints.now) }
+            (added self.old.variables live number clause.now hints.now
+            (said_numbers groups.now)) }
         ensures no_stream { IsErrOf result RefutationError.Stream → ⊥ }
     {
         if !is_below(clause, self.variables) {
             return Err(RefutationError::Literal);
         }
-        if !find_hints(&self.numbered, hints, &mut self.hints)? {
+        if !find_hints(&self.numbered, hints, &mut self.hints)?
+            || !are_named(&self.numbered, groups)
+        {
             return Err(RefutationError::Unnamed);
         }
-        if !is_implied(
-            self.numbered.clauses(),
+        if !self.resolvent.stands(
+            &self.numbered,
             &mut self.marks,
             clause,
             &self.hints,
-        ) {
-            return Err(RefutationError::Step);
+            hints,
+            groups,
+        )? {
+            return Err(refusal(groups));
         }
         self.put(number, clause)
     }

@@ -33,12 +33,13 @@ pub enum RefutationError {
     /// A number is far above how many clauses there are.
     #[error("number too large in proof")]
     Large,
-    /// A clause doesn't follow: by unit propagation along its hints, or at all where it has none.
+    /// A clause doesn't follow: by unit propagation along its hints, or at all where it has none. Nor
+    /// has it the RAT property in a step with a number.
     #[error("proof step does not follow")]
     Step,
-    /// A hint is negative, as they are in a step by resolution asymmetry (RAT), which isn't
-    /// checked.
-    #[error("proof step by resolution asymmetry")]
+    /// The same of a clause that has hints for other clauses: it neither follows nor has the RAT
+    /// property (resolution asymmetry) on its first literal.
+    #[error("proof step has not the RAT property")]
     Asymmetry,
     /// The proof is neither a text nor binary DRAT, or a binary one is cut or malformed in a step.
     #[error("bad binary proof; LRAT is taken as text (cadical --no-binary)")]

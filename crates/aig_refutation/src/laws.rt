@@ -8,7 +8,7 @@ ghost use Rattle.aig_refutation.specs.declared.error.RefutationError.{Refutation
 ghost use Rattle.aig_refutation.specs.Checking.{IsPlainOutcome, Live, Shows, all_live, are_all_in, outcome, shown_by, taken};
 ghost use Rattle.aig_refutation.specs.Forms.{is_binary, plain_steps_in, steps_in, telling};
 ghost use Rattle.aig_refutation.specs.Propagation.{is_rup};
-ghost use Rattle.aig_refutation.specs.Rat.{RatStep, is_rat_refutation};
+ghost use Rattle.aig_refutation.specs.Rat.{is_rat_refutation};
 ghost use Rattle.aig_refutation.specs.Steps.{Drops, Learns, PlainStep, Refute, Step, is_refutation};
 ghost use Rattle.aig_refutation.specs.Taken.{KeepsLive};
 ghost use Rattle.aig_refutation.specs.Written.{AreInOrder, IsNumber, IsPlainStep, IsStep, as_read, binary_text, plain_text, proof_text, step_bytes};
@@ -32,7 +32,7 @@ pub fn refuted_clauses_are_unsatisfiable()
 
 /// Law: clauses that some steps refute, each of which follows or has the RAT property on its first literal, can't be satisfied.
 pub fn rat_refuted_clauses_are_unsatisfiable()
-    ensures { (clauses : List (List Lit)) (steps : List RatStep)
+    ensures { (clauses : List (List Lit)) (steps : List Step)
         → IsTrue (is_rat_refutation clauses steps) → ¬ IsSatisfiable clauses }
 {}
 

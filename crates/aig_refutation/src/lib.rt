@@ -13,6 +13,7 @@ mod list;
 mod marks;
 mod numbered;
 mod propagation;
+mod standing;
 mod step;
 mod units;
 mod words;

@@ -4,7 +4,7 @@ ghost use Rattle.std.specs.Prelude.{◌≡◌, ◌+◌, ◌-◌, ◌*◌, ◌/�
 ghost use Rattle.std.specs.List.{Contains};
 ghost use Rattle.aig_base.specs.declared.logic.literal.Lit.{Lit};
 ghost use Rattle.aig_refutation.specs.Checking.{Live, deleted, numbered_clause};
-ghost use Rattle.aig_refutation.specs.Tables.{Holds, IsInRow, IsMoved, IsNumbering, IsTable, Moves, OnlyMemory, SaysSame, entry_at, place_in};
+ghost use Rattle.aig_refutation.specs.Tables.{Holds, IsInRow, IsMoved, IsNumbering, IsTable, Moves, OnlyMemory, SaysSame, entry_at, name_in, place_in};
 
 use crate::error::RefutationError;
 use crate::list::push;
@@ -188,6 +188,19 @@ impl Numbered {
         let place = entry(&self.places, number).checked_sub(1)? as usize;
         if place < self.clauses.len() {
             Some(place)
+        } else {
+            None
+        }
+    }
+
+    /// The number that names the clause at a place, if one does.
+    pub(crate) fn name(&self, place: usize) -> Option<u32>
+        requires { place < length self.now.clauses }
+        ensures { result ≡ name_in self.now place }
+    {
+        let number = number_at(&self.numbers, place);
+        if entry(&self.places, number) as usize == place.saturating_add(1) {
+            Some(number)
         } else {
             None
         }

@@ -1,20 +1,21 @@
 //! Steps of a proof, as lines of text.
 
-ghost use Rattle.std.specs.Prelude.{◌≡◌, ◌<◌, ◌≤◌, ◌^◌, [], Some, IfOk, IsErrOf, IsTrue, OnOk, false, true};
+ghost use Rattle.std.specs.Prelude.{◌≡◌, ◌<◌, ◌≤◌, ◌^◌, ◌++◌, ◌∷◌, [], ℕ, Bool, List, Some, IfOk, IsErrOf, IsTrue, OnOk, false, true};
 ghost use Rattle.aig_base.specs.Clauses.{variable_of};
 ghost use Rattle.aig_refutation.specs.Checking.{are_in};
-ghost use Rattle.aig_refutation.specs.Proofs.{after_clause, clause_number, literal_of};
-ghost use Rattle.aig_refutation.specs.Reading.{GivesStep, reads_added, reads_after, reads_clause, reads_deleted, reads_dropped, reads_numbers, said_by};
-ghost use Rattle.aig_refutation.specs.Words.{Answers, Gives, IsClosed, Tries, is_last, place, rest, said_number};
+ghost use Rattle.aig_refutation.specs.Proofs.{after_clause, clause_number, groups_at, hints_at, literal_of};
+ghost use Rattle.aig_refutation.specs.Reading.{GivesStep, reads_added, reads_after, reads_clause, reads_deleted, reads_dropped, reads_hints, reads_numbers, said_by};
+ghost use Rattle.aig_refutation.specs.Words.{Answers, Gives, IsClosed, Tries, is_last, place, rest, said_number, said_numbers};
 
 use crate::error::RefutationError;
 use crate::list::push;
 use crate::words::{End, Number, Word, Words};
-use aig_base::{Lit, Source, Var};
+use aig_base::{Lit, MemoryError, Source, Var};
 use std::alloc::Global;
 
-/// A step of a proof: a line `N L.. 0 H.. 0` or `N d M.. 0` of an LRAT file, or `L.. 0` or `d L..
-/// 0` of a DRAT file, text or binary. Its lists are used again for the next one.
+/// A step of a proof: a line `N L.. 0 H.. 0`, where `-M H..` may stand before the last 0, for each of
+/// some clauses, or `N d M.. 0` of an LRAT file, or `L.. 0` or `d L.. 0` of a DRAT file, text or
+/// binary. Its lists are used again for the next one.
 #[derive(Drop)]
 pub(crate) struct Step {
     /// Whether clauses are named by numbers, as in an LRAT file.
@@ -27,6 +28,8 @@ pub(crate) struct Step {
     pub(crate) clause: Vec<Lit>,
     /// The numbers of the hints, `H`, or of the clauses that are deleted, `M`.
     pub(crate) numbers: Vec<u32>,
+    /// The numbers of a line from the first that is negative on, `-M H..`, as often as there are.
+    pub(crate) groups: Vec<Number>,
 }
 
 /// The number of a clause.
@@ -83,30 +86,69 @@ fn read_clause<R: Source>(
     Ok(())
 }
 
-/// Reads numbers of clauses up to a 0, which ends the line. The first of them is this one, and a
-/// negative one is refused as this error.
+/// Reads numbers of clauses up to a 0, which ends the line. The first of them is this one.
 fn read_numbers<R: Source>(
     words: &mut Words,
     r: &mut R,
     first: Number,
     numbers: &mut Vec<u32>,
-    negative: RefutationError,
 ) -> Result<(), RefutationError>
-    requires { negative ≡ RefutationError.Stream → ⊥ }
     ensures stream { IsErrOf result RefutationError.Stream → R.failed r.new ≡ true }
     ensures fewer { OnOk result (rest R.pulls words.new r.new ≤ rest R.pulls words.old r.old) }
     ensures numbers { Gives (λ done. numbers.new.items)
-        (reads_numbers negative (said_number first) numbers.old.items)
+        (reads_numbers clause_number (said_number first) numbers.old.items)
         (place R.left R.failed R.pulls words.old r.old)
         (place R.left R.failed R.pulls words.new r.new) result }
     ensures closed { OnOk result (IsClosed words.new.end) }
 {
     let mut number = first;
     while number.value != 0 {
-        if !number.positive {
-            return Err(negative);
-        }
-        push(numbers, number.value)?;
+        push(numbers, clause_number(number)?)?;
+        number = words.number(r)?;
+    }
+    words.finish(r)
+}
+
+/// Appends a number of a line: to the hints, up to the first that is negative, and to the groups
+/// from that on.
+fn push_number(
+    number: Number,
+    hints: &mut Vec<u32>,
+    groups: &mut Vec<Number>,
+) -> Result<(), MemoryError>
+    ensures { (numbers : List (Bool × ℕ)) → hints_at numbers ≡ hints.old.items
+        → groups_at numbers ≡ said_numbers groups.old.items → OnOk result
+        ((hints_at (numbers ++ said_number number ∷ []) ≡ hints.new.items)
+        × (groups_at (numbers ++ said_number number ∷ []) ≡ said_numbers groups.new.items)) }
+{
+    let is_first = groups.as_slice().is_empty();
+    if number.positive && is_first {
+        push(hints, number.value)
+    } else {
+        push(groups, number)
+    }
+}
+
+/// Reads hints, and groups of hints, up to a 0, which ends the line. The first number is this one.
+fn read_hints<R: Source>(
+    words: &mut Words,
+    r: &mut R,
+    first: Number,
+    hints: &mut Vec<u32>,
+    groups: &mut Vec<Number>,
+) -> Result<(), RefutationError>
+    ensures stream { IsErrOf result RefutationError.Stream → R.failed r.new ≡ true }
+    ensures fewer { OnOk result (rest R.pulls words.new r.new ≤ rest R.pulls words.old r.old) }
+    ensures hints { hints.old.items ≡ [] → groups.old.items ≡ []
+        → Gives (λ done. (hints.new.items, said_numbers groups.new.items))
+        (reads_hints (said_number first))
+        (place R.left R.failed R.pulls words.old r.old)
+        (place R.left R.failed R.pulls words.new r.new) result }
+    ensures closed { OnOk result (IsClosed words.new.end) }
+{
+    let mut number = first;
+    while number.value != 0 {
+        push_number(number, hints, groups)?;
         number = words.number(r)?;
     }
     words.finish(r)
@@ -123,6 +165,7 @@ impl Step {
             number: 0,
             clause: Vec::new(alloc),
             numbers: Vec::new(alloc),
+            groups: Vec::new(alloc),
         }
     }
 
@@ -145,6 +188,7 @@ impl Step {
     {
         self.clause.clear();
         self.numbers.clear();
+        self.groups.clear();
         match words.first(r)? {
             None => return Ok(false),
             Some(Word::Number(first)) => self.read_after(words, r, first, variables)?,
@@ -191,7 +235,7 @@ impl Step {
         ensures stream { IsErrOf result RefutationError.Stream → R.failed r.new ≡ true }
         ensures fewer { OnOk result (rest R.pulls words.new r.new ≤ rest R.pulls words.old r.old) }
         ensures step { self.old.clause.items ≡ [] → self.old.numbers.items ≡ []
-            → Gives (λ done. said_by self.new)
+            → self.old.groups.items ≡ [] → Gives (λ done. said_by self.new)
             (reads_after self.old.is_numbered variables (said_number first))
             (place R.left R.failed R.pulls words.old r.old)
             (place R.left R.failed R.pulls words.new r.new) result }
@@ -231,7 +275,7 @@ impl Step {
         self.deletes = true;
         self.number = clause_number(number)?;
         let first = words.number(r)?;
-        read_numbers(words, r, first, &mut self.numbers, RefutationError::Line)
+        read_numbers(words, r, first, &mut self.numbers)
     }
 
     /// Reads a line that adds a clause after its first two numbers. Where the clause ends the
@@ -248,7 +292,7 @@ impl Step {
         ensures stream { IsErrOf result RefutationError.Stream → R.failed r.new ≡ true }
         ensures fewer { OnOk result (rest R.pulls words.new r.new ≤ rest R.pulls words.old r.old) }
         ensures step { self.old.deletes ≡ false → self.old.clause.items ≡ []
-            → self.old.numbers.items ≡ []
+            → self.old.numbers.items ≡ [] → self.old.groups.items ≡ []
             → Gives (λ done. said_by self.new)
             (reads_added self.old.is_numbered variables (said_number first) (said_number second))
             (place R.left R.failed R.pulls words.old r.old)
@@ -262,8 +306,7 @@ impl Step {
             Word::Number(hint) => {
                 self.is_numbered = true;
                 self.number = clause_number(first)?;
-                let hints = &mut self.numbers;
-                read_numbers(words, r, hint, hints, RefutationError::Asymmetry)
+                read_hints(words, r, hint, &mut self.numbers, &mut self.groups)
             }
             Word::Deletes => Err(RefutationError::Line),
             Word::End(end) => self.end_clause(first, end, variables),

@@ -1,5 +1,6 @@
 use Rattle.aig_base.proofs.Words.{◌≡◌, ℕ, Err, length, sym, ap, ◌∙◌, err_from_is_err_and, ◌==◌}
 use Rattle.aig_refutation.specs.Checking.{added, deleted, taken}
+use Rattle.aig_refutation.specs.Words.{said_numbers}
 use Rattle.aig_refutation.proofs.Known.{tells_on}
 use Rattle.aig_refutation.proofs.Outcomes.{adds_last, adds_taken, deletes_more, deletes_taken, empty_length}
 use Rattle.aig_refutation.proofs.check.take_numbered.Goals as goal
@@ -34,11 +35,15 @@ returns-in_err-add-clause-moves c live said is h =
     let p = err_from_is_err_and c.from_residual-in_err-add.result
     c.from_residual-in_err-add.ensures.1 in
     let same = adds_taken variables live s said is c.if-step.false in
-    let as_held = ap (λ clause. added variables live s.number clause c.deref-3.result.now)
-    c.deref-2.ensures.value ∙ ap (λ hints. added variables live s.number s.clause.items hints)
-    c.deref-3.ensures.value in
+    let as_held = ap (λ clause. added variables live s.number clause c.deref-3.result.now
+    (said_numbers c.deref-4.result.now)) c.deref-2.ensures.value
+    ∙ ap (λ hints. added variables live s.number s.clause.items hints
+    (said_numbers c.deref-4.result.now)) c.deref-3.ensures.value
+    ∙ ap (λ groups. added variables live s.number s.clause.items s.numbers.items
+    (said_numbers groups)) c.deref-4.ensures.value in
     rw (p.1, p.2)
-    (tells_on e (added variables live s.number c.deref-2.result.now c.deref-3.result.now ≡ Err e)
+    (tells_on e (added variables live s.number c.deref-2.result.now c.deref-3.result.now
+    (said_numbers c.deref-4.result.now) ≡ Err e)
     (taken variables live said ≡ Err e) (λ wrong. same ∙ sym as_held ∙ wrong)
     (c.in_err-add.ensures.moves live h))
 
@@ -47,9 +52,12 @@ returns-clause-moves c live said is h =
     let variables = c.args.checker.now.variables in
     let s = c.args.step.now in
     let same = adds_taken variables live s said is c.if-step.false in
-    let as_held = ap (λ clause. added variables live s.number clause c.deref-3.result.now)
-    c.deref-2.ensures.value ∙ ap (λ hints. added variables live s.number s.clause.items hints)
-    c.deref-3.ensures.value in
+    let as_held = ap (λ clause. added variables live s.number clause c.deref-3.result.now
+    (said_numbers c.deref-4.result.now)) c.deref-2.ensures.value
+    ∙ ap (λ hints. added variables live s.number s.clause.items hints
+    (said_numbers c.deref-4.result.now)) c.deref-3.ensures.value
+    ∙ ap (λ groups. added variables live s.number s.clause.items s.numbers.items
+    (said_numbers groups)) c.deref-4.ensures.value in
     let then = c.in_ok-add.ensures.moves live h in (
       then.0,
       same ∙ sym as_held ∙ then.1,

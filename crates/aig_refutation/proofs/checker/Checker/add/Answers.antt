@@ -1,43 +1,82 @@
-use Rattle.std.proofs.Common.{◌≡◌, Bool, true, false, List, ℕ, ◌||◌, Ok, slice_get, sym, ap, subst, ◌∙◌}
-use Rattle.aig_base.proofs.Words.{list_all}
+use Rattle.aig_base.proofs.Words.{◌≡◌, Bool, true, false, ◌&&◌, List, ℕ, Ok, Err, sym, ap, subst, ◌∙◌, refl, and_from, is_some, list_all}
 use Rattle.aig_base.specs.declared.MemoryError.{MemoryError}
-use Rattle.aig_base.specs.declared.logic.literal.Lit.{Lit}
-use Rattle.aig_refutation.specs.Checking.{are_in, follows, is_named}
-use Rattle.aig_refutation.specs.Propagation.{is_rup, is_tautology}
-use Rattle.aig_refutation.specs.Tables.{FindsHints, Holds, Moves, Table}
-use Rattle.aig_refutation.proofs.Adding.{added_literal, added_on, added_step, added_unnamed}
-use Rattle.aig_refutation.proofs.HintedRup.{all_named, rup_same}
+use Rattle.aig_refutation.specs.declared.error.RefutationError.{RefutationError}
+use Rattle.aig_refutation.specs.declared.words.Number.{Number}
+use Rattle.aig_refutation.specs.Checking.{Live, added, are_in, are_named, is_named, stands}
+use Rattle.aig_refutation.specs.Tables.{FindsHints, Holds, Moves, Table, place_in}
+use Rattle.aig_refutation.specs.Words.{said_numbers}
+use Rattle.aig_refutation.proofs.Adding.{added_literal, added_not, added_on, added_unnamed}
+use Rattle.aig_refutation.proofs.Apart.{groups_named}
+use Rattle.aig_refutation.proofs.HintedRup.{all_named}
+use Rattle.aig_refutation.proofs.Known.{tells}
 use Rattle.aig_refutation.proofs.checker.Checker.add.Goals as goal
+use Rattle.aig_refutation.proofs.checker.Checker.add.Goals.{then-not-branch-via-then-not-branch, then-not-branch-via-else-not-branch+then-not-are_named}
+
+-- hints name clauses, or some don't, by their places
+module _ (t : Table) (live : Live) (h : Holds t live) (hints : List ℕ) (numbers : List Number) where
+  abbrev named : Bool
+  named = are_named live hints (said_numbers numbers)
+
+  abbrev placed : Bool
+  placed = list_all (λ number. is_some (place_in t number.value)) numbers
+
+  hint_unnamed : list_all (λ n. is_some (place_in t n)) hints ≡ false → named ≡ false
+  hint_unnamed none =
+      ap (λ (b : Bool). b && list_all (λ hint. is_named live hint.1) (said_numbers numbers))
+      (all_named t live h hints ∙ none)
+
+  group_unnamed : placed ≡ false → named ≡ false
+  group_unnamed none = by (list_all (is_named live) hints)
+    where
+      by : (a : Bool) → (a && list_all (λ hint. is_named live hint.1) (said_numbers numbers)) ≡ false
+      by true = groups_named t live h numbers ∙ none
+      by false = refl
+
+  both_named : list_all (λ n. is_some (place_in t n)) hints ≡ true → placed ≡ true → named ≡ true
+  both_named first second =
+      and_from (list_all (is_named live) hints)
+      (list_all (λ hint. is_named live hint.1) (said_numbers numbers))
+      (all_named t live h hints ∙ first) (groups_named t live h numbers ∙ second)
 
 pub returns-then-not-is_below-clause-moves : goal.returns-then-not-is_below-clause-moves
 returns-then-not-is_below-clause-moves c live h =
     rw (← c.self.view_is) (added_literal c.self.inside.variables live c.args.number
-    c.args.clause.now c.args.hints.now (sym c.is_below.ensures.exact ∙ c.if-not-is_below.true))
+    c.args.clause.now c.args.hints.now (said_numbers c.args.groups.now)
+    (sym c.is_below.ensures.exact ∙ c.if-not-is_below.true))
 
 pub returns-then-not-branch-clause-moves : goal.returns-then-not-branch-clause-moves
 returns-then-not-branch-clause-moves c live h =
     let t : Table = c.self.inside.numbered in
     let variables = c.self.inside.variables in
-    let number = c.args.number in
     let clause = c.args.clause.now in
     let hints = c.args.hints.now in
+    let numbers = c.args.groups.now in
     let before : Holds t live = subst (λ (table : Table). Holds table live) (sym (ap (λ v. v.table)
     c.self.view_is)) h in
     let inside : are_in variables clause ≡ true = sym c.is_below.ensures.exact ∙
     c.if-not-is_below.false in
-    let finds : FindsHints {E = MemoryError} t hints c.find_hints.new.places.items (Ok false) =
-    subst (λ (b : Bool). FindsHints {E = MemoryError} t hints c.find_hints.new.places.items (Ok b))
-    c.if-not-branch.true c.in_ok-find_hints.ensures in
-    rw (← c.self.view_is) (added_unnamed variables live number clause hints inside
-    (all_named t live before hints ∙ finds))
+    let none : are_named live hints (said_numbers numbers) ≡ false =
+    elim c.then-not-branch.branch [
+      | then-not-branch-via-then-not-branch w ↦
+          let finds : FindsHints {E = MemoryError} t hints c.find_hints.new.places.items (Ok false) =
+          subst (λ (b : Bool). FindsHints {E = MemoryError} t hints c.find_hints.new.places.items
+          (Ok b)) w.if-not-branch.true c.in_ok-find_hints.ensures in
+          hint_unnamed t live before hints numbers finds
+      | then-not-branch-via-else-not-branch+then-not-are_named w ↦
+          group_unnamed t live before hints numbers
+          (sym w.are_named.ensures ∙ w.if-not-are_named.true)
+    ] in
+    rw (← c.self.view_is) (added_unnamed variables live c.args.number clause hints
+    (said_numbers numbers) inside none)
 
-pub returns-then-not-is_implied-clause-moves : goal.returns-then-not-is_implied-clause-moves
-returns-then-not-is_implied-clause-moves c live h =
+pub returns-then-not-branch-2-clause-moves : goal.returns-then-not-branch-2-clause-moves
+returns-then-not-branch-2-clause-moves c live h =
     let t : Table = c.self.inside.numbered in
     let variables = c.self.inside.variables in
     let number = c.args.number in
     let clause = c.args.clause.now in
     let hints = c.args.hints.now in
+    let groups = said_numbers c.args.groups.now in
     let before : Holds t live = subst (λ (table : Table). Holds table live) (sym (ap (λ v. v.table)
     c.self.view_is)) h in
     let inside : are_in variables clause ≡ true = sym c.is_below.ensures.exact ∙
@@ -45,17 +84,16 @@ returns-then-not-is_implied-clause-moves c live h =
     let finds : FindsHints {E = MemoryError} t hints c.find_hints.new.places.items (Ok true) =
     subst (λ (b : Bool). FindsHints {E = MemoryError} t hints c.find_hints.new.places.items (Ok b))
     c.if-not-branch.false c.in_ok-find_hints.ensures in
-    let named : list_all (is_named live) hints ≡ true = all_named t live before hints ∙ finds.1 in
-    let same : c.is_implied.result ≡ follows live clause hints =
-    c.is_implied.ensures.exact
-    ∙ ap (λ (b : Bool). b || is_tautology clause)
-    (ap (λ (list : List (List Lit)). is_rup (slice_get list) clause c.deref.result.now)
-    c.clauses.ensures
-    ∙ ap (λ (places : List ℕ). is_rup (slice_get t.clauses) clause places) (c.deref.ensures.value ∙
-    finds.0)
-    ∙ rup_same t live before clause hints finds.1) in
-    rw (← c.self.view_is) (added_step variables live number clause hints inside named (sym same ∙
-    c.if-not-is_implied.true))
+    let named = both_named t live before hints c.args.groups.now finds.1
+    (sym c.are_named.ensures ∙ c.if-not-are_named.false) in
+    let not : stands live clause hints groups ≡ false =
+    sym (c.in_ok-stands.ensures.stands live before named (c.deref.ensures.value ∙ finds.0))
+    ∙ c.if-not-branch-2.true in
+    let e = c.refusal.result in
+    rw (← c.self.view_is)
+    (tells e (added variables live number clause hints groups ≡ Err e)
+    (added_not variables live number clause hints groups inside named not
+    ∙ ap (λ (f : RefutationError). Err f) (sym c.refusal.ensures.refusal)))
 
 pub returns-clause-moves : goal.returns-clause-moves
 returns-clause-moves c live h =
@@ -64,6 +102,7 @@ returns-clause-moves c live h =
     let number = c.args.number in
     let clause = c.args.clause.now in
     let hints = c.args.hints.now in
+    let groups = said_numbers c.args.groups.now in
     let before : Holds t live = subst (λ (table : Table). Holds table live) (sym (ap (λ v. v.table)
     c.self.view_is)) h in
     let inside : are_in variables clause ≡ true = sym c.is_below.ensures.exact ∙
@@ -71,16 +110,11 @@ returns-clause-moves c live h =
     let finds : FindsHints {E = MemoryError} t hints c.find_hints.new.places.items (Ok true) =
     subst (λ (b : Bool). FindsHints {E = MemoryError} t hints c.find_hints.new.places.items (Ok b))
     c.if-not-branch.false c.in_ok-find_hints.ensures in
-    let named : list_all (is_named live) hints ≡ true = all_named t live before hints ∙ finds.1 in
-    let same : c.is_implied.result ≡ follows live clause hints =
-    c.is_implied.ensures.exact
-    ∙ ap (λ (b : Bool). b || is_tautology clause)
-    (ap (λ (list : List (List Lit)). is_rup (slice_get list) clause c.deref.result.now)
-    c.clauses.ensures
-    ∙ ap (λ (places : List ℕ). is_rup (slice_get t.clauses) clause places) (c.deref.ensures.value ∙
-    finds.0)
-    ∙ rup_same t live before clause hints finds.1) in
-    let is = added_on variables live number clause hints inside named (sym same ∙
-    c.if-not-is_implied.false) in
+    let named = both_named t live before hints c.args.groups.now finds.1
+    (sym c.are_named.ensures ∙ c.if-not-are_named.false) in
+    let does : stands live clause hints groups ≡ true =
+    sym (c.in_ok-stands.ensures.stands live before named (c.deref.ensures.value ∙ finds.0))
+    ∙ c.if-not-branch-2.false in
+    let is = added_on variables live number clause hints groups inside named does in
     rw (← c.self.view_is) (subst (λ said. Moves c.put.new.self.table c.put.result said) (sym is)
     (c.put.ensures.moves live before))

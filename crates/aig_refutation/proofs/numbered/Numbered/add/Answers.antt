@@ -43,5 +43,5 @@ returns-clause-moves c live said h same =
       with_clause live number said,
       number_new old live number said before none (omega arith) small,
       holds_added old new live number c.args.clause.now said before few c.in_ok-push-2.ensures.ok
-          c.in_ok-push.ensures.items entries same c.saturating_add-self-inside.ensures,
+          c.in_ok-push.ensures.items entries same none c.saturating_add-self-inside.ensures,
     )

@@ -28,6 +28,7 @@ returns-in_err-first-clause-step g c =
           c.args.self.now.number;
       clause = c.clear.new.self;
       numbers = c.clear-2.new.self;
+      groups = c.clear-3.new.self;
     })) before
     mid mid e c.in_err-first.ensures.first)
 
@@ -51,7 +52,7 @@ returns-in_err-read_after-in-Some-Number-clause-step g c =
     n) (reads_after numbered variables (said_number n)) first after e (λ last word ws is.
     line_after_err numbered variables last word ws n is e)
     (c.in_err-read_after-in-Some-Number.ensures.step c.clear.ensures.items
-    c.clear-2.ensures.items))
+    c.clear-2.ensures.items c.clear-3.ensures.items))
 
 pub returns-in_ok-read_after-in-Some-Number-clause-step :
     goal.returns-in_ok-read_after-in-Some-Number-clause-step
@@ -69,7 +70,7 @@ returns-in_ok-read_after-in-Some-Number-clause-step g c =
     step_read numbered variables step before mid after (words.Number n) (reads_after numbered
     variables (said_number n)) first (λ last word ws more is. line_after_ok numbered variables
     last word ws n is step more) (c.in_ok-read_after-in-Some-Number.ensures.step
-    c.clear.ensures.items c.clear-2.ensures.items)
+    c.clear.ensures.items c.clear-2.ensures.items c.clear-3.ensures.items)
     c.in_ok-read_after-in-Some-Number.ensures.closed
 
 pub returns-in_err-read_deletion-in-Some-Deletes-clause-step :

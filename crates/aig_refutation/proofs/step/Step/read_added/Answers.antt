@@ -1,10 +1,11 @@
-use Rattle.aig_base.proofs.Words.{[], Err, refl, err_from_is_err_and}
+use Rattle.aig_base.proofs.Words.{ℕ, Bool, List, [], Err, refl, err_from_is_err_and}
+use Rattle.aig_base.specs.declared.logic.literal.Lit.{Lit}
 use Rattle.aig_refutation.specs.declared.error.RefutationError.TheVariants as errors
 use Rattle.aig_refutation.specs.declared.words.Word.TheVariants as words
-use Rattle.aig_refutation.specs.Proofs.{Line, Plain, Numbered}
-use Rattle.aig_refutation.specs.Reading.{reads_added, reads_clause, reads_numbers, said_by}
-use Rattle.aig_refutation.specs.Steps.{Adds, Learns}
-use Rattle.aig_refutation.specs.Words.{next_in, place, said_number}
+use Rattle.aig_refutation.specs.Proofs.{Line, Plain, Numbered, adds, groups_at, hint_number, hints_at}
+use Rattle.aig_refutation.specs.Reading.{reads_added, reads_clause, reads_hints, said_by}
+use Rattle.aig_refutation.specs.Steps.{Step, Adds, Learns}
+use Rattle.aig_refutation.specs.Words.{next_in, place, said_number, said_numbers}
 use Rattle.aig_refutation.proofs.LineForms.{added_after, added_clause, added_clause_wrong, added_hints, added_letter, added_refused, added_wrong, numbers_step, numbers_step_err, numbers_step_ok}
 use Rattle.aig_refutation.proofs.NextSteps.{clause_ends}
 use Rattle.aig_refutation.proofs.Parts.{Reader, gives_after, gives_same, gives_wrong, on_on, on_read, part_wrong}
@@ -13,8 +14,15 @@ use Rattle.aig_refutation.proofs.step.Step.read_added.Goals as goal
 abbrev no_step : Line
 no_step = Plain (Learns [])
 
+-- hints and those for other clauses, and a step that has them
+abbrev parted_of : List (Bool × ℕ) → List ℕ × List (Bool × ℕ)
+parted_of numbers = (hints_at numbers, groups_at numbers)
+
+abbrev adds_of : ℕ → List Lit → List ℕ × List (Bool × ℕ) → Step
+adds_of k clause hints = Adds k clause hints.0 hints.1
+
 pub returns-in_err-read_clause-clause-step : goal.returns-in_err-read_clause-clause-step
-returns-in_err-read_clause-clause-step g c adds no_clause no_numbers =
+returns-in_err-read_clause-clause-step g c is_added no_clause no_numbers no_groups =
     let at = place g.R.Source.left g.R.Source.failed g.R.Source.pulls in
     let before = at c.args.words.now c.args.r.now in
     let p1 = at c.read_clause.new.words c.read_clause.new.r in
@@ -33,7 +41,7 @@ returns-in_err-read_clause-clause-step g c adds no_clause no_numbers =
     ws. added_clause_wrong numbered variables n last second ws e))
 
 pub returns-in_err-hint-clause-step : goal.returns-in_err-hint-clause-step
-returns-in_err-hint-clause-step g c adds no_clause no_numbers =
+returns-in_err-hint-clause-step g c is_added no_clause no_numbers no_groups =
     let at = place g.R.Source.left g.R.Source.failed g.R.Source.pulls in
     let before = at c.args.words.now c.args.r.now in
     let p1 = at c.read_clause.new.words c.read_clause.new.r in
@@ -59,7 +67,7 @@ returns-in_err-hint-clause-step g c adds no_clause no_numbers =
     e)))
 
 pub returns-in_err-self-in-Number-clause-step : goal.returns-in_err-self-in-Number-clause-step
-returns-in_err-self-in-Number-clause-step g c adds no_clause no_numbers =
+returns-in_err-self-in-Number-clause-step g c is_added no_clause no_numbers no_groups =
     let at = place g.R.Source.left g.R.Source.failed g.R.Source.pulls in
     let before = at c.args.words.now c.args.r.now in
     let p1 = at c.read_clause.new.words c.read_clause.new.r in
@@ -90,7 +98,7 @@ returns-in_err-self-in-Number-clause-step g c adds no_clause no_numbers =
     (λ last ws. refl)))
 
 pub returns-in_ok-self-in-Number-clause-step : goal.returns-in_ok-self-in-Number-clause-step
-returns-in_ok-self-in-Number-clause-step g c adds no_clause no_numbers =
+returns-in_ok-self-in-Number-clause-step g c is_added no_clause no_numbers no_groups =
     let at = place g.R.Source.left g.R.Source.failed g.R.Source.pulls in
     let before = at c.args.words.now c.args.r.now in
     let p1 = at c.read_clause.new.words c.read_clause.new.r in
@@ -106,28 +114,30 @@ returns-in_ok-self-in-Number-clause-step g c adds no_clause no_numbers =
     let given = rw no_clause at c.in_ok-read_clause.ensures.clause in
     let goes = on_read q s1 before p1 p1 rc clause given (λ last ws more. added_clause numbered
     variables n last second ws more clause) in
-    let p3 = at c.read_numbers.new.words c.read_numbers.new.r in
+    let p3 = at c.read_hints.new.words c.read_hints.new.r in
     let hint = c.in-Number.hint in
     let m = said_number hint in
     let k = c.in_ok-self-in-Number.field-0 in
-    let items = c.read_numbers.new.numbers.items in
-    let s2 = numbers_step errors.Asymmetry (Adds k clause) m in
-    let rn = reads_numbers errors.Asymmetry m [] in
-    let first = λ (done : Unit {0}). items in
-    let view = λ (done : Unit {0}). Numbered (Adds k clause items) in
+    let hints = c.read_hints.new.hints.items in
+    let groups = said_numbers c.read_hints.new.groups.items in
+    let s2 = numbers_step hint_number (adds k clause) m in
+    let first : Unit {0} → List ℕ × List (Bool × ℕ) = λ done. (hints, groups) in
+    let view = λ (done : Unit {0}). Numbered (Adds k clause hints groups) in
     let goes2 = on_on q s1 before p1 p2 s2 goes
     (on_read s1 s2 p1 p2 p2 next_in (words.Number hint) (rw c.in-Number.is at
     c.in_ok-hint.ensures.word) (λ last ws more is. added_hints numbered variables n last clause
     ws more hint is k c.in_ok-self-in-Number.ensures.number)) in
-    rw adds
-    (gives_after q s2 before p2 p3 view c.read_numbers.result goes2
-    (gives_same rn s2 p2 p3 first view c.read_numbers.result (rw no_numbers at
-    c.read_numbers.ensures.numbers) (λ last ws more done. numbers_step_ok errors.Asymmetry
-    (Adds k clause) m last ws items more) (λ last ws e. numbers_step_err errors.Asymmetry (Adds
-    k clause) m last ws e)))
+    rw is_added
+    (gives_after q s2 before p2 p3 view c.read_hints.result goes2
+    (gives_same (reads_hints m) s2 p2 p3 first view c.read_hints.result
+    (c.read_hints.ensures.hints no_numbers no_groups)
+    (λ last ws more done. numbers_step_ok hint_number (adds k clause) parted_of (adds_of k clause)
+    (λ numbers. refl) m last ws (hints, groups) more)
+    (λ last ws e. numbers_step_err hint_number (adds k clause) parted_of (adds_of k clause)
+    (λ numbers. refl) m last ws e)))
 
 pub returns-in-Deletes-clause-step : goal.returns-in-Deletes-clause-step
-returns-in-Deletes-clause-step g c adds no_clause no_numbers =
+returns-in-Deletes-clause-step g c is_added no_clause no_numbers no_groups =
     let at = place g.R.Source.left g.R.Source.failed g.R.Source.pulls in
     let before = at c.args.words.now c.args.r.now in
     let p1 = at c.read_clause.new.words c.read_clause.new.r in
@@ -152,7 +162,7 @@ returns-in-Deletes-clause-step g c adds no_clause no_numbers =
     (λ last ws. refl))
 
 pub returns-in-End-clause-step : goal.returns-in-End-clause-step
-returns-in-End-clause-step g c adds no_clause no_numbers =
+returns-in-End-clause-step g c is_added no_clause no_numbers no_groups =
     let at = place g.R.Source.left g.R.Source.failed g.R.Source.pulls in
     let before = at c.args.words.now c.args.r.now in
     let p1 = at c.read_clause.new.words c.read_clause.new.r in
@@ -170,4 +180,4 @@ returns-in-End-clause-step g c adds no_clause no_numbers =
     variables n last second ws more clause) in
     let view = λ (done : Unit {0}). said_by c.end_clause.new.self in
     clause_ends numbered variables n clause c.in-End.end q before p1 p2 goes (rw c.in-End.is at
-    c.in_ok-hint.ensures.word) view c.end_clause.result (c.end_clause.ensures.step adds)
+    c.in_ok-hint.ensures.word) view c.end_clause.result (c.end_clause.ensures.step is_added)

@@ -12,7 +12,7 @@ abbrev no_step : Line
 no_step = Plain (Learns [])
 
 pub returns-in_err-second-clause-step : goal.returns-in_err-second-clause-step
-returns-in_err-second-clause-step g c no_clause no_numbers =
+returns-in_err-second-clause-step g c no_clause no_numbers no_groups =
     let at = place g.R.Source.left g.R.Source.failed g.R.Source.pulls in
     let before = at c.args.words.now c.args.r.now in
     let p1 = at c.next.new.self c.next.new.r in
@@ -26,7 +26,7 @@ returns-in_err-second-clause-step g c no_clause no_numbers =
     (λ last ws. after_wrong numbered c.args.variables n last ws e))
 
 pub returns-in-Number-clause-step : goal.returns-in-Number-clause-step
-returns-in-Number-clause-step g c no_clause no_numbers =
+returns-in-Number-clause-step g c no_clause no_numbers no_groups =
     let at = place g.R.Source.left g.R.Source.failed g.R.Source.pulls in
     let before = at c.args.words.now c.args.r.now in
     let p1 = at c.next.new.self c.next.new.r in
@@ -41,10 +41,10 @@ returns-in-Number-clause-step g c no_clause no_numbers =
     (on_read q s before p1 p1 next_in (words.Number m) (rw c.in-Number.is at
     c.in_ok-second.ensures.word) (λ last ws more. after_number_word numbered c.args.variables n
     last ws more m))
-    (c.read_added.ensures.step refl no_clause no_numbers)
+    (c.read_added.ensures.step refl no_clause no_numbers no_groups)
 
 pub returns-in-Deletes-clause-step : goal.returns-in-Deletes-clause-step
-returns-in-Deletes-clause-step g c no_clause no_numbers =
+returns-in-Deletes-clause-step g c no_clause no_numbers no_groups =
     let at = place g.R.Source.left g.R.Source.failed g.R.Source.pulls in
     let before = at c.args.words.now c.args.r.now in
     let p1 = at c.next.new.self c.next.new.r in
@@ -61,7 +61,7 @@ returns-in-Deletes-clause-step g c no_clause no_numbers =
     (c.read_deleted.ensures.step no_numbers)
 
 pub returns-in-End-clause-step : goal.returns-in-End-clause-step
-returns-in-End-clause-step g c no_clause no_numbers =
+returns-in-End-clause-step g c no_clause no_numbers no_groups =
     let at = place g.R.Source.left g.R.Source.failed g.R.Source.pulls in
     let before = at c.args.words.now c.args.r.now in
     let p1 = at c.next.new.self c.next.new.r in
@@ -78,7 +78,7 @@ returns-in-End-clause-step g c no_clause no_numbers =
     (λ last ws. refl))
 
 pub returns-in-End-2-clause-step : goal.returns-in-End-2-clause-step
-returns-in-End-2-clause-step g c no_clause no_numbers =
+returns-in-End-2-clause-step g c no_clause no_numbers no_groups =
     let at = place g.R.Source.left g.R.Source.failed g.R.Source.pulls in
     let before = at c.args.words.now c.args.r.now in
     let p1 = at c.next.new.self c.next.new.r in

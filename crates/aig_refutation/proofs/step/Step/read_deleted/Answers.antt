@@ -1,6 +1,5 @@
-use Rattle.aig_base.proofs.Words.{[], err_from_is_err_and}
-use Rattle.aig_refutation.specs.declared.error.RefutationError.TheVariants as errors
-use Rattle.aig_refutation.specs.Proofs.{Line, Plain, Numbered}
+use Rattle.aig_base.proofs.Words.{[], refl, err_from_is_err_and}
+use Rattle.aig_refutation.specs.Proofs.{Line, Plain, Numbered, clause_number}
 use Rattle.aig_refutation.specs.Reading.{reads_deleted, reads_numbers}
 use Rattle.aig_refutation.specs.Steps.{Deletes, Learns}
 use Rattle.aig_refutation.specs.Words.{next_number, place, said_number}
@@ -49,13 +48,14 @@ returns-clause-step g c no_numbers =
     let m = said_number c.in_ok-first.first in
     let k = c.in_ok-self.field-0 in
     let items = c.read_numbers.new.numbers.items in
-    let s = numbers_step errors.Line Deletes m in
-    let rn = reads_numbers errors.Line m [] in
+    let s = numbers_step clause_number Deletes m in
+    let rn = reads_numbers clause_number m [] in
     let first = λ (done : Unit {0}). items in
     let view = λ (done : Unit {0}). Numbered (Deletes items) in
     gives_after q s before p1 p2 view c.read_numbers.result
     (on_read q s before p1 p1 next_number m c.in_ok-first.ensures.number (λ last ws more.
     deleted_number n last ws k m more c.in_ok-self.ensures.number))
     (gives_same rn s p1 p2 first view c.read_numbers.result (rw no_numbers at
-    c.read_numbers.ensures.numbers) (λ last ws more done. numbers_step_ok errors.Line Deletes m
-    last ws items more) (λ last ws e. numbers_step_err errors.Line Deletes m last ws e))
+    c.read_numbers.ensures.numbers) (λ last ws more done. numbers_step_ok clause_number Deletes
+    (λ ns. ns) Deletes (λ ns. refl) m last ws items more) (λ last ws e. numbers_step_err clause_number Deletes (λ ns. ns) Deletes
+    (λ ns. refl) m last ws e))

@@ -1,6 +1,6 @@
 use Rattle.aig_base.proofs.Words.{◌≡◌, ◌-◌, true, map, take, is_some, list_all}
 use Rattle.aig_refutation.specs.Tables.{entry_at, place_in}
-use Rattle.aig_refutation.proofs.checker.find_hints.Given as goal
+use Rattle.aig_refutation.proofs.standing.find_hints.Given as goal
 
 abbrev pub invariant-loop-hint : goal.invariant-loop-hint
 invariant-loop-hint l = record {

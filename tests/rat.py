@@ -1,0 +1,304 @@
+#!/usr/bin/env python3
+"""Compares which proofs with RAT steps are taken with the checker of proofs.py: rat.py [PROOFS [SEED]]
+
+Writes PROOFS (500) LRAT proofs for random clauses that have no solution, with steps by resolution asymmetry: clauses are deleted and added
+again, spare variables get definitions, and what cadical proves of all these clauses stands behind. Pigeonholes of 3 to 5 holes are refuted by
+extended resolution (Cook, 1976). `aigcheck refuted` takes each. Each is mangled, too: hints for a clause are left out, or one of them,
+another literal comes first, a clause that they are for is deleted before, a number is skipped. aigcheck takes what comes of it exactly where
+the checker of proofs.py does, which was written from the form's description and knows nothing of the library.
+
+It ends with the first that differs, and else prints one line. It is no part of tests/run."""
+import collections
+import concurrent.futures
+import functools
+import itertools
+import random
+import re
+from pathlib import Path
+
+import harness
+from aiger import Gates, Machine
+from harness import CHECK, numbers, output
+from proofs import Clauses, Formula, is_taken, numbered
+from random_machines import Files, counted, mangled, text_of, told
+
+# How often a proof is mangled.
+MANGLED = 4
+# How many variables of a random formula are spare.
+SPARE = 4
+HOLES = [3, 4, 5]
+INPUT = re.compile(r"^c i(\d+) at step 0 is (-?\d+)$", re.M)
+
+
+def true_along(clauses, clause, hints):
+    """What is true where a clause is false, along hints each of which has one literal that isn't false."""
+    true = {-literal for literal in clause}
+    for hint in hints:
+        true |= {literal for literal in clauses.all[hint] if -literal not in true}
+    return true
+
+
+def some_hints(clauses, clause):
+    """A few hints along which literals are true where a clause is false, without a conflict."""
+    true, hints = {-literal for literal in clause}, []
+    for number, other in clauses.all.items():
+        left = {literal for literal in other if -literal not in true}
+        if len(left) == 1 and not left & true:
+            hints.append(number)
+            true |= left
+    return hints[:5]
+
+
+class Writer:
+    """Lines of an LRAT file, and the clauses that are there behind them."""
+
+    def __init__(self, formula):
+        self.clauses, self.number, self.lines = Clauses(formula.clauses), len(formula.clauses), []
+
+    def put(self, clause, behind):
+        """Adds a clause, with these numbers behind it."""
+        self.number += 1
+        self.clauses.add(self.number, tuple(clause))
+        self.lines.append([str(self.number), *map(str, clause), "0", *map(str, behind), "0"])
+
+    def learn(self, *clause):
+        """Adds a clause that follows."""
+        hints = self.clauses.follow(clause)
+        assert hints is not None, clause
+        self.clauses.forget()
+        self.put(clause, hints)
+
+    def groups(self, clause, along):
+        """Hints for each clause with the inverse of the first literal that needs some, behind its number, where hints for all stand before;
+        None where something doesn't follow."""
+        words = []
+        for number in sorted(self.clauses.having[-clause[0]]):
+            rest = [literal for literal in self.clauses.all[number] if literal != -clause[0]]
+            if any(-literal in clause for literal in rest):
+                continue
+            true = true_along(self.clauses, clause, along)
+            self.clauses.fixed = true
+            hints = [] if true.intersection(rest) else self.clauses.follow([*clause, *rest])
+            self.clauses.forget()
+            if hints is None:
+                return None
+            words += [-number, *hints]
+        return words
+
+    def add(self, *clause, along=()):
+        """Adds a clause that has the RAT property on its first literal; whether it has."""
+        groups = self.groups(clause, along)
+        if groups is not None:
+            self.put(clause, [*along, *groups])
+        return groups is not None
+
+    def delete(self, found):
+        self.lines.append([str(self.number), "d", *map(str, found), "0"])
+        for number in found:
+            self.clauses.remove(number)
+
+    def again(self, rng):
+        """Deletes some clauses, and adds them by RAT steps, with a literal first by which that can be; how many."""
+        count = 0
+        for number in rng.sample(sorted(self.clauses.all), 6):
+            clause = self.clauses.all[number]
+            self.clauses.remove(number)
+            turned = ([pivot, *(literal for literal in clause if literal != pivot)] for pivot in rng.sample(clause, len(clause)))
+            found = next((one for one in turned if self.groups(one, []) is not None), None)
+            self.clauses.add(number, clause)
+            if found and len(clause) > 1:
+                self.delete([number])
+                along = some_hints(self.clauses, found) if rng.random() < 0.5 else []
+                assert self.add(*found, along=along)
+                count += 1
+        return count
+
+    def conclude(self, formula, solve):
+        """Adds the steps of cadical's proof of the clauses that are there."""
+        order = sorted(self.clauses.all)
+        names = dict(enumerate(order, 1))
+        made = Formula(f"p cnf {formula.variables} 0\n")
+        made.clauses = [self.clauses.all[number] for number in order]
+        for line in numbered(made, solve(made)):
+            self.lines.append(renamed(line, names, self.number - len(order)))
+
+
+def renamed(line, names, more):
+    """A line with other numbers of clauses: those of `names`, or so much more."""
+    name = lambda word: str(names.get(int(word), int(word) + more))
+    end = 1 if line[1] == "d" else line.index("0", 1)
+    head = line[0] if line[0] == str(len(names)) and end == 1 else name(line[0])
+    return [head, *line[1 : end + 1], *map(name, line[end + 1 : -1]), "0"]
+
+
+def all_of(gates, literals):
+    """A literal that is true where all of these are."""
+    return functools.reduce(gates.both, literals) if literals else 1
+
+
+def machine_of(count, clauses, spare):
+    """A machine without latches that is bad where clauses over its first inputs are all true, with spare ones."""
+    gates = Gates(count + spare)
+    bad = all_of(gates, [all_of(gates, [2 * abs(number) + (number > 0) for number in clause]) ^ 1 for clause in clauses])
+    return Machine(list(range(2, gates.first, 2)), bads=[bad], gates=gates)
+
+
+def random_clauses(rng):
+    """A count of variables, and clauses of three literals, most often without a solution."""
+    count = rng.randint(4, 8)
+    some = lambda: [variable * rng.choice([-1, 1]) for variable in rng.sample(range(1, count + 1), 3)]
+    return count, [some() for _ in range(round(count * rng.uniform(5, 7)))]
+
+
+class Question(Files):
+    """Clauses of a machine that is never bad, given by clauses and spare variables, and proofs of that."""
+
+    def ask(self, count, clauses, spare):
+        self.file = self.put("made.aag", machine_of(count, clauses, spare).text())
+        text = output([CHECK, "clauses", self.file, "0"])
+        self.formula, literals = Formula(text), {int(i): int(literal) for i, literal in INPUT.findall(text)}
+        self.literals = [literals[i] for i in range(count)]
+        self.spare = [literals[i] for i in range(count, count + spare)]
+
+    def solve(self, formula):
+        """The lines of cadical's proof; None where there is a solution."""
+        rows = [[*map(str, clause), "0"] for clause in formula.clauses]
+        path = self.proof(f"p cnf {formula.variables} {len(rows)}\n{text_of(rows)}", "proof.drat")
+        return path and [line.split() for line in Path(path).read_text().splitlines()]
+
+    def is_taken(self, lines):
+        return self.takes("no bad state at step 0", "refuted", self.file, "0", self.put("proof", text_of(lines)))
+
+    def compare(self, rng, kind, lines):
+        """Compares a proof, and what is mangled of it, with the checker."""
+        self.counts[kind] += 1
+        if not is_taken(self.formula, text_of(lines).encode()) or not self.is_taken(lines):
+            self.fail(f"a proof is refused:\n{text_of(lines)}")
+        for _ in range(MANGLED):
+            self.compare_mangled(rng.choice([spoilt, spoilt, functools.partial(mangled, count=1)])(rng, lines))
+
+    def compare_mangled(self, lines):
+        taken = is_taken(self.formula, text_of(lines).encode())
+        self.counts[f"mangled, {'taken' if taken else 'refused'}"] += 1
+        if self.is_taken(lines) != taken:
+            self.fail(f"a mangled proof is {'refused' if taken else 'taken'}:\n{text_of(lines)}")
+
+
+class Trial(Question):
+    """Random clauses without a solution."""
+
+    def __init__(self, seed, folder):
+        super().__init__(folder)
+        self.rng = random.Random(seed)
+        while True:
+            self.ask(*random_clauses(self.rng), SPARE)
+            if not self.formula.is_in_conflict() and Clauses(self.formula.clauses).propagate([]) is None and self.solve(self.formula):
+                return
+
+    def run(self):
+        writer = Writer(self.formula)
+        self.counts["clauses again"] += writer.again(self.rng)
+        if self.rng.random() < 0.8:
+            self.define(writer)
+        self.counts["clauses again"] += writer.again(self.rng)
+        writer.conclude(self.formula, self.solve)
+        self.compare(self.rng, "proofs", writer.lines)
+        return self
+
+    def define(self, writer):
+        """Lets spare variables stand for the and of two literals, and uses them in place of these."""
+        others = sorted({abs(literal) for clause in writer.clauses.all.values() for literal in clause})
+        for variable in self.spare:
+            made = variable * self.rng.choice([-1, 1])
+            a, b = (other * self.rng.choice([-1, 1]) for other in self.rng.sample(others, 2))
+            assert all(writer.add(*clause) for clause in [(made, -a, -b), (-made, a), (-made, b)])
+            self.counts["definitions"] += 1
+            for clause in [clause for clause in writer.clauses.all.values() if {-a, -b} <= {*clause} and made not in clause]:
+                writer.learn(-made, *(literal for literal in clause if literal not in [-a, -b]))
+                self.counts["uses"] += 1
+            others.append(variable)
+
+
+class Pigeons(Question):
+    """One pigeon more than holes, no two in one."""
+
+    def __init__(self, holes, folder):
+        super().__init__(folder)
+        self.holes, self.rng = holes, random.Random(holes)
+        pigeons = [[pigeon * holes + hole + 1 for hole in range(holes)] for pigeon in range(holes + 1)]
+        apart = [[-a, -b] for row in zip(*pigeons) for a, b in itertools.combinations(row, 2)]
+        self.ask(holes * (holes + 1), pigeons + apart, sum(m * (m - 1) for m in range(2, holes + 1)))
+        self.rows = [[self.literals[i - 1] for i in row] for row in pigeons]
+
+    def run(self):
+        writer, rows = Writer(self.formula), self.rows
+        self.learn_level(writer, rows)
+        spare = iter(self.spare)
+        while len(rows) > 2:
+            rows = self.fewer(writer, rows, spare)
+        writer.learn()
+        self.compare(self.rng, "pigeonholes", writer.lines)
+        return self
+
+    def learn_level(self, writer, rows):
+        """Each pigeon is somewhere, and no two are together."""
+        for row in rows:
+            writer.learn(*row)
+        for column in zip(*rows):
+            for a, b in itertools.combinations(column, 2):
+                writer.learn(-a, -b)
+
+    def fewer(self, writer, rows, spare):
+        """Definitions for one pigeon less, and what follows of them: who is in the last hole takes the place of the last pigeon."""
+        *rest, last = rows
+        made = [[next(spare) for _ in row[:-1]] for row in rest]
+        for new, row in zip(made, rest):
+            for q, p, other in zip(new, row, last):
+                clauses = [(q, -p), (q, -row[-1], -other), (-q, p, row[-1]), (-q, p, other)]
+                assert all(writer.add(*clause) for clause in clauses)
+        for new in made:
+            writer.learn(*new)
+        for (one, row), (two, _) in itertools.combinations(list(zip(made, rest)), 2):
+            for a, b, p in zip(one, two, row):
+                writer.learn(-a, -b, -p)
+                writer.learn(-a, -b)
+        return made
+
+
+def places_in(line):
+    """Where each negative hint stands in a line that adds a clause."""
+    return [place for place in range(line.index("0", 1) + 1, len(line)) if line[place][0] == "-"]
+
+
+def spoilt(rng, lines):
+    """A proof of which a RAT step is changed."""
+    lines = [list(line) for line in lines]
+    steps = [line for line in lines if line[1] not in ["d", "0"]]
+    line = rng.choice([line for line in steps if places_in(line)] or steps)
+    places, end = places_in(line), line.index("0", 1)
+    change = rng.choice(["pivot", "number", "hint", *["group", "candidate", "hint"] * bool(places)])
+    if change == "pivot":
+        line[1:end] = rng.sample(line[1:end], end - 1)
+    elif change == "number":
+        line[0] = str(int(line[0]) + 1)
+    elif change == "hint":
+        del line[rng.randrange(end + 1, max(end + 2, len(line) - 1))]
+    else:
+        at = rng.choice(places)
+        if change == "candidate":
+            lines.insert(lines.index(line), [line[0], "d", line[at][1:], "0"])
+        if change == "group" or rng.random() < 0.7:
+            del line[at : next((place for place in places if place > at), len(line) - 1)]
+    return lines
+
+
+def main():
+    proofs, seed = numbers(500, 1)
+    with harness.new_folder() as folder, concurrent.futures.ProcessPoolExecutor() as pool:
+        counts = counted(pool, Pigeons, [(holes, folder / f"pigeons{holes}") for holes in HOLES])
+        counts += counted(pool, Trial, [(f"{seed} {i}", folder / str(i)) for i in range(proofs)])
+    print(f"seed {seed}: all agree ({told(counts)})")
+
+
+if __name__ == "__main__":
+    main()
