@@ -8,7 +8,7 @@ use Rattle.aig_refutation.specs.declared.words.End.TheVariants as ends
 use Rattle.aig_refutation.specs.declared.words.Number as code_number
 use Rattle.aig_refutation.specs.declared.words.Word.TheVariants as words
 use Rattle.aig_refutation.specs.Proofs.{Line, Numbered, Plain, adds, after_clause, after_first, after_number, after_word, clause_from, clause_in, clause_number, drops, ended, hint_number, is_zero, line_in, literal_of, missing, number_of, numbers_from, numbers_in}
-use Rattle.aig_refutation.specs.Reading.{reads_added, reads_after, reads_clause, reads_deleted, reads_dropped, reads_numbers, whole_line}
+use Rattle.aig_refutation.specs.Reading.{reads_added, reads_after, reads_clause, reads_deleted, reads_dropped, whole_line}
 use Rattle.aig_refutation.specs.Skipping.{end_line}
 use Rattle.aig_refutation.specs.Steps.{Step, Deletes, Drops, Learns}
 use Rattle.aig_refutation.specs.Text as text

@@ -3,7 +3,7 @@
 -- tautologies, RAT: Järvisalo, Heule and Biere, 2012. In LRAT, Cruz-Filipe, Heule, Hunt, Kaufmann
 -- and Schneider-Kamp, 2017, a step has hints to begin with, and then, behind its number with a
 -- minus, for each clause that has the pivot's inverse.)
-use Rattle.std.specs.Prelude.{ℕ, ◌==◌, Bool, true, false, not, ◌&&◌, ◌||◌, if◌then◌else◌, List, [], ◌∷◌, ◌++◌, Option}
+use Rattle.std.specs.Prelude.{ℕ, ◌==◌, Bool, false, not, ◌&&◌, ◌||◌, if◌then◌else◌, List, [], ◌∷◌, ◌++◌, Option}
 use Rattle.std.specs.List.{filter, list_all}
 use Rattle.std.specs.Map.{lookup}
 use Rattle.aig_base.specs.declared.logic.literal.Lit.{Lit}

@@ -79,11 +79,7 @@ fn has(clause: &[Lit], lit: Lit) -> bool
 }
 
 /// Appends the hints for the clause of a number.
-fn push_hints_for(
-    groups: &[Number],
-    number: u32,
-    hints: &mut Vec<u32>,
-) -> Result<(), MemoryError>
+fn push_hints_for(groups: &[Number], number: u32, hints: &mut Vec<u32>) -> Result<(), MemoryError>
     ensures { OnOk result (hints.new.items
         ≡ hints.old.items ++ hints_for number false (said_numbers groups.now)) }
 {
@@ -187,12 +183,7 @@ impl Resolvent {
         if !self.find(numbered, hints, groups, number)? {
             return Ok(false);
         }
-        Ok(is_implied(
-            numbered.clauses(),
-            marks,
-            &self.clause,
-            &self.places,
-        ))
+        Ok(is_implied(numbered.clauses(), marks, &self.clause, &self.places))
     }
 
     /// Whether a clause has the RAT property on its first literal, along hints that all name clauses.

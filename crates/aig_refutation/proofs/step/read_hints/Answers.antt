@@ -1,4 +1,4 @@
-use Rattle.aig_base.proofs.Words.{◌≡◌, ℕ, Bool, List, [], ◌∷◌, ◌++◌, Err, true, false, refl, sym, ap, ◌∙◌, arith, ne_eqb, err_from_is_err_and}
+use Rattle.aig_base.proofs.Words.{◌≡◌, ℕ, Bool, List, [], ◌∷◌, ◌++◌, Err, true, false, refl, sym, ap, arith, ne_eqb, err_from_is_err_and}
 use Rattle.aig_refutation.specs.Proofs.{groups_at, hint_number, hints_at, is_zero}
 use Rattle.aig_refutation.specs.Reading.{reads_hints, reads_numbers}
 use Rattle.aig_refutation.specs.Skipping.{end_line}

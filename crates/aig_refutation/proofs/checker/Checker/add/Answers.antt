@@ -1,10 +1,9 @@
 use Rattle.aig_base.proofs.Words.{◌≡◌, Bool, true, false, ◌&&◌, List, ℕ, Ok, Err, sym, ap, subst, ◌∙◌, refl, and_from, is_some, list_all}
 use Rattle.aig_base.specs.declared.MemoryError.{MemoryError}
-use Rattle.aig_base.specs.declared.logic.literal.Lit.{Lit}
 use Rattle.aig_refutation.specs.declared.error.RefutationError.{RefutationError}
 use Rattle.aig_refutation.specs.declared.words.Number.{Number}
 use Rattle.aig_refutation.specs.Checking.{Live, added, are_in, are_named, is_named, stands}
-use Rattle.aig_refutation.specs.Tables.{FindsHints, Holds, Moves, Table, place_in, places_of}
+use Rattle.aig_refutation.specs.Tables.{FindsHints, Holds, Moves, Table, place_in}
 use Rattle.aig_refutation.specs.Words.{said_numbers}
 use Rattle.aig_refutation.proofs.Adding.{added_literal, added_not, added_on, added_unnamed}
 use Rattle.aig_refutation.proofs.Apart.{groups_named}

@@ -1,4 +1,4 @@
-use Rattle.aig_base.proofs.Words.{◌<◌, ℕ, List, length, sym, ap, ◌∙◌, arith}
+use Rattle.aig_base.proofs.Words.{◌<◌, List, length, sym, ap, ◌∙◌, arith}
 use Rattle.aig_base.specs.declared.logic.literal.Lit.{Lit}
 use Rattle.aig_refutation.specs.Words.{said_numbers}
 use Rattle.aig_refutation.proofs.Apart.{rat_all, rat_not}

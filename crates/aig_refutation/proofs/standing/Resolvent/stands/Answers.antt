@@ -1,4 +1,4 @@
-use Rattle.aig_base.proofs.Words.{◌≡◌, ℕ, ◌||◌, Bool, true, false, List, slice_get, is_some, list_all, sym, ap, ◌∙◌, and_parts, IfOk-weaker}
+use Rattle.aig_base.proofs.Words.{◌≡◌, ℕ, ◌||◌, Bool, true, List, slice_get, is_some, list_all, sym, ap, ◌∙◌, and_parts, IfOk-weaker}
 use Rattle.aig_base.specs.declared.logic.literal.Lit.{Lit}
 use Rattle.aig_refutation.specs.Checking.{Live, are_named, follows, is_named}
 use Rattle.aig_refutation.specs.Propagation.{is_rup, is_tautology}
