@@ -173,10 +173,10 @@ class Race:
         return self.print_safe(claim)
 
     def print_safe(self, claim):
-        """Prints a claim that no step has what is asked about; of two files, what follows of them."""
-        prefix, safe = self.source.prefix, self.source.safe
-        self.print_claim(claim, prefix, prefix + claim.line == safe)
-        if prefix + claim.line != safe:
+        """Prints a claim that no step has what is asked about; or one about a file that was made of others, and what follows of these."""
+        safe = self.source.safe
+        self.print_claim(claim, "" if claim.line == safe else self.source.prefix, claim.line == safe)
+        if claim.line != safe:
             self.print_line(safe, True)
             if self.evidence:
                 self.evidence.add("echo", safe)

@@ -274,8 +274,17 @@ class Pair(Asked):
         """That a question has no solution: of a step, that both are equal there."""
         if question.command != "query":
             return super().unsolvable(question, proof)
-        files = {self.first.name: self.first.file, self.other.name: self.other.file, question.name: proof}
-        return Claim(f"equal at step {question.k}", ["equal", self.first.name, self.other.name, str(question.k), question.name], files)
+        return self.compares(f"equal at step {question.k}", [str(question.k), question.name], {question.name: proof})
+
+    def proved(self, question, base, window, step):
+        """That both are equal at every step, by proofs about the miter: of the steps up to K and of a window."""
+        words = ["to", str(question.k), question.name, window.name, *window.form]
+        return self.compares(self.safe, words, {question.name: base, window.name: step})
+
+    def compares(self, line, words, proofs):
+        """What aigcheck says of both files."""
+        files = {self.first.name: self.first.file, self.other.name: self.other.file, **proofs}
+        return Claim(line, ["equal", self.first.name, self.other.name, *words], files)
 
     def compared(self):
         """The letter and the position of what each bad state property of the miter compares: outputs, and then bad state properties."""

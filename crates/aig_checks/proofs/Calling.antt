@@ -17,6 +17,8 @@ use Rattle.aig_checks.specs.declared.command.Command.{Command}
 use Rattle.aig_checks.specs.declared.command.Command.TheVariants as commands
 use Rattle.aig_checks.specs.declared.command.FileCommand.{FileCommand}
 use Rattle.aig_checks.specs.declared.command.FileCommand.TheVariants as on_file
+use Rattle.aig_checks.specs.declared.command.PairCommand.{PairCommand}
+use Rattle.aig_checks.specs.declared.command.PairCommand.TheVariants as on_pair
 use Rattle.aig_checks.specs.declared.command.TheConstants.Action.{ALL}
 use Rattle.aig_checks.specs.Words.{Give, IsCall, beside_of, command_of, form_of, name_of}
 
@@ -35,6 +37,7 @@ among actions.Bounded = (9, omega arith, refl)
 among actions.RefutedTo = (10, omega arith, refl)
 among actions.WitnessTo = (11, omega arith, refl)
 among actions.Safe = (12, omega arith, refl)
+among actions.AlwaysEqual = (13, omega arith, refl)
 
 -- what holds of each in the list holds of each
 pub each : (P : Action → Type 0) → All P ALL → (a : Action) → P a
@@ -97,6 +100,12 @@ one_beside (on_file.Clauses k o) no_clauses no_window no_bounded = absurd (no_cl
 one_beside (on_file.Window k form o) no_clauses no_window no_bounded = absurd (no_window k form o refl)
 one_beside (on_file.Bounded k o) no_clauses no_window no_bounded = absurd (no_bounded k o refl)
 one_beside c no_clauses no_window no_bounded = refl
+
+pub two_beside : (c : PairCommand) → ((k : ℕ) (o : Bool) → c ≢ on_pair.Equal k o)
+    → ((o : Bool) → c ≢ on_pair.Obligations o) → beside_of (commands.Pair c) ≡ 2
+two_beside (on_pair.Equal k o) no_equal no_obligations = absurd (no_equal k o refl)
+two_beside (on_pair.Obligations o) no_equal no_obligations = absurd (no_obligations o refl)
+two_beside c no_equal no_obligations = refl
 
 -- the names in a list of none, of one and of two
 pub no_names : (xs : List (String Global)) → length xs ≡ 0 → map string_bytes xs ≡ []

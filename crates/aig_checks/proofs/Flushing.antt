@@ -115,8 +115,8 @@ module _ {W : Type 0} (held : W → Option (List ℕ)) (write_failed : W → Boo
         end : (x : Result Unit CheckError) → EndsBy (write_failed flat) x
             → ReadsPair left failed left_of failed_of limit (TellsOfPair held write_failed c limit (base_left p) (step_left q) w flat) verdict_of other_verdict_of (IsErrorOfPair c) r s x rest other
             → RunsPair left failed left_of failed_of base_left base_failed step_left step_failed held write_failed c limit r s p q w x rest other used spent flat
-        end (Ok v) sound reads = record { reads = reads; kept = tt; base_unread = tt; step_unread = tt; base_stream = λ is. cc; step_stream = λ is. cc }
-        end (Err errors.Write) lost reads = record { reads = reads; kept = λ not. absurd (not refl); base_unread = λ no. absurd no; step_unread = λ no. absurd no; base_stream = λ is. cc; step_stream = λ is. cc }
+        end (Ok v) sound reads = record { reads = reads; kept = tt; base_unread = tt; step_unread = tt; base_stream = λ is. cc; step_stream = λ is. cc; miter_base_stream = λ is. cc; miter_step_stream = λ is. cc }
+        end (Err errors.Write) lost reads = record { reads = reads; kept = λ not. absurd (not refl); base_unread = λ no. absurd no; step_unread = λ no. absurd no; base_stream = λ is. cc; step_stream = λ is. cc; miter_base_stream = λ is. cc; miter_step_stream = λ is. cc }
         end (Err e) never reads = absurd never
 
     safe_ended : {R P Q : Type 0} (left : R → Option (List ℕ)) (failed : R → Bool)

@@ -1,10 +1,12 @@
 mod Commenting
 mod Calling
+mod Equating
 mod Flushing
 mod Outcomes
 mod Pairing
 mod Placing
 mod Proving
+mod SafeAgain
 mod Shown
 mod Examples
 pub mod Refusing

@@ -4,6 +4,7 @@ use Rattle.std.specs.Prelude.{IsTrue, Result, codes}
 use Rattle.aig_answers.specs.declared.error.AnswerError.{AnswerError}
 use Rattle.aig_answers.specs.declared.windows.WindowClauses.{WindowClauses}
 use Rattle.aig_answers.specs.declared.error.AnswerError.TheVariants as answers
+use Rattle.aig_bounded_answers.specs.declared.error.BoundedAnswerError.TheVariants as bounded
 use Rattle.aig_certificates.specs.Certificates as certificates
 use Rattle.aig_certificates.specs.Certificates.{AreObligationsOf, Equals}
 use Rattle.aig_certificates.specs.declared.asking.Obligations.{Obligations}
@@ -22,41 +23,48 @@ use Rattle.aig_edits.proofs.Reading.{reads_on}
 use Rattle.aig_edits.specs.Joints.{IsJointOf}
 use Rattle.aig_edits.specs.Pairs.{ReadsPair}
 use Rattle.aig_edits.specs.declared.pairing.Pairing.TheVariants.{Certificate}
+use Rattle.aig_equality.specs.declared.error.EqualityError.{EqualityError}
+use Rattle.aig_equality.specs.declared.error.EqualityError.TheVariants as always
 use Rattle.aig_format.specs.File.{File}
 use Rattle.aig_output.proofs.Putting.{Stops-put}
 use Rattle.aig_output.specs.Sinks.{Stops, WritesOrStops}
+use Rattle.aig_reader.specs.Verdicts.{Verdict}
 use Rattle.aig_refutation.specs.declared.error.RefutationError.{RefutationError}
 use Rattle.aig_refutation.specs.declared.error.RefutationError.TheVariants as refutation
+use Rattle.aig_safety.specs.declared.error.SafetyError.TheVariants as proving
 use Rattle.aig_checks.specs.declared.command.PairCommand.{PairCommand}
 use Rattle.aig_checks.specs.declared.tool.CheckError.{CheckError}
 use Rattle.aig_checks.specs.declared.tool.CheckError.TheVariants as errors
-use Rattle.aig_checks.specs.Pairs.{IsErrorOfPair, IsObligationsText, PairAnswers, RefusesPair, RunsPair, TellsOfPair, formula_of, other_verdict_of, part_text}
+use Rattle.aig_checks.specs.Pairs.{IsErrorOfPair, IsObligationsText, LeavesBase, LeavesStep, PairAnswers, RefusesPair, RunsPair, TellsOfPair, formula_of, other_verdict_of, part_text}
 use Rattle.aig_checks.specs.Running.{verdict_of}
 use Rattle.aig_checks.specs.Printing.{clauses_with}
 use Rattle.aig_checks.proofs.Outcomes.{is_error}
 
-module _ {R S P Q W : Type 0} {left : R → Option (List ℕ)} {failed : R → Bool} {left_of : S → Option (List ℕ)} {failed_of : S → Bool} {base_left : P → Option (List ℕ)} {base_failed : P → Bool} {step_left : Q → Option (List ℕ)} {step_failed : Q → Bool} {held : W → Option (List ℕ)} {write_failed : W → Bool} {c : PairCommand} {limit : ℕ} {r rest : R} {s other : S} {p used : P} {q spent : Q} {w made : W} {T : Type 0} (Means : File → File → Result T CertificateError → Type 0) {Own : CertificateError → Type 0} where
+module _ {R S P Q W : Type 0} {left : R → Option (List ℕ)} {failed : R → Bool} {left_of : S → Option (List ℕ)} {failed_of : S → Bool} {base_left : P → Option (List ℕ)} {base_failed : P → Bool} {step_left : Q → Option (List ℕ)} {step_failed : Q → Bool} {held : W → Option (List ℕ)} {write_failed : W → Bool} {c : PairCommand} {limit : ℕ} {r rest : R} {s other : S} {p used : P} {q spent : Q} {w made : W} {T E : Type 0} (Means : File → File → Result T E → Type 0) {first second : E → Verdict} {Own : E → Type 0} where
   -- a file is refused, or a proof
-  pub pair_refused : (e : CertificateError) → ReadsPair left failed left_of failed_of limit Means certificates.first_verdict certificates.second_verdict Own r s (Err e) rest other
-      → (Own e → IsErrorOfPair c (errors.Certificate e)) → ((f g : File) → Means f g (Err e) → RefusesPair c limit (base_left p) (step_left q) f g e) → made ≡ w
-      → (certificates.LeavesQuery (Err e) → used ≡ p) → (certificates.LeavesWindow (Err e) → spent ≡ q)
-      → (e ≡ certificate.Query (answers.Refutation refutation.Stream) → IsTrue (base_failed used))
-      → (e ≡ certificate.Window (answers.Refutation refutation.Stream) → IsTrue (step_failed spent))
-      → RunsPair left failed left_of failed_of base_left base_failed step_left step_failed held write_failed c limit r s p q w (Err (errors.Certificate e)) rest other used spent made
-  pair_refused e reads own means same base step base_stream step_stream = record {
-    reads = reads_on left failed left_of failed_of limit r s rest other (TellsOfPair held write_failed c limit (base_left p) (step_left q) w made) verdict_of other_verdict_of (IsErrorOfPair c) (Err (errors.Certificate e)) reads refl refl (own reads.own) (λ f g bytes others fits also told. means f g told);
-    kept = λ not. same;
+  pub refused_so : (e : E) (x : CheckError) → x ≢ errors.Write
+      → ReadsPair left failed left_of failed_of limit Means first second Own r s (Err e) rest other
+      → verdict_of x ≡ first e → other_verdict_of x ≡ second e → (Own e → IsErrorOfPair c x)
+      → ((f g : File) → Means f g (Err e) → TellsOfPair held write_failed c limit (base_left p) (step_left q) w made f g (Err x)) → made ≡ w
+      → (LeavesBase x → used ≡ p) → (LeavesStep x → spent ≡ q)
+      → (x ≡ errors.Certificate (certificate.Query (answers.Refutation refutation.Stream)) → IsTrue (base_failed used))
+      → (x ≡ errors.Certificate (certificate.Window (answers.Refutation refutation.Stream)) → IsTrue (step_failed spent))
+      → (x ≡ errors.Equality (always.Miter (proving.Base (bounded.Refutation refutation.Stream))) → IsTrue (base_failed used))
+      → (x ≡ errors.Equality (always.Miter (proving.Step (answers.Refutation refutation.Stream))) → IsTrue (step_failed spent))
+      → RunsPair left failed left_of failed_of base_left base_failed step_left step_failed held write_failed c limit r s p q w (Err x) rest other used spent made
+  refused_so e x other_error reads same also own means kept base step query_stream window_stream base_stream step_stream = record {
+    reads = reads_on left failed left_of failed_of limit r s rest other (TellsOfPair held write_failed c limit (base_left p) (step_left q) w made) verdict_of other_verdict_of (IsErrorOfPair c) (Err x) reads same also (own reads.own) (λ f g bytes others fits also told. means f g told);
+    kept = λ not. kept;
     base_unread = base;
     step_unread = step;
-    base_stream = λ is. base_stream (inner_error e _ (is_error (Unit {0}) CheckError _ _ is));
-    step_stream = λ is. step_stream (inner_error e _ (is_error (Unit {0}) CheckError _ _ is));
+    base_stream = λ is. query_stream (is_error (Unit {0}) CheckError _ _ is);
+    step_stream = λ is. window_stream (is_error (Unit {0}) CheckError _ _ is);
+    miter_base_stream = λ is. base_stream (is_error (Unit {0}) CheckError _ _ is);
+    miter_step_stream = λ is. step_stream (is_error (Unit {0}) CheckError _ _ is);
   }
-    where
-      inner_error : (x y : CertificateError) → errors.Certificate x ≡ errors.Certificate y → x ≡ y
-      inner_error x y is = cc
 
   -- the answer was written
-  pub pair_answered : (u : T) (v : Unit {0}) (text : List ℕ) → ReadsPair left failed left_of failed_of limit Means certificates.first_verdict certificates.second_verdict Own r s (Ok u) rest other
+  pub pair_answered : (u : T) (v : Unit {0}) (text : List ℕ) → ReadsPair left failed left_of failed_of limit Means first second Own r s (Ok u) rest other
       → ((f g : File) → Means f g (Ok u) → PairAnswers c limit (base_left p) (step_left q) f g text) → Appends (held w) (held made) text → write_failed made ≡ false
       → RunsPair left failed left_of failed_of base_left base_failed step_left step_failed held write_failed c limit r s p q w (Ok v) rest other used spent made
   pair_answered u v text reads means written sound = record {
@@ -66,10 +74,12 @@ module _ {R S P Q W : Type 0} {left : R → Option (List ℕ)} {failed : R → B
     step_unread = tt;
     base_stream = λ is. absurd cc;
     step_stream = λ is. absurd cc;
+    miter_base_stream = λ is. absurd cc;
+    miter_step_stream = λ is. absurd cc;
   }
 
   -- the writer failed after a beginning of it
-  pub pair_stopped : (u : T) (text : List ℕ) → ReadsPair left failed left_of failed_of limit Means certificates.first_verdict certificates.second_verdict Own r s (Ok u) rest other
+  pub pair_stopped : (u : T) (text : List ℕ) → ReadsPair left failed left_of failed_of limit Means first second Own r s (Ok u) rest other
       → ((f g : File) → Means f g (Ok u) → PairAnswers c limit (base_left p) (step_left q) f g text) → Stops (held w) (held made) (write_failed made) text
       → RunsPair left failed left_of failed_of base_left base_failed step_left step_failed held write_failed c limit r s p q w (Err errors.Write) rest other used spent made
   pair_stopped u text reads means stops = record {
@@ -79,7 +89,28 @@ module _ {R S P Q W : Type 0} {left : R → Option (List ℕ)} {failed : R → B
     step_unread = λ no. absurd no;
     base_stream = λ is. absurd cc;
     step_stream = λ is. absurd cc;
+    miter_base_stream = λ is. absurd cc;
+    miter_step_stream = λ is. absurd cc;
   }
+
+inner_error : (x y : CertificateError) → errors.Certificate x ≡ errors.Certificate y → x ≡ y
+inner_error x y is = cc
+
+no_equality : (x : CertificateError) (y : EqualityError) → errors.Certificate x ≢ errors.Equality y
+no_equality x y is = cc
+
+module _ {R S P Q W : Type 0} {left : R → Option (List ℕ)} {failed : R → Bool} {left_of : S → Option (List ℕ)} {failed_of : S → Bool} {base_left : P → Option (List ℕ)} {base_failed : P → Bool} {step_left : Q → Option (List ℕ)} {step_failed : Q → Bool} {held : W → Option (List ℕ)} {write_failed : W → Bool} {c : PairCommand} {limit : ℕ} {r rest : R} {s other : S} {p used : P} {q spent : Q} {w made : W} {T : Type 0} (Means : File → File → Result T CertificateError → Type 0) {Own : CertificateError → Type 0} where
+  -- so of a certificate, and of machines at a step
+  pub pair_refused : (e : CertificateError) → ReadsPair left failed left_of failed_of limit Means certificates.first_verdict certificates.second_verdict Own r s (Err e) rest other
+      → (Own e → IsErrorOfPair c (errors.Certificate e)) → ((f g : File) → Means f g (Err e) → RefusesPair c limit (base_left p) (step_left q) f g e) → made ≡ w
+      → (certificates.LeavesQuery (Err e) → used ≡ p) → (certificates.LeavesWindow (Err e) → spent ≡ q)
+      → (e ≡ certificate.Query (answers.Refutation refutation.Stream) → IsTrue (base_failed used))
+      → (e ≡ certificate.Window (answers.Refutation refutation.Stream) → IsTrue (step_failed spent))
+      → RunsPair left failed left_of failed_of base_left base_failed step_left step_failed held write_failed c limit r s p q w (Err (errors.Certificate e)) rest other used spent made
+  pair_refused e reads own means same base step base_stream step_stream =
+      refused_so Means e (errors.Certificate e) (λ is. cc) reads refl refl own means same base step
+      (λ is. base_stream (inner_error e _ is)) (λ is. step_stream (inner_error e _ is))
+      (λ is. absurd (no_equality e _ is)) (λ is. absurd (no_equality e _ is))
 
 -- equal machines have no window
 pub no_window : {R S : Type 0} {left : R → Option (List ℕ)} {failed : R → Bool} {left_of : S → Option (List ℕ)} {failed_of : S → Bool} {limit k : ℕ} {optimize : Bool} {proof : Option (List ℕ)} {r rest : R} {s other : S} (e : CertificateError) (x : AnswerError)

@@ -13,6 +13,8 @@ use Rattle.aig_edits.specs.declared.error.PairError.{PairError}
 use Rattle.aig_edits.specs.declared.error.PairError.TheVariants as pair
 use Rattle.aig_encode.specs.declared.error.EncodeError.{EncodeError}
 use Rattle.aig_encode.specs.declared.error.EncodeError.TheVariants as encode
+use Rattle.aig_equality.specs.declared.error.EqualityError.{EqualityError}
+use Rattle.aig_equality.specs.declared.error.EqualityError.TheVariants as equality
 use Rattle.aig_reader.specs.declared.error.ReadError.{ReadError}
 use Rattle.aig_reader.specs.declared.error.ReadError.TheVariants as read
 use Rattle.aig_refutation.specs.declared.error.RefutationError.{RefutationError}
@@ -137,6 +139,11 @@ about_safety (safety.File e) = about_answer subjects.Given e
 about_safety (safety.Base e) = about_bounded e
 about_safety (safety.Step e) = about_answer subjects.Step e
 
+-- one of two files, or of the proofs that their machines are equal at every step
+abbrev pub about_equality : EqualityError → About
+about_equality (equality.Pair e) = about_pair e
+about_equality (equality.Miter e) = about_safety e
+
 -- what an error of the program is about
 abbrev pub about_error : CheckError → About
 about_error errors.Open = whole subjects.Unopened
@@ -149,3 +156,4 @@ about_error (errors.Certificate e) = about_certificate e
 about_error (errors.Bounded e) = about_bounded e
 about_error (errors.Settled k) = whole subjects.File
 about_error (errors.Safe e) = about_safety e
+about_error (errors.Equality e) = about_equality e

@@ -1,7 +1,8 @@
 -- Part of what is promised.
 -- What is told of an error: the path of the file that it is about, and the place where reading that
 -- file stopped.
-use Rattle.std.specs.Prelude.{◌≡◌, ℕ, ◌⊎◌, Bool, List, [], ◌∷◌, ◌++◌, Contains, Option, None, Result, Ok, Err, IfSome, slice_get}
+use Rattle.std.specs.Prelude.{◌≡◌, ℕ, ◌+◌, ◌⊎◌, Bool, List, [], ◌∷◌, ◌++◌, Contains, Option, None, Result, Ok, Err, IfSome, slice_get}
+use Rattle.aig_answers.specs.Answers.{IsAsked}
 use Rattle.aig_command_line.specs.Came.{IsPlaceIn}
 use Rattle.aig_command_line.specs.Faults.{error_of, path_of, place_in}
 use Rattle.aig_command_line.specs.Places.{IsPlaced}
@@ -13,7 +14,10 @@ use Rattle.aig_command_line.specs.declared.tally.Place.{Place}
 use Rattle.aig_command_line.specs.declared.tally.Place.TheVariants.{Whole}
 use Rattle.aig_edits.specs.Pairs.{AreReadAs}
 use Rattle.aig_format.specs.File.{File}
+use Rattle.aig_reader.specs.Reading.{IsReadAs}
 use Rattle.aig_reader.specs.Verdicts.{Accepted}
+use Rattle.aig_runs.specs.declared.window.Window.{Window}
+use Rattle.aig_safety.specs.Safety.{Shows}
 use Rattle.aig_checks.specs.declared.about.Search.{Search}
 use Rattle.aig_checks.specs.declared.about.Search.TheVariants as searches
 use Rattle.aig_checks.specs.declared.about.Subject.{Subject}
@@ -25,7 +29,7 @@ use Rattle.aig_checks.specs.declared.command.PairCommand.{PairCommand}
 use Rattle.aig_checks.specs.declared.tool.CheckError.{CheckError}
 use Rattle.aig_checks.specs.declared.tool.CheckError.TheVariants as errors
 use Rattle.aig_checks.specs.About.{about_error}
-use Rattle.aig_checks.specs.Pairs.{RefusesPair, other_verdict_of}
+use Rattle.aig_checks.specs.Pairs.{RefusesAlways, RefusesPair, other_verdict_of, own_text}
 use Rattle.aig_checks.specs.Running.{TellsOfGiven, verdict_of}
 use Rattle.aig_checks.specs.Words.{IsCall}
 
@@ -61,6 +65,8 @@ pub record IsRefusedBeside (limit : ℕ) (c : FileCommand) (file known : Option 
 abbrev pub RefusesFor : ℕ → PairCommand → File → File → CheckError → Type 0
 RefusesFor limit c f g (errors.Certificate e) =
     (base : Option (List ℕ)) × (step : Option (List ℕ)) × RefusesPair c limit base step f g e
+RefusesFor limit c f g (errors.Equality e) =
+    (base : Option (List ℕ)) × (step : Option (List ℕ)) × RefusesAlways c limit base step f g e
 RefusesFor limit c f g e = Unit {0}
 
 -- a proof about two files was read up to this place, and refused so by the command
@@ -73,6 +79,22 @@ pub record IsRefusedOnPair (limit : ℕ) (c : PairCommand) (file other known : O
   pub refused : verdict_of e ≡ Accepted → other_verdict_of e ≡ Accepted
       → AreReadAs limit (RefusesFor limit c) file rest other other_rest e
 
+-- why it isn't shown that a file's machine is safe, by some proofs
+abbrev pub RefusesSafe : ℕ → Window → Bool → File → CheckError → Type 0
+RefusesSafe k form optimize f (errors.Safe e) =
+    (base : Option (List ℕ)) × (step : Option (List ℕ))
+    × Shows own_text own_text k optimize form optimize base base step f (Err e)
+RefusesSafe k form optimize f e = Unit {0}
+
+-- a proof that a file's machine is safe was read up to this place, and refused so
+pub record IsRefusedOnSafe (limit k : ℕ) (form : Window) (optimize : Bool)
+    (file known : Option (List ℕ)) (e : CheckError) (measure : Measure) (place : Place)
+    : Type 0 where
+  pub at : IsPlaceIn known measure place
+  pub rest : Option (List ℕ)
+  pub refused : verdict_of e ≡ Accepted
+      → IsReadAs (IsAsked limit (k + 1)) (RefusesSafe k form optimize) file rest e
+
 -- the same of bytes that are given to a command on the files at its paths
 abbrev pub IsRefusedBy : {F : Type 0} → (List ℕ → Result F OpenError → Type 0)
     → (F → Option (List ℕ)) → ℕ → Command → List (List ℕ) → Option (List ℕ) → CheckError → Measure
@@ -82,6 +104,10 @@ IsRefusedBy {F} opens left limit (commands.File c) (path ∷ []) known e measure
 IsRefusedBy {F} opens left limit (commands.Pair c) (path ∷ beside ∷ []) known e measure place =
     (file : F) × (other : F) × opens path (Ok file) × opens beside (Ok other)
     × IsRefusedOnPair limit c (left file) (left other) known e measure place
+IsRefusedBy {F} opens left limit (commands.Safe k form optimize) (path ∷ []) known e measure
+    place =
+    (file : F) × opens path (Ok file)
+    × IsRefusedOnSafe limit k form optimize (left file) known e measure place
 IsRefusedBy opens left limit c paths known e measure place = ⊥
 
 -- the file at the path was opened again, read up to this place, and refused so

@@ -6,6 +6,7 @@ use Rattle.std.specs.Io.KnownBytes.{Appends}
 use Rattle.aig_base.specs.declared.logic.literal.Lit.{Lit}
 use Rattle.aig_base.specs.Formula.{clauses_in}
 use Rattle.aig_answers.specs.declared.error.AnswerError.TheVariants as answers
+use Rattle.aig_bounded_answers.specs.declared.error.BoundedAnswerError.TheVariants as bounded
 use Rattle.aig_certificates.specs.Certificates as certificates
 use Rattle.aig_certificates.specs.Certificates.{AreObligations, Certifies, Equals, Obliges}
 use Rattle.aig_certificates.specs.declared.error.CertificateError.{CertificateError}
@@ -14,10 +15,16 @@ use Rattle.aig_answers.specs.declared.windows.WindowClauses.{WindowClauses}
 use Rattle.aig_dimacs.specs.Reading.{parse_formula}
 use Rattle.aig_dimacs.specs.Text.{dimacs_of}
 use Rattle.aig_edits.specs.Pairs.{ReadsPair}
+use Rattle.aig_equality.specs.Equality as equality
+use Rattle.aig_equality.specs.Equality.{AlwaysEquals}
+use Rattle.aig_equality.specs.declared.error.EqualityError.{EqualityError}
+use Rattle.aig_equality.specs.declared.error.EqualityError.TheVariants as always
 use Rattle.aig_format.specs.File.{File}
 use Rattle.aig_output.specs.Sinks.{Stops}
 use Rattle.aig_reader.specs.Verdicts.{Accepted, Refused, Verdict}
 use Rattle.aig_refutation.specs.declared.error.RefutationError.TheVariants as refutation
+use Rattle.aig_runs.specs.declared.window.Window.{Window}
+use Rattle.aig_safety.specs.declared.error.SafetyError.TheVariants as proving
 use Rattle.aig_checks.specs.declared.command.PairCommand.{PairCommand}
 use Rattle.aig_checks.specs.declared.command.PairCommand.TheVariants as commands
 use Rattle.aig_checks.specs.declared.tool.CheckError.{CheckError}
@@ -33,6 +40,10 @@ safe_line = codes "no bad state at any step" ++ 10 ∷ []
 -- the line of machines that are equal at a step
 abbrev pub equal_line : ℕ → List ℕ
 equal_line k = codes "equal at step " ++ (decimal k ++ 10 ∷ [])
+
+-- the line of machines that are equal at every step
+abbrev pub always_line : List ℕ
+always_line = codes "equal at every step" ++ 10 ∷ []
 
 -- the clauses with the further ones
 abbrev pub formula_of : WindowClauses → List (List Lit)
@@ -58,6 +69,16 @@ pub record IsObligationsText (optimize : Bool) (f g : File) (text : List ℕ) : 
   pub step_again : parse_formula step
       ≡ Some (length step_clauses.clauses, formula_of step_clauses)
 
+-- a text that is given is its own
+abbrev pub own_text : Option (List ℕ) → Option (List ℕ)
+own_text text = text
+
+-- the machines are equal at every step, or it is said why the proofs of these texts don't show so
+abbrev pub AlwaysEqualsBy : ℕ → ℕ → Window → Bool → Option (List ℕ) → Option (List ℕ) → File → File
+    → Result Unit EqualityError → Type 0
+AlwaysEqualsBy limit k form optimize base step =
+    AlwaysEquals own_text own_text limit k optimize form optimize base base step
+
 -- What the command puts into its writer for FILE and the file beside it, whose counts fit, what is
 -- then so of their machines, and what the texts of BASE, or of the proof of `equal`, and of STEP
 -- show of the clauses that they are of.
@@ -69,12 +90,15 @@ PairAnswers (commands.Equal k optimize) limit base step f g text =
     (text ≡ equal_line k) × Equals limit k optimize base f g (Ok tt)
 PairAnswers (commands.Obligations optimize) limit base step f g text =
     IsObligationsText optimize f g text
+PairAnswers (commands.AlwaysEqual k form optimize) limit base step f g text =
+    (text ≡ always_line) × AlwaysEqualsBy limit k form optimize base step f g (Ok tt)
 
 -- ---- errors
 
 -- what an error says of the bytes of the file beside FILE
 abbrev pub other_verdict_of : CheckError → Verdict
 other_verdict_of (errors.Certificate e) = certificates.second_verdict e
+other_verdict_of (errors.Equality e) = equality.second_verdict e
 other_verdict_of errors.Write = Accepted
 other_verdict_of e = Refused
 
@@ -82,6 +106,8 @@ other_verdict_of e = Refused
 abbrev pub IsErrorOfPair : PairCommand → CheckError → Type 0
 IsErrorOfPair c errors.Write = Unit {0}
 IsErrorOfPair (commands.Obligations optimize) (errors.Certificate e) = certificates.IsOfClauses e
+IsErrorOfPair (commands.AlwaysEqual k form optimize) (errors.Certificate e) = ⊥
+IsErrorOfPair (commands.AlwaysEqual k form optimize) (errors.Equality e) = equality.IsOwn e
 IsErrorOfPair c (errors.Certificate e) = certificates.IsOwn e
 IsErrorOfPair c e = ⊥
 
@@ -94,15 +120,25 @@ RefusesPair (commands.Equal k optimize) limit base step f g e =
     Equals limit k optimize base f g (Err e)
 RefusesPair (commands.Obligations optimize) limit base step f g e =
     Obliges limit optimize f g (Err e)
+RefusesPair (commands.AlwaysEqual k form optimize) limit base step f g e = ⊥
+
+-- why it isn't shown that they are equal at every step
+abbrev pub RefusesAlways : PairCommand → ℕ → Option (List ℕ) → Option (List ℕ) → File → File
+    → EqualityError → Type 0
+RefusesAlways (commands.AlwaysEqual k form optimize) limit base step f g e =
+    AlwaysEqualsBy limit k form optimize base step f g (Err e)
+RefusesAlways c limit base step f g e = ⊥
 
 -- BASE, or the proof of `equal`, isn't read
 abbrev pub LeavesBase : CheckError → Type 0
 LeavesBase (errors.Certificate e) = certificates.LeavesQuery (Err e)
+LeavesBase (errors.Equality e) = equality.LeavesBase (Err e)
 LeavesBase e = ⊥
 
 -- STEP isn't read
 abbrev pub LeavesStep : CheckError → Type 0
 LeavesStep (errors.Certificate e) = certificates.LeavesWindow (Err e)
+LeavesStep (errors.Equality e) = equality.LeavesStep (Err e)
 LeavesStep e = ⊥
 
 -- ---- runs
@@ -119,6 +155,8 @@ TellsOfPair held write_failed c limit base step w made f g (Err errors.Write) =
     × Stops (held w) (held made) (write_failed made) text
 TellsOfPair held write_failed c limit base step w made f g (Err (errors.Certificate e)) =
     RefusesPair c limit base step f g e
+TellsOfPair held write_failed c limit base step w made f g (Err (errors.Equality e)) =
+    RefusesAlways c limit base step f g e
 TellsOfPair held write_failed c limit base step w made f g (Err e) = ⊥
 
 -- What a command does: r, s, p, q and w are before it the readers of FILE, of the file beside it,
@@ -145,4 +183,10 @@ pub record RunsPair {R S P Q W : Type 0} (left : R → Option (List ℕ)) (faile
       → IsTrue (base_failed used)
   pub step_stream : IsErrOf result
       (errors.Certificate (certificate.Window (answers.Refutation refutation.Stream)))
+      → IsTrue (step_failed spent)
+  pub miter_base_stream : IsErrOf result
+      (errors.Equality (always.Miter (proving.Base (bounded.Refutation refutation.Stream))))
+      → IsTrue (base_failed used)
+  pub miter_step_stream : IsErrOf result
+      (errors.Equality (always.Miter (proving.Step (answers.Refutation refutation.Stream))))
       → IsTrue (step_failed spent)

@@ -37,6 +37,7 @@ use Rattle.aig_bounded_answers.specs.declared.error.BoundedAnswerError.TheVarian
 use Rattle.aig_bounded_answers.specs.Asking as bounding
 use Rattle.aig_bounded_answers.specs.Asking.{IsAskedWithin, IsOfCheck, IsOfQuestion, IsOfWitness, bounded_verdict}
 use Rattle.aig_certificates.specs.Certificates as certificates
+use Rattle.aig_equality.specs.Equality as equality
 use Rattle.aig_safety.specs.Safety as safety
 use Rattle.aig_solutions.specs.declared.error.SolutionError.{SolutionError}
 use Rattle.aig_solutions.specs.Checked.{RefusesSolution, SaysWitness}
@@ -163,6 +164,7 @@ verdict_of errors.Open = Refused
 verdict_of (errors.Bounded e) = bounding.verdict_of e
 verdict_of (errors.Settled k) = Accepted
 verdict_of (errors.Safe e) = safety.verdict_of e
+verdict_of (errors.Equality e) = equality.first_verdict e
 
 -- the status of the process that it ends with: 20 is that of a SAT solver whose clauses can't be
 -- satisfied

@@ -30,6 +30,7 @@ name_of actions.Bounded = codes "bounded"
 name_of actions.RefutedTo = codes "refuted"
 name_of actions.WitnessTo = codes "witness"
 name_of actions.Safe = codes "safe"
+name_of actions.AlwaysEqual = codes "equal"
 
 -- so many paths and a step, so many further paths, `distinct` or nothing where it may be there, and
 -- `raw` or nothing
@@ -59,6 +60,7 @@ form_of actions.Bounded = on_step 1 At 0 false
 form_of actions.RefutedTo = on_step 1 UpTo 1 false
 form_of actions.WitnessTo = on_step 1 UpTo 1 false
 form_of actions.Safe = on_step 1 UpTo 2 true
+form_of actions.AlwaysEqual = on_step 2 UpTo 2 true
 
 -- the form of windows
 abbrev pub window_of : Bool → Window
@@ -82,6 +84,8 @@ command_of actions.Bounded k distinct optimize = commands.File (on_file.Bounded 
 command_of actions.RefutedTo k distinct optimize = commands.File (on_file.RefutedTo k optimize)
 command_of actions.WitnessTo k distinct optimize = commands.File (on_file.WitnessTo k optimize)
 command_of actions.Safe k distinct optimize = commands.Safe k (window_of distinct) optimize
+command_of actions.AlwaysEqual k distinct optimize =
+    commands.Pair (on_pair.AlwaysEqual k (window_of distinct) optimize)
 
 -- the words give the limit, and then the command, with its files and what is given beside them
 pub record IsCall (words : List (List ℕ)) (limit : ℕ) (c : Command) (paths further : List (List ℕ))
@@ -113,6 +117,7 @@ step_of (commands.File (on_file.Bounded k optimize)) = k
 step_of (commands.File (on_file.RefutedTo k optimize)) = k
 step_of (commands.File (on_file.WitnessTo k optimize)) = k
 step_of (commands.Pair (on_pair.Equal k optimize)) = k
+step_of (commands.Pair (on_pair.AlwaysEqual k form optimize)) = k
 step_of (commands.Safe k form optimize) = k
 step_of c = 0
 
@@ -129,5 +134,6 @@ beside_of (commands.File (on_file.Window k form optimize)) = 0
 beside_of (commands.File (on_file.Bounded k optimize)) = 0
 beside_of (commands.Pair (on_pair.Certified optimize)) = 2
 beside_of (commands.Pair (on_pair.Obligations optimize)) = 0
+beside_of (commands.Pair (on_pair.AlwaysEqual k form optimize)) = 2
 beside_of (commands.Safe k form optimize) = 2
 beside_of c = 1

@@ -11,6 +11,7 @@ use aig_certificates::CertificateError;
 use aig_command_line::Measure;
 use aig_edits::PairError;
 use aig_encode::EncodeError;
+use aig_equality::EqualityError;
 use aig_reader::ReadError;
 use aig_refutation::RefutationError;
 use aig_safety::SafetyError;
@@ -225,6 +226,16 @@ fn about_safety(error: SafetyError) -> About
     }
 }
 
+/// What an error of the proofs that two machines are equal is about.
+fn about_equality(error: EqualityError) -> About
+    ensures { result ≡ specs.about_equality error }
+{
+    match error {
+        EqualityError::Pair(error) => about_pair(error),
+        EqualityError::Miter(error) => about_safety(error),
+    }
+}
+
 /// What an error of the program is about.
 pub(crate) fn about_error(error: CheckError) -> About
     ensures { result ≡ specs.about_error error }
@@ -239,5 +250,6 @@ pub(crate) fn about_error(error: CheckError) -> About
         CheckError::Bounded(error) => about_bounded(error),
         CheckError::Settled(_) => whole(Subject::File),
         CheckError::Safe(error) => about_safety(error),
+        CheckError::Equality(error) => about_equality(error),
     }
 }

@@ -7,11 +7,13 @@ ghost use Rattle.aig_command_line.specs.Limits.{IsLimit};
 ghost use Rattle.aig_checks.specs.Acting.{Acts, Obeys, RunsFile, RunsProofs};
 ghost use Rattle.aig_checks.specs.Asked.{answer_of};
 ghost use Rattle.aig_checks.specs.Opening.{unopened};
+ghost use Rattle.aig_checks.specs.Pairs.{RunsPair};
 ghost use Rattle.aig_checks.specs.Running.{Runs};
 ghost use Rattle.aig_checks.specs.Words.{beside_of, paths_of, step_of};
 
 use crate::bounded::{print_bounded, print_refuted_to, print_witness_to};
 use crate::command::{Call, Command, FileCommand, PairCommand, call_of};
+use crate::equality::print_always_equal;
 use crate::pairs::{print_certified, print_equal, print_obligations};
 use crate::safe::print_safe;
 use crate::tool::{
@@ -29,7 +31,7 @@ pub const USAGE: &str =
     inductive FILE K PROOF [distinct] [raw], witness FILE K SOLUTION [raw], run FILE WITNESS, \
     certified FILE CERT BASE STEP [raw], equal FILE OTHER K PROOF [raw], obligations FILE CERT [raw], \
     bounded FILE K [raw], refuted FILE to K PROOF [raw], witness FILE to K SOLUTION [raw], \
-    safe FILE to K BASE STEP [distinct] [raw]";
+    safe FILE to K BASE STEP [distinct] [raw], equal FILE OTHER to K BASE STEP [distinct] [raw]";
 
 /// Its version.
 pub const VERSION: &str = "aigcheck 0.1.0";
@@ -129,26 +131,57 @@ fn run_on<F: Opens, R: Source, W: Sink>(
     }
 }
 
-/// Checks the proofs at two paths that a certificate shows that a file's machine is safe.
-fn run_certified<F: Opens, R: Source, S: Source, W: Sink>(
+/// Runs a command on two files and on two proofs about them.
+pub(crate) fn run_proved<R: Source, S: Source, P: Source, Q: Source, W: Sink>(
+    alloc: Global,
+    limit: usize,
+    command: PairCommand,
+    r: &mut R,
+    s: &mut S,
+    base: &mut P,
+    step: &mut Q,
+    w: &mut W,
+) -> Result<(), CheckError>
+    requires limit { IsLimit limit }
+    requires beside { beside_of (Command.Pair command) ≡ 2 }
+    requires small { step_of (Command.Pair command) < 2 ^ 32 }
+    ensures { RunsPair R.left R.failed S.left S.failed P.left P.failed Q.left Q.failed W.held
+        W.failed command limit r.old s.old base.old step.old w.old result r.new s.new base.new
+        step.new w.new }
+{
+    match command {
+        PairCommand::Certified { optimize } => {
+            print_certified(alloc, limit, optimize, r, s, base, step, w)
+        }
+        PairCommand::AlwaysEqual { k, form, optimize } => {
+            print_always_equal(alloc, limit, k, form, optimize, r, s, base, step, w)
+        }
+        PairCommand::Equal { .. } | PairCommand::Obligations { .. } => unreachable!(),
+    }
+}
+
+/// Runs a command on two files, and on the proofs at two paths beside them.
+fn run_both<F: Opens, R: Source, S: Source, W: Sink>(
     alloc: Global,
     limit: usize,
     files: &F,
-    optimize: bool,
+    command: PairCommand,
     base: &str,
     step: &str,
     r: &mut R,
     s: &mut S,
     w: &mut W,
 ) -> Result<(), CheckError>
-    requires { IsLimit limit }
+    requires limit { IsLimit limit }
+    requires beside { beside_of (Command.Pair command) ≡ 2 }
+    requires small { step_of (Command.Pair command) < 2 ^ 32 }
     ensures { RunsProofs (F.opens files.now) R.left R.failed S.left S.failed F.File.left
-        F.File.failed W.held W.failed limit (PairCommand.Certified optimize)
-        (base.now ∷ step.now ∷ []) r.old s.old w.old result r.new s.new w.new }
+        F.File.failed W.held W.failed limit command (base.now ∷ step.now ∷ []) r.old s.old w.old
+        result r.new s.new w.new }
 {
     let mut base = files.open(base)?;
     let mut step = files.open(step)?;
-    print_certified(alloc, limit, optimize, r, s, &mut base, &mut step, w)
+    run_proved(alloc, limit, command, r, s, &mut base, &mut step, w)
 }
 
 /// Checks the proof at a path that two files' machines are equal at step `k`.
@@ -185,15 +218,12 @@ fn run_on_pair<F: Opens, R: Source, S: Source, W: Sink>(
 ) -> Result<(), CheckError>
     requires limit { IsLimit limit }
     requires further { length further.now ≡ beside_of (Command.Pair command) }
+    requires small { step_of (Command.Pair command) < 2 ^ 32 }
     ensures { RunsProofs (F.opens files.now) R.left R.failed S.left S.failed F.File.left
         F.File.failed W.held W.failed limit command (map string_bytes further.now) r.old s.old w.old
         result r.new s.new w.new }
 {
     match command {
-        PairCommand::Certified { optimize } => {
-            let (base, step) = (further[0].as_str(), further[1].as_str());
-            run_certified(alloc, limit, files, optimize, base, step, r, s, w)
-        }
         PairCommand::Equal { k, optimize } => {
             run_equal(
                 alloc,
@@ -208,6 +238,10 @@ fn run_on_pair<F: Opens, R: Source, S: Source, W: Sink>(
             )
         }
         PairCommand::Obligations { optimize } => print_obligations(alloc, limit, optimize, r, s, w),
+        _ => {
+            let (base, step) = (further[0].as_str(), further[1].as_str());
+            run_both(alloc, limit, files, command, base, step, r, s, w)
+        }
     }
 }
 
@@ -244,6 +278,7 @@ fn run_pair<F: Opens, W: Sink>(
 ) -> Result<(), CheckError>
     requires limit { IsLimit limit }
     requires further { length further.now ≡ beside_of (Command.Pair command) }
+    requires small { step_of (Command.Pair command) < 2 ^ 32 }
     ensures { Acts (F.opens files.now) F.File.left F.File.failed W.held W.failed limit
         (Command.Pair command) (path.now ∷ beside.now ∷ []) (map string_bytes further.now) w.old
         result w.new }

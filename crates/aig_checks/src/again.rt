@@ -9,16 +9,19 @@ ghost use Rattle.aig_checks.specs.Words.{beside_of, paths_of, step_of};
 ghost use Rattle.aig_checks.specs.declared.about.Subject.TheVariants as subjects;
 
 use crate::about::Subject;
-use crate::acting::run_given;
+use crate::acting::{run_given, run_proved};
+use crate::again_safe::{place_of_safe_base, place_of_safe_step};
 use crate::command::{Call, Command, FileCommand, PairCommand};
-use crate::pairs::{print_certified, print_equal};
+use crate::pairs::print_equal;
 use crate::tool::CheckError;
 use aig_answers::AnswerError;
 use aig_base::Source;
 use aig_bounded_answers::BoundedAnswerError;
 use aig_certificates::CertificateError;
 use aig_command_line::{Counted, Discarded, Measure, Origin, Place, Reopens};
+use aig_equality::EqualityError;
 use aig_refutation::RefutationError;
+use aig_safety::SafetyError;
 use aig_solutions::SolutionError;
 use aig_witness::{ShowError, WitnessError};
 use std::alloc::Global;
@@ -77,8 +80,22 @@ fn is_same_bounded(first: BoundedAnswerError, second: BoundedAnswerError) -> boo
     }
 }
 
+/// Whether two errors of the proofs that a machine is safe are the same, and of a proof.
+fn is_same_safety(first: SafetyError, second: SafetyError) -> bool
+    ensures { result ≡ true → first ≡ second }
+{
+    match (first, second) {
+        (SafetyError::Base(first), SafetyError::Base(second)) => is_same_bounded(first, second),
+        (
+            SafetyError::Step(AnswerError::Refutation(first)),
+            SafetyError::Step(AnswerError::Refutation(second)),
+        ) => is_same_refutation(first, second),
+        _ => false,
+    }
+}
+
 /// Whether two errors are the same, and of what is given beside a file.
-fn is_same(first: CheckError, second: CheckError) -> bool
+pub(crate) fn is_same(first: CheckError, second: CheckError) -> bool
     ensures { result ≡ true → first ≡ second }
 {
     match (first, second) {
@@ -99,6 +116,11 @@ fn is_same(first: CheckError, second: CheckError) -> bool
         (CheckError::Bounded(first), CheckError::Bounded(second)) => {
             is_same_bounded(first, second)
         }
+        (CheckError::Safe(first), CheckError::Safe(second)) => is_same_safety(first, second),
+        (
+            CheckError::Equality(EqualityError::Miter(first)),
+            CheckError::Equality(EqualityError::Miter(second)),
+        ) => is_same_safety(first, second),
         _ => false,
     }
 }
@@ -108,7 +130,7 @@ const AHEAD: u64 = 1024;
 
 /// The place of the last byte that came. Within the bytes of a proof that are read ahead none is told, since a step before may be
 /// wrong.
-fn place_told<R: Source, B: Origin>(counted: &Counted<R, B>, measure: Measure) -> Place
+pub(crate) fn place_told<R: Source, B: Origin>(counted: &Counted<R, B>, measure: Measure) -> Place
     ensures { (result ≡ places.Whole) ⊎ IsPlaceIn B.bytes measure result }
 {
     match (measure, counted.place(Measure::Byte)) {
@@ -189,9 +211,9 @@ fn place_in_equal<R: Source + Drop, B: Origin>(
 fn place_in_base<R: Source + Drop, B: Origin>(
     alloc: Global,
     limit: usize,
-    optimize: bool,
+    command: PairCommand,
     mut file: R,
-    mut certificate: R,
+    mut other: R,
     base: R,
     mut step: R,
     error: CheckError,
@@ -199,17 +221,18 @@ fn place_in_base<R: Source + Drop, B: Origin>(
 ) -> Place
     requires limit { IsLimit limit }
     requires origin { R.left base ≡ B.bytes }
-    ensures { let command = PairCommand.Certified optimize in (result ≡ places.Whole)
-        ⊎ IsRefusedOnPair limit command (R.left file) (R.left certificate) B.bytes error measure
-        result }
+    requires beside { beside_of (Command.Pair command) ≡ 2 }
+    requires small { step_of (Command.Pair command) < 2 ^ 32 }
+    ensures { (result ≡ places.Whole)
+        ⊎ IsRefusedOnPair limit command (R.left file) (R.left other) B.bytes error measure result }
 {
     let mut counted = Counted::<R, B>::new(base);
-    match print_certified(
+    match run_proved(
         alloc,
         limit,
-        optimize,
+        command,
         &mut file,
-        &mut certificate,
+        &mut other,
         &mut counted,
         &mut step,
         &mut Discarded,
@@ -224,9 +247,9 @@ fn place_in_base<R: Source + Drop, B: Origin>(
 fn place_in_step<R: Source + Drop, B: Origin>(
     alloc: Global,
     limit: usize,
-    optimize: bool,
+    command: PairCommand,
     mut file: R,
-    mut certificate: R,
+    mut other: R,
     mut base: R,
     step: R,
     error: CheckError,
@@ -234,17 +257,18 @@ fn place_in_step<R: Source + Drop, B: Origin>(
 ) -> Place
     requires limit { IsLimit limit }
     requires origin { R.left step ≡ B.bytes }
-    ensures { let command = PairCommand.Certified optimize in (result ≡ places.Whole)
-        ⊎ IsRefusedOnPair limit command (R.left file) (R.left certificate) B.bytes error measure
-        result }
+    requires beside { beside_of (Command.Pair command) ≡ 2 }
+    requires small { step_of (Command.Pair command) < 2 ^ 32 }
+    ensures { (result ≡ places.Whole)
+        ⊎ IsRefusedOnPair limit command (R.left file) (R.left other) B.bytes error measure result }
 {
     let mut counted = Counted::<R, B>::new(step);
-    match print_certified(
+    match run_proved(
         alloc,
         limit,
-        optimize,
+        command,
         &mut file,
-        &mut certificate,
+        &mut other,
         &mut base,
         &mut counted,
         &mut Discarded,
@@ -255,7 +279,11 @@ fn place_in_step<R: Source + Drop, B: Origin>(
 }
 
 /// The files at two paths, opened again.
-fn open_both<F: Reopens>(files: &F, first: &str, second: &str) -> Option<(F::File, F::File)>
+pub(crate) fn open_both<F: Reopens>(
+    files: &F,
+    first: &str,
+    second: &str,
+) -> Option<(F::File, F::File)>
     ensures { IfSome result (λ both. F.opens files.now first.now (Ok both.0)
         × F.opens files.now second.now (Ok both.1)) }
 {
@@ -321,12 +349,12 @@ fn place_of_equal<F: Reopens>(
     )
 }
 
-/// The place where `certified` refuses BASE so.
+/// The place where a command on two files refuses BASE so.
 fn place_of_base<F: Reopens>(
     alloc: Global,
     limit: usize,
     files: &F,
-    optimize: bool,
+    command: PairCommand,
     paths: &[String],
     base: &str,
     step: &str,
@@ -335,35 +363,29 @@ fn place_of_base<F: Reopens>(
 ) -> Place
     requires limit { IsLimit limit }
     requires paths { length paths.now ≡ 2 }
+    requires beside { beside_of (Command.Pair command) ≡ 2 }
+    requires small { step_of (Command.Pair command) < 2 ^ 32 }
     ensures { IsRunPlace (F.opens files.now) F.File.left limit
-        (Command.Pair (PairCommand.Certified optimize)) (map string_bytes paths.now) base.now error
+        (Command.Pair command) (map string_bytes paths.now) base.now error
         measure result }
 {
-    let Some((file, certificate)) = open_both(files, paths[0].as_str(), paths[1].as_str()) else {
+    let Some((file, other)) = open_both(files, paths[0].as_str(), paths[1].as_str()) else {
         return Place::Whole;
     };
     let Some((base, step)) = open_both(files, base, step) else {
         return Place::Whole;
     };
     place_in_base::<F::File, Brand>(
-        alloc,
-        limit,
-        optimize,
-        file,
-        certificate,
-        base,
-        step,
-        error,
-        measure,
+        alloc, limit, command, file, other, base, step, error, measure,
     )
 }
 
-/// The place where `certified` refuses STEP so.
+/// The place where a command on two files refuses STEP so.
 fn place_of_step<F: Reopens>(
     alloc: Global,
     limit: usize,
     files: &F,
-    optimize: bool,
+    command: PairCommand,
     paths: &[String],
     base: &str,
     step: &str,
@@ -372,26 +394,20 @@ fn place_of_step<F: Reopens>(
 ) -> Place
     requires limit { IsLimit limit }
     requires paths { length paths.now ≡ 2 }
+    requires beside { beside_of (Command.Pair command) ≡ 2 }
+    requires small { step_of (Command.Pair command) < 2 ^ 32 }
     ensures { IsRunPlace (F.opens files.now) F.File.left limit
-        (Command.Pair (PairCommand.Certified optimize)) (map string_bytes paths.now) step.now error
+        (Command.Pair command) (map string_bytes paths.now) step.now error
         measure result }
 {
-    let Some((file, certificate)) = open_both(files, paths[0].as_str(), paths[1].as_str()) else {
+    let Some((file, other)) = open_both(files, paths[0].as_str(), paths[1].as_str()) else {
         return Place::Whole;
     };
     let Some((base, step)) = open_both(files, base, step) else {
         return Place::Whole;
     };
     place_in_step::<F::File, Brand>(
-        alloc,
-        limit,
-        optimize,
-        file,
-        certificate,
-        base,
-        step,
-        error,
-        measure,
+        alloc, limit, command, file, other, base, step, error, measure,
     )
 }
 
@@ -439,10 +455,26 @@ fn place_in_first<F: Reopens>(
                 measure,
             )
         }
-        (Command::Pair(PairCommand::Certified { optimize }), [base, step]) => {
+        (Command::Pair(command), [base, step]) => {
             let (base, step) = (base.as_str(), step.as_str());
             place_of_base(
-                alloc, call.limit, files, optimize, call.paths, base, step, error, measure,
+                alloc, call.limit, files, command, call.paths, base, step, error, measure,
+            )
+        }
+        (Command::Safe { k, form, optimize }, [base, step]) => {
+            let path = call.paths[0].as_str();
+            place_of_safe_base(
+                alloc,
+                call.limit,
+                files,
+                k,
+                form,
+                optimize,
+                path,
+                base.as_str(),
+                step.as_str(),
+                error,
+                measure,
             )
         }
         _ => Place::Whole,
@@ -459,16 +491,34 @@ fn place_in_second<F: Reopens>(
 ) -> Place
     requires limit { IsLimit call.now.limit }
     requires paths { length call.now.paths.now ≡ paths_of call.now.command }
+    requires further { length call.now.further.now ≡ beside_of call.now.command }
+    requires small { step_of call.now.command < 2 ^ 32 }
     ensures { IfSome (word_of subjects.Step (map string_bytes call.now.paths.now)
         (map string_bytes call.now.further.now)) (λ path. IsRunPlace (F.opens files.now) F.File.left
         call.now.limit call.now.command (map string_bytes call.now.paths.now) path error measure
         result) }
 {
     match (call.command, call.further) {
-        (Command::Pair(PairCommand::Certified { optimize }), [base, step]) => {
+        (Command::Pair(command), [base, step]) => {
             let (base, step) = (base.as_str(), step.as_str());
             place_of_step(
-                alloc, call.limit, files, optimize, call.paths, base, step, error, measure,
+                alloc, call.limit, files, command, call.paths, base, step, error, measure,
+            )
+        }
+        (Command::Safe { k, form, optimize }, [base, step]) => {
+            let path = call.paths[0].as_str();
+            place_of_safe_step(
+                alloc,
+                call.limit,
+                files,
+                k,
+                form,
+                optimize,
+                path,
+                base.as_str(),
+                step.as_str(),
+                error,
+                measure,
             )
         }
         _ => Place::Whole,

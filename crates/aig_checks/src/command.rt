@@ -95,6 +95,15 @@ pub enum PairCommand {
         /// Whether exclusive ors and choices have clauses of their own.
         optimize: bool,
     },
+    /// Check proofs that the files' machines are equal at every step.
+    AlwaysEqual {
+        /// How many steps come before the last two of a window.
+        k: usize,
+        /// Which windows are looked at.
+        form: Window,
+        /// Whether exclusive ors and choices have clauses of their own.
+        optimize: bool,
+    },
 }
 
 /// What the program is asked to do.
@@ -144,6 +153,8 @@ pub enum Action {
     WitnessTo,
     /// `safe FILE to K BASE STEP [distinct] [raw]`.
     Safe,
+    /// `equal FILE OTHER to K BASE STEP [distinct] [raw]`.
+    AlwaysEqual,
 }
 
 /// The form of a command on so many files and a step.
@@ -192,6 +203,7 @@ impl HasForm for Action {
             Action::RefutedTo => "refuted",
             Action::WitnessTo => "witness",
             Action::Safe => "safe",
+            Action::AlwaysEqual => "equal",
         }
     }
 
@@ -204,6 +216,7 @@ impl HasForm for Action {
             Action::Inductive => on_step(1, Step::At, 1, true),
             Action::Safe => on_step(1, Step::UpTo, 2, true),
             Action::Equal => on_step(2, Step::At, 1, false),
+            Action::AlwaysEqual => on_step(2, Step::UpTo, 2, true),
             Action::Run => Form {
                 paths: 1,
                 step: Step::Absent,
@@ -230,7 +243,7 @@ fn window_of(distinct: bool) -> Window
 
 impl Action {
     /// Each of them.
-    const ALL: [Action; 13] = [
+    const ALL: [Action; 14] = [
         Action::Clauses,
         Action::Window,
         Action::Refuted,
@@ -244,6 +257,7 @@ impl Action {
         Action::RefutedTo,
         Action::WitnessTo,
         Action::Safe,
+        Action::AlwaysEqual,
     ];
 
     /// The command, with K and the settings.
@@ -265,6 +279,7 @@ impl Action {
             Action::RefutedTo => Command::File(FileCommand::RefutedTo { k, optimize }),
             Action::WitnessTo => Command::File(FileCommand::WitnessTo { k, optimize }),
             Action::Safe => Command::Safe { k, form, optimize },
+            Action::AlwaysEqual => Command::Pair(PairCommand::AlwaysEqual { k, form, optimize }),
         }
     }
 }
@@ -308,8 +323,8 @@ pub fn call_of(words: &[String]) -> Option<Call<'_>>
 ///
 /// The words `--limit` and N may come first. The word after the command's name is FILE. The next is WITNESS of `run`, CERT of `certified`
 /// and `obligations`, and OTHER of `equal`. Then comes K, where the command has one, after the word `to` where it is on the steps up to K,
-/// and the words after that are PROOF of `refuted`, `inductive` and `equal`, SOLUTION of `witness`, and BASE and STEP of `certified` and `safe`. It
-/// takes no memory.
+/// and the words after that are PROOF of `refuted`, `inductive` and `equal`, SOLUTION of `witness`, and BASE and STEP of `certified`, `safe`
+/// and `equal` with `to`. It takes no memory.
 pub fn parse(words: &[String]) -> Option<Command>
     ensures exact { (c : Command) → (result ≡ Some c) ↔ Give (map string_bytes words.now) c }
     ensures small { IfSome result (λ c. step_of c < 2 ^ 32) }

@@ -15,7 +15,7 @@ fn regard_of(command: Command) -> Regard
     Regard {
         leaves_out: true,
         compares: match command {
-            Command::Pair(PairCommand::Equal { .. }) => true,
+            Command::Pair(PairCommand::Equal { .. } | PairCommand::AlwaysEqual { .. }) => true,
             _ => false,
         },
     }

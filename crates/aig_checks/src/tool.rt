@@ -27,6 +27,7 @@ use aig_cnf::{NeededGates, find_needed};
 use aig_command_line::HasStatus;
 use aig_dimacs::{write_circuit, write_dimacs};
 use aig_encode::Query;
+use aig_equality::EqualityError;
 use aig_output::OutputBuffer;
 use aig_runs::{Unrolled, inductive_windows_are_safe};
 use aig_safety::SafetyError;
@@ -68,6 +69,9 @@ pub enum CheckError {
     /// It isn't shown that no bad state is reached at any step.
     #[error("{0}")]
     Safe(SafetyError),
+    /// It isn't shown that two files' machines are equal at every step.
+    #[error("{0}")]
+    Equality(EqualityError),
 }
 
 impl HasStatus for CheckError {
@@ -134,6 +138,14 @@ impl From<SafetyError> for CheckError {
 
     fn from(error: SafetyError) -> CheckError {
         CheckError::Safe(error)
+    }
+}
+
+impl From<EqualityError> for CheckError {
+    ghost from_gives = { λ e r. r ≡ errors.Equality e };
+
+    fn from(error: EqualityError) -> CheckError {
+        CheckError::Equality(error)
     }
 }
 

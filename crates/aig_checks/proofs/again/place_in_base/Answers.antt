@@ -9,8 +9,8 @@ returns-in-Err g c =
       | inl whole ↦ inl whole
       | inr at ↦ inr record {
         at = at;
-        rest = g.R.Source.left c.print_certified.new.file;
-        other_rest = g.R.Source.left c.print_certified.new.certificate;
+        rest = g.R.Source.left c.run_proved.new.r;
+        other_rest = g.R.Source.left c.run_proved.new.s;
         refused = refused_again c.in-Err.again c.args.error c.in-Err.ensures same;
       }
     ]

@@ -12,12 +12,12 @@ returns g c =
     let first = subst (λ (p : List ℕ). g.F.Opens.opens c.args.files.now p (Ok c.in-Some.file)) path
     c.in-Some.ensures.0 in
     let second = subst (λ (p : List ℕ). g.F.Opens.opens c.args.files.now p
-    (Ok c.in-Some.certificate)) beside c.in-Some.ensures.1 in
+    (Ok c.in-Some.other)) beside c.in-Some.ensures.1 in
     elim c.place_in_step.ensures [
       | inl whole ↦ inl whole
       | inr refused ↦ inr record {
         source = c.in-Some-open_both.step;
         opened = c.in-Some-open_both.ensures.1;
-        refused = rw names (c.in-Some.file, c.in-Some.certificate, first, second, refused);
+        refused = rw names (c.in-Some.file, c.in-Some.other, first, second, refused);
       }
     ]

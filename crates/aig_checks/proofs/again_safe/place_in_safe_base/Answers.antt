@@ -1,0 +1,15 @@
+use Rattle.std.proofs.Common.{◌≡◌, inl, inr}
+use Rattle.aig_checks.proofs.SafeAgain.{refused_again}
+use Rattle.aig_checks.proofs.again_safe.place_in_safe_base.Goals as goal
+
+pub returns-in-Err : goal.returns-in-Err
+returns-in-Err g c =
+    let same : c.in-Err.again ≡ c.args.error = c.is_same.ensures c.if-is_same.true in
+    elim c.place_told.ensures [
+      | inl whole ↦ inl whole
+      | inr at ↦ inr record {
+        at = at;
+        rest = g.R.Source.left c.print_safe.new.r;
+        refused = refused_again c.in-Err.again c.args.error c.in-Err.ensures same;
+      }
+    ]
