@@ -1,24 +1,10 @@
 //! What one process does and then another: the first prints the clauses of a question, and the second is given a proof of them. Each
 //! reads the same files anew.
 
-ghost use Rattle.std.specs.Prelude.{◌≡◌, ◌<◌, ◌+◌, ◌^◌, IfErr, IfOk, Some};
-ghost use Rattle.aig_answers.specs.Answers.{IsAsked, asked_verdict, window_verdict};
-ghost use Rattle.aig_bounded_answers.specs.Asking.{IsAskedWithin, bounded_verdict};
-ghost use Rattle.aig_circuit.specs.Circuit.{Circuit};
-ghost use Rattle.aig_checks.specs.Bounded.{IsBoundedText};
-ghost use Rattle.aig_checks.specs.Pairs.{IsObligationsText};
-ghost use Rattle.aig_checks.specs.Running.{IsClausesText, IsWindowText};
-ghost use Rattle.aig_commands.specs.Running.{IsTextOf};
-ghost use Rattle.aig_edits.specs.Joints.{IsJointOf};
-ghost use Rattle.aig_edits.specs.declared.pairing.Pairing.TheVariants.{Miter};
-ghost use Rattle.aig_encode.specs.Encoding.{IsQuery};
-ghost use Rattle.aig_encode.specs.declared.query_clauses.Query.{Query};
-ghost use Rattle.aig_format.specs.Circuit.{text_of};
-ghost use Rattle.aig_format.specs.File.{File};
-ghost use Rattle.aig_format.specs.Fits.{Accepts};
-ghost use Rattle.aig_reader.specs.Verdicts.{Accepted};
+ghost use Rattle.std.specs.Prelude.{◌≡◌, ◌<◌, ◌^◌, IfErr, IfOk, Some};
 ghost use Rattle.aig_tests.specs.declared.taking.MiterError.TheVariants as errors;
 ghost use Rattle.aig_tests.specs.Taking.{IsBoundedHindrance, IsHindrance, IsOfNoProof, IsProofOf, TakesParts};
+ghost use Rattle.aig_tests.specs.Texts.{AreObligationsOf, IsBoundedTextOf, IsClausesTextOf, IsMiterQueryTextOf, IsMiterTextOf, IsQueryTextOf, IsWindowTextOf};
 
 use crate::laws::joint_files_ask_the_same;
 use crate::shown::LIMIT;
@@ -48,8 +34,7 @@ fn source_of<'a>(bytes: &'a [u8]) -> FromRead<&'a [u8]>
 /// What `clauses FILE K` prints, where FILE has these bytes.
 fn clauses_text(alloc: Global, file: &[u8], k: usize, optimize: bool) -> Result<Vec<u8>, CheckError>
     requires { k < 2 ^ 32 }
-    ensures { IfOk result (λ text. (f : File) × IsAsked (2 ^ 24) k file.now f
-        × (asked_verdict (2 ^ 24) k f ≡ Accepted) × IsClausesText f k optimize text.items) }
+    ensures { IfOk result (λ text. IsClausesTextOf k optimize file.now text.items) }
 {
     let mut out = FlushedWriter::new(Vec::new(alloc));
     print_clauses(alloc, LIMIT, k, optimize, &mut source_of(file), &mut out)?;
@@ -67,7 +52,8 @@ pub fn taken_at_step(
     proof: &[u8],
 ) -> Result<(Vec<u8>, Result<(), AnswerError>), CheckError>
     requires { k < 2 ^ 32 }
-    ensures { IfOk result
+    ensures printed { IfOk result (λ made. IsClausesTextOf k optimize file.now made.0.items) }
+    ensures taken { IfOk result
         (λ made. IsProofOf made.0.items proof.now → IfErr made.1 IsHindrance) }
 {
     reads_exactly();
@@ -89,9 +75,7 @@ fn window_text(
     optimize: bool,
 ) -> Result<Vec<u8>, CheckError>
     requires { k < 2 ^ 32 }
-    ensures { IfOk result (λ text. (f : File) × IsAsked (2 ^ 24) (k + 1) file.now f
-        × (window_verdict form (2 ^ 24) k f ≡ Accepted)
-        × IsWindowText form f k optimize text.items) }
+    ensures { IfOk result (λ text. IsWindowTextOf form k optimize file.now text.items) }
 {
     let mut out = FlushedWriter::new(Vec::new(alloc));
     print_window(
@@ -116,7 +100,8 @@ pub fn taken_of_window(
     proof: &[u8],
 ) -> Result<(Vec<u8>, Result<(), AnswerError>), CheckError>
     requires { k < 2 ^ 32 }
-    ensures { IfOk result
+    ensures printed { IfOk result (λ made. IsWindowTextOf form k optimize file.now made.0.items) }
+    ensures taken { IfOk result
         (λ made. IsProofOf made.0.items proof.now → IfErr made.1 IsHindrance) }
 {
     reads_exactly();
@@ -131,8 +116,7 @@ pub fn taken_of_window(
 
 /// What `bounded FILE K` prints, where FILE has these bytes.
 fn bounded_text(alloc: Global, file: &[u8], k: usize, optimize: bool) -> Result<Vec<u8>, CheckError>
-    ensures { IfOk result (λ text. (f : File) × IsAskedWithin (2 ^ 24) file.now f
-        × (bounded_verdict f ≡ Accepted) × IsBoundedText f k optimize text.items) }
+    ensures { IfOk result (λ text. IsBoundedTextOf k optimize file.now text.items) }
 {
     let mut out = FlushedWriter::new(Vec::new(alloc));
     print_bounded(alloc, LIMIT, k, optimize, &mut source_of(file), &mut out)?;
@@ -147,7 +131,8 @@ pub fn taken_up_to_step(
     optimize: bool,
     proof: &[u8],
 ) -> Result<(Vec<u8>, Result<(), BoundedAnswerError>), CheckError>
-    ensures { IfOk result
+    ensures printed { IfOk result (λ made. IsBoundedTextOf k optimize file.now made.0.items) }
+    ensures taken { IfOk result
         (λ made. IsProofOf made.0.items proof.now → IfErr made.1 IsBoundedHindrance) }
 {
     reads_exactly();
@@ -167,8 +152,8 @@ fn obligations_text(
     certificate: &[u8],
     optimize: bool,
 ) -> Result<Vec<u8>, CheckError>
-    ensures { IfOk result (λ text. (f : File) × (g : File) × Accepts file.now (2 ^ 24) f
-        × Accepts certificate.now (2 ^ 24) g × IsObligationsText optimize f g text.items) }
+    ensures { IfOk result
+        (λ text. AreObligationsOf optimize file.now certificate.now text.items) }
 {
     let mut out = FlushedWriter::new(Vec::new(alloc));
     let (file, certificate) = (&mut source_of(file), &mut source_of(certificate));
@@ -186,7 +171,9 @@ pub fn taken_of_certificate(
     base: &[u8],
     step: &[u8],
 ) -> Result<(Vec<u8>, Result<(), CertificateError>), CheckError>
-    ensures { IfOk result (λ made. TakesParts made.0.items base.now step.now made.1) }
+    ensures printed { IfOk result
+        (λ made. AreObligationsOf optimize file.now certificate.now made.0.items) }
+    ensures taken { IfOk result (λ made. TakesParts made.0.items base.now step.now made.1) }
 {
     reads_exactly();
     written_proofs_are_taken();
@@ -201,9 +188,7 @@ pub fn taken_of_certificate(
 
 /// What `aigedit miter FILE OTHER` prints, where the files have these bytes.
 fn miter_text(alloc: Global, file: &[u8], other: &[u8]) -> Result<Vec<u8>, PairError>
-    ensures { IfOk result (λ text. (f : File) × (g : File) × Accepts file.now (2 ^ 24) f
-        × Accepts other.now (2 ^ 24) g
-        × ((m : Circuit) × IsJointOf Miter f g m × (text.items ≡ text_of m))) }
+    ensures { IfOk result (λ text. IsMiterTextOf file.now other.now text.items) }
 {
     let mut out = FlushedWriter::new(Vec::new(alloc));
     let (file, other) = (&mut source_of(file), &mut source_of(other));
@@ -213,9 +198,7 @@ fn miter_text(alloc: Global, file: &[u8], other: &[u8]) -> Result<Vec<u8>, PairE
 
 /// What `aigtool query FILE K` prints, where FILE has these bytes.
 fn query_text(alloc: Global, file: &[u8], k: usize, optimize: bool) -> Result<Vec<u8>, ToolError>
-    ensures { IfOk result (λ text. (f : File) × Accepts file.now (2 ^ 24) f
-        × ((q : Query) × IsQuery k optimize f q
-        × IsTextOf q.encoded.clauses q.extra text.items)) }
+    ensures { IfOk result (λ text. IsQueryTextOf k optimize file.now text.items) }
 {
     let mut out = FlushedWriter::new(Vec::new(alloc));
     run(
@@ -262,7 +245,9 @@ pub fn taken_as_equal(
     optimize: bool,
     proof: &[u8],
 ) -> Result<(Vec<u8>, Result<(), CertificateError>), MiterError>
-    ensures { IfOk result
+    ensures printed { IfOk result
+        (λ made. IsMiterQueryTextOf k optimize file.now other.now made.0.items) }
+    ensures taken { IfOk result
         (λ made. IsProofOf made.0.items proof.now → IfErr made.1 IsOfNoProof) }
 {
     reads_exactly();

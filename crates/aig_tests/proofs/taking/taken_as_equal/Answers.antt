@@ -2,10 +2,18 @@ use Rattle.aig_tests.proofs.Taken.{Laws}
 use Rattle.aig_tests.proofs.Questions.{equal_taken}
 use Rattle.aig_base.proofs.Words.{subst, ◌∙◌}
 use Rattle.aig_format.specs.Fits.{Accepts}
+use Rattle.aig_tests.specs.Texts.{IsQueryTextOf}
 use Rattle.aig_tests.proofs.taking.taken_as_equal.Goals as goal
 
-pub returns : goal.returns
-returns c =
+pub returns-clause-printed : goal.returns-clause-printed
+returns-clause-printed c =
+    let text = c.in_ok-text.text.items in
+    let asked = subst (λ b. IsQueryTextOf c.args.k c.args.optimize b text) c.as_slice.ensures.value
+    c.in_ok-text.ensures in
+    (c.in_ok-miter.miter.items, c.in_ok-miter.ensures, asked)
+
+pub returns-clause-taken : goal.returns-clause-taken
+returns-clause-taken c =
     let laws : Laws = record {
       ordered = c.ordered_refutations_are_taken.ensures;
       numbered = c.written_proofs_are_taken.ensures;

@@ -2,8 +2,11 @@ use Rattle.aig_tests.proofs.Taken.{Laws}
 use Rattle.aig_tests.proofs.Questions.{window_taken}
 use Rattle.aig_tests.proofs.taking.taken_of_window.Goals as goal
 
-pub returns : goal.returns
-returns c =
+pub returns-clause-printed : goal.returns-clause-printed
+returns-clause-printed c = c.in_ok-text.ensures
+
+pub returns-clause-taken : goal.returns-clause-taken
+returns-clause-taken c =
     let laws : Laws = record {
       ordered = c.ordered_refutations_are_taken.ensures;
       numbered = c.written_proofs_are_taken.ensures;
