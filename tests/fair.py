@@ -272,11 +272,12 @@ def small_faults(design, calls, folder):
         keep = ["--keep", f"kept-{i}"]
         done = harness.run([PROVE, *words.split(), *keep, "design.v"], cwd=folder)
         printed = re.sub("  +", " ", (done[1] + done[2]).decode()).split("\n")
-        missing = [line for line in wanted if not any(it.startswith(line) for it in printed)]
+        missing = [line for line in wanted if not any(f"{it}$".startswith(line) for it in printed)]
         if done[0] != int(status) or missing:
             yield f"{words}: {missing} is missing, status {done[0]}: {printed}"
-        if int(status) in (10, 20) and harness.shown_again(folder / f"kept-{i}") is None:
-            yield f"{words}: what is kept isn't shown again"
+        again = harness.shown_again(folder / f"kept-{i}") if int(status) in (10, 20) else ""
+        if again is None or not {line for line in printed if line.startswith("no fair run of ")} <= set(again.split("\n")):
+            yield f"{words}: {again} is shown again of {printed}"
 
 
 def main():
