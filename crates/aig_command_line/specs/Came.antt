@@ -1,9 +1,11 @@
 -- Part of what is promised.
 -- Which bytes came of a source.
-use Rattle.std.specs.Prelude.{◌≡◌, ℕ, ◌≤◌, Bool, false, List, length, take, drop, Option, Some, IfSome}
+use Rattle.std.specs.Prelude.{◌≡◌, ℕ, ◌+◌, ◌^◌, ◌≤◌, ◌⊎◌, Bool, false, List, length, take, drop, Option, Some, IfSome}
+use Rattle.std.specs.Option.{ForNone, ForSome}
 use Rattle.aig_command_line.specs.Counts.{IsTally, place_of}
 use Rattle.aig_command_line.specs.declared.tally.Measure.{Measure}
 use Rattle.aig_command_line.specs.declared.tally.Place.{Place}
+use Rattle.aig_command_line.specs.declared.tally.Place.TheVariants.{Whole}
 use Rattle.aig_command_line.specs.declared.tally.Tally.{Tally}
 
 -- Where the bytes are known that there were at the start, the counts are of as many of these, from
@@ -13,7 +15,28 @@ pub record Came (start left : Option (List ℕ)) (failed : Bool) (t : Tally) : T
   pub now : (bytes : List ℕ) → start ≡ Some bytes → failed ≡ false
       → left ≡ Some (drop t.bytes bytes)
 
+-- Of these bytes some came, from the first on: the counts are of those before the last piece, and the
+-- others are left, where no read failed.
+pub record ComesIn (bytes : List ℕ) (left : Option (List ℕ)) (failed : Bool) (t : Tally)
+    (piece : List ℕ) : Type 0 where
+  pub counts : IsTally t (take t.bytes bytes)
+  pub last : take (length piece) (drop t.bytes bytes) ≡ piece
+  pub now : failed ≡ false → left ≡ Some (drop (t.bytes + length piece) bytes)
+
+-- Where the bytes are known that there were at the start, it is so of them, unless there are too
+-- many to be counted.
+pub record Follows (start left : Option (List ℕ)) (failed : Bool) (before : Option Tally)
+    (piece : List ℕ) : Type 0 where
+  pub counted : (bytes : List ℕ) → start ≡ Some bytes
+      → ForSome before (λ t. ComesIn bytes left failed t piece)
+  pub many : (bytes : List ℕ) → start ≡ Some bytes → ForNone before (2 ^ 64 ≤ length bytes)
+
 -- where the bytes are known, it is the place of the last of some of them, from the first on
 abbrev pub IsPlaceIn : Option (List ℕ) → Measure → Place → Type 0
 IsPlaceIn known measure place = IfSome known
     (λ bytes. (n : ℕ) × (n ≤ length bytes) × (place ≡ place_of measure (take n bytes)))
+
+-- it is such a place, unless there are too many bytes to be counted, of which none is told
+abbrev pub IsPlaceOf : Option (List ℕ) → Measure → Place → Type 0
+IsPlaceOf known measure place =
+    IsPlaceIn known measure place ⊎ ((place ≡ Whole) × IfSome known (λ bytes. 2 ^ 64 ≤ length bytes))
