@@ -4,7 +4,7 @@ use Rattle.std.specs.Prelude.{Option, Some, None, IsTrue}
 use Rattle.std.specs.Option.{ForNone, ForSome}
 use Rattle.std.proofs.Math.Seq.{take-append-add, take-append_seam, drop-append_seam}
 use Rattle.std.proofs.lemmas.List.{take-append-drop}
-use Rattle.aig_command_line.specs.Came.{ComesIn, Follows, IsPlaceIn, IsPlaceOf}
+use Rattle.aig_command_line.specs.Came.{ComesIn, Follows, IsPlaceOf, StopsIn}
 use Rattle.aig_command_line.specs.Counts.{CountsWith, IsTally, place_of}
 use Rattle.aig_command_line.specs.declared.tally.Measure.{Measure}
 use Rattle.aig_command_line.specs.declared.tally.Place.{Place}
@@ -118,35 +118,40 @@ follows_with start left after failed fails (Some b) None piece next so counts so
 
 -- ---- the place of a byte of the last piece
 
-module _ (start left : Option (List ℕ)) (failed : Bool) (before : Option Tally) (piece front : List ℕ) (end : ℕ) (so : Follows start left failed before piece) (inside : end ≤ length piece) (is : front ≡ take end piece) (measure : Measure) where
+module _ (start left : Option (List ℕ)) (failed : Bool) (before : Option Tally) (piece front : List ℕ) (end : ℕ) (so : Follows start left failed before piece) (inside : end ≤ length piece) (few : length piece ≤ 2 ^ 14) (is : front ≡ take end piece) (measure : Measure) where
   pub placed_in : (made : Option Tally) (t : Tally) (place : Place) → CountsWith before front made
       → made ≡ Some t
       → ((came : List ℕ) → IsTally t came → place ≡ place_of measure came)
-      → IsPlaceOf start measure place
+      → IsPlaceOf start left failed measure place
   placed_in made t place counts at told =
-      elim start as (λ o. Follows o left failed before piece → IsPlaceOf o measure place) [
-        | None ↦ λ _. inl tt
+      elim start as (λ o. Follows o left failed before piece → IsPlaceOf o left failed measure place) [
+        | None ↦ λ _. tt
         | Some bytes ↦ λ f. inl (of before (subst (CountsWith before front) at counts) bytes (λ b. f.counted bytes refl b))
       ] so
     where
       of : (o : Option Tally) → CountsWith o front (Some t) → (bytes : List ℕ)
           → ((b : Tally) → o ≡ Some b → ComesIn bytes left failed b piece)
-          → (n : ℕ) × (n ≤ length bytes) × (place ≡ place_of measure (take n bytes))
+          → StopsIn bytes left failed measure place
       of None counts bytes comes = let wrong = counts in absurd cc
       of (Some b) counts bytes comes =
           let c = comes b refl in
           let all : take (b.bytes + end) bytes ≡ take b.bytes bytes ++ front =
-          front_came bytes b piece left failed c end inside ∙ ap (λ x. take b.bytes bytes ++ x) (sym is) in (
-            b.bytes + end,
-            omega (arith, within bytes b piece left failed c),
-            rw all (told _ (counts (take b.bytes bytes) c.counts)),
-          )
+          front_came bytes b piece left failed c end inside ∙ ap (λ x. take b.bytes bytes ++ x) (sym is) in
+          record {
+            taken = b.bytes + end;
+            came = b.bytes + length piece;
+            within = within bytes b piece left failed c;
+            first = omega arith;
+            near = omega arith;
+            rest = c.now;
+            at = rw all (told _ (counts (take b.bytes bytes) c.counts));
+          }
 
   pub placed_whole : (made : Option Tally) → CountsWith before front made → made ≡ None
-      → IsPlaceOf start measure Whole
+      → IsPlaceOf start left failed measure Whole
   placed_whole made counts at =
-      elim start as (λ o. Follows o left failed before piece → IsPlaceOf o measure Whole) [
-        | None ↦ λ _. inl tt
+      elim start as (λ o. Follows o left failed before piece → IsPlaceOf o left failed measure Whole) [
+        | None ↦ λ _. tt
         | Some bytes ↦ λ f. inr (refl, of before (subst (CountsWith before front) at counts) bytes (f.counted bytes refl) (f.many bytes refl))
       ] so
     where

@@ -36,7 +36,20 @@ abbrev pub IsPlaceIn : Option (List ℕ) → Measure → Place → Type 0
 IsPlaceIn known measure place = IfSome known
     (λ bytes. (n : ℕ) × (n ≤ length bytes) × (place ≡ place_of measure (take n bytes)))
 
--- it is such a place, unless there are too many bytes to be counted, of which none is told
-abbrev pub IsPlaceOf : Option (List ℕ) → Measure → Place → Type 0
-IsPlaceOf known measure place =
-    IsPlaceIn known measure place ⊎ ((place ≡ Whole) × IfSome known (λ bytes. 2 ^ 64 ≤ length bytes))
+-- Of these bytes some were taken, from the first on, and it is the place of the last of them. Some
+-- more came, at most as many as a piece has, and the others are left, where no read failed.
+pub record StopsIn (bytes : List ℕ) (left : Option (List ℕ)) (failed : Bool) (measure : Measure)
+    (place : Place) : Type 0 where
+  pub taken : ℕ
+  pub came : ℕ
+  pub within : came ≤ length bytes
+  pub first : taken ≤ came
+  pub near : came ≤ taken + 2 ^ 14
+  pub rest : failed ≡ false → left ≡ Some (drop came bytes)
+  pub at : place ≡ place_of measure (take taken bytes)
+
+-- where the bytes are known, it is such a place, or the file as a whole where there are too many to
+-- be counted
+abbrev pub IsPlaceOf : Option (List ℕ) → Option (List ℕ) → Bool → Measure → Place → Type 0
+IsPlaceOf known left failed measure place = IfSome known
+    (λ bytes. StopsIn bytes left failed measure place ⊎ ((place ≡ Whole) × (2 ^ 64 ≤ length bytes)))

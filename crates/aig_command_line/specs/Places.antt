@@ -67,11 +67,12 @@ abbrev pub in_whole : {T E : Type 0} → Result T E → Result T (Placed E)
 in_whole (Ok x) = Ok x
 in_whole (Err e) = Err (whole e)
 
--- the place where reading these bytes stopped for this error, or the file as a whole where that has
--- no place
-abbrev pub IsPlaceOfError : Option (List ℕ) → ReadError → Place → Type 0
-IsPlaceOfError known error place =
-    MatchOption (read_measure error) (place ≡ Whole) (λ measure. IsPlaceOf known measure place)
+-- the place where reading these bytes stopped for this error, where this is left of them, or the file
+-- as a whole where the error has no place
+abbrev pub IsPlaceOfError : Option (List ℕ) → Option (List ℕ) → Bool → ReadError → Place → Type 0
+IsPlaceOfError known left failed error place =
+    MatchOption (read_measure error) (place ≡ Whole)
+    (λ measure. IsPlaceOf known left failed measure place)
 
 -- A file is read of a source, of which this is left: the lists of its circuit, or why it is refused,
 -- and the place where this reading stopped.
@@ -83,4 +84,5 @@ pub record ReadsPlaced {R : Type 0} (left : R → Option (List ℕ)) (failed : R
   pub verdict : Judges (λ f. Accepted) limit (left r) (left rest) (failed rest)
       (verdict_by verdict_of (unplaced result))
   pub own : IfErr result (λ e. e.error ≢ errors.Open)
-  pub place : IfErr result (λ e. IsPlaceOfError (left r) e.error e.place)
+  pub place : IfErr result
+      (λ e. IsPlaceOfError (left r) (left rest) (failed rest) e.error e.place)

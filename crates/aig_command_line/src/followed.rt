@@ -58,7 +58,8 @@ impl<R: Source, B: Origin> Followed<R, B> {
 
     /// The place of the last byte that came before the last `held` ones, which are of the last piece.
     pub fn place(&self, held: usize, measure: Measure) -> Place
-        ensures { IsPlaceOf B.bytes measure result }
+        ensures { IsPlaceOf B.bytes (⟦<Followed<R, B> as Source>⟧.left self.now)
+            (⟦<Followed<R, B> as Source>⟧.failed self.now) measure result }
     {
         let piece = self.piece.bytes();
         let end = piece.len().saturating_sub(held);

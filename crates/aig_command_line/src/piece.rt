@@ -43,7 +43,8 @@ impl Piece {
 
     /// The bytes.
     pub(crate) fn bytes(&self) -> &[u8]
-        ensures { result.now ≡ self.now }
+        ensures value { result.now ≡ self.now }
+        ensures few { length result.now ≤ 2 ^ 14 }
     {
         &self.bytes[..self.len]
     }

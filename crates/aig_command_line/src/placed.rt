@@ -52,7 +52,8 @@ fn with_place<R: Source, B: Origin>(
     error: ReadError,
 ) -> Placed<ReadError>
     ensures error { result.error ≡ error }
-    ensures place { IsPlaceOfError B.bytes error result.place }
+    ensures place { IsPlaceOfError B.bytes (⟦<Followed<R, B> as Source>⟧.left followed.now)
+        (⟦<Followed<R, B> as Source>⟧.failed followed.now) error result.place }
 {
     let place = match read_measure(error) {
         Some(measure) => followed.place(held, measure),

@@ -8,8 +8,9 @@ returns-in-Some g c =
     let end = c.saturating_sub-end.result in
     placed_in g.B.Origin.bytes (g.R.Source.left s.source) (g.R.Source.failed s.source) s.before
     s.piece _ end s.came
-    (omega (arith, c.saturating_sub-end.ensures, ap length c.bytes-piece.ensures))
-    (ap (take end) c.bytes-piece.ensures) c.args.measure c.with_last.result c.in-Some.tally
+    (omega (arith, c.saturating_sub-end.ensures, ap length c.bytes-piece.ensures.value))
+    (omega (arith, c.bytes-piece.ensures.few, ap length c.bytes-piece.ensures.value))
+    (ap (take end) c.bytes-piece.ensures.value) c.args.measure c.with_last.result c.in-Some.tally
     c.place.result c.with_last.ensures c.in-Some.is c.place.ensures
 
 pub returns-in-None : goal.returns-in-None
@@ -18,6 +19,7 @@ returns-in-None g c =
     let end = c.saturating_sub-end.result in
     placed_whole g.B.Origin.bytes (g.R.Source.left s.source) (g.R.Source.failed s.source) s.before
     s.piece _ end s.came
-    (omega (arith, c.saturating_sub-end.ensures, ap length c.bytes-piece.ensures))
-    (ap (take end) c.bytes-piece.ensures) c.args.measure c.with_last.result c.with_last.ensures
+    (omega (arith, c.saturating_sub-end.ensures, ap length c.bytes-piece.ensures.value))
+    (omega (arith, c.bytes-piece.ensures.few, ap length c.bytes-piece.ensures.value))
+    (ap (take end) c.bytes-piece.ensures.value) c.args.measure c.with_last.result c.with_last.ensures
     c.in-None.is

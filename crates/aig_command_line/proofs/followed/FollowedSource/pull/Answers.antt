@@ -12,7 +12,7 @@ invariant_of-self-2 g c =
     record {
       came = follows_with g.B.Origin.bytes (left s.source) (left c.pull_piece.new.r) (failed s.source)
           (failed c.pull_piece.new.r) s.before c.with_last-self.result s.piece c.set.new.self s.came
-          (rw c.bytes.ensures at c.with_last-self.ensures)
+          (rw c.bytes.ensures.value at c.with_last-self.ensures)
           (λ lost. false≢true (c.in_ok-count.ensures.for_good lost))
           c.in_ok-count.ensures.tells came;
     }
