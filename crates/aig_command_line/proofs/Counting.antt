@@ -1,10 +1,11 @@
 -- Counts with a further byte.
-use Rattle.aig_base.proofs.Words.{◌≡◌, ℕ, ◌+◌, ◌-◌, ◌<◌, Bool, false, List, [], ◌∷◌, ◌++◌, length, take, drop, get_or, refl, sym, ap, ◌∙◌, arith, subst, length-append, add-one, length-drop, Consumes, length-take}
+use Rattle.aig_base.proofs.Words.{◌≡◌, ◌≢◌, ◌==◌, ℕ, ◌+◌, ◌-◌, ◌<◌, Bool, cond, false, append_assoc, eq-eqb, ne_eqb, List, [], ◌∷◌, ◌++◌, length, take, drop, get_or, refl, sym, ap, ◌∙◌, arith, subst, length-append, add-one, length-drop, Consumes, length-take}
 use Rattle.std.specs.Prelude.{Option, Some, None}
 use Rattle.std.proofs.lemmas.List.{length-append}
+use Rattle.std.proofs.lemmas.List.Sums.{sum_by-append}
 use Rattle.std.proofs.Math.Seq.{take-suc, drop-cons, take-append_seam}
 use Rattle.aig_command_line.specs.Came.{Came, IsPlaceIn}
-use Rattle.aig_command_line.specs.Counts.{IsTally, place_of}
+use Rattle.aig_command_line.specs.Counts.{IsTally, feeds_in, line_of, place_of}
 use Rattle.aig_command_line.specs.declared.tally.Measure.{Measure}
 use Rattle.aig_command_line.specs.declared.tally.Place.{Place}
 use Rattle.aig_command_line.specs.declared.tally.Tally.{Tally}
@@ -88,3 +89,36 @@ placed (Some bytes) left failed t measure place so at =
           counts,
     )
 placed None left failed t measure place so at = tt
+
+-- ---- the counts with a piece
+
+feeds_append : (xs ys : List ℕ) → feeds_in (xs ++ ys) ≡ feeds_in xs + feeds_in ys
+feeds_append xs ys = sum_by-append (λ b. cond (b == 10) 1 0) xs ys
+
+-- a piece of which this is the last byte, and the others come before it
+module _ (t : Tally) (came piece others : List ℕ) (last : ℕ) (so : IsTally t came)
+    (is : piece ≡ others ++ last ∷ []) where
+  split_all : came ++ piece ≡ (came ++ others) ++ last ∷ []
+  split_all = ap (λ l. came ++ l) is ∙ sym (append_assoc came others (last ∷ []))
+
+  feeds_before : feeds_in (came ++ others) ≡ t.feeds + feeds_in others
+  feeds_before = feeds_append came others ∙ ap (λ n. n + feeds_in others) (sym so.feeds)
+
+  feeds_all : feeds_in (came ++ piece) ≡ t.feeds + feeds_in others + cond (last == 10) 1 0
+  feeds_all =
+      ap feeds_in split_all ∙ feeds_append (came ++ others) (last ∷ [])
+      ∙ ap (λ n. n + feeds_in (last ∷ [])) feeds_before ∙ omega arith
+
+  pub feed_last : last ≡ 10 → feeds_in (came ++ piece) ≡ t.feeds + feeds_in others + 1
+  feed_last feed =
+      feeds_all ∙ ap (λ b. t.feeds + feeds_in others + cond b 1 0) (eq-eqb last 10 feed)
+
+  pub other_last : last ≢ 10 → feeds_in (came ++ piece) ≡ t.feeds + feeds_in others
+  other_last other =
+      feeds_all ∙ ap (λ b. t.feeds + feeds_in others + cond b 1 0) (ne_eqb last 10 other)
+      ∙ omega arith
+
+  pub line_last : line_of (came ++ piece) ≡ t.feeds + feeds_in others + 1
+  line_last =
+      ap line_of split_all ∙ ap (λ l. 1 + feeds_in l) (front (came ++ others) last)
+      ∙ ap (λ n. 1 + n) feeds_before ∙ omega arith

@@ -6,3 +6,4 @@ pub mod Counting
 mod Fronts
 pub mod Limits
 pub mod Telling
+mod Following

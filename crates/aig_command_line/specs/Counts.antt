@@ -1,6 +1,6 @@
 -- Part of what is promised.
 -- Counts of bytes that came, and the place of the last of them.
-use Rattle.std.specs.Prelude.{◌≡◌, ◌==◌, ℕ, ◌+◌, ◌-◌, Bool, true, false, if◌then◌else◌, List, length, take, get_or, count_by}
+use Rattle.std.specs.Prelude.{◌≡◌, ◌==◌, ℕ, ◌+◌, ◌-◌, ◌^◌, ◌≤◌, Bool, true, false, if◌then◌else◌, List, ◌++◌, length, take, get_or, count_by, Option, Some, None}
 use Rattle.aig_command_line.specs.declared.tally.Measure.{Measure}
 use Rattle.aig_command_line.specs.declared.tally.Measure.TheVariants as measures
 use Rattle.aig_command_line.specs.declared.tally.Place.{Place}
@@ -36,3 +36,10 @@ pub record IsTally (t : Tally) (came : List ℕ) : Type 0 where
   pub line : t.line ≡ line_of came
   pub first : t.first ≡ get_or came 0 0
   pub second : t.second ≡ get_or came 1 0
+
+-- the counts with the bytes of a piece, unless there were none, or there are too many bytes
+abbrev pub CountsWith : Option Tally → List ℕ → Option Tally → Type 0
+CountsWith None piece made = made ≡ None
+CountsWith (Some t) piece (Some made) =
+    (came : List ℕ) → IsTally t came → IsTally made (came ++ piece)
+CountsWith (Some t) piece None = 2 ^ 64 ≤ t.bytes + length piece

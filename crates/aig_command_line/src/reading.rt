@@ -13,7 +13,7 @@ use std::alloc::Global;
 use std::marker::Brand;
 
 /// How the place of an error in a file is told, if it has one.
-fn read_measure(error: ReadError) -> Option<Measure>
+pub(crate) fn read_measure(error: ReadError) -> Option<Measure>
     ensures { result ≡ read_measure error }
 {
     match error {

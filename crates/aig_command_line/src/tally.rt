@@ -1,6 +1,8 @@
 //! Where in a file reading stopped.
 
-ghost use Rattle.std.specs.Prelude.{◌≡◌, ◌-◌, ◌<◌, ◌≤◌, ◌^◌, ◌++◌, ◌∷◌, [], List, ℕ, false};
+ghost use Rattle.std.specs.Prelude.{◌≡◌, ◌+◌, ◌-◌, ◌<◌, ◌≤◌, ◌^◌, ◌++◌, ◌∷◌, [], List, ℕ, Some, false, get_or, length};
+
+use crate::bytes::{byte_at, feeds_in};
 
 /// A place in a file.
 #[derive(Clone, Copy, Debug, PartialEq, Eq)]
@@ -43,7 +45,7 @@ pub(crate) struct Tally {
 }
 
 impl Tally {
-    ghost use Rattle.aig_command_line.specs.Counts.{IsTally, is_by_bytes, place_of};
+    ghost use Rattle.aig_command_line.specs.Counts.{CountsWith, IsTally, is_by_bytes, place_of};
 
     /// The counts of no bytes.
     pub(crate) fn new() -> Self
@@ -77,6 +79,48 @@ impl Tally {
             line: self.feeds + 1,
             first: if self.bytes == 0 { byte } else { self.first },
             second: if self.bytes == 1 { byte } else { self.second },
+        }
+    }
+
+    /// The counts with the bytes of a piece, where these can be counted.
+    pub(crate) fn with_piece(self, piece: &[u8]) -> Option<Self>
+        ensures { CountsWith (Some self) piece.now result }
+    {
+        let bytes = self.bytes.checked_add(piece.len() as u64)?;
+        let Some((last, front)) = piece.split_last() else {
+            return Some(self);
+        };
+        let feeds = self.feeds + feeds_in(front);
+        Some(Tally {
+            bytes,
+            feeds: if *last == b'\n' { feeds + 1 } else { feeds },
+            line: feeds + 1,
+            first: self.first_with(piece),
+            second: self.second_with(piece),
+        })
+    }
+
+    /// The first byte, where a piece comes.
+    fn first_with(&self, piece: &[u8]) -> u8
+        ensures { (came : List ℕ) → IsTally self.now came
+            → result ≡ get_or (came ++ piece.now) 0 0 }
+    {
+        if self.bytes == 0 {
+            byte_at(piece, 0)
+        } else {
+            self.first
+        }
+    }
+
+    /// The second byte, where a piece comes.
+    fn second_with(&self, piece: &[u8]) -> u8
+        ensures { (came : List ℕ) → IsTally self.now came
+            → result ≡ get_or (came ++ piece.now) 1 0 }
+    {
+        match self.bytes {
+            0 => byte_at(piece, 1),
+            1 => byte_at(piece, 0),
+            _ => self.second,
         }
     }
 

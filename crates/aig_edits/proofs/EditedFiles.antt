@@ -1,18 +1,15 @@
 -- What is printed of the circuit of a file is printed of the file.
-use Rattle.aig_base.proofs.Words.{◌≡◌, ℕ, ◌<◌, ◌≤◌, Bool, List, [], ◌∷◌, Option, Result, Ok, Err, map, refl, sym, ap, subst, inl, inr, IfErr, length-map}
-use Rattle.aig_circuit.specs.Circuit.{Circuit}
-use Rattle.aig_format.proofs.Words.{IsReadAgain, circuit_of, edge_of, file_of, File, Accepts, Fits}
+use Rattle.aig_base.proofs.Words.{◌≡◌, ℕ, ◌<◌, ◌≤◌, Bool, List, [], ◌∷◌, Option, Result, Ok, Err, map, refl, sym, ap, subst, inl, inr, length-map}
+use Rattle.aig_circuit.proofs.Words.{Circuit, lists_circuit}
+use Rattle.aig_format.proofs.Words.{IsReadAgain, circuit_of, edge_of, file_of, File}
 use Rattle.aig_format.specs.declared.FileKind.TheVariants.{Text}
-use Rattle.aig.specs.Reading.{IsFileCircuit}
-use Rattle.aig_reader.specs.Reading.{IsReadAs}
-use Rattle.aig_reader.specs.Verdicts.{Accepted, Judges, verdict_by}
+use Rattle.aig_reader.specs.Verdicts.{Accepted, verdict_by}
 use Rattle.aig_edits.specs.declared.edit.Edit.{Edit}
 use Rattle.aig_edits.specs.declared.edit.Edit.TheVariants as edits
 use Rattle.aig_edits.specs.declared.edit_error.EditError.{EditError}
 use Rattle.aig_edits.specs.declared.edit_error.EditError.TheVariants as errors
-use Rattle.aig_edits.specs.Edits.{CanEdit, EditShows, IsEditOwn, IsEditUnwritten, IsEdited, PrintsEdit, ReadsFile, edit_verdict}
+use Rattle.aig_edits.specs.Edits.{CanEdit, EditShows, IsEditUnwritten, IsEdited, PrintsEdit, edit_verdict}
 use Rattle.aig_edits.specs.EditParts.{CanEditCircuit, PrintsCircuit}
-use Rattle.aig_edits.proofs.ReadFiles.{taken_file}
 
 pub none_back : (f : File) (es : List ℕ) → map (edge_of f) es ≡ [] → es ≡ []
 none_back f [] is = refl
@@ -48,8 +45,8 @@ module _ {W : Type 0} (held : W → Option (List ℕ)) (failed : W → Bool) (ed
     of_circuit : (r : Result (Unit {0}) EditError) → PrintsCircuit held failed edit limit
         (circuit_of f) w r made
         → PrintsEdit held failed edit limit w made f r
-    of_circuit (Ok u) (m, edited, told) = (
-      m,
+    of_circuit (Ok u) (lists, edited, told) = (
+      lists_circuit lists,
       record {
         edit_of = record {
           can = can_back edit f edited.0;
@@ -58,13 +55,13 @@ module _ {W : Type 0} (held : W → Option (List ℕ)) (failed : W → Bool) (ed
           small = told.0;
         };
         again = told.1;
-        shows = shows m (can_back edit f edited.0) edited.2 told.1;
+        shows = shows (lists_circuit lists) (can_back edit f edited.0) edited.2 told.1;
       },
       told.2,
       told.3,
     )
-    of_circuit (Err errors.Write) (m, edited, told) = (
-      m,
+    of_circuit (Err errors.Write) (lists, edited, told) = (
+      lists_circuit lists,
       record {
         can = can_back edit f edited.0;
         within = edited.1;
@@ -74,11 +71,11 @@ module _ {W : Type 0} (held : W → Option (List ℕ)) (failed : W → Bool) (ed
       },
       told.1,
     )
-    of_circuit (Err errors.TooLarge) (m, edited, told) = (
+    of_circuit (Err errors.TooLarge) (lists, edited, told) = (
       can_back edit f edited.0,
       edited.1,
       (
-        m,
+        lists_circuit lists,
         edited.2,
         told.0,
       ),
@@ -119,35 +116,9 @@ module _ {W : Type 0} (held : W → Option (List ℕ)) (failed : W → Bool) (ed
     taken (Err (errors.Read e)) told = absurd told.0
     taken (Err e) told = refl
 
-    pub own : (r : Result (Unit {0}) EditError) → PrintsCircuit held failed edit limit c w r made →
-        IfErr r IsEditOwn
-    own (Ok u) told = tt
-    own (Err (errors.Read e)) told = absurd told.0
-    own (Err e) told = tt
-
     pub kept : (r : Result (Unit {0}) EditError) → PrintsCircuit held failed edit limit c w r made →
         IsEditUnwritten r → made ≡ w
     kept (Ok u) told not = absurd not
     kept (Err errors.Write) told not = absurd not
     kept (Err errors.TooLarge) told not = told.2.1
     kept (Err e) told not = told.1
-
--- ---- of what was read
-
-module _ {R W : Type 0} (left : R → Option (List ℕ)) (read_failed : R → Bool) (held : W → Option
-    (List ℕ)) (failed : W → Bool) (edit : Edit) (limit : ℕ) (r rest : R) where
-  -- it is taken, and the edit of its circuit is printed
-  pub reads_edit : (w made : W) (c : Circuit) (result : Result (Unit {0}) EditError)
-      → ((edit : Edit) (f : File) (limit : ℕ) (m : Circuit) → Fits f limit → CanEdit edit f → IsEdited edit
-      (circuit_of f) m → IsReadAgain m (file_of Text m) → EditShows edit f (file_of Text m))
-      → Judges (λ _. Accepted) limit (left r) (left rest) (read_failed rest) Accepted
-      → IsReadAs (λ bytes. Accepts bytes limit) IsFileCircuit (left r) (left rest) c
-      → PrintsCircuit held failed edit limit c w result made
-      → ReadsFile left read_failed limit (PrintsEdit held failed edit limit w made) edit_verdict
-      IsEditOwn r result rest
-  reads_edit w made c result shows said was told =
-      taken_file left read_failed limit r rest (PrintsEdit held failed edit limit w made) c result
-      said was (taken held failed edit limit w made c result told) (own held failed edit limit w
-      made c result told)
-      (λ f fits is. printed_file held failed edit limit w made f (λ m. shows edit f limit m fits) c
-      result is told)

@@ -6,7 +6,8 @@ use Rattle.aig_format.proofs.Words.{IsReadAgain, circuit_of, edge_of, file_of, l
 use Rattle.aig_format.specs.declared.FileKind.TheVariants.{Text}
 use Rattle.aig_format.proofs.Circuits.{IsCircuit-of_file}
 use Rattle.aig_join.proofs.Written.{written-certified, written-miter}
-use Rattle.aig_reader.specs.Verdicts.{Accepted, verdict_by}
+use Rattle.aig_reader.specs.Verdicts.{Accepted, IsOfFile, verdict_by}
+use Rattle.aig_reader.proofs.Verdicts.{of_no_file}
 use Rattle.aig_edits.specs.declared.error.PairError.{PairError}
 use Rattle.aig_edits.specs.declared.error.PairError.TheVariants as errors
 use Rattle.aig_edits.specs.declared.pairing.Pairing.{Pairing}
@@ -126,6 +127,16 @@ module _ (pairing : Pairing) (a b : Circuit) where
       → IfOk made (λ lists. IsCircuit (lists_circuit lists))
   join_circuit (Ok lists) told = told.2
   join_circuit (Err e) told = tt
+
+-- what isn't told of the reading of either has no error of it
+pub own_joint : {T : Type 0} (made : Result T PairError) → verdict_by first_verdict made ≡ Accepted
+    → verdict_by second_verdict made ≡ Accepted → IfErr made IsOwn
+own_joint (Ok x) first second = tt
+own_joint (Err (errors.Read e)) first second =
+    absurd (of_no_file e (subst IsOfFile (sym first) tt))
+own_joint (Err (errors.Other e)) first second =
+    absurd (of_no_file e (subst IsOfFile (sym second) tt))
+own_joint (Err e) first second = tt
 
 -- the lists that were read are of circuits
 pub circuits_read : (limit : ℕ) (f g : File) (bytes others : List ℕ) (own theirs : CircuitLists)

@@ -1,5 +1,5 @@
 -- What a call that reads one file tells, from what the reading told.
-use Rattle.aig_base.proofs.Words.{◌≡◌, ◌≢◌, ℕ, Bool, List, Option, Result, Err, sym, subst, IfErr}
+use Rattle.aig_base.proofs.Words.{◌≡◌, ◌≢◌, ℕ, Bool, List, Option, Result, Ok, Err, sym, subst, IfErr}
 use Rattle.aig_format.proofs.Words.{File, Accepts, Fits}
 use Rattle.aig_reader.specs.declared.error.ReadError.{ReadError}
 use Rattle.aig_reader.specs.declared.error.ReadError.TheVariants as read
@@ -10,6 +10,13 @@ use Rattle.aig_reader.proofs.Verdicts.{of_no_file}
 use Rattle.aig_edits.specs.declared.edit_error.EditError.{EditError}
 use Rattle.aig_edits.specs.declared.edit_error.EditError.TheVariants as errors
 use Rattle.aig_edits.specs.Edits.{IsEditOwn, ReadsFile, edit_verdict}
+
+-- what isn't told of the reading has no error of it
+pub own_of : {T : Type 0} (result : Result T EditError)
+    → verdict_by edit_verdict result ≡ Accepted → IfErr result IsEditOwn
+own_of (Ok x) taken = tt
+own_of (Err (errors.Read e)) taken = absurd (of_no_file e (subst IsOfFile (sym taken) tt))
+own_of (Err e) taken = tt
 
 module _ {R T : Type 0} (left : R → Option (List ℕ)) (failed : R → Bool) (limit : ℕ) (r rest : R)
     (Means : File → Result T EditError → Type 0) where

@@ -2,7 +2,9 @@
 -- What the parts of an edit do.
 use Rattle.std.specs.Prelude.{◌≡◌, ℕ, ◌<◌, ◌≤◌, ◌⊎◌, Bool, false, List, [], length, Option, Result, Ok, Err, IfErr, IfOk}
 use Rattle.std.specs.Io.KnownBytes.{Appends}
-use Rattle.aig_circuit.specs.Circuit.{Circuit}
+use Rattle.aig_circuit.specs.Circuit.{Circuit, IsCircuit}
+use Rattle.aig_circuit.specs.View.{lists_circuit}
+use Rattle.aig_circuit.specs.declared.view.CircuitLists.{CircuitLists}
 use Rattle.aig_edit_laws.specs.Plain.{IsPlain}
 use Rattle.aig_format.specs.Circuit.{IsReadAgain, file_of, text_of}
 use Rattle.aig_format.specs.declared.FileKind.TheVariants.{Text}
@@ -26,14 +28,18 @@ CanEditCircuit (edits.Cone n) c = n < length c.properties.outputs
 CanEditCircuit edit c = Unit {0}
 
 -- the circuit is edited, or memory ran out
-pub record Yields (edit : Edit) (c : Circuit) (result : Result Circuit EditError) : Type 0 where
-  pub made : IfOk result (λ m. IsEdited edit c m × IsPlain m)
-  pub fault : IfErr result (λ e. e ≡ errors.Memory)
+pub record Yields (edit : Edit) (c : Circuit) (result : Result CircuitLists EditError) : Type 0
+  where
+    pub made : IfOk result (λ lists. IsEdited edit c (lists_circuit lists)
+        × IsPlain (lists_circuit lists) × IsCircuit (lists_circuit lists))
+    pub fault : IfErr result (λ e. e ≡ errors.Memory)
 
 -- the circuit is edited, or it is said why not
-abbrev pub Edits : Edit → ℕ → Circuit → Result Circuit EditError → Type 0
-Edits edit limit c (Ok m) =
+abbrev pub Edits : Edit → ℕ → Circuit → Result CircuitLists EditError → Type 0
+Edits edit limit c (Ok lists) =
+    let m = lists_circuit lists in
     CanEditCircuit edit c × AreStepsWithin edit limit c × IsEdited edit c m × IsPlain m
+    × IsCircuit m
 Edits edit limit c (Err errors.ManyBads) = (edit ≡ edits.Move) × (¬ CanEditCircuit edit c)
 Edits edit limit c (Err errors.HasBads) = (edit ≡ edits.Bads) × (¬ CanEditCircuit edit c)
 Edits edit limit c (Err errors.NoBad) =
@@ -62,10 +68,12 @@ WritesText held failed m w (Err e) made = ⊥
 abbrev pub PrintsCircuit : {W : Type 0} → (W → Option (List ℕ)) → (W → Bool) → Edit → ℕ → Circuit
     → W → Result Unit EditError → W → Type 0
 PrintsCircuit held failed edit limit c w (Ok done) made =
-    (m : Circuit) × Edits edit limit c (Ok m) × WritesText held failed m w (Ok done) made
+    (lists : CircuitLists) × Edits edit limit c (Ok lists)
+    × WritesText held failed (lists_circuit lists) w (Ok done) made
 PrintsCircuit held failed edit limit c w (Err errors.Write) made =
-    (m : Circuit) × Edits edit limit c (Ok m) × WritesText held failed m w (Err errors.Write) made
+    (lists : CircuitLists) × Edits edit limit c (Ok lists)
+    × WritesText held failed (lists_circuit lists) w (Err errors.Write) made
 PrintsCircuit held failed edit limit c w (Err errors.TooLarge) made =
-    (m : Circuit) × Edits edit limit c (Ok m)
-    × WritesText held failed m w (Err errors.TooLarge) made
+    (lists : CircuitLists) × Edits edit limit c (Ok lists)
+    × WritesText held failed (lists_circuit lists) w (Err errors.TooLarge) made
 PrintsCircuit held failed edit limit c w (Err e) made = Edits edit limit c (Err e) × (made ≡ w)

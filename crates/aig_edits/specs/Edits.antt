@@ -2,8 +2,6 @@
 -- What is made of one file: the circuit that an edit makes of its circuit, and that circuit's text.
 use Rattle.std.specs.Prelude.{◌≡◌, ◌≢◌, ℕ, ◌<◌, ◌≤◌, ◌↔◌, ◌⊎◌, Bool, false, List, [], length, Option, Result, Ok, Err, IfErr}
 use Rattle.std.specs.Io.KnownBytes.{Appends}
-use Rattle.aig.specs.declared.aiger.WriteError.{WriteError}
-use Rattle.aig.specs.declared.aiger.WriteError.TheVariants as write
 use Rattle.aig_runs.specs.Safety.{IsSafeAt}
 use Rattle.aig_change.specs.Changes.{CompressesBads, FoldsConstraints}
 use Rattle.aig_circuit.specs.Circuit.{Circuit}
@@ -93,11 +91,6 @@ pub record IsWrittenEdit (edit : Edit) (limit : ℕ) (f : File) (m : Circuit) : 
 abbrev pub edit_verdict : EditError → Verdict
 edit_verdict (errors.Read e) = reading.verdict_of e
 edit_verdict e = Accepted
-
--- what stops a text that nothing but its size can keep from being written
-abbrev pub edit_fault : WriteError → EditError
-edit_fault write.TooLarge = errors.TooLarge
-edit_fault e = errors.Write
 
 -- no path is opened
 abbrev pub IsEditOwn : EditError → Type 0

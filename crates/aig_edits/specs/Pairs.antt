@@ -1,10 +1,17 @@
 -- Part of what is promised.
 -- What a call that reads two files says of their bytes.
-use Rattle.std.specs.Prelude.{◌≡◌, ◌≢◌, ℕ, Bool, List, Option, Result, IfErr}
+use Rattle.std.specs.Prelude.{◌≡◌, ◌≢◌, ℕ, ◌^◌, ◌≤◌, Bool, List, Option, Result, IfErr}
+use Rattle.aig_circuit.specs.declared.view.CircuitLists.{CircuitLists}
 use Rattle.aig_format.specs.File.{File}
 use Rattle.aig_format.specs.Fits.{Accepts}
-use Rattle.aig_reader.specs.Reading.{IsReadAs}
+use Rattle.aig_reader.specs.Reading.{AreListsOf, IsReadAs}
 use Rattle.aig_reader.specs.Verdicts.{Accepted, Judges, Verdict, verdict_by}
+
+-- it holds of each two files within a bound whose circuits these are
+abbrev pub OfTwoFiles : CircuitLists → CircuitLists → (File → File → Type 0) → Type 0
+OfTwoFiles own other Means =
+    (f g : File) (bound : ℕ) (bytes others : List ℕ) → bound ≤ 2 ^ 31 → Accepts bytes bound f
+    → Accepts others bound g → AreListsOf f own → AreListsOf g other → Means f g
 
 -- the bytes that were taken of both are two files, and the value is what is meant for these
 abbrev pub AreReadAs : {T : Type 0} → ℕ → (File → File → T → Type 0) → Option (List ℕ)

@@ -2,10 +2,8 @@
 
 ghost use Rattle.std.specs.Prelude.{◌≡◌};
 ghost use Rattle.aig_edits.specs.declared.edit_error.EditError.TheVariants as errors;
-ghost use Rattle.aig_edits.specs.Edits.{edit_fault};
 ghost use Rattle.aig_edits.specs.QuestionFaults.{question_fault};
 
-use aig::WriteError;
 use aig_base::{MemoryError, StreamFault};
 use aig_bounded::BoundedError;
 use aig_reader::ReadError;
@@ -75,17 +73,6 @@ impl From<BoundedError> for EditError {
         match error {
             BoundedError::TooLarge => EditError::QuestionTooLarge,
             BoundedError::Memory => EditError::Memory,
-        }
-    }
-}
-
-impl From<WriteError> for EditError {
-    ghost from_gives = { λ e r. r ≡ edit_fault e };
-
-    fn from(error: WriteError) -> EditError {
-        match error {
-            WriteError::TooLarge => EditError::TooLarge,
-            _ => EditError::Write,
         }
     }
 }

@@ -1,13 +1,16 @@
 //! Printing what is made of one file.
 
 ghost use Rattle.std.specs.Prelude.{◌≡◌, ◌≤◌, ◌^◌, ℕ};
-ghost use Rattle.aig_circuit.specs.Circuit.{Circuit};
+ghost use Rattle.aig_circuit.specs.Circuit.{Circuit, IsCircuit};
+ghost use Rattle.aig_circuit.specs.View.{lists_circuit};
 ghost use Rattle.aig_edit_laws.specs.Plain.{IsPlain};
 ghost use Rattle.aig_format.specs.Circuit.{IsReadAgain, circuit_of, file_of};
 ghost use Rattle.aig_format.specs.declared.FileKind.TheVariants.{Text};
 ghost use Rattle.aig_format.specs.File.{File};
 ghost use Rattle.aig_format.specs.Fits.{Fits};
-ghost use Rattle.aig_format.specs.Writable.{IsWritable};
+ghost use Rattle.aig_format.specs.Writable.{AreTexts, IsWritable};
+ghost use Rattle.aig_reader.specs.Reading.{AreListsOf};
+ghost use Rattle.aig_reader.specs.Verdicts.{Accepted, verdict_by};
 ghost use Rattle.aig_edits.specs.declared.edit.Edit.{Edit};
 ghost use Rattle.aig_edit_laws.specs.Reduction.{HaveSameWitnesses};
 ghost use Rattle.aig_edits.specs.Edits.{AreAsSafe, CanEdit, EditShows, IsEditOwn, IsEditUnwritten, IsEdited, PrintsEdit, ReadsFile, edit_verdict};
@@ -16,8 +19,9 @@ ghost use Rattle.aig_edits.specs.EditParts.{PrintsCircuit, WritesText};
 use crate::edit::Edit;
 use crate::edit_error::EditError;
 use crate::editing::edited;
-use aig::Aig;
+use crate::format::fits_format;
 use aig_base::{Sink, Source};
+use aig_circuit::{CircuitLists, CircuitView};
 use aig_cone::{refining_is_circuit, refining_keeps_runs};
 use aig_edit_laws::{
     always_bad_runs_are_runs, changed_circuits_keep_witnesses, cones_show_their_output,
@@ -25,9 +29,11 @@ use aig_edit_laws::{
     shown_runs_are_machine_runs, unrolled_witnesses_are_runs, written_circuits_have_outputs,
     written_circuits_have_witnesses,
 };
-use aig_format_laws::files_are_circuits;
+use aig_format_laws::{files_are_circuits, written_is_read};
+use aig_reader::read;
 use aig_renumber::reencoding_keeps_runs;
 use aig_runs::safe_circuits_are_safe_machines;
+use aig_writer::write_text;
 use std::alloc::Global;
 
 /// Law: the machine of a file that is read again as a circuit is as safe as that of a file whose circuit has the same witnesses.
@@ -63,25 +69,57 @@ fn edited_files_show()
 }
 
 /// Writes the text form of a circuit, if it fits the format.
-fn write<W: Sink>(circuit: &Aig, w: &mut W) -> Result<(), EditError>
-    requires { IsPlain circuit.now }
+fn write<W: Sink>(circuit: &CircuitView<'_>, w: &mut W) -> Result<(), EditError>
+    requires plain { IsPlain circuit.now }
+    requires texts { AreTexts circuit.now.names }
     ensures { WritesText W.held W.failed circuit.now w.old result w.new }
 {
-    Ok(circuit.write_text(w)?)
+    written_is_read();
+    let _nodes = circuit.nodes();
+    if !fits_format(circuit) {
+        return Err(EditError::TooLarge);
+    }
+    Ok(write_text(w, circuit)?)
 }
 
 /// Writes the text form of what an edit makes of a circuit.
-fn print_edited<W: Sink>(
+fn write_edited<W: Sink>(
     edit: &Edit,
-    circuit: Aig,
+    circuit: CircuitLists,
     limit: usize,
     w: &mut W,
 ) -> Result<(), EditError>
-    requires { IsWritable circuit }
-    ensures { PrintsCircuit W.held W.failed edit.now limit circuit w.old result w.new }
+    requires circuit { IsCircuit (lists_circuit circuit) }
+    requires plain { IsWritable (lists_circuit circuit) }
+    ensures { PrintsCircuit W.held W.failed edit.now limit (lists_circuit circuit) w.old result
+        w.new }
 {
     let made = edited(edit, circuit, limit)?;
-    write(&made, w)
+    write(&CircuitView::new(&made), w)
+}
+
+/// Writes the text form of the circuit that an edit makes of this one to `w`. It doesn't flush `w`. Requires a circuit with a written
+/// form.
+///
+/// # Errors
+///
+/// Those of `print_edit` but `Read`.
+pub fn write_edit<W: Sink>(
+    edit: &Edit,
+    circuit: CircuitLists,
+    limit: usize,
+    w: &mut W,
+) -> Result<(), EditError>
+    requires circuit { IsCircuit (lists_circuit circuit) }
+    requires plain { IsWritable (lists_circuit circuit) }
+    // Of each file whose circuit it is, what is written is the text form of the edited circuit.
+    ensures prints { (f : File) (bound : ℕ) → Fits f bound → AreListsOf f circuit
+        → PrintsEdit W.held W.failed edit.now limit w.old w.new f result }
+    ensures never_read { verdict_by edit_verdict result ≡ Accepted }
+    ensures kept { IsEditUnwritten result → w.new ≡ w.old }
+{
+    edited_files_show();
+    write_edited(edit, circuit, limit, w)
 }
 
 /// Reads a file in the AIGER format, and writes the text form of the circuit that an edit makes of its circuit to `w`. It doesn't
@@ -119,7 +157,7 @@ pub fn print_edit<R: Source, W: Sink>(
         r.new }
     ensures kept { IsEditUnwritten result → w.new ≡ w.old }
 {
-    edited_files_show();
-    let circuit = Aig::from_aiger(alloc, r, limit)?;
-    print_edited(edit, circuit, limit, w)
+    files_are_circuits();
+    let lists = read(alloc, r, limit)?;
+    write_edit(edit, lists, limit, w)
 }

@@ -3,7 +3,10 @@
 ghost use Rattle.std.specs.Prelude.{◌≡◌, ◌<◌, ◌≤◌, ◌^◌, ℕ, IfOk, count_by, length};
 ghost use Rattle.aig_circuit.specs.Circuit.{AreNodes};
 ghost use Rattle.aig_circuit.specs.Node.{is_gate};
+ghost use Rattle.aig_format.specs.Circuit.{circuit_of};
+ghost use Rattle.aig_format.specs.File.{File};
 ghost use Rattle.aig_output.specs.Sinks.{BuffersOrStops, WritesOrStops};
+ghost use Rattle.aig_reader.specs.Verdicts.{Accepted, verdict_by};
 ghost use Rattle.aig_edits.specs.Edits.{IsEditOwn, IsEditUnwritten, ReadsFile, edit_verdict};
 ghost use Rattle.aig_edits.specs.Info.{IsDepth, PrintsInfo, count_line, counts_of, info_text};
 ghost use Rattle.aig_edits.specs.Levels.{AreLevels, IsLevel};
@@ -147,6 +150,26 @@ fn write_counts<W: Sink>(w: &mut W, counts: &Counts) -> Result<(), StreamFault>
     buffer.flush(w)
 }
 
+/// Writes a line for each of the counts of a circuit to `w`, as `print_info` does. It doesn't flush `w`.
+///
+/// # Errors
+///
+/// Those of `print_info` but `Read`.
+pub fn write_info<W: Sink>(
+    alloc: Global,
+    circuit: &CircuitView<'_>,
+    w: &mut W,
+) -> Result<(), EditError>
+    // Of each file whose circuit it is, what is written tells the counts.
+    ensures prints { (f : File) → circuit.now ≡ circuit_of f
+        → PrintsInfo W.held W.failed w.old w.new f result }
+    ensures never_read { verdict_by edit_verdict result ≡ Accepted }
+    ensures kept { IsEditUnwritten result → w.new ≡ w.old }
+{
+    let counts = counts_of(alloc, circuit)?;
+    Ok(write_counts(w, &counts)?)
+}
+
 /// Reads a file in the AIGER format, and writes a line for each of these counts of its circuit to `w`: inputs, latches, outputs,
 /// gates, bad states, constraints, justice properties, fairness constraints, and levels, which is the greatest number of
 /// gates on a path. It doesn't flush `w`. Requires `1 <= limit <= 2^31`.
@@ -172,6 +195,5 @@ pub fn print_info<R: Source, W: Sink>(
     ensures kept { IsEditUnwritten result → w.new ≡ w.old }
 {
     let lists = aig_reader::read(alloc, r, limit)?;
-    let counts = counts_of(alloc, &CircuitView::new(&lists))?;
-    Ok(write_counts(w, &counts)?)
+    write_info(alloc, &CircuitView::new(&lists), w)
 }

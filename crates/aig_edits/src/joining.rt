@@ -73,7 +73,7 @@ fn pair_of(
 }
 
 /// The joint circuit of two, if they fit and it isn't too large for the format.
-fn join_of(
+pub(crate) fn join_of(
     pairing: Pairing,
     first: &CircuitLists,
     second: &CircuitLists,

@@ -7,6 +7,7 @@ ghost use Rattle.aig_format.specs.File.{File};
 ghost use Rattle.aig_format.specs.Fits.{Fits};
 ghost use Rattle.aig_format.specs.Writable.{IsWritable};
 ghost use Rattle.aig_live.specs.Live.{live_size};
+ghost use Rattle.aig_reader.specs.Verdicts.{Accepted, verdict_by};
 ghost use Rattle.aig_edits.specs.Edits.{IsEditOwn, IsEditUnwritten, ReadsFile, edit_verdict};
 ghost use Rattle.aig_edits.specs.LiveParts.{IsLiveCircuit, MakesLive};
 ghost use Rattle.aig_edits.specs.Lives.{IsLiveFile, PrintsLive};
@@ -73,7 +74,6 @@ fn live_for(
 
 /// The live circuit of justice property `j`, if there is one and it isn't too large.
 fn live_of(alloc: Global, circuit: &CircuitView<'_>, j: usize) -> Result<CircuitLists, EditError>
-    requires { IsCircuit circuit.now }
     ensures { MakesLive j circuit.now result }
 {
     let sets = circuit.justice();
@@ -81,6 +81,32 @@ fn live_of(alloc: Global, circuit: &CircuitView<'_>, j: usize) -> Result<Circuit
         return Err(EditError::NoJustice);
     }
     live_for(alloc, circuit, j, &sets[j])
+}
+
+/// Writes the text form of the live circuit of a circuit to `w`, as `print_live` does. It doesn't flush `w`. Requires a circuit with a
+/// written form.
+///
+/// # Errors
+///
+/// Those of `print_live` but `Read`.
+pub fn write_live<W: Sink>(
+    alloc: Global,
+    j: usize,
+    circuit: &CircuitView<'_>,
+    w: &mut W,
+) -> Result<(), EditError>
+    requires { IsWritable circuit.now }
+    // Of each file whose circuit it is, what is written is the text form of its live circuit.
+    ensures prints { (f : File) (bound : ℕ) → Fits f bound → circuit.now ≡ circuit_of f
+        → PrintsLive W.held W.failed j w.old w.new f result }
+    ensures never_read { verdict_by edit_verdict result ≡ Accepted }
+    ensures kept { IsEditUnwritten result → w.new ≡ w.old }
+{
+    live_circuits_are_circuits();
+    live_files_show();
+    let _nodes = circuit.nodes();
+    let made = live_of(alloc, circuit, j)?;
+    Ok(write_text(w, &CircuitView::new(&made))?)
 }
 
 /// Reads a file in the AIGER format, and writes the text form of its live circuit to `w`: its bad state is reached at a step
@@ -112,9 +138,6 @@ pub fn print_live<R: Source, W: Sink>(
     ensures kept { IsEditUnwritten result → w.new ≡ w.old }
 {
     files_are_circuits();
-    live_circuits_are_circuits();
-    live_files_show();
     let lists = aig_reader::read(alloc, r, limit)?;
-    let made = live_of(alloc, &CircuitView::new(&lists), j)?;
-    Ok(write_text(w, &CircuitView::new(&made))?)
+    write_live(alloc, j, &CircuitView::new(&lists), w)
 }

@@ -7,6 +7,7 @@ ghost use Rattle.aig_circuit.specs.View.{lists_circuit};
 ghost use Rattle.aig_format.specs.Circuit.{circuit_of};
 ghost use Rattle.aig_format.specs.File.{File};
 ghost use Rattle.aig_format.specs.Fits.{Fits};
+ghost use Rattle.aig_reader.specs.Verdicts.{Accepted, verdict_by};
 ghost use Rattle.aig_edits.specs.Edits.{IsEditOwn, IsEditUnwritten, ReadsFile, edit_verdict};
 ghost use Rattle.aig_edits.specs.Questions.{IsQuestionOf, PrintsQuestion};
 ghost use Rattle.aig_edits.specs.QuestionParts.{AsksOf, IsPlainQuestion, unnamed};
@@ -76,6 +77,33 @@ fn question_of(
     asked(alloc, circuit, k, limit)
 }
 
+/// Writes the text form of the question of a bounded check of a circuit to `w`, as `print_question` does. It doesn't flush `w`.
+/// Requires initial edges that are constant, and `1 <= limit <= 2^31`.
+///
+/// # Errors
+///
+/// Those of `print_question` but `Read`.
+pub fn write_question<W: Sink>(
+    alloc: Global,
+    k: usize,
+    circuit: &CircuitView<'_>,
+    limit: usize,
+    w: &mut W,
+) -> Result<(), EditError>
+    requires starts { All HasConstantInit circuit.now.latchs }
+    requires some { 1 ≤ limit }
+    requires few { limit ≤ 2 ^ 31 }
+    // Of each file whose circuit it is, what is written is the text form of its question.
+    ensures prints { (f : File) (bound : ℕ) → Fits f bound → circuit.now ≡ circuit_of f
+        → PrintsQuestion W.held W.failed k limit w.old w.new f result }
+    ensures never_read { verdict_by edit_verdict result ≡ Accepted }
+    ensures kept { IsEditUnwritten result → w.new ≡ w.old }
+{
+    questions_show();
+    let made = question_of(alloc, circuit, k, limit)?;
+    Ok(write_text(w, &CircuitView::new(&made))?)
+}
+
 /// Reads a file in the AIGER format, and writes the text form of the question of a bounded check of it to `w`: a circuit
 /// without latches and with one output, which can be true exactly where a bad state is reached at a step from 0 to `k` by a
 /// run from an initial state that meets the constraints up to there (`bounded_question` of the crate `aig_bounded`). It doesn't
@@ -106,8 +134,6 @@ pub fn print_question<R: Source, W: Sink>(
         r.new }
     ensures kept { IsEditUnwritten result → w.new ≡ w.old }
 {
-    questions_show();
     let lists = aig_reader::read(alloc, r, limit)?;
-    let made = question_of(alloc, &CircuitView::new(&lists), k, limit)?;
-    Ok(write_text(w, &CircuitView::new(&made))?)
+    write_question(alloc, k, &CircuitView::new(&lists), limit, w)
 }

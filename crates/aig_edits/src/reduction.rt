@@ -7,6 +7,7 @@ ghost use Rattle.aig_format.specs.File.{File};
 ghost use Rattle.aig_format.specs.Fits.{Fits};
 ghost use Rattle.aig_format.specs.Writable.{AreTexts, IsWritable};
 ghost use Rattle.aig_edit_laws.specs.Reduction.{IsReduced};
+ghost use Rattle.aig_reader.specs.Verdicts.{Accepted, verdict_by};
 ghost use Rattle.aig_edits.specs.Edits.{IsEditOwn, IsEditUnwritten, ReadsFile, edit_verdict};
 ghost use Rattle.aig_edits.specs.Reductions.{IsReductionOf, PrintsReduction};
 
@@ -29,6 +30,29 @@ fn reductions_show()
     reductions_are_writable();
     written_is_read();
     same_witnesses_are_as_safe();
+}
+
+/// Writes the text form of what of a circuit its query needs to `w`, as `print_reduction` does. It doesn't flush `w`. Requires a
+/// circuit with a written form.
+///
+/// # Errors
+///
+/// Those of `print_reduction` but `Read`.
+pub fn write_reduction<W: Sink>(
+    alloc: Global,
+    circuit: &CircuitView<'_>,
+    w: &mut W,
+) -> Result<(), EditError>
+    requires { IsWritable circuit.now }
+    // Of each file whose circuit it is, what is written is the text form of its reduction.
+    ensures prints { (f : File) (bound : ℕ) → Fits f bound → circuit.now ≡ circuit_of f
+        → PrintsReduction W.held W.failed w.old w.new f result }
+    ensures never_read { verdict_by edit_verdict result ≡ Accepted }
+    ensures kept { IsEditUnwritten result → w.new ≡ w.old }
+{
+    reductions_show();
+    let made = reduced(alloc, circuit)?;
+    Ok(write_text(w, &CircuitView::new(&made))?)
 }
 
 /// Reads a file in the AIGER format, and writes the text form of what its query needs to `w`: no outputs, justice or
@@ -56,8 +80,6 @@ pub fn print_reduction<R: Source, W: Sink>(
     ensures kept { IsEditUnwritten result → w.new ≡ w.old }
 {
     files_are_circuits();
-    reductions_show();
     let lists = aig_reader::read(alloc, r, limit)?;
-    let made = reduced(alloc, &CircuitView::new(&lists))?;
-    Ok(write_text(w, &CircuitView::new(&made))?)
+    write_reduction(alloc, &CircuitView::new(&lists), w)
 }

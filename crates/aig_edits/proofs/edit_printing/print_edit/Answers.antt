@@ -1,29 +1,30 @@
-use Rattle.std.proofs.lemmas.Result.{err_from_is_err_and}
-use Rattle.aig_reader.specs.declared.error.ReadError.TheVariants as read
+use Rattle.aig_base.proofs.Words.{subst, sym}
+use Rattle.aig_circuit.proofs.Words.{IsCircuit}
+use Rattle.aig_format.proofs.Words.{IsWritable}
 use Rattle.aig_edits.specs.Edits.{PrintsEdit}
-use Rattle.aig_edits.proofs.EditedFiles.{kept, reads_edit}
-use Rattle.aig_edits.proofs.ReadFiles.{refused_file}
-use Rattle.aig_edits.proofs.Edited.{err_of}
+use Rattle.aig_edits.proofs.ReadFiles.{own_of, taken_file}
 use Rattle.aig_edits.proofs.edit_printing.print_edit.Goals as goal
 
-pub returns-in_err-circuit-clause-reads : goal.returns-in_err-circuit-clause-reads
-returns-in_err-circuit-clause-reads g c =
-    let p = err_from_is_err_and c.from_residual.result c.from_residual.ensures.1 in
-    let told = c.in_err-circuit.ensures in
-    let e = c.in_err-circuit.field-0.0 in
-    rw (p.1, p.2) (refused_file g.R.Source.left g.R.Source.failed c.args.limit c.args.r.now
-    c.from_aiger.new.r (PrintsEdit g.W.Sink.held g.W.Sink.failed c.args.edit.now c.args.limit
-    c.args.w.now c.args.w.now) e told.verdict (λ is. told.never_open (err_of e read.Open is)))
+pub write_edit-requires-clause-circuit : goal.write_edit-requires-clause-circuit
+write_edit-requires-clause-circuit g c =
+    let read = c.in_ok-lists.ensures.circuit in
+    subst IsCircuit (sym read.means)
+    (c.files_are_circuits.ensures.circuit read.file c.args.limit read.holds.1)
+
+pub write_edit-requires-clause-plain : goal.write_edit-requires-clause-plain
+write_edit-requires-clause-plain g c =
+    let read = c.in_ok-lists.ensures.circuit in
+    subst IsWritable (sym read.means)
+    (c.files_are_circuits.ensures.writable read.file c.args.limit read.bytes c.requires.few
+    read.holds)
 
 pub returns-clause-reads : goal.returns-clause-reads
 returns-clause-reads g c =
-    let told = c.in_ok-circuit.ensures in
-    reads_edit g.R.Source.left g.R.Source.failed g.W.Sink.held g.W.Sink.failed c.args.edit.now
-    c.args.limit c.args.r.now c.from_aiger.new.r c.args.w.now c.print_edited.new.w
-    c.in_ok-circuit.circuit c.print_edited.result c.edited_files_show.ensures told.verdict
-    told.circuit c.print_edited.ensures
-
-pub returns-clause-kept : goal.returns-clause-kept
-returns-clause-kept g c =
-    kept g.W.Sink.held g.W.Sink.failed c.args.edit.now c.args.limit c.args.w.now
-    c.print_edited.new.w c.in_ok-circuit.circuit c.print_edited.result c.print_edited.ensures
+    let told = c.in_ok-lists.ensures in
+    let written = c.write_edit.ensures in
+    taken_file g.R.Source.left g.R.Source.failed c.args.limit c.args.r.now c.read.new.r
+    (PrintsEdit g.W.Sink.held g.W.Sink.failed c.args.edit.now c.args.limit c.args.w.now
+    c.write_edit.new.w)
+    c.in_ok-lists.lists c.write_edit.result told.verdict told.circuit written.never_read
+    (own_of c.write_edit.result written.never_read)
+    (λ f fits is. written.prints f c.args.limit fits is)

@@ -1,22 +1,19 @@
-use Rattle.std.proofs.Common.{◌≡◌, [], ◌∷◌, ◌++◌, ap, subst, sym, ◌∙◌}
-use Rattle.aig_circuit.specs.declared.prop_list.PropList.TheVariants.{Bads}
-use Rattle.aig_circuit.proofs.Words.{Circuit, IsInRange, edges_of, with_edges}
+use Rattle.aig_base.proofs.Words.{◌≡◌, [], ◌∷◌, List, ap, subst, sym, ◌∙◌}
+use Rattle.aig_circuit.specs.declared.edge.AigEdge.{AigEdge}
+use Rattle.aig_circuit.proofs.Words.{Circuit, IsCircuit, lists_circuit}
 use Rattle.aig_edit_laws.specs.Plain.{IsPlain}
 use Rattle.aig_edit_laws.specs.Shown.{bad_alone}
-use Rattle.aig_edits.proofs.Edited.{plain_of}
+use Rattle.aig_edits.proofs.Edited.{circuit_bad_alone, plain_of}
 use Rattle.aig_edits.proofs.editing.with_bad.Goals as goal
-
-pub push_edge-requires : goal.push_edge-requires
-push_edge-requires c =
-    subst (λ (d : Circuit). IsInRange d.nodes c.args.bad) (sym c.clear_edges.ensures)
-    c.requires.there
 
 pub returns-clause-made : goal.returns-clause-made
 returns-clause-made c =
-    let old = c.args.circuit in
+    let old = lists_circuit c.args.circuit in
     let e = c.args.bad in
-    let exact : c.push_edge.new.self ≡ bad_alone old e =
-    c.in_ok-push_edge.ensures.ok
-    ∙ ap (λ (d : Circuit). with_edges Bads d (edges_of Bads d ++ e ∷ [])) c.clear_edges.ensures in
-    let plain = c.changed_circuits_are_plain.ensures.bad old e (plain_of old c.requires.plain) in
-    (exact, subst IsPlain (sym exact) plain)
+    let exact : record old { properties = record old.properties { bads = c.set_alone.new.edges.items } } ≡ bad_alone old e =
+    ap (λ (es : List AigEdge). record old { properties = record old.properties { bads = es } }) c.in_ok-set_alone.ensures in
+    let plain = c.changed_circuits_are_plain.ensures.bad old e (plain_of old c.requires.plain) in (
+      exact,
+      subst IsPlain (sym exact) plain,
+      subst IsCircuit (sym exact) (circuit_bad_alone old e c.requires.circuit c.requires.there),
+    )

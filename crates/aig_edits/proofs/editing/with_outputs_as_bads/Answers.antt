@@ -1,29 +1,32 @@
-use Rattle.aig_base.proofs.Words.{◌≡◌, ◌≤◌, List, [], length, sym, ap, subst, ◌∙◌, arith, take_all}
+use Rattle.aig_base.proofs.Words.{◌≡◌, [], List, ap, subst, sym, ◌∙◌}
 use Rattle.aig_circuit.specs.declared.edge.AigEdge.{AigEdge}
-use Rattle.aig_circuit.specs.declared.prop_list.PropList.TheVariants.{Outputs}
-use Rattle.aig_circuit.proofs.Words.{Circuit, with_edges}
+use Rattle.aig_circuit.proofs.Words.{Circuit, IsCircuit, Properties, lists_circuit, properties_of}
+use Rattle.aig_circuit.specs.declared.properties.Properties.{Properties as PropertyVecs}
 use Rattle.aig_edit_laws.specs.Plain.{IsPlain}
 use Rattle.aig_edit_laws.specs.Shown.{outputs_as_bads}
-use Rattle.aig_edits.proofs.Edited.{plain_of}
+use Rattle.aig_edits.proofs.Edited.{circuit_outputs_as_bads, plain_of}
 use Rattle.aig_edits.proofs.editing.with_outputs_as_bads.Goals as goal
 
 pub returns : goal.returns
 returns c =
-    let old = c.args.circuit in
-    let all = old.properties.outputs in
-    let past : length all ≤ c.loop-i.i = omega (
-      arith,
-      c.loop-i-test.false,
-      ap length
-          c.outputs-i-end.ensures.value,
-    ) in
-    let exact : c.clear_edges.new.self ≡ outputs_as_bads old =
-    c.clear_edges.ensures ∙ ap (λ (d : Circuit). with_edges Outputs d []) c.loop-i.invariant.same
-    ∙ ap (λ (bads : List AigEdge). record old {
-      properties = record old.properties {
-        outputs = [];
-        bads = bads;
-      };
-    }) (c.loop-i.invariant.bads ∙ take_all c.loop-i.i all past) in
+    let lists = c.args.circuit in
+    let old = lists_circuit lists in
+    let made : List AigEdge → List AigEdge → Circuit =
+    λ outputs bads. record old {
+      properties = record old.properties { outputs = outputs; bads = bads };
+    } in
+    let outputs : c.swap.new.x.items ≡ [] =
+    ap (λ v. v.items) c.swap.ensures.x_after ∙ c.requires.none in
+    let bads : c.swap.new.y.items ≡ old.properties.outputs =
+    ap (λ v. v.items) c.swap.ensures.y_after in
+    let exact : made c.swap.new.x.items c.swap.new.y.items ≡ outputs_as_bads old =
+    ap (λ es. made es c.swap.new.y.items) outputs ∙ ap (made []) bads in
     let plain = c.changed_circuits_are_plain.ensures.bads old (plain_of old c.requires.plain) in
-    record { made = (exact, subst IsPlain (sym exact) plain); fault = tt }
+    record {
+      made = (
+        exact,
+        subst IsPlain (sym exact) plain,
+        subst IsCircuit (sym exact) (circuit_outputs_as_bads old c.requires.circuit),
+      );
+      fault = tt;
+    }
