@@ -1,11 +1,12 @@
 -- Steps that refute clauses are taken, where their numbers are in order.
-use Rattle.aig_base.proofs.Words.{◌≡◌, ℕ, ◌+◌, ◌<◌, ◌==◌, nat_lt, Bool, true, false, ◌||◌, not, cond, List, [], ◌∷◌, length, Option, Some, None, Result, Ok, Err, refl, sym, ap, ◌∙◌, arith, nat_tests, eqb-true, ne_eqb, AllByRecursion, All, recursion_from_All, and_parts, fold, fun_ext, list_any, lookup, false≢true}
+use Rattle.aig_base.proofs.Words.{◌≡◌, ℕ, ◌+◌, ◌<◌, ◌==◌, nat_lt, Bool, true, false, ◌&&◌, ◌||◌, not, cond, List, [], ◌∷◌, length, Option, Some, None, Result, Ok, Err, refl, sym, ap, ◌∙◌, arith, nat_tests, eqb-true, ne_eqb, AllByRecursion, All, recursion_from_All, and_from, and_parts, fold, fun_ext, list_all, list_any, lookup, false≢true}
 use Rattle.aig_base.specs.declared.logic.literal.Lit.{Lit}
 use Rattle.aig_base.specs.Clauses.{variable_of}
 use Rattle.aig_refutation.specs.declared.error.RefutationError.{RefutationError}
 use Rattle.aig_refutation.specs.declared.error.RefutationError.TheVariants as errors
-use Rattle.aig_refutation.specs.Checking.{Live, added, all_live, are_in, clause_at, deleted, is_named, outcome, taken, with_clause, with_next, without_clause}
-use Rattle.aig_refutation.specs.Propagation.{is_rup}
+use Rattle.aig_refutation.specs.Checking.{Live, added, all_live, are_in, clause_at, deleted, is_named, outcome, stands, taken, with_clause, with_next, without_clause}
+use Rattle.aig_refutation.specs.Propagation.{is_rup, is_tautology}
+use Rattle.aig_refutation.specs.Rat.{is_apart, is_rat, is_rat_refutation, refutes_by_rat}
 use Rattle.aig_refutation.specs.Steps.{Step, Adds, Deletes, is_empty, is_refutation, numbered, refutes, without}
 use Rattle.aig_refutation.specs.Written.{AreInOrder, IsStep}
 
@@ -95,6 +96,72 @@ found_first clauses n = alone (found (numbered 1 clauses) n) ∙ sym (clause_at-
     alone None = refl
     alone (Some clause) = refl
 
+-- ---- all clauses that are there
+
+-- what holds of all clauses of the one list holds of all of the other
+abbrev AreSame : List (ℕ × List Lit) → Live → Type 0
+AreSame clauses live = (p : ℕ × List Lit → Bool) → list_all p clauses ≡ list_all p live.clauses
+
+all_without : (numbers : List ℕ) (clauses : List (ℕ × List Lit)) (p : ℕ × List Lit → Bool) → list_all p (without numbers clauses) ≡ list_all (λ entry. is_among numbers entry.0 || p entry) clauses
+all_without numbers [] p = refl
+all_without numbers (entry ∷ clauses) p = by (is_among numbers entry.0) (all_without numbers clauses p)
+  where
+    by : (b : Bool) → list_all p (without numbers clauses) ≡ list_all (λ e. is_among numbers e.0 || p e) clauses
+        → list_all p (cond (not b) (entry ∷ without numbers clauses) (without numbers clauses)) ≡ ((b || p entry) && list_all (λ e. is_among numbers e.0 || p e) clauses)
+    by true later = later
+    by false later = ap (λ (b : Bool). p entry && b) later
+
+all_deleted : (numbers : List ℕ) (live next : Live) → deleted live numbers ≡ Ok next → (p : ℕ × List Lit → Bool) → list_all p next.clauses ≡ list_all (λ entry. is_among numbers entry.0 || p entry) live.clauses
+unfolding deleted
+all_deleted [] live next is p = let same : live ≡ next = cc in ap (λ (l : Live). list_all p l.clauses) (sym same)
+all_deleted (m ∷ numbers) live next is p = by (is_named live m) (λ e. all_deleted numbers (without_clause live m) next e p) is
+  where
+    either : (a b c : Bool) → ((a || false) || (b || c)) ≡ ((a || b) || c)
+    either true b c = refl
+    either false b c = refl
+
+    by : (b : Bool) → (deleted (without_clause live m) numbers ≡ Ok next → list_all p next.clauses ≡ list_all (λ e. is_among numbers e.0 || p e) (without_clause live m).clauses)
+        → cond b (deleted (without_clause live m) numbers) (Err errors.Unnamed) ≡ Ok next → list_all p next.clauses ≡ list_all (λ e. is_among (m ∷ numbers) e.0 || p e) live.clauses
+    by true later e =
+        later e ∙ all_without (m ∷ []) live.clauses (λ e. is_among numbers e.0 || p e)
+        ∙ ap (λ (q : ℕ × List Lit → Bool). list_all q live.clauses) (fun_ext (λ e. either (m == e.0) (is_among numbers e.0) (p e)))
+    by false later e = absurd cc
+
+same_deleted : (numbers : List ℕ) (clauses : List (ℕ × List Lit)) (live next : Live) → AreSame clauses live → deleted live numbers ≡ Ok next → AreSame (without numbers clauses) next
+same_deleted numbers clauses live next same is p =
+    all_without numbers clauses p ∙ same (λ entry. is_among numbers entry.0 || p entry) ∙ sym (all_deleted numbers live next is p)
+
+all_numbered : (clauses : List (List Lit)) (live : Live) (p : ℕ × List Lit → Bool) → list_all p (fold with_next live clauses).clauses ≡ (list_all p (numbered (length live.used + 1) clauses) && list_all p live.clauses)
+all_numbered [] live p = refl
+all_numbered (clause ∷ clauses) live p =
+    all_numbered clauses (with_next live clause) p
+    ∙ ap (λ (k : ℕ). list_all p (numbered (k + 1) clauses) && list_all p (with_next live clause).clauses) longer
+    ∙ turned (list_all p (numbered (length live.used + 1 + 1) clauses)) (p (length live.used + 1, clause)) (list_all p live.clauses)
+  where
+    longer : length (with_next live clause).used ≡ length live.used + 1
+    longer = omega arith
+
+    turned : (a b c : Bool) → (a && (b && c)) ≡ ((b && a) && c)
+    turned true true c = refl
+    turned true false c = refl
+    turned false true c = refl
+    turned false false c = refl
+
+same_first : (clauses : List (List Lit)) → AreSame (numbered 1 clauses) (all_live clauses)
+unfolding all_live
+same_first clauses p = whole (list_all p (numbered 1 clauses)) ∙ sym (all_numbered clauses (record { clauses = []; used = [] }) p)
+  where
+    whole : (b : Bool) → b ≡ (b && true)
+    whole true = refl
+    whole false = refl
+
+rat_same : (clauses : List (ℕ × List Lit)) (live : Live) → AreFound clauses live → AreSame clauses live → (clause : List Lit) (hints : List ℕ) (groups : List (Bool × ℕ))
+    → is_rat clauses clause hints groups ≡ is_rat live.clauses clause hints groups
+rat_same clauses live are same [] hints groups = refl
+rat_same clauses live are same (pivot ∷ lits) hints groups =
+    ap (λ (f : ℕ → Option (List Lit)). list_all (is_apart f pivot (pivot ∷ lits) hints groups) clauses) (fun_ext are)
+    ∙ same (is_apart (clause_at live) pivot (pivot ∷ lits) hints groups)
+
 -- ---- steps
 
 are_in-below : (variables : ℕ) (clause : List Lit) → AllByRecursion (λ lit. variable_of lit < variables) clause → are_in variables clause ≡ true
@@ -104,35 +171,67 @@ are_in-below variables (lit ∷ lits) below = rw (within (variable_of lit) below
     within : (n : ℕ) → n < variables → nat_lt n variables ≡ true
     within n h = grind (arith, nat_tests)
 
+-- a clause that follows or has the RAT property stands
+stands_same : (clauses : List (ℕ × List Lit)) (live : Live) → AreFound clauses live → AreSame clauses live → (clause : List Lit) (hints : List ℕ) (groups : List (Bool × ℕ))
+    → (is_rup (found clauses) clause hints || is_rat clauses clause hints groups) ≡ true → stands live clause hints groups ≡ true
+stands_same clauses live are same clause hints groups is =
+    by (is_rup (clause_at live) clause hints) (is_tautology clause) (is_rat live.clauses clause hints groups)
+    (ap (λ (f : ℕ → Option (List Lit)). is_rup f clause hints || is_rat live.clauses clause hints groups) (sym (fun_ext are))
+    ∙ ap (λ (b : Bool). is_rup (found clauses) clause hints || b) (sym (rat_same clauses live are same clause hints groups)) ∙ is)
+  where
+    by : (a b c : Bool) → (a || c) ≡ true → ((a || b) || c) ≡ true
+    by true b c e = refl
+    by false true c e = refl
+    by false false c e = e
+
 module _ (variables : ℕ) (fault : RefutationError) where
-  added_ok : (clauses : List (ℕ × List Lit)) (live : Live) (number : ℕ) (clause : List Lit) (hints : List ℕ) (groups : List (Bool × ℕ)) (steps : List Step) → AreFound clauses live
-      → IsStep variables (Adds number clause hints groups) → AreInOrder live (Adds number clause hints groups ∷ steps) → is_rup (found clauses) clause hints ≡ true
+  added_ok : (live : Live) (number : ℕ) (clause : List Lit) (hints : List ℕ) (groups : List (Bool × ℕ)) (steps : List Step)
+      → IsStep variables (Adds number clause hints groups) → AreInOrder live (Adds number clause hints groups ∷ steps) → stands live clause hints groups ≡ true
       → added variables live number clause hints groups ≡ Ok (with_clause live number clause)
   unfolding added
-  added_ok clauses live number clause hints groups steps are is order rup =
+  added_ok live number clause hints groups steps is order there =
       let inside = are_in-below variables clause (recursion_from_All (λ lit. variable_of lit < variables) clause is.1) in
-      let there : is_rup (clause_at live) clause hints ≡ true = ap (λ (f : ℕ → Option (List Lit)). is_rup f clause hints) (sym (fun_ext are)) ∙ rup in
       rw (inside, order.0, there, order.1, order.2) refl
 
-  refuted_ok : (steps : List Step) (clauses : List (ℕ × List Lit)) (live : Live) → AreFound clauses live → AllByRecursion (IsStep variables) steps → AreInOrder live steps → refutes clauses steps ≡ true
-      → outcome variables live steps fault ≡ Ok tt
+  refuted_ok : (steps : List Step) (clauses : List (ℕ × List Lit)) (live : Live) → AreFound clauses live → AreSame clauses live → AllByRecursion (IsStep variables) steps → AreInOrder live steps
+      → refutes_by_rat clauses steps ≡ true → outcome variables live steps fault ≡ Ok tt
   unfolding outcome taken
-  refuted_ok [] clauses live are all order is = absurd (false≢true is)
-  refuted_ok (Adds number clause hints groups ∷ steps) clauses live are all order is =
-      let parts = and_parts (is_rup (found clauses) clause hints) (is_empty clause || refutes ((number, clause) ∷ clauses) steps) is in
-      rw (added_ok clauses live number clause hints groups steps are all.0 order parts.0)
-      (by (is_empty clause) (λ later. refuted_ok steps ((number, clause) ∷ clauses) (with_clause live number clause) more all.1 order.3 later) parts.1)
+  refuted_ok [] clauses live are same all order is = absurd (false≢true is)
+  refuted_ok (Adds number clause hints groups ∷ steps) clauses live are same all order is =
+      let parts = and_parts (is_rup (found clauses) clause hints || is_rat clauses clause hints groups) (is_empty clause || refutes_by_rat ((number, clause) ∷ clauses) steps) is in
+      rw (added_ok live number clause hints groups steps all.0 order (stands_same clauses live are same clause hints groups parts.0))
+      (by (is_empty clause) (λ later. refuted_ok steps ((number, clause) ∷ clauses) (with_clause live number clause) more (λ p. ap (λ (b : Bool). p (number, clause) && b) (same p)) all.1 order.3 later) parts.1)
     where
       more : AreFound ((number, clause) ∷ clauses) (with_clause live number clause)
       more n = ap (λ o. cond (n == number) (Some clause) o) (are n)
 
-      by : (b : Bool) {r : Result (Unit {0}) RefutationError} → (refutes ((number, clause) ∷ clauses) steps ≡ true → r ≡ Ok tt) → (b || refutes ((number, clause) ∷ clauses) steps) ≡ true → cond b (Ok tt) r ≡ Ok tt
+      by : (b : Bool) {r : Result (Unit {0}) RefutationError} → (refutes_by_rat ((number, clause) ∷ clauses) steps ≡ true → r ≡ Ok tt) → (b || refutes_by_rat ((number, clause) ∷ clauses) steps) ≡ true → cond b (Ok tt) r ≡ Ok tt
       by true later e = refl
       by false later e = later e
-  refuted_ok (Deletes numbers ∷ steps) clauses live are all order is =
-      rw order.1 (refuted_ok steps (without numbers clauses) order.0 (found_deleted numbers clauses live order.0 are order.1) all.1 order.2 is)
+  refuted_ok (Deletes numbers ∷ steps) clauses live are same all order is =
+      rw order.1 (refuted_ok steps (without numbers clauses) order.0 (found_deleted numbers clauses live order.0 are order.1) (same_deleted numbers clauses live order.0 same order.1) all.1 order.2 is)
+
+-- steps that follow are a refutation with RAT steps
+follows_rat : (steps : List Step) (clauses : List (ℕ × List Lit)) → refutes clauses steps ≡ true → refutes_by_rat clauses steps ≡ true
+follows_rat [] clauses is = is
+follows_rat (Deletes numbers ∷ steps) clauses is = follows_rat steps (without numbers clauses) is
+follows_rat (Adds number clause hints groups ∷ steps) clauses is =
+    let parts = and_parts (is_rup (found clauses) clause hints) (is_empty clause || refutes ((number, clause) ∷ clauses) steps) is in
+    and_from (is_rup (found clauses) clause hints || is_rat clauses clause hints groups) (is_empty clause || refutes_by_rat ((number, clause) ∷ clauses) steps)
+    (ap (λ (b : Bool). b || is_rat clauses clause hints groups) parts.0)
+    (by (is_empty clause) (follows_rat steps ((number, clause) ∷ clauses)) parts.1)
+  where
+    by : (b : Bool) → (refutes ((number, clause) ∷ clauses) steps ≡ true → refutes_by_rat ((number, clause) ∷ clauses) steps ≡ true)
+        → (b || refutes ((number, clause) ∷ clauses) steps) ≡ true → (b || refutes_by_rat ((number, clause) ∷ clauses) steps) ≡ true
+    by true later e = refl
+    by false later e = later e
+
+pub ordered_rat_taken : (variables : ℕ) (clauses : List (List Lit)) (steps : List Step) (fault : RefutationError) → All (IsStep variables) steps → AreInOrder (all_live clauses) steps
+    → is_rat_refutation clauses steps ≡ true → outcome variables (all_live clauses) steps fault ≡ Ok tt
+ordered_rat_taken variables clauses steps fault all order is =
+    refuted_ok variables fault steps (numbered 1 clauses) (all_live clauses) (found_first clauses) (same_first clauses) (recursion_from_All (IsStep variables) steps all) order is
 
 pub ordered_taken : (variables : ℕ) (clauses : List (List Lit)) (steps : List Step) (fault : RefutationError) → All (IsStep variables) steps → AreInOrder (all_live clauses) steps
     → is_refutation clauses steps ≡ true → outcome variables (all_live clauses) steps fault ≡ Ok tt
 ordered_taken variables clauses steps fault all order is =
-    refuted_ok variables fault steps (numbered 1 clauses) (all_live clauses) (found_first clauses) (recursion_from_All (IsStep variables) steps all) order is
+    ordered_rat_taken variables clauses steps fault all order (follows_rat steps (numbered 1 clauses) is)

@@ -127,3 +127,11 @@ pub fn ordered_refutations_are_taken()
         → AreInOrder (all_live clauses) steps → IsTrue (is_refutation clauses steps)
         → outcome variables (all_live clauses) steps fault ≡ Ok tt }
 {}
+
+/// Law: so can steps that do so with the RAT property.
+pub fn ordered_rat_refutations_are_taken()
+    ensures { (variables : ℕ) (clauses : List (List Lit)) (steps : List Step)
+        (fault : RefutationError) → All (IsStep variables) steps
+        → AreInOrder (all_live clauses) steps → IsTrue (is_rat_refutation clauses steps)
+        → outcome variables (all_live clauses) steps fault ≡ Ok tt }
+{}
