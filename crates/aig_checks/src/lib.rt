@@ -11,6 +11,7 @@ mod explaining;
 mod line;
 mod noticing;
 mod pairs;
+mod run;
 mod safe;
 mod tool;
 
@@ -20,8 +21,8 @@ pub use command::{Command, FileCommand, PairCommand, parse};
 pub use explaining::explain;
 pub use noticing::notice;
 pub use pairs::{print_certified, print_equal, print_obligations};
+pub use run::print_run;
 pub use safe::print_safe;
 pub use tool::{
-    CheckError, print_clauses, print_inductive, print_refuted, print_run, print_window,
-    print_witness,
+    CheckError, print_clauses, print_inductive, print_refuted, print_window, print_witness,
 };
