@@ -33,6 +33,7 @@ TABLES = {
     "answers/equality.tsv": "aigcheck {}",
     "answers/words.tsv": "aigcheck {}",
     "witnesses/rows.tsv": "aigcheck run {} GIVEN",
+    "witnesses/lassos.tsv": "aigcheck run {} GIVEN",
 }
 FILES = TESTS / "answers"
 # What is told where the question of `bounded` is settled.

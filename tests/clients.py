@@ -81,6 +81,9 @@ def table_rows():
     """Rows of the programs' tables that have a call: not those of wrong words, and not those of paths that can't be read. Those of clauses
     are rows of `numbers` too: the comments that the map says are those that the program prints."""
     for table, form in answers.TABLES.items():
+        # The call takes witnesses of bad states alone.
+        if table == "witnesses/lassos.tsv":
+            continue
         path = TESTS / table
         for row in harness.rows(path):
             words, given, printed = map(repeated, row[:3])

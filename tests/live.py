@@ -6,9 +6,11 @@ for which of the first k there is a fair lasso of k + 1 steps: a run that meets 
 literal of the property and of fairness true in between. The printed file has to reach its bad state at just these steps, and to have
 the counts that the command says. No step of the search knows how the file is made. The files are small, so that it is over all runs.
 
-Of the first ANSWERS files `aigprove --justice` has to say whether there is any fair lasso, and the lasso that it writes has to be one.
+Of the first ANSWERS files `aigprove --justice` has to say whether there is any fair lasso, and the lasso that it writes has to be one,
+with the loop that `aigcheck run` finds in it.
 """
 import random
+import re
 import sys
 
 import edited
@@ -19,6 +21,8 @@ LAST = 6
 ANSWERS = 20
 # There is a fair lasso; there is none; and there is none as from some step on the constraints can't be met.
 FAIR, NONE, EMPTY = 10, 20, 0
+# The loop of a lasso, in a line of aigcheck.
+LOOP = re.compile("from step ([0-9]+) to ([0-9]+)$", re.M)
 
 
 def random_machine(rng):
@@ -146,6 +150,9 @@ class Lives:
         self.tally.wants(what, FAIR if has_lasso(machine, asked) else NONE if machine.first_unmet() is None else EMPTY, status)
         if status == FAIR:
             self.tally.check(is_lasso(machine, asked, lasso.read_text(), j), f"{lasso.read_text()} {what}")
+            begin, last = LOOP.search(harness.output([harness.CHECK, "run", self.folder / "file", lasso])).groups()
+            steps = f"step {begin}" if begin == last else f"steps {begin} to {last}"
+            self.tally.check(f"a fair run of j{j}: {steps} again and again\n" in out.decode(), f"{begin} to {last}: {what}")
 
     def check(self, machine, is_asked):
         """Checks each justice property of a file, and the number past the last."""

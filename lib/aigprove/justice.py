@@ -1,9 +1,11 @@
 """A justice property of a file: what is asked about is the file that aigedit makes of it, whose bad state ends a fair lasso. A liveness
 assertion of a design is one of a file of its own kind: a fair run on which it fails."""
 import functools
+import re
 
 from aigprove import waves
-from aigprove.programs import Fault
+from aigprove.judge import Claim
+from aigprove.programs import Fault, Sealed
 from aigprove.report import Answer
 from aigprove.source import Asked, Given, changes_of, counted, of_kind
 from aigprove.verilog import FAIR, LIVE
@@ -77,9 +79,21 @@ class Justice(Asked):
         latches = self.given.header().latches
         return told._replace(letter="j", bad=self.number, start=told.start[:latches], steps=[row[:-1] for row in told.steps])
 
+    def lasso(self, told):
+        """The lasso that a run of the made file is, sealed."""
+        return Sealed(self.of_file(told).text().encode())
+
+    def confirm(self, told):
+        judge = self.given.judge
+        self.loop = judge.printed(*judge.aigcheck, "run", self.given.file, self.lasso(told)).bytes().decode().rstrip("\n")
+
+    def claims(self, told):
+        files = {self.given.name: self.given.file, "lasso": self.lasso(told)}
+        return [Claim(self.loop, ["run", *files], files)]
+
     def found(self, shown, tolds):
-        """The line that says where the loop of a lasso is: from the step that is saved to the last one."""
-        begin, last = begin_of(tolds[0]), len(tolds[0].steps) - 1
+        """The line that says where the loop of a lasso is, as aigcheck found."""
+        begin, last = map(int, re.search("from step ([0-9]+) to ([0-9]+)", self.loop).groups())
         span = f"step {begin}" if begin == last else f"steps {begin} to {last}"
         return f"a fair run of {shown.place('j', self.number)}: {span} again and again"
 
@@ -122,11 +136,6 @@ class Justice(Asked):
         if not folder:
             self.given.keep(evidence)
         evidence.makes(self.name, self.asked, self.command, folder + self.given.name, str(self.number))
-
-
-def begin_of(told):
-    """The step at which the loop of a lasso begins: in a run of the made file the one whose state is saved."""
-    return [row[-1] for row in told.steps].index("1")
 
 
 def named(circuit, left):

@@ -80,6 +80,10 @@ class Race:
         """What aigcheck says of a run."""
         return self.source.run(told, Sealed(told.text().encode()))
 
+    def claims(self, told):
+        """What aigcheck says of a run, also of the file that was given where another is asked about."""
+        return [self.claimed(told), *self.source.claims(told)]
+
     def reached(self, start, steps):
         """The witness of a run whose last step is bad, as aigcheck finds; of one that is short, else of the first bad step, which nobody has
         checked. None where there is none."""
@@ -201,7 +205,7 @@ class Race:
             return tolds
         opened = [i for i, reset in enumerate(self.circuit.resets) if reset > 1]
         each = lambda it: [it._replace(bad=told.bad) for told in tolds]
-        holds = lambda it: all(self.judge.holds(self.claimed(own)) for own in each(it))
+        holds = lambda it: all(self.judge.holds(claim) for own in each(it) for claim in self.claims(own))
         seconds = min(SECONDS, self.deadline - time.monotonic())
         if len(tolds[0].steps) * len(self.circuit.gates) <= SMALL:
             found = simulated(self.circuit, tolds[0], opened, [told.bad for told in tolds], seconds)
@@ -212,6 +216,7 @@ class Race:
     def print_run(self, tolds):
         """Prints a run without what doesn't matter, and writes it where it is wanted."""
         self.programs.end_engines()
+        self.source.confirm(tolds[0])
         circuit, words = self.source.circuit(), self.words
         shown = Shown(circuit)
         self.print_line(self.source.found(shown, tolds), True)
@@ -221,8 +226,8 @@ class Race:
         told = self.told = tolds[0]
         for line in [] if words.quiet and not words.vcd else self.source.lines(shown, circuit, told):
             self.print_line(line)
-        if self.evidence:
-            self.evidence.shows(self.claimed(told))
+        for claim in self.claims(told) if self.evidence else []:
+            self.evidence.shows(claim)
         if words.witness:
             files.write(words.witness, [self.source.of_file(told).text().encode()])
         if words.vcd:

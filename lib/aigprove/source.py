@@ -125,6 +125,13 @@ class Asked:
     def run(self, told, data):
         return self.claim(f"b{told.bad} at step {len(told.steps) - 1}", "run", ["witness"], {"witness": data})
 
+    def confirm(self, told):
+        """Has aigcheck say what a run shows of the file that was given, where another is asked about."""
+
+    def claims(self, told):
+        """What aigcheck says of that file for a run that was confirmed, or for the same one with x for some values."""
+        return []
+
     def others(self, circuit, told):
         """Further witnesses of what a run shows."""
         return []

@@ -13,6 +13,7 @@ use Rattle.aig_answers.specs.declared.error.AnswerError.{AnswerError}
 use Rattle.aig_answers.specs.declared.error.AnswerError.TheVariants as answers
 use Rattle.aig_witness.specs.declared.error.WitnessError.TheVariants as witness
 use Rattle.aig_witness.specs.declared.file.ShowError.TheVariants as shows
+use Rattle.aig_fair.specs.declared.file.ShownProperty.TheVariants as properties
 use Rattle.aig_checks.specs.declared.command.FileCommand.{FileCommand}
 use Rattle.aig_checks.specs.declared.tool.CheckError.TheVariants as errors
 use Rattle.aig_checks.specs.Running.{Answers, IsErrorOf, TellsOfGiven, error_status, file_verdict, shown_line, step_line, window_line}
@@ -30,11 +31,13 @@ use Rattle.aig_checks.specs.Words.{Give, command_of, form_of, name_of}
 
 -- ---- words
 
-is_run : (a : Action) (k : ℕ) (d o : Bool) → asked.File commands.Run ≡ command_of a k d o → a ≡ actions.Run
+is_run : (a : Action) (k : ℕ) (d o : Bool) → asked.File commands.Run ≡ command_of a k d o → a ≡
+    actions.Run
 is_run actions.Run k d o is = refl
 is_run a k d o is = cc
 
-is_witness : (a : Action) (k m : ℕ) (d o p : Bool) → asked.File (commands.Witness m p) ≡ command_of a k d o → a ≡ actions.Witness
+is_witness : (a : Action) (k m : ℕ) (d o p : Bool) → asked.File (commands.Witness m p) ≡ command_of
+    a k d o → a ≡ actions.Witness
 is_witness actions.Witness k m d o p is = refl
 is_witness a k m d o p is = cc
 
@@ -52,8 +55,11 @@ no_more_words file witness more give =
     let call = give.3 in
     let x = call.arguments in
     let run = is_run call.action x.step x.distinct x.optimize call.command in
-    let all = no_limit (codes "run" ∷ file ∷ witness ∷ more ∷ []) give.0 call.rest (λ further is. let letter = ap (λ (words : List (List ℕ)). slice_index (slice_index_or words 0 []) 0) is in omega (arith, letter)) call.limited in
-    let gives = subst (λ a. Gives (name_of a) (form_of a) (codes "run" ∷ file ∷ witness ∷ more ∷ []) x) run (rw all at call.gives) in
+    let all = no_limit (codes "run" ∷ file ∷ witness ∷ more ∷ []) give.0 call.rest (λ further is.
+    let letter = ap (λ (words : List (List ℕ)). slice_index (slice_index_or words 0 []) 0) is in
+    omega (arith, letter)) call.limited in
+    let gives = subst (λ a. Gives (name_of a) (form_of a) (codes "run" ∷ file ∷ witness ∷ more ∷ [])
+    x) run (rw all at call.gives) in
     let settings = setting_words x.distinct x.optimize in
     let count = ap length gives.spelled in
     let parts = length-append x.paths (gives.steps ++ (x.further ++ settings)) in
@@ -63,21 +69,26 @@ no_more_words file witness more give =
     let plain = no_settings x.distinct x.optimize gives.distinct gives.raw in
     omega (arith, count, parts, others, last, none, plain, gives.paths, gives.further)
   where
-    no_settings : (d o : Bool) → (IsTrue d → IsTrue false) → (IsTrue (not o) → IsTrue false) → length (setting_words d o) ≡ 0
+    no_settings : (d o : Bool) → (IsTrue d → IsTrue false) → (IsTrue (not o) → IsTrue false) →
+        length (setting_words d o) ≡ 0
     no_settings false true distinct raw = refl
     no_settings true o distinct raw = let no = distinct refl in cc
     no_settings d false distinct raw = let no = raw refl in cc
 
 -- a proof for a witness
 no_other_name : (file steps proof : List ℕ) (k : ℕ) (optimize : Bool)
-    → ¬ Give (codes "refuted" ∷ file ∷ steps ∷ proof ∷ []) (asked.File (commands.Witness k optimize))
+    → ¬ Give (codes "refuted" ∷ file ∷ steps ∷ proof ∷ []) (asked.File (commands.Witness k
+    optimize))
 no_other_name file steps proof k optimize give =
     let call = give.3 in
     let x = call.arguments in
-    let all = no_limit (codes "refuted" ∷ file ∷ steps ∷ proof ∷ []) give.0 call.rest (λ further is. let letter = ap (λ (words : List (List ℕ)). slice_index (slice_index_or words 0 []) 0) is in omega (arith, letter)) call.limited in
+    let all = no_limit (codes "refuted" ∷ file ∷ steps ∷ proof ∷ []) give.0 call.rest (λ further is.
+    let letter = ap (λ (words : List (List ℕ)). slice_index (slice_index_or words 0 []) 0) is in
+    omega (arith, letter)) call.limited in
     let gives = rw all at call.gives in
     let is = is_witness call.action x.step k x.distinct x.optimize optimize call.command in
-    let letter = ap (λ (words : List (List ℕ)). slice_index (slice_index_or words 0 []) 0) gives.spelled in
+    let letter = ap (λ (words : List (List ℕ)). slice_index (slice_index_or words 0 []) 0)
+    gives.spelled in
     let first = ap (λ a. slice_index (name_of a) 0) is in
     omega (arith, letter, first)
 
@@ -117,10 +128,17 @@ no_inverted_input same = let sign = ap (λ text. slice_get text 18) same in cc
 -- ---- lines
 
 -- the step as the bad state's number
-no_step_as_number : shown_line 3 5 ≢ codes "b5 at step 5\n"
+no_step_as_number : shown_line (properties.Bad (record { bad = 3; step = 5 })) ≢ codes
+    "b5 at step 5\n"
 unfolding digits
 no_step_as_number same =
     let number : 51 ≡ 53 = ap (λ text. slice_index text 1) same in omega (arith, number)
+
+-- a loop's steps are told, the first one first
+loop-told : shown_line (properties.Lasso (record { justice = 0; start = 2; last = 15 })) ≡ codes
+    "j0 in a loop from step 2 to 15\n"
+unfolding digits
+loop-told = refl
 
 -- a proof for one step is told as one for each
 no_window_told : (optimize : Bool) (given : Option (List ℕ)) (f : File)
@@ -152,7 +170,8 @@ no_step_first optimize f g rest is =
 -- ---- errors
 
 -- one proof is refused as the second of two
-no_second_proof : (k limit : ℕ) (optimize : Bool) (base step : Option (List ℕ)) (f g : File) (e : AnswerError)
+no_second_proof : (k limit : ℕ) (optimize : Bool) (base step : Option (List ℕ)) (f g : File) (e :
+    AnswerError)
     → ¬ RefusesPair (on_pair.Equal k optimize) limit base step f g (certificate.Window e)
 no_second_proof k limit optimize base step f g e refuses = refuses
 
@@ -171,7 +190,8 @@ no_status_of_refusals k same = omega (arith, same)
 
 -- a witness that is refused is told as a read that failed, where none did
 no_failed_read : (limit : ℕ) (old new given : Option (List ℕ))
-    → ¬ TellsOfGiven commands.Run limit old new given false (errors.Show (shows.Witness witness.Stream))
+    → ¬ TellsOfGiven commands.Run limit old new given false (errors.Show (shows.Witness
+    witness.Stream))
 no_failed_read limit old new given tells = let failed : false ≡ true = tells in cc
 
 -- a file is answered, a read of which failed

@@ -1,31 +1,64 @@
--- Of a file, a bad state of which is shown, something is asked.
-use Rattle.aig_base.proofs.Words.{◌≡◌, ◌≢◌, ℕ, Option, Some, None, List, [], ◌∷◌, refl, arith, slice_get}
-use Rattle.aig_format.proofs.Words.{File, Accepts}
-use Rattle.aig_format.proofs.Nodes.{few_nodes}
-use Rattle.aig_witness.specs.Witness.{Witness}
-use Rattle.aig_witness.specs.Machine.{ShowsBad}
-use Rattle.aig_witness.specs.declared.file.Shown.{Shown}
-use Rattle.aig_witness.specs.Files.{ShowsNext}
+-- A witness that is taken answers the file, and one that is refused says why.
+use Rattle.aig_base.proofs.Words.{◌≡◌, ◌≢◌, ℕ, Bool, Option, Result, Ok, Err, List, refl, ap}
+use Rattle.std.specs.Prelude.{IsErrOf}
+use Rattle.aig_format.proofs.Words.{Accepts}
+use Rattle.aig_fair.specs.declared.file.ClaimError.{ClaimError}
+use Rattle.aig_fair.specs.declared.file.ClaimError.TheVariants as claims
+use Rattle.aig_fair.specs.declared.file.ShownProperty.{ShownProperty}
+use Rattle.aig_fair.specs.Files as showing
+use Rattle.aig_fair.specs.Files.{RefusesClaim, ShowsClaim}
+use Rattle.aig_reader.specs.declared.error.ReadError.{ReadError}
+use Rattle.aig_reader.specs.declared.error.ReadError.TheVariants as read
 use Rattle.aig_reader.specs.Reading.{IsReadAs}
-use Rattle.aig_answers.specs.Answers.{IsAsked}
+use Rattle.aig_reader.specs.Verdicts.{Accepted, Judges}
+use Rattle.aig_witness.specs.declared.file.ShowError.{ShowError}
+use Rattle.aig_witness.specs.declared.file.ShowError.TheVariants as shows
 use Rattle.aig_checks.specs.declared.command.FileCommand.TheVariants as commands
-use Rattle.aig_checks.specs.Running.{Answers, shown_line}
+use Rattle.aig_checks.specs.declared.tool.CheckError.{CheckError}
+use Rattle.aig_checks.specs.declared.tool.CheckError.TheVariants as errors
+use Rattle.aig_checks.specs.Running.{Answers, IsOfFileAlone, Runs, error_of_claim, shown_line}
+use Rattle.aig_checks.proofs.Outcomes.{err_of, refused}
 
--- a list with an entry isn't empty
-some_there : (es : List ℕ) (i e : ℕ) → slice_get es i ≡ Some e → es ≢ []
-some_there [] i e there none = let differ : None ≡ Some e = there in cc
-some_there (x ∷ xs) i e there none = cc
-
-pub asked_of : (f : File) (limit : ℕ) (bytes : List ℕ) (w : Witness) → Accepts bytes limit f → ShowsBad f w → IsAsked limit 0 bytes f
-asked_of f limit bytes w accepts shows = ((accepts, omega (arith, few_nodes f limit accepts.1)), some_there f.properties.bads w.bad shows.named.0 shows.named.1)
-
--- the bad state that was shown answers the file
-pub shown_answers : (limit : ℕ) (old new given : Option (List ℕ)) (shown : Shown) → IsReadAs (λ bytes. Accepts bytes limit) (ShowsNext given) old new shown
-    → IsReadAs (IsAsked limit 0) (Answers commands.Run given) old new (shown_line shown.bad shown.step)
+-- what was shown answers the file
+pub shown_answers : (limit : ℕ) (old new given : Option (List ℕ)) (shown : ShownProperty)
+    → IsReadAs (λ bytes. Accepts bytes limit) (ShowsClaim given) old new shown
+    → IsReadAs (λ bytes. Accepts bytes limit) (Answers commands.Run given) old new (shown_line
+    shown)
 shown_answers limit old new given shown read = record {
   file = read.file;
   bytes = read.bytes;
-  holds = asked_of read.file limit read.bytes read.means.witness read.holds read.means.shows;
+  holds = read.holds;
   means = (shown, read.means, refl);
   taken = read.taken;
 }
+
+-- an error that is of the file alone leaves what is given beside it unread
+file_alone : (e : ShowError) (P : Type 0) → ((x : ReadError) → e ≡ shows.File x → P)
+    → IsOfFileAlone (errors.Show e) → P
+file_alone (shows.File x) P so alone = so x refl
+file_alone (shows.Witness x) P so alone = absurd alone
+file_alone shows.NoWitness P so alone = absurd alone
+file_alone (shows.Check x) P so alone = absurd alone
+
+-- an error of a file in a result is one of a witness that is refused
+of_show : (e : ShowError) (x : ReadError) → e ≡ shows.File x
+    → IsErrOf {T = ShownProperty} (Err (claims.Show e)) (claims.Show (shows.File x))
+of_show e x is = err_of (claims.Show e) (claims.Show (shows.File x)) (ap claims.Show is)
+
+module _ {R P W : Type 0} {left : R → Option (List ℕ)} {read_failed : R → Bool} {given : P → Option
+    (List ℕ)} {given_failed : P → Bool} {held : W → Option (List ℕ)} {write_failed : W → Bool}
+    {limit : ℕ} {r rest : R} {p used : P} {w made : W} where
+  -- the file or its witness is refused
+  pub claim_refused : (e : ClaimError)
+      → Judges (λ f. Accepted) limit (left r) (left rest) (read_failed rest) (showing.verdict_of e)
+      → (IsErrOf {T = ShownProperty} (Err e) (claims.Show (shows.File read.Open)) → ⊥)
+      → ((x : ReadError) → IsErrOf {T = ShownProperty} (Err e) (claims.Show (shows.File x)) → used ≡
+      p)
+      → made ≡ w → RefusesClaim limit (left r) (left rest) (given p) (given_failed used) e
+      → Runs left read_failed given given_failed held write_failed commands.Run limit r p w
+      (Err (error_of_claim e)) rest used made
+  claim_refused (claims.Show e) said never unread same tells =
+      refused (errors.Show e) said (λ is. never (of_show e read.Open is)) (λ is. cc) same
+      (file_alone e (used ≡ p) (λ x is. unread x (of_show e x is))) tells
+  claim_refused (claims.Lasso e) said never unread same tells =
+      refused (errors.Lasso e) said tt (λ is. cc) same (λ alone. absurd alone) tells

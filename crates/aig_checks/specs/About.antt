@@ -15,6 +15,8 @@ use Rattle.aig_encode.specs.declared.error.EncodeError.{EncodeError}
 use Rattle.aig_encode.specs.declared.error.EncodeError.TheVariants as encode
 use Rattle.aig_equality.specs.declared.error.EqualityError.{EqualityError}
 use Rattle.aig_equality.specs.declared.error.EqualityError.TheVariants as equality
+use Rattle.aig_fair.specs.declared.fault.LassoFault.{LassoFault}
+use Rattle.aig_fair.specs.declared.fault.LassoFault.TheVariants as lassos
 use Rattle.aig_reader.specs.declared.error.ReadError.{ReadError}
 use Rattle.aig_reader.specs.declared.error.ReadError.TheVariants as read
 use Rattle.aig_refutation.specs.declared.error.RefutationError.{RefutationError}
@@ -109,6 +111,11 @@ about_show (shows.Witness e) = about_witness e
 about_show shows.NoWitness = whole subjects.Given
 about_show (shows.Check fault) = about_fault fault
 
+-- values that show no fair lasso
+abbrev pub about_lasso : LassoFault → About
+about_lasso (lassos.Run fault) = about_fault fault
+about_lasso fault = whole subjects.Given
+
 -- FILE, or the file beside it
 abbrev pub about_pair : PairError → About
 about_pair (pair.Read e) = about_read subjects.File e
@@ -157,3 +164,4 @@ about_error (errors.Bounded e) = about_bounded e
 about_error (errors.Settled k) = whole subjects.File
 about_error (errors.Safe e) = about_safety e
 about_error (errors.Equality e) = about_equality e
+about_error (errors.Lasso fault) = about_lasso fault

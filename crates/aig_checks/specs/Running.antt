@@ -9,6 +9,7 @@ use Rattle.aig_dimacs.specs.Reading.{parse_formula}
 use Rattle.aig_dimacs.specs.Text.{dimacs_of}
 use Rattle.aig_format.specs.Circuit.{circuit_of}
 use Rattle.aig_format.specs.File.{File}
+use Rattle.aig_format.specs.Fits.{Accepts}
 use Rattle.aig_reader.specs.declared.error.ReadError.TheVariants as read
 use Rattle.aig_reader.specs.Reading.{IsReadAs}
 use Rattle.aig_reader.specs.Verdicts.{Accepted, Judges, Refused, Short, Verdict, verdict_by}
@@ -27,10 +28,13 @@ use Rattle.aig_answers.specs.Answers as asking
 use Rattle.aig_answers.specs.Answers.{IsAsked, IsOfInduction, IsOfQuery, IsOfStep, IsOfWindow, TellsOfStep, TellsOfWindow, asked_verdict, window_verdict}
 use Rattle.aig_witness.specs.Witness.{Witness, witness_text}
 use Rattle.aig_witness.specs.declared.file.ShowError.TheVariants as shows
-use Rattle.aig_witness.specs.declared.file.Shown.{Shown}
-use Rattle.aig_witness.specs.Files as showing
-use Rattle.aig_witness.specs.Files.{ShowsNext}
 use Rattle.aig_witness.specs.Machine.{ShowsBad}
+use Rattle.aig_fair.specs.declared.file.ClaimError.{ClaimError}
+use Rattle.aig_fair.specs.declared.file.ClaimError.TheVariants as claims
+use Rattle.aig_fair.specs.declared.file.ShownProperty.{ShownProperty}
+use Rattle.aig_fair.specs.declared.file.ShownProperty.TheVariants as properties
+use Rattle.aig_fair.specs.Files as showing
+use Rattle.aig_fair.specs.Files.{ShowsClaim}
 use Rattle.aig_bounded.specs.Question.{question_size}
 use Rattle.aig_bounded_answers.specs.declared.error.BoundedAnswerError.{BoundedAnswerError}
 use Rattle.aig_bounded_answers.specs.declared.error.BoundedAnswerError.TheVariants as bounded
@@ -58,15 +62,21 @@ step_line k = codes "no bad state at step " ++ (decimal k ++ 10 ∷ [])
 abbrev pub window_line : ℕ → List ℕ
 window_line k = codes "no bad state at any step, if none up to step " ++ (decimal k ++ 10 ∷ [])
 
--- the line of a bad state property, and of a step at which it is shown
-abbrev pub shown_line : ℕ → ℕ → List ℕ
-shown_line bad step = named_text (codes "b") bad step 10
+-- the line of a justice property, and of the first and the last step of a loop
+abbrev pub lasso_line : ℕ → ℕ → ℕ → List ℕ
+lasso_line justice start last =
+    codes "j" ++ (decimal justice ++ 32 ∷ []) ++ codes "in a loop from step "
+    ++ (decimal start ++ 32 ∷ []) ++ codes "to " ++ (decimal last ++ 10 ∷ [])
 
--- the line of the bad state of the file's machine that the next of the witnesses that are given
--- shows
+-- the line of a property that is shown: of a bad state, and a step, or of justice, and a loop
+abbrev pub shown_line : ShownProperty → List ℕ
+shown_line (properties.Bad s) = named_text (codes "b") s.bad s.step 10
+shown_line (properties.Lasso s) = lasso_line s.justice s.start s.last
+
+-- the line of what the next of the witnesses that are given shows of the file's machine
 abbrev pub IsShownLine : Option (List ℕ) → File → List ℕ → Type 0
 IsShownLine given f text =
-    (shown : Shown) × ShowsNext given f shown × (text ≡ shown_line shown.bad shown.step)
+    (shown : ShownProperty) × ShowsClaim given f shown × (text ≡ shown_line shown)
 
 -- the text of the file's query: comments that say where inputs, latches and bad literals stand, and
 -- then the clauses; from it a plain reader reads just these again
@@ -118,14 +128,14 @@ Answers (commands.WitnessTo k optimize) given f text = IsWitnessToText f k text
 -- ---- files
 
 -- the bytes are this file, of which the command asks something: within the limit with the further
--- steps that it makes, or alone where these are folded
+-- steps that it makes, or alone where these are folded or where it makes none
 abbrev pub IsAskedBy : FileCommand → ℕ → List ℕ → File → Type 0
 IsAskedBy (commands.Clauses k optimize) limit = IsAsked limit k
 IsAskedBy (commands.Window k form optimize) limit = IsAsked limit (k + 1)
 IsAskedBy (commands.Refuted k optimize) limit = IsAsked limit k
 IsAskedBy (commands.Inductive k form optimize) limit = IsAsked limit (k + 1)
 IsAskedBy (commands.Witness k optimize) limit = IsAsked limit k
-IsAskedBy commands.Run limit = IsAsked limit 0
+IsAskedBy commands.Run limit = λ bytes. Accepts bytes limit
 IsAskedBy (commands.Bounded k optimize) limit = IsAskedWithin limit
 IsAskedBy (commands.RefutedTo k optimize) limit = IsAskedWithin limit
 IsAskedBy (commands.WitnessTo k optimize) limit = IsAskedWithin limit
@@ -155,7 +165,7 @@ AnswersFile c limit given old new Holds =
 -- file, that they are a file that is taken
 abbrev pub verdict_of : CheckError → Verdict
 verdict_of (errors.Answer e) = asking.verdict_of e
-verdict_of (errors.Show e) = showing.verdict_of e
+verdict_of (errors.Show e) = showing.verdict_of (claims.Show e)
 verdict_of (errors.Solution e) = Accepted
 verdict_of (errors.Certificate e) = certificates.first_verdict e
 verdict_of errors.Write = Accepted
@@ -165,6 +175,12 @@ verdict_of (errors.Bounded e) = bounding.verdict_of e
 verdict_of (errors.Settled k) = Accepted
 verdict_of (errors.Safe e) = safety.verdict_of e
 verdict_of (errors.Equality e) = equality.first_verdict e
+verdict_of (errors.Lasso e) = showing.verdict_of (claims.Lasso e)
+
+-- the error of a witness that is refused
+abbrev pub error_of_claim : ClaimError → CheckError
+error_of_claim (claims.Show e) = errors.Show e
+error_of_claim (claims.Lasso e) = errors.Lasso e
 
 -- the status of the process that it ends with: 20 is that of a SAT solver whose clauses can't be
 -- satisfied
@@ -183,6 +199,7 @@ IsErrorOf (commands.Inductive k form optimize) (errors.Answer e) = IsOfInduction
 IsErrorOf (commands.Witness k optimize) (errors.Answer e) = IsOfQuery e
 IsErrorOf (commands.Witness k optimize) (errors.Solution e) = Unit {0}
 IsErrorOf commands.Run (errors.Show e) = e ≢ shows.File read.Open
+IsErrorOf commands.Run (errors.Lasso e) = Unit {0}
 IsErrorOf (commands.Bounded k optimize) (errors.Bounded e) = IsOfQuestion e
 IsErrorOf (commands.Bounded k optimize) (errors.Settled step) = step ≡ k
 IsErrorOf (commands.RefutedTo k optimize) (errors.Bounded e) = IsOfCheck e
@@ -269,7 +286,9 @@ TellsOfGiven c limit old new given failed (errors.Answer (answers.Refutation e))
 TellsOfGiven c limit old new given failed (errors.Solution e) =
     TellsOfSolution c limit old new given failed e
 TellsOfGiven c limit old new given failed (errors.Show e) =
-    showing.Refuses limit old new given failed e
+    showing.RefusesClaim limit old new given failed (claims.Show e)
+TellsOfGiven c limit old new given failed (errors.Lasso e) =
+    showing.RefusesClaim limit old new given failed (claims.Lasso e)
 TellsOfGiven c limit old new given failed (errors.Bounded (bounded.Refutation e)) =
     TellsOfRefutation c limit old new given failed e
 TellsOfGiven c limit old new given failed (errors.Bounded (bounded.Solution e)) =

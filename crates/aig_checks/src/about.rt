@@ -12,6 +12,7 @@ use aig_command_line::Measure;
 use aig_edits::PairError;
 use aig_encode::EncodeError;
 use aig_equality::EqualityError;
+use aig_fair::LassoFault;
 use aig_reader::ReadError;
 use aig_refutation::RefutationError;
 use aig_safety::SafetyError;
@@ -176,6 +177,16 @@ fn about_show(error: ShowError) -> About
     }
 }
 
+/// What an error of values that show no fair lasso is about.
+fn about_lasso(fault: LassoFault) -> About
+    ensures { result ≡ specs.about_lasso fault }
+{
+    match fault {
+        LassoFault::Run(fault) => about_fault(fault),
+        _ => whole(Subject::Given),
+    }
+}
+
 /// What an error of two files is about.
 fn about_pair(error: PairError) -> About
     ensures { result ≡ specs.about_pair error }
@@ -251,5 +262,6 @@ pub(crate) fn about_error(error: CheckError) -> About
         CheckError::Settled(_) => whole(Subject::File),
         CheckError::Safe(error) => about_safety(error),
         CheckError::Equality(error) => about_equality(error),
+        CheckError::Lasso(fault) => about_lasso(fault),
     }
 }

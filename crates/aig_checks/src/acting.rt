@@ -15,10 +15,10 @@ use crate::bounded::{print_bounded, print_refuted_to, print_witness_to};
 use crate::command::{Call, Command, FileCommand, PairCommand, call_of};
 use crate::equality::print_always_equal;
 use crate::pairs::{print_certified, print_equal, print_obligations};
+use crate::run::print_run;
 use crate::safe::print_safe;
 use crate::tool::{
-    CheckError, print_clauses, print_inductive, print_refuted, print_run, print_window,
-    print_witness,
+    CheckError, print_clauses, print_inductive, print_refuted, print_window, print_witness,
 };
 use aig_answers::Window;
 use aig_base::{MemoryError, Sink, Source};

@@ -13,6 +13,7 @@ mod explaining;
 mod line;
 mod noticing;
 mod pairs;
+mod run;
 mod safe;
 mod tool;
 
@@ -23,8 +24,8 @@ pub use equality::print_always_equal;
 pub use explaining::explain;
 pub use noticing::notice;
 pub use pairs::{print_certified, print_equal, print_obligations};
+pub use run::print_run;
 pub use safe::print_safe;
 pub use tool::{
-    CheckError, print_clauses, print_inductive, print_refuted, print_run, print_window,
-    print_witness,
+    CheckError, print_clauses, print_inductive, print_refuted, print_window, print_witness,
 };

@@ -10,12 +10,11 @@ ghost use Rattle.aig_dimacs.specs.Text.{IsFormula};
 ghost use Rattle.aig_output.specs.Sinks.{BuffersOrStops, WritesOrStops};
 ghost use Rattle.aig_unroll.specs.Unroll.{UnrollsTo};
 ghost use Rattle.aig_checks.specs.Printing.{IsKnownText, IsOfSolution, IsOfText, IsQueryText, Prints, WritesQuery};
-ghost use Rattle.aig_checks.specs.Running.{Runs, error_status, nothing_fails, nothing_given, shown_line};
+ghost use Rattle.aig_checks.specs.Running.{Runs, error_of_claim, error_status, nothing_fails, nothing_given};
 ghost use Rattle.aig_checks.specs.declared.tool.CheckError.TheVariants as errors;
 
 use crate::command::FileCommand;
 use crate::comments::write_comments;
-use crate::line::buffer_named;
 use aig_answers::{
     AnswerError, Window, asked_circuit, asked_query, check_step, check_window, window,
 };
@@ -28,11 +27,12 @@ use aig_command_line::HasStatus;
 use aig_dimacs::{write_circuit, write_dimacs};
 use aig_encode::Query;
 use aig_equality::EqualityError;
+use aig_fair::{ClaimError, LassoFault};
 use aig_output::OutputBuffer;
 use aig_runs::{Unrolled, inductive_windows_are_safe};
 use aig_safety::SafetyError;
 use aig_solutions::{Places, SolutionError, checked_witness};
-use aig_witness::{ShowError, Shown, check_witness, known_witnesses_show, write_witness};
+use aig_witness::{ShowError, known_witnesses_show, write_witness};
 use std::alloc::Global;
 use thiserror::Error;
 
@@ -51,7 +51,7 @@ pub enum CheckError {
     /// The solver's answer gives no witness of a bad state.
     #[error("{0}")]
     Solution(SolutionError),
-    /// The witness shows no bad state.
+    /// The witness is refused, or shows no bad state.
     #[error("{0}")]
     Show(ShowError),
     /// There is no answer about two files.
@@ -72,6 +72,9 @@ pub enum CheckError {
     /// It isn't shown that two files' machines are equal at every step.
     #[error("{0}")]
     Equality(EqualityError),
+    /// The witness shows no fair lasso.
+    #[error("{0}")]
+    Lasso(LassoFault),
 }
 
 impl HasStatus for CheckError {
@@ -109,11 +112,14 @@ impl From<SolutionError> for CheckError {
     }
 }
 
-impl From<ShowError> for CheckError {
-    ghost from_gives = { λ e r. r ≡ errors.Show e };
+impl From<ClaimError> for CheckError {
+    ghost from_gives = { λ e r. r ≡ error_of_claim e };
 
-    fn from(error: ShowError) -> CheckError {
-        CheckError::Show(error)
+    fn from(error: ClaimError) -> CheckError {
+        match error {
+            ClaimError::Show(error) => CheckError::Show(error),
+            ClaimError::Lasso(fault) => CheckError::Lasso(fault),
+        }
     }
 }
 
@@ -178,28 +184,6 @@ pub(crate) fn write_line<W: Sink>(w: &mut W, text: &[u8], k: usize) -> Result<()
 {
     let mut buffer = OutputBuffer::new();
     buffer_line(&mut buffer, w, text, k)?;
-    buffer.flush(w)
-}
-
-/// Buffers the line of a bad state that is shown.
-fn buffer_shown<W: Sink>(
-    buffer: &mut OutputBuffer,
-    w: &mut W,
-    shown: Shown,
-) -> Result<(), StreamFault>
-    ensures { let line = shown_line shown.bad shown.step in
-        BuffersOrStops W.held W.failed buffer.old w.old result line buffer.new w.new }
-{
-    buffer_named(buffer, w, b"b", shown.bad, shown.step, b'\n')
-}
-
-/// Writes the line of a bad state that is shown.
-fn write_shown<W: Sink>(w: &mut W, shown: Shown) -> Result<(), StreamFault>
-    ensures { let line = shown_line shown.bad shown.step in
-        WritesOrStops W.held W.failed w.old result line w.new }
-{
-    let mut buffer = OutputBuffer::new();
-    buffer_shown(&mut buffer, w, shown)?;
     buffer.flush(w)
 }
 
@@ -399,22 +383,4 @@ pub fn print_witness<R: Source, P: Source, W: Sink>(
     known_witnesses_show();
     let asked = asked_query(alloc, r, limit, k, optimize)?;
     print_solution(alloc, &asked, k, solution, w)
-}
-
-/// Checks that a witness shows a bad state of a file's machine, and prints which bad state property that is, and at which
-/// step.
-pub fn print_run<R: Source, P: Source, W: Sink>(
-    alloc: Global,
-    limit: usize,
-    r: &mut R,
-    witness: &mut P,
-    w: &mut W,
-) -> Result<(), CheckError>
-    requires { IsLimit limit }
-    ensures { let command = FileCommand.Run in
-        Runs R.left R.failed P.left P.failed W.held W.failed
-        command limit r.old witness.old w.old result r.new witness.new w.new }
-{
-    let shown = check_witness(alloc, r, limit, witness)?;
-    Ok(write_shown(w, shown)?)
 }

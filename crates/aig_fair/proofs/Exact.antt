@@ -104,7 +104,8 @@ module _ (f : File) (limit l : ℕ) (w : Witness) (fits : Fits f limit) (given :
   -- and before one
   before_step : (t : ℕ) → t < length w.steps → (i : ℕ) (d : AigLatch) → i < length c.latchs
       → slice_index_or (state_before c w t) i NONE ≡ known_of (x t (get_or c.latchs i d).input)
-  before_step zero h i d lt = first_known f limit w fits given run shows.there.1 shows.there.2 i d lt
+  before_step zero h i d lt = first_known f limit w fits given run shows.there.1 shows.there.2 i d
+      lt
   before_step (suc t) h i d lt =
       let next : t + 1 ≡ suc t = omega arith in
       let move : x (t + 1) (get_or c.latchs i d).input

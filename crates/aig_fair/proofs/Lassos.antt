@@ -38,7 +38,8 @@ both_known NONE a b ne h k = absurd (ne refl)
 abbrev pub asked_of : File → ℕ → List ℕ
 asked_of f j = get_or f.properties.justice j [] ++ f.properties.fairness
 
-pub asked_there : (f : File) (j : ℕ) → j < length f.properties.justice → AreAskedBy f j (asked_of f j)
+pub asked_there : (f : File) (j : ℕ) → j < length f.properties.justice → AreAskedBy f j (asked_of f
+    j)
 asked_there f j h = (
   get_or f.properties.justice j [],
   slice_get-get_or f.properties.justice j [] h,
@@ -135,7 +136,8 @@ module _ (f : File) (limit l : ℕ) (w : Witness) (fits : Fits f limit) (hold : 
         (subst (Agrees (value_in (simulated c w t) e)) (sym move)
         (agrees t e before (is_circuit.latchs i d lt).next)))
 
-    comes_again : All (λ (latch : AigLatch). x l latch.input ≡ edge_value c.nodes (x last) latch.next) c.latchs
+    comes_again : All (λ (latch : AigLatch). x l latch.input ≡ edge_value c.nodes (x last)
+        latch.next) c.latchs
     comes_again i d lt =
         let e = (get_or c.latchs i d).next in
         let within : l < length w.steps = known.loop.within in

@@ -42,7 +42,12 @@ pub met_more : (c : Circuit) (w : Witness) (l n : ℕ) (edges : List AigEdge) (o
     → AreMarksTo c w l (n + 1) edges new
 met_more c w l n edges old new low were now i d h = (
   λ told. elim ((now i d h).0 told) [
-    | inl before ↦ let m = (were i d h).0 before in (m.0, m.1, let b : m.0 < n = m.2 in omega arith, m.3)
+    | inl before ↦ let m = (were i d h).0 before in (
+      m.0,
+      m.1,
+      let b : m.0 < n = m.2 in omega arith,
+      m.3,
+    )
     | inr here ↦ (n, low, omega arith, here)
   ],
   λ met. (now i d h).1 (by_step met (cases_lt met.0 n)),

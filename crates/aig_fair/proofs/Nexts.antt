@@ -31,7 +31,8 @@ use Rattle.aig_fair.specs.Machine.{ShowsLasso}
 
 module _ (text : Option (List ℕ)) (failed : Bool) where
   -- it is no error of the file
-  pub not_of_file : (e : ShowError) (of : ReadError) → HasNoClaim text failed e → e ≡ shows.File of → ⊥
+  pub not_of_file : (e : ShowError) (of : ReadError) → HasNoClaim text failed e → e ≡ shows.File of
+      → ⊥
   not_of_file e of h is = subst (HasNoClaim text failed) is h
 
   module _ (limit : ℕ) (old new : Option (List ℕ)) where
@@ -72,7 +73,8 @@ module _ (limit : ℕ) (old new text : Option (List ℕ)) (c : Circuit) (claim :
   pub refuses_wrong : (failed : Bool) (e : ClaimError) → IsWrongClaim c claim e
       → RefusesClaim limit old new text failed e
   refuses_wrong failed (errors.Show (shows.File e)) wrong = tt
-  refuses_wrong failed (errors.Show (shows.Check e)) wrong = fails_on (errors.Show (shows.Check e)) wrong
+  refuses_wrong failed (errors.Show (shows.Check e)) wrong = fails_on (errors.Show (shows.Check e))
+      wrong
   refuses_wrong failed (errors.Show (shows.Witness e)) wrong = absurd wrong
   refuses_wrong failed (errors.Show shows.NoWitness) wrong = absurd wrong
   refuses_wrong failed (errors.Lasso e) wrong = fails_on (errors.Lasso e) wrong
@@ -82,10 +84,12 @@ module _ (limit : ℕ) (old new text : Option (List ℕ)) (c : Circuit) (claim :
   judged_wrong failed (errors.Show (shows.File e)) told wrong = absurd wrong
   judged_wrong failed (errors.Show (shows.Witness e)) told wrong = absurd wrong
   judged_wrong failed (errors.Show shows.NoWitness) told wrong = told
-  judged_wrong failed (errors.Show (shows.Check faults.Memory)) told wrong = short_of (λ f. Accepted)
+  judged_wrong failed (errors.Show (shows.Check faults.Memory)) told wrong = short_of (λ f.
+      Accepted)
       limit old new failed told
   judged_wrong failed (errors.Show (shows.Check e)) told wrong = told
-  judged_wrong failed (errors.Lasso (lassos.Run faults.Memory)) told wrong = short_of (λ f. Accepted)
+  judged_wrong failed (errors.Lasso (lassos.Run faults.Memory)) told wrong = short_of (λ f.
+      Accepted)
       limit old new failed told
   judged_wrong failed (errors.Lasso e) told wrong = told
 

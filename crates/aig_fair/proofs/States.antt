@@ -70,7 +70,8 @@ module _ (c : Circuit) (is : IsCircuit c) (w : Witness) where
 
   -- a state that is computed after a step of so many
   pub state_more : (t : ℕ) → t < length w.steps → (after : Simulation) → after ≡ simulated c w t
-      → (state : List Lbool) → state ≡ map (λ (latch : AigLatch). value_in after latch.next) c.latchs
+      → (state : List Lbool) → state ≡ map (λ (latch : AigLatch). value_in after latch.next)
+      c.latchs
       → state ≡ state_before c w (t + 1)
   state_more t h after so_far state is = is
       ∙ ap (λ (r : Simulation). map (λ (latch : AigLatch). value_in r latch.next) c.latchs) so_far

@@ -7,8 +7,8 @@ use Rattle.aig_live_laws.specs.Fair.{AreAskedBy, IsFairLasso}
 use Rattle.aig_witness.specs.Machine.{HasGiven}
 use Rattle.aig_witness.specs.Witness.{Witness}
 
--- The witness shows a fair lasso of the justice property of its number, whose loop starts at step l:
--- there is a run with the values that are given, and each such run is one.
+-- The witness shows a fair lasso of the justice property of its number, with a loop that starts at
+-- step l: there is a run with the values that are given, and each such run is one.
 pub record ShowsLasso (f : File) (w : Witness) (l : ℕ) : Type 0 where
   pub some : 0 < length w.steps
   pub there : (run : ℕ → ℕ → Bool) × IsMachineRun f (length w.steps - 1) run × HasGiven f w run

@@ -30,7 +30,8 @@ returns-clause-end c =
     let all = c.in_ok-check_steps.ensures.moved
     ∙ ap (λ (s : Simulation). stepped_all s w.steps) (c.new-simulation.ensures
     ∙ ap (simulation_of circuit) (c.in_ok-state.ensures ∙ c.deref.ensures.value)) in
-    let made = c.in_ok-state_after.ensures ∙ ap (map (λ (latch : AigLatch). value_in after latch.next))
+    let made = c.in_ok-state_after.ensures ∙ ap (map (λ (latch : AigLatch). value_in after
+    latch.next))
     c.latchs.ensures.value in
     state_last circuit c.latchs.ensures.circuit w c.requires.some after all
     c.in_ok-state_after.field-0.items made ∙ ap (state_before circuit w) many

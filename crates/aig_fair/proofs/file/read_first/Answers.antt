@@ -16,11 +16,13 @@ returns-in_err-claim-clause-err g c =
 
 pub returns-in-Some-clause-ok : goal.returns-in-Some-clause-ok
 returns-in-Some-clause-ok g c =
-    takes_next g.W.Source.left g.W.Source.failed g.W.Source.pulls (parse_next_claim true) c.args.w.now _
+    takes_next g.W.Source.left g.W.Source.failed g.W.Source.pulls (parse_next_claim true)
+    c.args.w.now _
     (claim_by c.in-Some.claim) (rw (c.in-Some.is, c.new-buffer.ensures) at
     c.in_ok-claim.ensures)
 
 pub returns-in-None-clause-err : goal.returns-in-None-clause-err
 returns-in-None-clause-err g c =
-    ends_none g.W.Source.left g.W.Source.failed g.W.Source.pulls (parse_next_claim true) c.args.w.now _
+    ends_none g.W.Source.left g.W.Source.failed g.W.Source.pulls (parse_next_claim true)
+    c.args.w.now _
     (rw (c.in-None.is, c.new-buffer.ensures) at c.in_ok-claim.ensures)
