@@ -96,8 +96,7 @@ module _ (names : FinMap nat_cmp (List ℕ)) (c : Circuit) where
       steps = is.steps;
       distinct = is.distinct;
       value = λ run y of start given.
-          let either = is.value run y of start given in
-          (
+          let either = is.value run y of start given in (
             λ holds. reaches_forth run (either.0 holds),
             λ r. either.1 (reaches_back run r),
           );
