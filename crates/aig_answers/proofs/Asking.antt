@@ -1,5 +1,5 @@
 -- The clauses of a window, from their parts.
-use Rattle.aig_base.proofs.Words.{◌≡◌, Result, Ok, Err, ℕ, ◌+◌, ◌-◌, ◌*◌, ◌<◌, ◌≤◌, Bool, false, List, [], ◌++◌, length, take, drop, refl, ap, ◌∙◌, arith, length-drop, add-mul, length-map, length-take-le, take_all, All-map, All-weaker}
+use Rattle.aig_base.proofs.Words.{◌≡◌, Result, Ok, Err, ℕ, ◌+◌, ◌-◌, ◌*◌, ◌^◌, ◌<◌, ◌≤◌, Bool, false, List, [], ◌++◌, length, take, drop, refl, sym, subst, ap, ◌∙◌, arith, append-nil, length-drop, add-mul, length-map, length-take-le, slice_get_within, take_all, All-map, All-weaker}
 use Rattle.std.specs.Prelude.{replicate, IfOk}
 use Rattle.aig_base.specs.declared.logic.literal.Lit.{Lit}
 use Rattle.aig_base.specs.Clauses.{AreBelow, AreRelations}
@@ -9,7 +9,7 @@ use Rattle.aig_circuit.proofs.Trees.{kind_at-within}
 use Rattle.aig_circuit.proofs.Words.{edge_to, Circuit, IsCircuit, IsInRange, IsLeaf}
 use Rattle.aig_circuit.specs.Circuit.{latch_leaves}
 use Rattle.aig_circuit.specs.declared.node.AigNodeType.TheVariants.{Leaf}
-use Rattle.aig_cnf.specs.Cnf.{FixesRoots, HasClauses, NodeValuesSatisfy}
+use Rattle.aig_cnf.specs.Cnf.{AreNeeded, FixesRoots, HasClauses, NodeValuesSatisfy}
 use Rattle.aig_unroll.specs.Unroll.{UnrollsTo}
 use Rattle.aig_answers.specs.declared.error.AnswerError.{AnswerError}
 use Rattle.aig_answers.specs.declared.windows.WindowClauses.{WindowClauses}
@@ -93,3 +93,31 @@ pub below_told : (form : Window) (c : Circuit) (k : ℕ) (optimize : Bool)
     → IfOk r (λ made. AreBelow (length made.clauses) made.further)
 below_told form c k optimize (Ok made) is = window_below form c k optimize made.clauses made.further is
 below_told form c k optimize (Err e) is = tt
+
+-- ---- clauses that are written from a circuit
+
+-- the clauses of the gates that need some
+relations_of : (u : Circuit) (optimize : Bool) (marks : List Bool) (total : ℕ)
+    → length u.nodes ≤ 2 ^ 31 → (h : AreNeeded u optimize marks total) → AreRelations h.lists
+relations_of u optimize marks total few h = record {
+  some = slice_get_within h.lists 0 _ h.has_clauses.zero;
+  few = omega (arith, few, h.has_clauses.count);
+  below = h.below;
+}
+
+module _ (c : Circuit) (k : ℕ) (optimize : Bool) (u : Circuit) (marks : List Bool) (total : ℕ) (further : List (List Lit)) (few : length u.nodes ≤ 2 ^ 31) (needed : AreNeeded u optimize marks total) (is : IsCircuit u)
+    (steps : UnrollsTo c (k + 1) u) (exact : further ≡ induction_clauses c k u)
+    (fixes : (lists : List (List (List Lit))) → HasClauses u optimize lists → FixesRoots u lists) (satisfied : (lists : List (List (List Lit))) → HasClauses u optimize lists → NodeValuesSatisfy u lists)
+    (one : (lists others : List (List (List Lit))) → HasClauses u optimize lists → HasClauses u optimize others → lists ≡ others) where
+  -- whichever list there is of them, it asks for a window with the further ones
+  pub asked_of : (lists : List (List (List Lit))) → HasClauses u optimize lists
+      → AsksWindow Plain c k optimize lists further
+  asked_of lists has =
+      let relations = subst AreRelations (one needed.lists lists needed.has_clauses has)
+      (relations_of u optimize marks total few needed) in
+      asks c k optimize u lists lists further is has (fixes lists has) (satisfied lists has) relations Plain steps (sym (append-nil lists)) (exact ∙ sym (append-nil (induction_clauses c k u)))
+
+  -- and the further ones are of variables that are there
+  pub below_of : AreBelow (length u.nodes) further
+  below_of =
+      subst (λ n. AreBelow n further) needed.has_clauses.count (window_below Plain c k optimize needed.lists further (asked_of needed.lists needed.has_clauses))

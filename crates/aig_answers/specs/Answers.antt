@@ -1,12 +1,12 @@
 -- Part of what is promised.
 -- What is asked of a circuit, what an answer says of the bytes of a file and of a proof, and which
 -- errors a call has.
-use Rattle.std.specs.Prelude.{◌≡◌, ◌≢◌, ℕ, ◌+◌, ◌≤◌, ◌==◌, nat_lt, if◌then◌else◌, Bool, List, [], ◌++◌, length, Option, Result, Ok, Err}
+use Rattle.std.specs.Prelude.{◌≡◌, ◌≢◌, ℕ, ◌+◌, ◌≤◌, ◌^◌, ◌==◌, nat_lt, if◌then◌else◌, Bool, List, [], ◌++◌, length, Option, Result, Ok, Err}
 use Rattle.aig_base.specs.declared.logic.literal.Lit.{Lit}
 use Rattle.aig_base.specs.Clauses.{AreBelow}
 use Rattle.aig_base.specs.Formula.{clauses_in}
 use Rattle.aig_circuit.specs.Circuit.{Circuit}
-use Rattle.aig_cnf.specs.Cnf.{FixesRoots, HasClauses, NodeValuesSatisfy}
+use Rattle.aig_cnf.specs.Cnf.{AreNeeded, FixesRoots, HasClauses, NodeValuesSatisfy}
 use Rattle.aig_format.specs.Circuit.{circuit_of}
 use Rattle.aig_format.specs.File.{File}
 use Rattle.aig_format.specs.Fits.{Accepts}
@@ -23,6 +23,7 @@ use Rattle.aig_encode.specs.declared.query_clauses.Query.{Query}
 use Rattle.aig_encode.specs.Encoding as encoding
 use Rattle.aig_encode.specs.Encoding.{IsQuery}
 use Rattle.aig_answers.specs.declared.circuits.CircuitQuery.{CircuitQuery}
+use Rattle.aig_answers.specs.declared.parts.ClauseParts.{ClauseParts}
 use Rattle.aig_answers.specs.declared.windows.WindowClauses.{WindowClauses}
 use Rattle.aig_answers.specs.declared.error.AnswerError.{AnswerError}
 use Rattle.aig_answers.specs.declared.error.AnswerError.TheVariants as errors
@@ -48,6 +49,20 @@ pub record IsCircuitQuery (c : Circuit) (k : ℕ) (optimize : Bool) (q : Circuit
 abbrev pub query_with : Circuit → WindowClauses → CircuitQuery
 query_with unrolled made =
     record { unrolled = unrolled; clauses = made.clauses; further = made.further }
+
+-- ---- clauses that are written from a circuit
+
+-- the circuit's gates that need clauses, how many clauses it has, and further ones of its variables
+pub record AreWrittenFrom (c : Circuit) (optimize : Bool) (parts : ClauseParts) : Type 0 where
+  pub few : length c.nodes ≤ 2 ^ 31
+  pub needed : AreNeeded c optimize parts.needed.marks.items parts.needed.clauses
+  pub below : AreBelow (length c.nodes) parts.further
+
+-- whichever list there is of the circuit's clauses, it asks so with the further ones
+abbrev pub AskWith : Circuit → Bool → (WindowClauses → Type 0) → ClauseParts → Type 0
+AskWith c optimize Asks parts =
+    (lists : List (List (List Lit))) → HasClauses c optimize lists
+    → Asks (record { clauses = lists; further = parts.further })
 
 -- ---- files
 

@@ -1,7 +1,6 @@
 -- What proofs of a joint circuit's clauses show of the two files.
 use Rattle.aig_base.proofs.Words.{◌≡◌, ℕ, ◌≤◌, Bool, List, Option, ◌++◌, Result, Ok, Err, refl, sym, subst, arith}
-use Rattle.std.specs.Prelude.{IfErr, IfOk, length}
-use Rattle.aig_base.specs.Clauses.{AreBelow}
+use Rattle.std.specs.Prelude.{IfErr, length}
 use Rattle.aig_base.specs.Formula.{IsSatisfiable, clauses_in}
 use Rattle.aig_base.specs.declared.logic.literal.Lit.{Lit}
 use Rattle.aig_circuit.specs.Circuit.{Circuit, IsCircuit}
@@ -12,7 +11,6 @@ use Rattle.aig_format.proofs.Words.{IsReadAgain, circuit_of, file_of, File, Fits
 use Rattle.aig_format.proofs.Circuits.{IsCircuit-of_file}
 use Rattle.aig_format.specs.declared.FileKind.TheVariants.{Text}
 use Rattle.aig_reader.specs.Verdicts.{Accepted, verdict_by}
-use Rattle.aig_runs.proofs.Below.{window_below}
 use Rattle.aig_runs.proofs.Witnesses.{witness_back, witness_forth}
 use Rattle.aig_runs.specs.Induction.{IsKInductive}
 use Rattle.aig_runs.specs.Queries.{IsSafeTo}
@@ -96,18 +94,6 @@ module _ (limit : ℕ) (optimize : Bool) (m : Circuit) where
   own_asked (Err (errors.Query e)) told = told.0
   own_asked (Err (errors.Window e)) told = query_of_window e told.0
 
-  -- further clauses are of variables that are there
-  pub base_below : (made : Result Obligations CertificateError) → AsksBoth limit optimize m made
-      → IfOk made (λ o. AreBelow (length o.base.clauses) o.base.further)
-  base_below (Ok o) told = told.0.1.below
-  base_below (Err e) told = tt
-
-  pub step_below : (made : Result Obligations CertificateError) → AsksBoth limit optimize m made
-      → IfOk made (λ o. AreBelow (length o.step.clauses) o.step.further)
-  step_below (Ok o) told =
-      window_below Plain m 0 optimize o.step.clauses o.step.further told.1
-  step_below (Err e) told = tt
-
 -- ---- what they show
 
 joins : JoinsWitnesses
@@ -177,8 +163,7 @@ equals limit k optimize proof f g m joint (Err (errors.Window e)) told = absurd 
 pub obliges : (limit : ℕ) (optimize : Bool) (f g : File) (m : Circuit)
     → IsJointOf Certificate f g m → (made : Result Obligations CertificateError)
     → AsksBoth limit optimize m made → Obliges limit optimize f g made
-obliges limit optimize f g m joint (Ok o) told =
-    record { whole = m; joint = joint; unrolled = told.0.0; base = told.0.1; step = told.1 }
+obliges limit optimize f g m joint (Ok o) told = (m, joint, told)
 obliges limit optimize f g m joint (Err (errors.Pair e)) told = absurd told
 obliges limit optimize f g m joint (Err (errors.Query e)) told = (m, joint, told.1)
 obliges limit optimize f g m joint (Err (errors.Window e)) told = (m, joint, told.1)

@@ -2,12 +2,13 @@
 -- What an answer about two files says of them, and what its errors say.
 use Rattle.std.specs.Prelude.{◌≡◌, ◌≢◌, ℕ, ◌==◌, nat_lt, if◌then◌else◌, Bool, List, length, Option, Result, Ok, Err}
 use Rattle.aig_answers.specs.Answers as answering
-use Rattle.aig_answers.specs.Answers.{IsCircuitQuery, IsOfInduction, IsOfQuery, IsOfStep, IsOfWindow, TellsOfCircuit, TellsOfCircuitWindow, query_with}
+use Rattle.aig_answers.specs.Answers.{AskWith, IsCircuitQuery, IsOfInduction, IsOfQuery, IsOfStep, IsOfWindow, TellsOfCircuit, TellsOfCircuitWindow, query_with}
 use Rattle.aig_answers.specs.declared.error.AnswerError.{AnswerError}
 use Rattle.aig_answers.specs.declared.windows.WindowClauses.{WindowClauses}
 use Rattle.aig_runs.specs.declared.window.Window.TheVariants.{Plain}
 use Rattle.aig_runs.specs.WindowClauses.{AsksWindow}
 use Rattle.aig_circuit.specs.Circuit.{Circuit}
+use Rattle.aig_circuit.specs.View.{lists_circuit}
 use Rattle.aig_edits.specs.Joints as joints
 use Rattle.aig_edits.specs.Joints.{IsJointOf, IsRefusalOf}
 use Rattle.aig_edits.specs.declared.pairing.Pairing.TheVariants.{Certificate, Miter}
@@ -131,9 +132,18 @@ pub record AreObligations (optimize : Bool) (f g : File) (first second : WindowC
     pub base : IsCircuitQuery whole 0 optimize (query_with unrolled first)
     pub step : AsksWindow Plain whole 0 optimize second.clauses second.further
 
+-- the parts from which the clauses are written, whichever lists are made of them, are those of the
+-- joint circuit m: of itself, and of it with one step more
+pub record AreObligationsOf (optimize : Bool) (m : Circuit) (o : Obligations) : Type 0 where
+  pub base : AskWith o.joint.unrolled optimize
+      (λ made. IsCircuitQuery m 0 optimize (query_with o.joint.unrolled made)) o.base
+  pub step : AskWith (lists_circuit o.stepped) optimize
+      (λ made. AsksWindow Plain m 0 optimize made.clauses made.further) o.step
+
 -- the clauses are these, or it is said why there are none
 abbrev pub Obliges : ℕ → Bool → File → File → Result Obligations CertificateError → Type 0
-Obliges limit optimize f g (Ok o) = AreObligations optimize f g o.base o.step
+Obliges limit optimize f g (Ok o) =
+    (m : Circuit) × IsJointOf Certificate f g m × AreObligationsOf optimize m o
 Obliges limit optimize f g (Err (errors.Pair e)) = IsRefusalOf Certificate f g e
 Obliges limit optimize f g (Err (errors.Query e)) =
     (m : Circuit) × IsJointOf Certificate f g m

@@ -12,7 +12,7 @@ use Rattle.aig_runs.specs.Safety.{IsCircuitSafeAt}
 use Rattle.aig_runs.specs.declared.window.Window.TheVariants.{Plain}
 use Rattle.aig_runs.specs.WindowClauses.{AsksWindow}
 use Rattle.aig_circuit.specs.Circuit.{Circuit}
-use Rattle.aig_certificates.specs.Certificates.{IsSaidOf, TellsOfQuery, TellsOfTwo, joint_verdict}
+use Rattle.aig_certificates.specs.Certificates.{AreObligationsOf, IsSaidOf, TellsOfQuery, TellsOfTwo, joint_verdict}
 use Rattle.aig_certificates.specs.declared.error.CertificateError.{CertificateError}
 use Rattle.aig_certificates.specs.declared.error.CertificateError.TheVariants as errors
 use Rattle.aig_certificates.specs.declared.asking.Obligations.{Obligations}
@@ -61,8 +61,7 @@ HoldsStep limit k optimize proof m (Err (errors.Window e)) = ⊥
 
 -- the clauses are those of the circuit, or it is said why there are none
 abbrev pub AsksBoth : ℕ → Bool → Circuit → Result Obligations CertificateError → Type 0
-AsksBoth limit optimize m (Ok o) =
-    AsksStep 0 optimize m o.base × AsksWindow Plain m 0 optimize o.step.clauses o.step.further
+AsksBoth limit optimize m (Ok o) = AreObligationsOf optimize m o
 AsksBoth limit optimize m (Err (errors.Pair e)) = ⊥
 AsksBoth limit optimize m (Err (errors.Query e)) =
     IsOfQuery e × IsSaidOf (joint_verdict limit 0 m) (verdict_of e)

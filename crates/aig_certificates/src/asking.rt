@@ -1,7 +1,7 @@
 //! The clauses that the proofs of a certificate are of.
 
 ghost use Rattle.std.specs.Prelude.{◌^◌, ◌≤◌, IfOk, length};
-ghost use Rattle.aig_base.specs.Clauses.{AreBelow};
+ghost use Rattle.aig_answers.specs.Answers.{AreWrittenFrom};
 ghost use Rattle.aig_certificates.specs.Certificates.{IsOfClauses, Obliges, first_verdict, second_verdict};
 ghost use Rattle.aig_certificates.specs.Parts.{AsksBoth};
 ghost use Rattle.aig_circuit.specs.Circuit.{IsCircuit};
@@ -9,23 +9,28 @@ ghost use Rattle.aig_circuit.specs.View.{lists_circuit};
 ghost use Rattle.aig_edits.specs.Pairs.{ReadsPair};
 
 use crate::error::CertificateError;
-use crate::joint::{ask_query, ask_window, unroll_joint};
-use aig_answers::WindowClauses;
+use crate::joint::{part_query, part_window, unroll_joint};
+use aig_answers::ClauseParts;
 use aig_base::Source;
 use aig_circuit::CircuitLists;
 use aig_edits::{Pairing, read_joint};
+use aig_runs::Unrolled;
 use std::alloc::Global;
 
-/// The clauses that the proofs of `check_certified` are of.
+/// What the clauses are written from that the proofs of `check_certified` are of.
 #[derive(Drop)]
 pub struct Obligations {
-    /// Those of the joint circuit's query for step 0.
-    pub base: WindowClauses,
-    /// Those of its plain window of two steps.
-    pub step: WindowClauses,
+    /// The joint circuit, with no further step.
+    pub joint: Unrolled,
+    /// What the clauses of its query for step 0 are written from beside it.
+    pub base: ClauseParts,
+    /// The joint circuit with one step more.
+    pub stepped: CircuitLists,
+    /// What the clauses of the joint circuit's plain window of two steps are written from beside it.
+    pub step: ClauseParts,
 }
 
-/// The clauses of a joint circuit's query for step 0 and of its window of two steps.
+/// What the clauses of a joint circuit's query for step 0 and of its window of two steps are written from.
 fn ask_both(
     alloc: Global,
     joint: CircuitLists,
@@ -35,24 +40,32 @@ fn ask_both(
     requires few { limit ≤ 2 ^ 31 }
     requires circuit { IsCircuit (lists_circuit joint) }
     ensures asks { AsksBoth limit optimize (lists_circuit joint) result }
+    ensures circuit { IfOk result (λ o. IsCircuit (lists_circuit o.stepped)) }
+    ensures base { IfOk result (λ o. AreWrittenFrom o.joint.unrolled optimize o.base) }
+    ensures step { IfOk result (λ o. AreWrittenFrom (lists_circuit o.stepped) optimize o.step) }
 {
-    let asked = match unroll_joint(joint, limit, 0) {
-        Ok(asked) => asked,
+    let joint = match unroll_joint(joint, limit, 0) {
+        Ok(joint) => joint,
         Err(error) => return Err(CertificateError::Query(error)),
     };
-    let base = match ask_query(alloc, &asked, optimize) {
+    let base = match part_query(alloc, &joint, optimize) {
         Ok(base) => base,
         Err(error) => return Err(CertificateError::Query(error)),
     };
-    match ask_window(alloc, &asked.circuit(), limit, optimize) {
-        Ok(step) => Ok(Obligations { base, step }),
+    match part_window(alloc, &joint.circuit(), limit, optimize) {
+        Ok((stepped, step)) => Ok(Obligations {
+            joint,
+            base,
+            stepped,
+            step,
+        }),
         Err(error) => Err(CertificateError::Window(error)),
     }
 }
 
-/// Reads two files in the AIGER format, a file and its certificate, and makes the clauses that the proofs of `check_certified`
-/// are of: `base` of the query of the joint circuit for step 0, and `step` of its plain window of two steps. Requires
-/// `1 <= limit <= 2^31`.
+/// Reads two files in the AIGER format, a file and its certificate, and makes what the clauses are written from that the proofs of
+/// `check_certified` are of: `base` of the query of the joint circuit for step 0, and `step` of its plain window of two steps. No
+/// list of the clauses of gates is made. Requires `1 <= limit <= 2^31`.
 ///
 /// # Errors
 ///
@@ -72,9 +85,10 @@ pub fn obligations_of<R: Source, S: Source>(
     ensures reads { ReadsPair R.left R.failed S.left S.failed limit (Obliges limit optimize)
         first_verdict second_verdict IsOfClauses file.old certificate.old result
         file.new certificate.new }
-    // The further clauses are of variables that are there.
-    ensures base_below { IfOk result (λ o. AreBelow (length o.base.clauses) o.base.further) }
-    ensures step_below { IfOk result (λ o. AreBelow (length o.step.clauses) o.step.further) }
+    // They can be written: the gates that need clauses are marked, and the further clauses are of variables that are there.
+    ensures circuit { IfOk result (λ o. IsCircuit (lists_circuit o.stepped)) }
+    ensures base { IfOk result (λ o. AreWrittenFrom o.joint.unrolled optimize o.base) }
+    ensures step { IfOk result (λ o. AreWrittenFrom (lists_circuit o.stepped) optimize o.step) }
 {
     let joint = read_joint(alloc, Pairing::Certificate, file, certificate, limit)?;
     ask_both(alloc, joint, limit, optimize)

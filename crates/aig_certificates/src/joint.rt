@@ -1,7 +1,7 @@
 //! A joint circuit with further steps, and the clauses that ask something of it.
 
 ghost use Rattle.std.specs.Prelude.{◌≡◌, ◌^◌, ◌≤◌, IfErr, IfOk, length};
-ghost use Rattle.aig_answers.specs.Answers.{IsOfQuery, verdict_of};
+ghost use Rattle.aig_answers.specs.Answers.{AreWrittenFrom, AskWith, IsCircuitQuery, IsOfQuery, query_with, verdict_of};
 ghost use Rattle.aig_certificates.specs.Certificates.{IsSaidOf, joint_verdict};
 ghost use Rattle.aig_certificates.specs.Parts.{AsksStep};
 ghost use Rattle.aig_circuit.specs.Circuit.{IsCircuit};
@@ -12,7 +12,10 @@ ghost use Rattle.aig_runs.specs.WindowClauses.{AsksWindow};
 ghost use Rattle.aig_runs.specs.declared.window.Window.TheVariants.{Plain};
 ghost use Rattle.aig_unroll.specs.Unroll.{UnrollsTo};
 
-use aig_answers::{AnswerError, WindowClauses, plain_window, unrolled_query};
+use aig_answers::{
+    AnswerError, ClauseParts, WindowClauses, plain_window, query_parts, unrolled_query,
+    window_parts,
+};
 use aig_circuit::{CircuitLists, CircuitView};
 use aig_encode::EncodeError;
 use aig_reader::ReadError;
@@ -70,6 +73,22 @@ pub(crate) fn ask_query(
     Ok(unrolled_query(alloc, asked, optimize)?)
 }
 
+/// What the clauses of `ask_query` are written from.
+pub(crate) fn part_query(
+    alloc: Global,
+    asked: &Unrolled,
+    optimize: bool,
+) -> Result<ClauseParts, AnswerError>
+    requires { length asked.now.unrolled.nodes ≤ 2 ^ 31 }
+    ensures written { IfOk result (AreWrittenFrom asked.now.unrolled optimize) }
+    ensures asks { IfOk result (AskWith asked.now.unrolled optimize
+        (λ made. IsCircuitQuery asked.now.circuit asked.now.steps optimize
+        (query_with asked.now.unrolled made))) }
+    ensures own { IfErr result (λ e. e ≡ AnswerError.Encode EncodeError.Memory) }
+{
+    Ok(query_parts(alloc, asked, optimize)?)
+}
+
 /// The joint circuit with one step more, if there is room for it and something is asked.
 fn unroll_once(joint: &CircuitView<'_>, limit: usize) -> Result<CircuitLists, AnswerError>
     ensures circuit { IfOk result (λ lists. IsCircuit (lists_circuit lists)) }
@@ -98,4 +117,24 @@ pub(crate) fn ask_window(
     let unrolled = unroll_once(joint, limit)?;
     let unrolled = CircuitView::new(&unrolled);
     Ok(plain_window(alloc, joint, 0, &unrolled, optimize)?)
+}
+
+/// The joint circuit with one step more, and what the clauses of `ask_window` are written from beside it.
+pub(crate) fn part_window(
+    alloc: Global,
+    joint: &CircuitView<'_>,
+    limit: usize,
+    optimize: bool,
+) -> Result<(CircuitLists, ClauseParts), AnswerError>
+    requires { limit ≤ 2 ^ 31 }
+    ensures circuit { IfOk result (λ made. IsCircuit (lists_circuit made.0)) }
+    ensures written { IfOk result (λ made. AreWrittenFrom (lists_circuit made.0) optimize made.1) }
+    ensures asks { IfOk result (λ made. AskWith (lists_circuit made.0) optimize
+        (λ lists. AsksWindow Plain joint.now 0 optimize lists.clauses lists.further) made.1) }
+    ensures said { IsSaidOf (joint_verdict limit 1 joint.now) (verdict_by verdict_of result) }
+    ensures own { IfErr result IsOfQuery }
+{
+    let stepped = unroll_once(joint, limit)?;
+    let parts = window_parts(alloc, joint, 0, &CircuitView::new(&stepped), optimize)?;
+    Ok((stepped, parts))
 }

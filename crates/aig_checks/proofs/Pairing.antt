@@ -5,15 +5,23 @@ use Rattle.aig_answers.specs.declared.error.AnswerError.{AnswerError}
 use Rattle.aig_answers.specs.declared.windows.WindowClauses.{WindowClauses}
 use Rattle.aig_answers.specs.declared.error.AnswerError.TheVariants as answers
 use Rattle.aig_certificates.specs.Certificates as certificates
-use Rattle.aig_certificates.specs.Certificates.{AreObligations, Equals}
+use Rattle.aig_certificates.specs.Certificates.{AreObligationsOf, Equals}
+use Rattle.aig_certificates.specs.declared.asking.Obligations.{Obligations}
 use Rattle.aig_certificates.specs.declared.error.CertificateError.{CertificateError}
 use Rattle.aig_certificates.specs.declared.error.CertificateError.TheVariants as certificate
+use Rattle.aig_base.specs.Formula.{clauses_in}
+use Rattle.aig_base.specs.declared.logic.literal.Lit.{Lit}
+use Rattle.aig_circuit.specs.Circuit.{Circuit}
+use Rattle.aig_circuit.specs.View.{lists_circuit}
+use Rattle.aig_cnf.specs.Cnf.{HasClauses}
 use Rattle.aig_dimacs.proofs.Comments.{ArePassed, parse_formula-passed}
 use Rattle.aig_dimacs.proofs.Reading.{parse_formula-dimacs_of}
 use Rattle.aig_dimacs.specs.Reading.{after_comments, parse_formula}
 use Rattle.aig_dimacs.specs.Text.{IsFormula, dimacs_of}
 use Rattle.aig_edits.proofs.Reading.{reads_on}
+use Rattle.aig_edits.specs.Joints.{IsJointOf}
 use Rattle.aig_edits.specs.Pairs.{ReadsPair}
+use Rattle.aig_edits.specs.declared.pairing.Pairing.TheVariants.{Certificate}
 use Rattle.aig_format.specs.File.{File}
 use Rattle.aig_output.proofs.Putting.{Stops-put}
 use Rattle.aig_output.specs.Sinks.{Stops, WritesOrStops}
@@ -24,6 +32,7 @@ use Rattle.aig_checks.specs.declared.tool.CheckError.{CheckError}
 use Rattle.aig_checks.specs.declared.tool.CheckError.TheVariants as errors
 use Rattle.aig_checks.specs.Pairs.{IsErrorOfPair, IsObligationsText, PairAnswers, RefusesPair, RunsPair, TellsOfPair, formula_of, other_verdict_of, part_text}
 use Rattle.aig_checks.specs.Running.{verdict_of}
+use Rattle.aig_checks.specs.Printing.{clauses_with}
 use Rattle.aig_checks.proofs.Outcomes.{is_error}
 
 module _ {R S P Q W : Type 0} {left : R → Option (List ℕ)} {failed : R → Bool} {left_of : S → Option (List ℕ)} {failed_of : S → Bool} {base_left : P → Option (List ℕ)} {base_failed : P → Bool} {step_left : Q → Option (List ℕ)} {step_failed : Q → Bool} {held : W → Option (List ℕ)} {write_failed : W → Bool} {c : PairCommand} {limit : ℕ} {r rest : R} {s other : S} {p used : P} {q spent : Q} {w made : W} {T : Type 0} (Means : File → File → Result T CertificateError → Type 0) {Own : CertificateError → Type 0} where
@@ -111,18 +120,32 @@ step_named : ArePassed (codes "c step" ++ 10 ∷ [])
 unfolding after_comments
 step_named rest = refl
 
-pub obligations_text : (optimize : Bool) (f g : File) (base step : WindowClauses) → AreObligations optimize f g base step
-    → IsFormula (length base.clauses) (formula_of base) → IsFormula (length step.clauses) (formula_of step)
-    → IsObligationsText optimize f g (part_text (codes "c base") base ++ part_text (codes "c step") step)
-obligations_text optimize f g base step asked base_formula step_formula = record {
-  base_clauses = base;
-  step_clauses = step;
-  asked = asked;
-  base = part_text (codes "c base") base;
+-- both texts, one after the other
+abbrev pub obliged_text : Obligations → List (List (List Lit)) → List (List (List Lit)) → List ℕ
+obliged_text o base step =
+    part_text (codes "c base") (clauses_with base o.base.further)
+    ++ part_text (codes "c step") (clauses_with step o.step.further)
+
+pub obligations_text : (optimize : Bool) (f g : File) (o : Obligations) (base step : List (List (List Lit)))
+    → (m : Circuit) × IsJointOf Certificate f g m × AreObligationsOf optimize m o
+    → HasClauses o.joint.unrolled optimize base → HasClauses (lists_circuit o.stepped) optimize step
+    → IsFormula (length base) (clauses_in base ++ o.base.further) → IsFormula (length step) (clauses_in step ++ o.step.further)
+    → IsObligationsText optimize f g (obliged_text o base step)
+obligations_text optimize f g o base step asked base_has step_has base_formula step_formula = record {
+  base_clauses = clauses_with base o.base.further;
+  step_clauses = clauses_with step o.step.further;
+  asked = record {
+    whole = asked.0;
+    joint = asked.1;
+    unrolled = o.joint.unrolled;
+    base = asked.2.base base base_has;
+    step = asked.2.step step step_has;
+  };
+  base = part_text (codes "c base") (clauses_with base o.base.further);
   base_exact = refl;
-  step = part_text (codes "c step") step;
+  step = part_text (codes "c step") (clauses_with step o.step.further);
   step_exact = refl;
   exact = refl;
-  base_again = part_again (codes "c base") base base_named base_formula;
-  step_again = part_again (codes "c step") step step_named step_formula;
+  base_again = part_again (codes "c base") (clauses_with base o.base.further) base_named base_formula;
+  step_again = part_again (codes "c step") (clauses_with step o.step.further) step_named step_formula;
 }

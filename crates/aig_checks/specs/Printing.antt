@@ -1,9 +1,13 @@
 -- Serves private clauses alone.
 -- What is printed of what was read: a text, or a beginning of it.
-use Rattle.std.specs.Prelude.{◌≡◌, ◌≢◌, ℕ, ◌+◌, Bool, false, List, ◌++◌, length, Option, Result, IfErr, IsErrOf, OnOk}
+use Rattle.std.specs.Prelude.{◌≡◌, ◌≢◌, ℕ, ◌+◌, Bool, false, List, ◌++◌, length, Option, Result, IfErr, IsErrOf, OnOk, codes}
 use Rattle.std.specs.Io.KnownBytes.{Appends}
+use Rattle.aig_answers.specs.declared.windows.WindowClauses.{WindowClauses}
 use Rattle.aig_base.specs.Formula.{clauses_in}
 use Rattle.aig_base.specs.declared.logic.literal.Lit.{Lit}
+use Rattle.aig_certificates.specs.declared.asking.Obligations.{Obligations}
+use Rattle.aig_circuit.specs.Circuit.{Circuit}
+use Rattle.aig_circuit.specs.View.{lists_circuit}
 use Rattle.aig_cnf.specs.Cnf.{HasClauses}
 use Rattle.aig_dimacs.specs.Text.{IsFormula, dimacs_of}
 use Rattle.aig_encode.specs.declared.encoding.Encoded.{Encoded}
@@ -14,6 +18,7 @@ use Rattle.aig_solutions.specs.Checked.{RefusesSolution, SaysWitness}
 use Rattle.aig_witness.specs.Witness.{Witness, witness_text}
 use Rattle.aig_witness.specs.Shown.{IsKnownWitness}
 use Rattle.aig_checks.specs.Comments.{comments_of}
+use Rattle.aig_checks.specs.Pairs.{part_text}
 use Rattle.aig_checks.specs.declared.tool.CheckError.{CheckError}
 use Rattle.aig_checks.specs.declared.tool.CheckError.TheVariants as errors
 
@@ -41,6 +46,34 @@ pub record IsQueryText (u : UnrolledCircuit) (optimize : Bool) (text : List ℕ)
   pub asks : further ≡ query_clauses u.circuit u.steps u.unrolled
   pub formula : IsFormula (length lists) (clauses_in lists ++ further)
   pub exact : text ≡ query_text u lists further
+
+-- the clauses of a circuit and further ones
+abbrev pub clauses_with : List (List (List Lit)) → List (List Lit) → WindowClauses
+clauses_with lists further = record { clauses = lists; further = further }
+
+-- the text of a circuit's clauses and further ones is written, after a line that names them, or a
+-- beginning of it
+pub record WritesPart {W T E : Type 0} (held : W → Option (List ℕ)) (failed : W → Bool)
+    (name : List ℕ) (c : Circuit) (optimize : Bool) (further : List (List Lit)) (old : W)
+    (result : Result T E) (new : W) : Type 0 where
+  pub lists : List (List (List Lit))
+  pub has : HasClauses c optimize lists
+  pub formula : IsFormula (length lists) (clauses_in lists ++ further)
+  pub writes : WritesOrStops held failed old result (part_text name (clauses_with lists further))
+      new
+
+-- so are the texts of the clauses of which the proofs of a certificate are
+pub record WritesBoth {W T E : Type 0} (held : W → Option (List ℕ)) (failed : W → Bool)
+    (o : Obligations) (optimize : Bool) (old : W) (result : Result T E) (new : W) : Type 0 where
+  pub base : List (List (List Lit))
+  pub base_has : HasClauses o.joint.unrolled optimize base
+  pub base_formula : IsFormula (length base) (clauses_in base ++ o.base.further)
+  pub step : List (List (List Lit))
+  pub step_has : HasClauses (lists_circuit o.stepped) optimize step
+  pub step_formula : IsFormula (length step) (clauses_in step ++ o.step.further)
+  pub writes : WritesOrStops held failed old result
+      (part_text (codes "c base") (clauses_with base o.base.further)
+      ++ part_text (codes "c step") (clauses_with step o.step.further)) new
 
 -- the text of a witness of k + 1 steps that a solver's answer says and that was checked in three
 -- values

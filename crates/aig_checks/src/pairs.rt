@@ -1,19 +1,21 @@
 //! What the commands do with the bytes of two files, and of proofs about them.
 
-ghost use Rattle.std.specs.Prelude.{◌++◌, codes, length};
-ghost use Rattle.aig_base.specs.Clauses.{AreBelow};
+ghost use Rattle.aig_answers.specs.Answers.{AreWrittenFrom};
+ghost use Rattle.aig_circuit.specs.Circuit.{IsCircuit};
+ghost use Rattle.aig_circuit.specs.View.{lists_circuit};
 ghost use Rattle.aig_command_line.specs.Limits.{IsLimit};
-ghost use Rattle.aig_output.specs.Sinks.{WritesOrStops};
-ghost use Rattle.aig_checks.specs.Pairs.{RunsPair, part_text};
+ghost use Rattle.aig_checks.specs.Pairs.{RunsPair};
+ghost use Rattle.aig_checks.specs.Printing.{WritesBoth, WritesPart};
 ghost use Rattle.aig_checks.specs.Running.{nothing_fails, nothing_given};
 
 use crate::command::PairCommand;
-use crate::tool::{CheckError, tell_formula, write_line};
-use aig_answers::WindowClauses;
+use crate::tool::{CheckError, tell_circuit, write_line};
+use aig_answers::ClauseParts;
 use aig_base::{Sink, Source, StreamFault};
 use aig_certificates::{Obligations, check_certified, check_equal, obligations_of};
+use aig_circuit::CircuitView;
 use aig_command_line::write_text;
-use aig_dimacs::write_dimacs;
+use aig_dimacs::write_circuit;
 use std::alloc::Global;
 
 /// Checks proofs that a certificate shows that a file's machine reaches no bad state at any step, and prints so.
@@ -59,26 +61,39 @@ pub fn print_equal<R: Source, S: Source, P: Source, W: Sink>(
     Ok(write_line(w, b"equal at step ", k)?)
 }
 
-/// Writes the text of clauses, after a line that names them.
-fn write_part<W: Sink>(w: &mut W, name: &[u8], made: &WindowClauses) -> Result<(), StreamFault>
-    requires { AreBelow (length made.now.clauses) made.now.further }
-    ensures { let text = part_text name.now made.now in
-        WritesOrStops W.held W.failed w.old result text w.new }
+/// Writes the clauses of a circuit and further ones, after a line that names them. No list of them is made.
+fn write_part<W: Sink>(
+    w: &mut W,
+    name: &[u8],
+    circuit: &CircuitView<'_>,
+    optimize: bool,
+    parts: &ClauseParts,
+) -> Result<(), StreamFault>
+    requires { AreWrittenFrom circuit.now optimize parts.now }
+    ensures { WritesPart W.held W.failed name.now circuit.now optimize parts.now.further w.old
+        result w.new }
 {
+    tell_circuit(circuit, optimize, &parts.needed, &parts.further);
     write_text(w, name)?;
-    write_dimacs(w, &made.clauses, &made.further)
+    write_circuit(w, circuit, optimize, &parts.needed, &parts.further)
 }
 
 /// Writes the text of the clauses that the proofs of a certificate are of.
-fn write_obligations<W: Sink>(w: &mut W, asked: &Obligations) -> Result<(), StreamFault>
-    requires base { AreBelow (length asked.now.base.clauses) asked.now.base.further }
-    requires step { AreBelow (length asked.now.step.clauses) asked.now.step.further }
-    ensures { let base = part_text (codes "c base") asked.now.base in
-        let step = part_text (codes "c step") asked.now.step in
-        WritesOrStops W.held W.failed w.old result (base ++ step) w.new }
+fn write_obligations<W: Sink>(
+    w: &mut W,
+    asked: &Obligations,
+    optimize: bool,
+) -> Result<(), StreamFault>
+    requires circuit { IsCircuit (lists_circuit asked.now.stepped) }
+    requires base { AreWrittenFrom asked.now.joint.unrolled optimize asked.now.base }
+    requires step { AreWrittenFrom (lists_circuit asked.now.stepped) optimize asked.now.step }
+    ensures { WritesBoth W.held W.failed asked.now optimize w.old result w.new }
 {
-    write_part(w, b"c base", &asked.base)?;
-    write_part(w, b"c step", &asked.step)
+    let joint = asked.joint.unrolled();
+    let stepped = CircuitView::new(&asked.stepped);
+    tell_circuit(&stepped, optimize, &asked.step.needed, &asked.step.further);
+    write_part(w, b"c base", &joint, optimize, &asked.base)?;
+    write_part(w, b"c step", &stepped, optimize, &asked.step)
 }
 
 /// Prints the clauses that the proofs of `print_certified` are of: after the line `c base` those of which BASE is a proof, and after
@@ -99,7 +114,5 @@ pub fn print_obligations<R: Source, S: Source, W: Sink>(
         file.new certificate.new tt tt w.new }
 {
     let asked = obligations_of(alloc, file, certificate, limit, optimize)?;
-    tell_formula(&asked.base.clauses, &asked.base.further);
-    tell_formula(&asked.step.clauses, &asked.step.further);
-    Ok(write_obligations(w, &asked)?)
+    Ok(write_obligations(w, &asked, optimize)?)
 }

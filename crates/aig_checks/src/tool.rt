@@ -264,7 +264,12 @@ pub(crate) fn tell_formula(clauses: &DagCnf, further: &LitVvec)
 
 /// Tells that the clauses of a circuit and further ones are read again from their text, as the counts of variables and of clauses
 /// fit.
-fn tell_circuit(circuit: &CircuitView<'_>, optimize: bool, needed: &NeededGates, further: &LitVvec)
+pub(crate) fn tell_circuit(
+    circuit: &CircuitView<'_>,
+    optimize: bool,
+    needed: &NeededGates,
+    further: &LitVvec,
+)
     requires few { length circuit.now.nodes ≤ 2 ^ 31 }
     requires needed { AreNeeded circuit.now optimize needed.now.marks.items needed.now.clauses }
     requires below { AreBelow (length circuit.now.nodes) further.now }

@@ -3,7 +3,7 @@ use Rattle.aig_edits.proofs.Reading.{reads_on}
 use Rattle.aig_circuit.specs.View.{lists_circuit}
 use Rattle.aig_certificates.specs.declared.error.CertificateError.TheVariants as errors
 use Rattle.aig_certificates.specs.Certificates.{IsOfClauses, Obliges, first_verdict, second_verdict}
-use Rattle.aig_certificates.proofs.Answering.{base_below, first_asked, obliges, own_asked, second_asked, step_below}
+use Rattle.aig_certificates.proofs.Answering.{first_asked, obliges, own_asked, second_asked}
 use Rattle.aig_certificates.proofs.asking.obligations_of.Goals as goal
 
 pub returns-in_err-joint-clause-reads : goal.returns-in_err-joint-clause-reads
@@ -28,13 +28,3 @@ returns-clause-reads g c =
     IsOfClauses made c.in_ok-joint.ensures.reads (first_asked limit optimize m made told)
     (second_asked limit optimize m made told) (own_asked limit optimize m made told)
     (λ f h bytes others is also joint. obliges limit optimize f h m joint made told)
-
-pub returns-clause-base_below : goal.returns-clause-base_below
-returns-clause-base_below g c =
-    base_below c.args.limit c.args.optimize (lists_circuit c.in_ok-joint.joint) c.ask_both.result
-    c.ask_both.ensures.asks
-
-pub returns-clause-step_below : goal.returns-clause-step_below
-returns-clause-step_below g c =
-    step_below c.args.limit c.args.optimize (lists_circuit c.in_ok-joint.joint) c.ask_both.result
-    c.ask_both.ensures.asks

@@ -1,15 +1,36 @@
 use Rattle.aig_base.proofs.Words.{rules, codes}
 use Rattle.aig_output.proofs.Putting.{Stops-before, failed_put}
 use Rattle.aig_checks.specs.Pairs.{part_text}
+use Rattle.aig_checks.specs.Printing.{clauses_with}
 use Rattle.aig_checks.proofs.Pairing.{then_written}
 use Rattle.aig_checks.proofs.pairs.write_obligations.Goals as goal
 
 pub returns-in_err-write_part : goal.returns-in_err-write_part
 returns-in_err-write_part g c =
-    let o = c.args.asked.now in
-    failed_put (Stops-before (part_text (codes "c step") o.step) c.in_err-write_part.ensures.err) (search rules)
+    let base = rw c.unrolled-joint.ensures.value at c.in_err-write_part.ensures in
+    let step = rw c.new-stepped.ensures at c.tell_circuit.ensures in
+    let text = part_text (codes "c step") (clauses_with step.0 c.args.asked.now.step.further) in
+    record {
+      base = base.lists;
+      base_has = base.has;
+      base_formula = base.formula;
+      step = step.0;
+      step_has = step.1;
+      step_formula = step.2;
+      writes = failed_put (Stops-before text base.writes.err) (search rules);
+    }
 
 pub returns : goal.returns
 returns g c =
     let o = c.args.asked.now in
-    then_written (part_text (codes "c base") o.base) c.in_ok-write_part.ensures.ok c.write_part-2.ensures
+    let base = rw c.unrolled-joint.ensures.value at c.in_ok-write_part.ensures in
+    let step = rw c.new-stepped.ensures at c.write_part-2.ensures in
+    record {
+      base = base.lists;
+      base_has = base.has;
+      base_formula = base.formula;
+      step = step.lists;
+      step_has = step.has;
+      step_formula = step.formula;
+      writes = then_written (part_text (codes "c base") (clauses_with base.lists o.base.further)) base.writes.ok step.writes;
+    }
