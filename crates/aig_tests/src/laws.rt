@@ -32,8 +32,8 @@ pub fn joint_files_ask_the_same()
         → IsCircuitQuery m k optimize other
         → (one.encoded.clauses ≡ other.clauses) × (one.extra ≡ other.further) }
     ensures window { (pairing : Pairing) (f g h : File) (m : Circuit) (limit k : ℕ)
-        (form : Window) (optimize : Bool) (lists others : List (List (List Lit))) (further more : List (List Lit))
-        → IsJointOf pairing f g m → Accepts (text_of m) limit h
+        (form : Window) (optimize : Bool) (lists others : List (List (List Lit)))
+        (further more : List (List Lit)) → IsJointOf pairing f g m → Accepts (text_of m) limit h
         → AsksWindow form (circuit_of h) k optimize lists further
         → AsksWindow form m k optimize others more → (lists ≡ others) × (further ≡ more) }
     ensures question { (pairing : Pairing) (f g h : File) (m : Circuit) (limit k : ℕ)
