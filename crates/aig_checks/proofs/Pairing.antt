@@ -64,7 +64,8 @@ module _ {R S P Q W : Type 0} {left : R → Option (List ℕ)} {failed : R → B
   }
 
   -- the answer was written
-  pub pair_answered : (u : T) (v : Unit {0}) (text : List ℕ) → ReadsPair left failed left_of failed_of limit Means first second Own r s (Ok u) rest other
+  pub pair_answered : (u : T) (v : Unit {0}) (text : List ℕ)
+      → ReadsPair left failed left_of failed_of limit Means first second Own r s (Ok u) rest other
       → ((f g : File) → Means f g (Ok u) → PairAnswers c limit (base_left p) (step_left q) f g text) → Appends (held w) (held made) text → write_failed made ≡ false
       → RunsPair left failed left_of failed_of base_left base_failed step_left step_failed held write_failed c limit r s p q w (Ok v) rest other used spent made
   pair_answered u v text reads means written sound = record {
@@ -79,7 +80,8 @@ module _ {R S P Q W : Type 0} {left : R → Option (List ℕ)} {failed : R → B
   }
 
   -- the writer failed after a beginning of it
-  pub pair_stopped : (u : T) (text : List ℕ) → ReadsPair left failed left_of failed_of limit Means first second Own r s (Ok u) rest other
+  pub pair_stopped : (u : T) (text : List ℕ)
+      → ReadsPair left failed left_of failed_of limit Means first second Own r s (Ok u) rest other
       → ((f g : File) → Means f g (Ok u) → PairAnswers c limit (base_left p) (step_left q) f g text) → Stops (held w) (held made) (write_failed made) text
       → RunsPair left failed left_of failed_of base_left base_failed step_left step_failed held write_failed c limit r s p q w (Err errors.Write) rest other used spent made
   pair_stopped u text reads means stops = record {
@@ -102,8 +104,11 @@ no_equality x y is = cc
 module _ {R S P Q W : Type 0} {left : R → Option (List ℕ)} {failed : R → Bool} {left_of : S → Option (List ℕ)} {failed_of : S → Bool} {base_left : P → Option (List ℕ)} {base_failed : P → Bool} {step_left : Q → Option (List ℕ)} {step_failed : Q → Bool} {held : W → Option (List ℕ)} {write_failed : W → Bool} {c : PairCommand} {limit : ℕ} {r rest : R} {s other : S} {p used : P} {q spent : Q} {w made : W} {T : Type 0} (Means : File → File → Result T CertificateError → Type 0) {Own : CertificateError → Type 0} where
   -- so of a certificate, and of machines at a step
   pub pair_refused : (e : CertificateError) → ReadsPair left failed left_of failed_of limit Means certificates.first_verdict certificates.second_verdict Own r s (Err e) rest other
-      → (Own e → IsErrorOfPair c (errors.Certificate e)) → ((f g : File) → Means f g (Err e) → RefusesPair c limit (base_left p) (step_left q) f g e) → made ≡ w
-      → (certificates.LeavesQuery (Err e) → used ≡ p) → (certificates.LeavesWindow (Err e) → spent ≡ q)
+      → (Own e → IsErrorOfPair c (errors.Certificate e))
+      → ((f g : File) → Means f g (Err e) → RefusesPair c limit (base_left p) (step_left q) f g e)
+      → made ≡ w
+      → (certificates.LeavesQuery (Err e) → used ≡ p)
+      → (certificates.LeavesWindow (Err e) → spent ≡ q)
       → (e ≡ certificate.Query (answers.Refutation refutation.Stream) → IsTrue (base_failed used))
       → (e ≡ certificate.Window (answers.Refutation refutation.Stream) → IsTrue (step_failed spent))
       → RunsPair left failed left_of failed_of base_left base_failed step_left step_failed held write_failed c limit r s p q w (Err (errors.Certificate e)) rest other used spent made
@@ -160,7 +165,8 @@ obliged_text o base step =
 pub obligations_text : (optimize : Bool) (f g : File) (o : Obligations) (base step : List (List (List Lit)))
     → (m : Circuit) × IsJointOf Certificate f g m × AreObligationsOf optimize m o
     → HasClauses o.joint.unrolled optimize base → HasClauses (lists_circuit o.stepped) optimize step
-    → IsFormula (length base) (clauses_in base ++ o.base.further) → IsFormula (length step) (clauses_in step ++ o.step.further)
+    → IsFormula (length base) (clauses_in base ++ o.base.further)
+    → IsFormula (length step) (clauses_in step ++ o.step.further)
     → IsObligationsText optimize f g (obliged_text o base step)
 obligations_text optimize f g o base step asked base_has step_has base_formula step_formula = record {
   base_clauses = clauses_with base o.base.further;

@@ -79,7 +79,8 @@ module _ (bytes : List ℕ) (t : Tally) (piece : List ℕ) (left : Option (List 
 
 module _ (start left : Option (List ℕ)) (failed : Bool) (before : Option Tally) (piece : List ℕ) (so : Follows start left failed before piece) where
   -- a failed read changes no count
-  pub follows_failed : (after : Option (List ℕ)) (fails : Bool) → fails ≡ true → Follows start after fails before piece
+  pub follows_failed : (after : Option (List ℕ)) (fails : Bool) → fails ≡ true
+      → Follows start after fails before piece
   follows_failed after fails is = record {
     counted = λ bytes known t at.
         let was = so.counted bytes known t at in

@@ -69,7 +69,8 @@ in_whole (Err e) = Err (whole e)
 
 -- the place where reading these bytes stopped for this error, where this is left of them, or the file
 -- as a whole where the error has no place
-abbrev pub IsPlaceOfError : Option (List ℕ) → Option (List ℕ) → Bool → ReadError → Place → Type 0
+abbrev pub IsPlaceOfError : Option (List ℕ) → Option (List ℕ) → Bool → ReadError → Place
+    → Type 0
 IsPlaceOfError known left failed error place =
     MatchOption (read_measure error) (place ≡ Whole)
     (λ measure. IsPlaceOf known left failed measure place)

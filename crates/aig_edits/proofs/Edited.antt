@@ -85,7 +85,8 @@ circuit_output_alone c e is there =
     })
 
 -- what is made where the edit can be made
-pub edits : (edit : Edit) (limit : ℕ) (c : Circuit) (r : Result CircuitLists EditError) → CanEditCircuit
+pub edits : (edit : Edit) (limit : ℕ) (c : Circuit) (r : Result CircuitLists EditError)
+    → CanEditCircuit
     edit c
     → AreStepsWithin edit limit c → Yields edit c r → Edits edit limit c r
 edits edit limit c (Ok m) can within y = (can, within, y.made.0, y.made.1, y.made.2)

@@ -62,7 +62,8 @@ module _ (variables : ℕ) (few : variables < 2 ^ 32) (is_last : Bool) (zero : L
   after_literals numbered n (lit ∷ lits) words below =
       rw (literal_read lit (omega (arith, below.0)), not_zero (variable_of lit + 1) (omega arith), within (variable_of lit) variables below.0, lit_to-parts lit, clause_in-written lits words below.1) refl
 
-numbers_in-written : (is_last : Bool) (numbers : List ℕ) → AllByRecursion IsNumber numbers → numbers_in clause_number is_last (map number_text numbers ++ codes "0\n" ∷ []) ≡ Ok numbers
+numbers_in-written : (is_last : Bool) (numbers : List ℕ) → AllByRecursion IsNumber numbers
+    → numbers_in clause_number is_last (map number_text numbers ++ codes "0\n" ∷ []) ≡ Ok numbers
 unfolding numbers_in ended
 numbers_in-written is_last [] are = rw last_zero_read refl
 numbers_in-written is_last (n ∷ numbers) are =
@@ -73,7 +74,8 @@ numbers_in-written is_last (n ∷ numbers) are =
 abbrev pub AreNumbers : List (Bool × ℕ) → Type 0
 AreNumbers = AllByRecursion (λ hint. IsNumber hint.1)
 
-hints_in-written : (is_last : Bool) (numbers : List (Bool × ℕ)) → AreNumbers numbers → numbers_in hint_number is_last (map signed_text numbers ++ codes "0\n" ∷ []) ≡ Ok numbers
+hints_in-written : (is_last : Bool) (numbers : List (Bool × ℕ)) → AreNumbers numbers
+    → numbers_in hint_number is_last (map signed_text numbers ++ codes "0\n" ∷ []) ≡ Ok numbers
 unfolding numbers_in ended
 hints_in-written is_last [] are = rw last_zero_read refl
 hints_in-written is_last (hint ∷ numbers) are =
@@ -84,19 +86,23 @@ abbrev pub all_hints : List ℕ → List (Bool × ℕ) → List (Bool × ℕ)
 all_hints [] groups = groups
 all_hints (n ∷ hints) groups = (true, n) ∷ all_hints hints groups
 
-pub are_all : (hints : List ℕ) (groups : List (Bool × ℕ)) → AllByRecursion IsNumber hints → AreNumbers groups → AreNumbers (all_hints hints groups)
+pub are_all : (hints : List ℕ) (groups : List (Bool × ℕ)) → AllByRecursion IsNumber hints
+    → AreNumbers groups → AreNumbers (all_hints hints groups)
 are_all [] groups are also = also
 are_all (n ∷ hints) groups are also = (are.0, are_all hints groups are.1 also)
 
-hints_all : (hints : List ℕ) (groups : List (Bool × ℕ)) → hints_at groups ≡ [] → hints_at (all_hints hints groups) ≡ hints
+hints_all : (hints : List ℕ) (groups : List (Bool × ℕ)) → hints_at groups ≡ []
+    → hints_at (all_hints hints groups) ≡ hints
 hints_all [] groups begins = begins
 hints_all (n ∷ hints) groups begins = ap (λ (list : List ℕ). n ∷ list) (hints_all hints groups begins)
 
-groups_all : (hints : List ℕ) (groups : List (Bool × ℕ)) → hints_at groups ≡ [] → groups_at (all_hints hints groups) ≡ groups
+groups_all : (hints : List ℕ) (groups : List (Bool × ℕ)) → hints_at groups ≡ []
+    → groups_at (all_hints hints groups) ≡ groups
 groups_all [] [] begins = refl
 groups_all [] (hint ∷ groups) begins = by hint.0 begins
   where
-    by : (b : Bool) → (if b then hint.1 ∷ hints_at groups else []) ≡ [] → (if b then groups_at groups else hint ∷ groups) ≡ hint ∷ groups
+    by : (b : Bool) → (if b then hint.1 ∷ hints_at groups else []) ≡ []
+        → (if b then groups_at groups else hint ∷ groups) ≡ hint ∷ groups
     by true e = absurd cc
     by false e = refl
 groups_all (n ∷ hints) groups begins = groups_all hints groups begins
@@ -123,7 +129,8 @@ module _ (variables : ℕ) (few : variables < 2 ^ 32) (numbered is_last : Bool) 
       begins_no : (k : ℕ) → is_digit k ≡ false → begins k (number_text number) ≡ false
       begins_no k other = ap (begins k) (sym (append-nil (number_text number))) ∙ begins-number k number is.1 other []
 
-  pub added_read : (clause : List Lit) (hints : List ℕ) (groups : List (Bool × ℕ)) → AllByRecursion (λ lit. variable_of lit < variables) clause
+  pub added_read : (clause : List Lit) (hints : List ℕ) (groups : List (Bool × ℕ))
+      → AllByRecursion (λ lit. variable_of lit < variables) clause
       → AreNumbers (all_hints hints groups) → hints_at groups ≡ []
       → line_in numbered variables is_last (number_text number) (map literal_text clause ++ codes "0 " ∷ (map signed_text (all_hints hints groups) ++ codes "0\n" ∷ [])) ≡ Ok (Numbered (Adds number clause hints groups))
   added_read clause hints groups below are begins =
@@ -161,7 +168,8 @@ numbers_line numbers rest are =
     rw (append_assoc (flat_map number_text numbers) (codes "0\n") rest)
     (each_on number_text numbers (codes "0\n" ++ rest) (codes "0\n" ∷ []) (lines_of rest) (spaced_numbers numbers are) (word_last (48 ∷ []) rest zero_plain))
 
-spaced_hints : (numbers : List (Bool × ℕ)) → AreNumbers numbers → AllByRecursion (λ hint. IsSpaced (signed_text hint)) numbers
+spaced_hints : (numbers : List (Bool × ℕ)) → AreNumbers numbers
+    → AllByRecursion (λ hint. IsSpaced (signed_text hint)) numbers
 spaced_hints [] are = tt
 spaced_hints (hint ∷ numbers) are = (hint_spaced hint are.0.1, spaced_hints numbers are.1)
 
@@ -171,7 +179,9 @@ hints_line numbers rest are =
     (each_on signed_text numbers (codes "0\n" ++ rest) (codes "0\n" ∷ []) (lines_of rest) (spaced_hints numbers are) (word_last (48 ∷ []) rest zero_plain))
 
 module _ (variables : ℕ) (few : variables < 2 ^ 32) (number : ℕ) (is : IsNumber number) (rest : List ℕ) where
-  pub added_words : (clause : List Lit) (hints : List ℕ) (groups : List (Bool × ℕ)) → AllByRecursion (λ lit. variable_of lit < variables) clause → AreNumbers (all_hints hints groups)
+  pub added_words : (clause : List Lit) (hints : List ℕ) (groups : List (Bool × ℕ))
+      → AllByRecursion (λ lit. variable_of lit < variables) clause
+      → AreNumbers (all_hints hints groups)
       → Reads (added_line number clause hints groups ++ rest) (number_text number ∷ (map literal_text clause ++ codes "0 " ∷ (map signed_text (all_hints hints groups) ++ codes "0\n" ∷ []))) (lines_of rest)
   added_words clause hints groups below are =
       let numbers = all_hints hints groups in

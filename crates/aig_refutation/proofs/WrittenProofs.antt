@@ -37,7 +37,8 @@ abbrev step_words : Step → List (List ℕ)
 step_words (Adds number clause hints groups) = map literal_text clause ++ codes "0 " ∷ (map signed_text (all_hints hints groups) ++ codes "0\n" ∷ [])
 step_words (Deletes numbers) = codes "d " ∷ (map number_text numbers ++ codes "0\n" ∷ [])
 
-are_hints : (hints : List ℕ) (groups : List (Bool × ℕ)) → All IsNumber hints → AreGroups groups → AreNumbers (all_hints hints groups)
+are_hints : (hints : List ℕ) (groups : List (Bool × ℕ)) → All IsNumber hints → AreGroups groups
+    → AreNumbers (all_hints hints groups)
 are_hints hints groups are behind = are_all hints groups (recursion_from_All IsNumber hints are) (recursion_from_All (λ hint. IsNumber hint.1) groups behind.0)
 
 module _ (variables : ℕ) (few : variables < 2 ^ 32) where

@@ -142,7 +142,8 @@ signed_spaced : (positive : Bool) (n : ℕ) → n < 2 ^ 32 → IsSpaced (sign po
 signed_spaced true n small = number_spaced n small
 signed_spaced false n small = (45 ∷ decimal n, ((refl, (decimal_word n small).0), λ e. cc), refl)
 
-pub hint_read : (hint : Bool × ℕ) → hint.1 < 2 ^ 32 → word_in (signed_text hint) ≡ Ok (Number hint.0 hint.1)
+pub hint_read : (hint : Bool × ℕ) → hint.1 < 2 ^ 32
+    → word_in (signed_text hint) ≡ Ok (Number hint.0 hint.1)
 hint_read hint small = signed_read hint.0 hint.1 small
 
 pub hint_spaced : (hint : Bool × ℕ) → hint.1 < 2 ^ 32 → IsSpaced (signed_text hint)

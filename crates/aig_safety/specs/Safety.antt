@@ -1,6 +1,6 @@
 -- Part of what is promised.
--- What an answer says of a circuit or a file and of the proofs that its machine is safe, and what its
--- errors say. (Temporal induction: Sheeran, Singh and Stålmarck, 2000.)
+-- What an answer says of a circuit or a file, and of the proofs that its machine is safe; and what
+-- its errors say. (Temporal induction: Sheeran, Singh and Stålmarck, 2000.)
 use Rattle.std.specs.Prelude.{ℕ, ◌+◌, ◌<◌, Bool, List, Option, Result, Ok, Err}
 use Rattle.aig_answers.specs.Answers as answering
 use Rattle.aig_answers.specs.Answers.{IsAsked, IsOfWindow, TellsOfCircuitWindow}

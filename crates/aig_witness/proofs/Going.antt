@@ -174,7 +174,8 @@ module _ (justice : Bool) where
   pub kind_none : parse_kind justice [] ≡ None
   kind_none = refl
 
-  pub kind_read : (b : ℕ) (kind : PropertyKind) → kind_of_letter justice b ≡ Some kind → (bs : List ℕ)
+  pub kind_read : (b : ℕ) (kind : PropertyKind) → kind_of_letter justice b ≡ Some kind
+      → (bs : List ℕ)
       → parse_kind justice (b ∷ bs) ≡ Some (kind, bs)
   kind_read b kind is bs = ap (λ o. o >>= λ kind. Some (kind, bs)) is
 

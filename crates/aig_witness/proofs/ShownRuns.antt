@@ -128,11 +128,16 @@ module _ (f : File) (limit : ℕ) (w : Witness) (fits : Fits f limit) where
         hold (circuit_of f) e w.state w.steps is_circuit there (leaves_of f run) (is_filling run is_run given) t (value_in (simulated (circuit_of f) w t) e) found
 
     -- an edge that is known to be true is
-    pub edge_holds : (t : ℕ) (e : AigEdge) → t < length w.steps → IsInRange (circuit_of f).nodes e → value_in (simulated (circuit_of f) w t) e ≡ TRUE → IsTrue (edge_value (circuit_of f).nodes (leaves_of f run t) e)
+    pub edge_holds : (t : ℕ) (e : AigEdge) → t < length w.steps → IsInRange (circuit_of f).nodes e
+        → value_in (simulated (circuit_of f) w t) e ≡ TRUE
+        → IsTrue (edge_value (circuit_of f).nodes (leaves_of f run t) e)
     edge_holds t e h there true_in = subst (λ v. Agrees v (edge_value (circuit_of f).nodes (leaves_of f run t) e)) true_in (edge_agrees t e h there)
 
     -- and so is a literal whose edge is
-    pub holds : (t e : ℕ) → t < length w.steps → IsKnown f e → IsInRange (circuit_of f).nodes (edge_of f e) → value_in (simulated (circuit_of f) w t) (edge_of f e) ≡ TRUE → IsTrue (value_of_literal (run t) e)
+    pub holds : (t e : ℕ) → t < length w.steps → IsKnown f e
+        → IsInRange (circuit_of f).nodes (edge_of f e)
+        → value_in (simulated (circuit_of f) w t) (edge_of f e) ≡ TRUE
+        → IsTrue (value_of_literal (run t) e)
     holds t e h is there true_in =
         let low : t ≤ last = omega arith in
         sym (literal_is f last (leaves_of f run) run values t e low is) ∙ edge_holds t (edge_of f e) h there true_in
@@ -140,7 +145,8 @@ module _ (f : File) (limit : ℕ) (w : Witness) (fits : Fits f limit) where
     pub is_initial : AreStarts (circuit_of f).latchs w.state → machine.IsMachineInitial f run
     is_initial start = (starts_agree f limit last (leaves_of f run) run fits values).1 (starts_hold (circuit_of f) w.state is_circuit start (leaves_of f run 0) (first_agrees run is_run given))
 
-    pub constraints_hold : HoldsSteps (circuit_of f) w → (t : ℕ) → t ≤ last → AllByRecursion (λ e. IsTrue (value_of_literal (run t) e)) f.properties.constraints
+    pub constraints_hold : HoldsSteps (circuit_of f) w → (t : ℕ) → t ≤ last
+        → AllByRecursion (λ e. IsTrue (value_of_literal (run t) e)) f.properties.constraints
     constraints_hold steps t low =
         let used = used_by_section (IsKnown f) f (used_known f limit fits) in
         recursion_from_All (λ e. IsTrue (value_of_literal (run t) e)) f.properties.constraints (λ i d h.

@@ -258,7 +258,8 @@ Reads-witness =
     Reads-seen (ClaimText false) SpellsWitness (parse_claim false) (λ c. c.witness) (Reads-claim false)
     (λ c bytes h. bad_only c bytes h) (λ w bytes h. (of_bad w, (tt, h), refl))
   where
-    bad_only : (c : Claim) (bytes : List ℕ) → ClaimText false c bytes → SpellsWitness c.witness bytes
+    bad_only : (c : Claim) (bytes : List ℕ) → ClaimText false c bytes
+        → SpellsWitness c.witness bytes
     bad_only c bytes h = by c.kind h.0 h.1
       where
         by : (k : PropertyKind) → IsTaken false k → SpellsClaim (record { kind = k; witness = c.witness }) bytes → SpellsWitness c.witness bytes
@@ -266,7 +267,9 @@ Reads-witness =
         by Justice t s = absurd t
 
 -- where a witness is read, no comment stands
-pub claim_next : (justice : Bool) (bytes rest : List ℕ) (c : Claim) → parse_claim justice bytes ≡ Some (c, rest) → parse_next_claim justice bytes ≡ Some (Some c, rest)
+pub claim_next : (justice : Bool) (bytes rest : List ℕ) (c : Claim)
+    → parse_claim justice bytes ≡ Some (c, rest)
+    → parse_next_claim justice bytes ≡ Some (Some c, rest)
 unfolding parse_next_claim
 claim_next justice [] rest c h = absurd cc
 claim_next justice (b ∷ bs) rest c h =
@@ -282,7 +285,8 @@ claim_next justice (b ∷ bs) rest c h =
     nothing : (rest : List ℕ) → None ≡ Some rest → ⊥
     nothing rest h = cc
 
-pub spelled_claim : (justice : Bool) (front rest : List ℕ) (c : Claim) → IsTaken justice c.kind → SpellsClaim c front → parse_next_claim justice (front ++ rest) ≡ Some (Some c, rest)
+pub spelled_claim : (justice : Bool) (front rest : List ℕ) (c : Claim) → IsTaken justice c.kind
+    → SpellsClaim c front → parse_next_claim justice (front ++ rest) ≡ Some (Some c, rest)
 spelled_claim justice front rest c taken h = claim_next justice (front ++ rest) rest c ((Reads-claim justice).complete c front rest (taken, h))
 
 pub spelled_next : (front rest : List ℕ) (w : Witness) → SpellsWitness w front → parse_next (front ++ rest) ≡ Some (Some w, rest)

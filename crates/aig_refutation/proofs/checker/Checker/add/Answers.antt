@@ -28,7 +28,8 @@ module _ (t : Table) (live : Live) (h : Holds t live) (hints : List ℕ) (number
   group_unnamed : placed ≡ false → named ≡ false
   group_unnamed none = by (list_all (is_named live) hints)
     where
-      by : (a : Bool) → (a && list_all (λ hint. is_named live hint.1) (said_numbers numbers)) ≡ false
+      by : (a : Bool)
+          → (a && list_all (λ hint. is_named live hint.1) (said_numbers numbers)) ≡ false
       by true = groups_named t live h numbers ∙ none
       by false = refl
 
