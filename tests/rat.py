@@ -1,14 +1,13 @@
 #!/usr/bin/env python3
 """Compares which proofs with RAT steps are taken with the checker of proofs.py: rat.py [PROOFS [SEED]]
 
-Writes PROOFS (500) LRAT proofs for random clauses that have no solution, with steps by resolution asymmetry: clauses are deleted and added
-again, spare variables get definitions, and what cadical proves of all these clauses stands behind. Pigeonholes of 3 to 5 holes are refuted by
-extended resolution (Cook, 1976). `aigcheck refuted` takes each. Each is mangled, too: hints for a clause are left out, or one of them,
-another literal comes first, a clause that they are for is deleted before, a number is skipped. aigcheck takes what comes of it exactly where
-the checker of proofs.py does, which was written from the form's description and knows nothing of the library.
+Writes PROOFS (500) LRAT proofs for random clauses that have no solution, with steps by resolution asymmetry: clauses are deleted and
+added again, spare variables get definitions, and what cadical proves of all these clauses stands behind. Pigeonholes of 3 to 5 holes are
+refuted by extended resolution (Cook, 1976). `aigcheck refuted` takes each. Each is mangled, too: hints for a clause are left out, or one
+of them, another literal comes first, a clause that they are for is deleted before, a number is skipped. aigcheck takes what comes of it
+exactly where the checker of proofs.py does, which was written from the form's description and knows nothing of the library.
 
 It ends with the first that differs, and else prints one line. It is no part of tests/run."""
-import collections
 import concurrent.futures
 import functools
 import itertools

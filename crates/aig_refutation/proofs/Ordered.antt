@@ -102,16 +102,19 @@ found_first clauses n = alone (found (numbered 1 clauses) n) ∙ sym (clause_at-
 abbrev AreSame : List (ℕ × List Lit) → Live → Type 0
 AreSame clauses live = (p : ℕ × List Lit → Bool) → list_all p clauses ≡ list_all p live.clauses
 
-all_without : (numbers : List ℕ) (clauses : List (ℕ × List Lit)) (p : ℕ × List Lit → Bool) → list_all p (without numbers clauses) ≡ list_all (λ entry. is_among numbers entry.0 || p entry) clauses
+all_without : (numbers : List ℕ) (clauses : List (ℕ × List Lit)) (p : ℕ × List Lit → Bool)
+    → list_all p (without numbers clauses) ≡ list_all (λ entry. is_among numbers entry.0 || p entry) clauses
 all_without numbers [] p = refl
 all_without numbers (entry ∷ clauses) p = by (is_among numbers entry.0) (all_without numbers clauses p)
   where
     by : (b : Bool) → list_all p (without numbers clauses) ≡ list_all (λ e. is_among numbers e.0 || p e) clauses
-        → list_all p (cond (not b) (entry ∷ without numbers clauses) (without numbers clauses)) ≡ ((b || p entry) && list_all (λ e. is_among numbers e.0 || p e) clauses)
+        → list_all p (cond (not b) (entry ∷ without numbers clauses) (without numbers clauses))
+            ≡ ((b || p entry) && list_all (λ e. is_among numbers e.0 || p e) clauses)
     by true later = later
     by false later = ap (λ (b : Bool). p entry && b) later
 
-all_deleted : (numbers : List ℕ) (live next : Live) → deleted live numbers ≡ Ok next → (p : ℕ × List Lit → Bool) → list_all p next.clauses ≡ list_all (λ entry. is_among numbers entry.0 || p entry) live.clauses
+all_deleted : (numbers : List ℕ) (live next : Live) → deleted live numbers ≡ Ok next → (p : ℕ × List Lit → Bool)
+    → list_all p next.clauses ≡ list_all (λ entry. is_among numbers entry.0 || p entry) live.clauses
 unfolding deleted
 all_deleted [] live next is p = let same : live ≡ next = cc in ap (λ (l : Live). list_all p l.clauses) (sym same)
 all_deleted (m ∷ numbers) live next is p = by (is_named live m) (λ e. all_deleted numbers (without_clause live m) next e p) is
@@ -120,18 +123,22 @@ all_deleted (m ∷ numbers) live next is p = by (is_named live m) (λ e. all_del
     either true b c = refl
     either false b c = refl
 
-    by : (b : Bool) → (deleted (without_clause live m) numbers ≡ Ok next → list_all p next.clauses ≡ list_all (λ e. is_among numbers e.0 || p e) (without_clause live m).clauses)
-        → cond b (deleted (without_clause live m) numbers) (Err errors.Unnamed) ≡ Ok next → list_all p next.clauses ≡ list_all (λ e. is_among (m ∷ numbers) e.0 || p e) live.clauses
+    by : (b : Bool) → (deleted (without_clause live m) numbers ≡ Ok next
+        → list_all p next.clauses ≡ list_all (λ e. is_among numbers e.0 || p e) (without_clause live m).clauses)
+        → cond b (deleted (without_clause live m) numbers) (Err errors.Unnamed) ≡ Ok next
+            → list_all p next.clauses ≡ list_all (λ e. is_among (m ∷ numbers) e.0 || p e) live.clauses
     by true later e =
         later e ∙ all_without (m ∷ []) live.clauses (λ e. is_among numbers e.0 || p e)
         ∙ ap (λ (q : ℕ × List Lit → Bool). list_all q live.clauses) (fun_ext (λ e. either (m == e.0) (is_among numbers e.0) (p e)))
     by false later e = absurd cc
 
-same_deleted : (numbers : List ℕ) (clauses : List (ℕ × List Lit)) (live next : Live) → AreSame clauses live → deleted live numbers ≡ Ok next → AreSame (without numbers clauses) next
+same_deleted : (numbers : List ℕ) (clauses : List (ℕ × List Lit)) (live next : Live) → AreSame clauses live
+    → deleted live numbers ≡ Ok next → AreSame (without numbers clauses) next
 same_deleted numbers clauses live next same is p =
     all_without numbers clauses p ∙ same (λ entry. is_among numbers entry.0 || p entry) ∙ sym (all_deleted numbers live next is p)
 
-all_numbered : (clauses : List (List Lit)) (live : Live) (p : ℕ × List Lit → Bool) → list_all p (fold with_next live clauses).clauses ≡ (list_all p (numbered (length live.used + 1) clauses) && list_all p live.clauses)
+all_numbered : (clauses : List (List Lit)) (live : Live) (p : ℕ × List Lit → Bool)
+    → list_all p (fold with_next live clauses).clauses ≡ (list_all p (numbered (length live.used + 1) clauses) && list_all p live.clauses)
 all_numbered [] live p = refl
 all_numbered (clause ∷ clauses) live p =
     all_numbered clauses (with_next live clause) p
@@ -155,7 +162,8 @@ same_first clauses p = whole (list_all p (numbered 1 clauses)) ∙ sym (all_numb
     whole true = refl
     whole false = refl
 
-rat_same : (clauses : List (ℕ × List Lit)) (live : Live) → AreFound clauses live → AreSame clauses live → (clause : List Lit) (hints : List ℕ) (groups : List (Bool × ℕ))
+rat_same : (clauses : List (ℕ × List Lit)) (live : Live) → AreFound clauses live → AreSame clauses live
+    → (clause : List Lit) (hints : List ℕ) (groups : List (Bool × ℕ))
     → is_rat clauses clause hints groups ≡ is_rat live.clauses clause hints groups
 rat_same clauses live are same [] hints groups = refl
 rat_same clauses live are same (pivot ∷ lits) hints groups =
@@ -172,7 +180,8 @@ are_in-below variables (lit ∷ lits) below = rw (within (variable_of lit) below
     within n h = grind (arith, nat_tests)
 
 -- a clause that follows or has the RAT property stands
-stands_same : (clauses : List (ℕ × List Lit)) (live : Live) → AreFound clauses live → AreSame clauses live → (clause : List Lit) (hints : List ℕ) (groups : List (Bool × ℕ))
+stands_same : (clauses : List (ℕ × List Lit)) (live : Live) → AreFound clauses live → AreSame clauses live
+    → (clause : List Lit) (hints : List ℕ) (groups : List (Bool × ℕ))
     → (is_rup (found clauses) clause hints || is_rat clauses clause hints groups) ≡ true → stands live clause hints groups ≡ true
 stands_same clauses live are same clause hints groups is =
     by (is_rup (clause_at live) clause hints) (is_tautology clause) (is_rat live.clauses clause hints groups)
@@ -186,30 +195,37 @@ stands_same clauses live are same clause hints groups is =
 
 module _ (variables : ℕ) (fault : RefutationError) where
   added_ok : (live : Live) (number : ℕ) (clause : List Lit) (hints : List ℕ) (groups : List (Bool × ℕ)) (steps : List Step)
-      → IsStep variables (Adds number clause hints groups) → AreInOrder live (Adds number clause hints groups ∷ steps) → stands live clause hints groups ≡ true
+      → IsStep variables (Adds number clause hints groups) → AreInOrder live (Adds number clause hints groups ∷
+          steps) → stands live clause hints groups ≡ true
       → added variables live number clause hints groups ≡ Ok (with_clause live number clause)
   unfolding added
   added_ok live number clause hints groups steps is order there =
       let inside = are_in-below variables clause (recursion_from_All (λ lit. variable_of lit < variables) clause is.1) in
       rw (inside, order.0, there, order.1, order.2) refl
 
-  refuted_ok : (steps : List Step) (clauses : List (ℕ × List Lit)) (live : Live) → AreFound clauses live → AreSame clauses live → AllByRecursion (IsStep variables) steps → AreInOrder live steps
+  refuted_ok : (steps : List Step) (clauses : List (ℕ × List Lit)) (live : Live) → AreFound clauses live
+      → AreSame clauses live → AllByRecursion (IsStep variables) steps → AreInOrder live steps
       → refutes_by_rat clauses steps ≡ true → outcome variables live steps fault ≡ Ok tt
   unfolding outcome taken
   refuted_ok [] clauses live are same all order is = absurd (false≢true is)
   refuted_ok (Adds number clause hints groups ∷ steps) clauses live are same all order is =
-      let parts = and_parts (is_rup (found clauses) clause hints || is_rat clauses clause hints groups) (is_empty clause || refutes_by_rat ((number, clause) ∷ clauses) steps) is in
+      let parts = and_parts (is_rup (found clauses) clause hints || is_rat clauses clause hints groups) (is_empty
+          clause || refutes_by_rat ((number, clause) ∷ clauses) steps) is in
       rw (added_ok live number clause hints groups steps all.0 order (stands_same clauses live are same clause hints groups parts.0))
-      (by (is_empty clause) (λ later. refuted_ok steps ((number, clause) ∷ clauses) (with_clause live number clause) more (λ p. ap (λ (b : Bool). p (number, clause) && b) (same p)) all.1 order.3 later) parts.1)
+      (by (is_empty clause) (λ later. refuted_ok steps ((number, clause) ∷ clauses) (with_clause live number
+          clause) more (λ p. ap (λ (b : Bool). p (number, clause) && b) (same p)) all.1 order.3 later) parts.1)
     where
       more : AreFound ((number, clause) ∷ clauses) (with_clause live number clause)
       more n = ap (λ o. cond (n == number) (Some clause) o) (are n)
 
-      by : (b : Bool) {r : Result (Unit {0}) RefutationError} → (refutes_by_rat ((number, clause) ∷ clauses) steps ≡ true → r ≡ Ok tt) → (b || refutes_by_rat ((number, clause) ∷ clauses) steps) ≡ true → cond b (Ok tt) r ≡ Ok tt
+      by : (b : Bool) {r : Result (Unit {0}) RefutationError}
+          → (refutes_by_rat ((number, clause) ∷ clauses) steps ≡ true → r ≡ Ok tt)
+          → (b || refutes_by_rat ((number, clause) ∷ clauses) steps) ≡ true → cond b (Ok tt) r ≡ Ok tt
       by true later e = refl
       by false later e = later e
   refuted_ok (Deletes numbers ∷ steps) clauses live are same all order is =
-      rw order.1 (refuted_ok steps (without numbers clauses) order.0 (found_deleted numbers clauses live order.0 are order.1) (same_deleted numbers clauses live order.0 same order.1) all.1 order.2 is)
+      rw order.1 (refuted_ok steps (without numbers clauses) order.0 (found_deleted numbers clauses live order.0
+          are order.1) (same_deleted numbers clauses live order.0 same order.1) all.1 order.2 is)
 
 -- steps that follow are a refutation with RAT steps
 follows_rat : (steps : List Step) (clauses : List (ℕ × List Lit)) → refutes clauses steps ≡ true → refutes_by_rat clauses steps ≡ true
@@ -217,7 +233,8 @@ follows_rat [] clauses is = is
 follows_rat (Deletes numbers ∷ steps) clauses is = follows_rat steps (without numbers clauses) is
 follows_rat (Adds number clause hints groups ∷ steps) clauses is =
     let parts = and_parts (is_rup (found clauses) clause hints) (is_empty clause || refutes ((number, clause) ∷ clauses) steps) is in
-    and_from (is_rup (found clauses) clause hints || is_rat clauses clause hints groups) (is_empty clause || refutes_by_rat ((number, clause) ∷ clauses) steps)
+    and_from (is_rup (found clauses) clause hints || is_rat clauses clause hints groups) (is_empty clause ||
+        refutes_by_rat ((number, clause) ∷ clauses) steps)
     (ap (λ (b : Bool). b || is_rat clauses clause hints groups) parts.0)
     (by (is_empty clause) (follows_rat steps ((number, clause) ∷ clauses)) parts.1)
   where
@@ -226,10 +243,12 @@ follows_rat (Adds number clause hints groups ∷ steps) clauses is =
     by true later e = refl
     by false later e = later e
 
-pub ordered_rat_taken : (variables : ℕ) (clauses : List (List Lit)) (steps : List Step) (fault : RefutationError) → All (IsStep variables) steps → AreInOrder (all_live clauses) steps
+pub ordered_rat_taken : (variables : ℕ) (clauses : List (List Lit)) (steps : List Step) (fault : RefutationError)
+    → All (IsStep variables) steps → AreInOrder (all_live clauses) steps
     → is_rat_refutation clauses steps ≡ true → outcome variables (all_live clauses) steps fault ≡ Ok tt
 ordered_rat_taken variables clauses steps fault all order is =
-    refuted_ok variables fault steps (numbered 1 clauses) (all_live clauses) (found_first clauses) (same_first clauses) (recursion_from_All (IsStep variables) steps all) order is
+    refuted_ok variables fault steps (numbered 1 clauses) (all_live clauses) (found_first clauses) (same_first
+        clauses) (recursion_from_All (IsStep variables) steps all) order is
 
 pub ordered_taken : (variables : ℕ) (clauses : List (List Lit)) (steps : List Step) (fault : RefutationError) → All (IsStep variables) steps → AreInOrder (all_live clauses) steps
     → is_refutation clauses steps ≡ true → outcome variables (all_live clauses) steps fault ≡ Ok tt

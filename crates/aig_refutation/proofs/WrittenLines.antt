@@ -62,7 +62,8 @@ module _ (variables : ℕ) (few : variables < 2 ^ 32) (is_last : Bool) (zero : L
   after_literals numbered n (lit ∷ lits) words below =
       rw (literal_read lit (omega (arith, below.0)), not_zero (variable_of lit + 1) (omega arith), within (variable_of lit) variables below.0, lit_to-parts lit, clause_in-written lits words below.1) refl
 
-numbers_in-written : (is_last : Bool) (numbers : List ℕ) → AllByRecursion IsNumber numbers → numbers_in clause_number is_last (map number_text numbers ++ codes "0\n" ∷ []) ≡ Ok numbers
+numbers_in-written : (is_last : Bool) (numbers : List ℕ) → AllByRecursion IsNumber numbers
+    → numbers_in clause_number is_last (map number_text numbers ++ codes "0\n" ∷ []) ≡ Ok numbers
 unfolding numbers_in ended
 numbers_in-written is_last [] are = rw last_zero_read refl
 numbers_in-written is_last (n ∷ numbers) are =
@@ -73,7 +74,8 @@ numbers_in-written is_last (n ∷ numbers) are =
 abbrev pub AreNumbers : List (Bool × ℕ) → Type 0
 AreNumbers = AllByRecursion (λ hint. IsNumber hint.1)
 
-hints_in-written : (is_last : Bool) (numbers : List (Bool × ℕ)) → AreNumbers numbers → numbers_in hint_number is_last (map signed_text numbers ++ codes "0\n" ∷ []) ≡ Ok numbers
+hints_in-written : (is_last : Bool) (numbers : List (Bool × ℕ)) → AreNumbers numbers
+    → numbers_in hint_number is_last (map signed_text numbers ++ codes "0\n" ∷ []) ≡ Ok numbers
 unfolding numbers_in ended
 hints_in-written is_last [] are = rw last_zero_read refl
 hints_in-written is_last (hint ∷ numbers) are =
@@ -84,7 +86,8 @@ abbrev pub all_hints : List ℕ → List (Bool × ℕ) → List (Bool × ℕ)
 all_hints [] groups = groups
 all_hints (n ∷ hints) groups = (true, n) ∷ all_hints hints groups
 
-pub are_all : (hints : List ℕ) (groups : List (Bool × ℕ)) → AllByRecursion IsNumber hints → AreNumbers groups → AreNumbers (all_hints hints groups)
+pub are_all : (hints : List ℕ) (groups : List (Bool × ℕ)) → AllByRecursion IsNumber hints → AreNumbers groups
+    → AreNumbers (all_hints hints groups)
 are_all [] groups are also = also
 are_all (n ∷ hints) groups are also = (are.0, are_all hints groups are.1 also)
 
@@ -101,16 +104,19 @@ groups_all [] (hint ∷ groups) begins = by hint.0 begins
     by false e = refl
 groups_all (n ∷ hints) groups begins = groups_all hints groups begins
 
-hints_text : (hints : List ℕ) (groups : List (Bool × ℕ)) → flat_map number_text hints ++ flat_map signed_text groups ≡ flat_map signed_text (all_hints hints groups)
+hints_text : (hints : List ℕ) (groups : List (Bool × ℕ)) → flat_map number_text hints ++ flat_map signed_text
+    groups ≡ flat_map signed_text (all_hints hints groups)
 hints_text [] groups = refl
 hints_text (n ∷ hints) groups =
-    append_assoc (number_text n) (flat_map number_text hints) (flat_map signed_text groups) ∙ ap (λ (list : List ℕ). number_text n ++ list) (hints_text hints groups)
+    append_assoc (number_text n) (flat_map number_text hints) (flat_map signed_text groups)
+        ∙ ap (λ (list : List ℕ). number_text n ++ list) (hints_text hints groups)
 
 -- ---- lines
 
 module _ (variables : ℕ) (few : variables < 2 ^ 32) (numbered is_last : Bool) (number : ℕ) (is : IsNumber number) where
   after_hints : (clause : List Lit) (numbers : List (Bool × ℕ)) → AreNumbers numbers
-      → after_clause numbered variables is_last (true, number) clause (map signed_text numbers ++ codes "0\n" ∷ []) ≡ Ok (Numbered (adds number clause numbers))
+      → after_clause numbered variables is_last (true, number) clause (map signed_text numbers ++ codes "0\n" ∷ [])
+          ≡ Ok (Numbered (adds number clause numbers))
   unfolding after_clause numbers_from ended
   after_hints clause [] are = rw (last_zero_read, not_zero number is.0) refl
   after_hints clause (hint ∷ numbers) are =
@@ -123,13 +129,16 @@ module _ (variables : ℕ) (few : variables < 2 ^ 32) (numbered is_last : Bool) 
       begins_no : (k : ℕ) → is_digit k ≡ false → begins k (number_text number) ≡ false
       begins_no k other = ap (begins k) (sym (append-nil (number_text number))) ∙ begins-number k number is.1 other []
 
-  pub added_read : (clause : List Lit) (hints : List ℕ) (groups : List (Bool × ℕ)) → AllByRecursion (λ lit. variable_of lit < variables) clause
+  pub added_read : (clause : List Lit) (hints : List ℕ) (groups : List (Bool × ℕ))
+      → AllByRecursion (λ lit. variable_of lit < variables) clause
       → AreNumbers (all_hints hints groups) → hints_at groups ≡ []
-      → line_in numbered variables is_last (number_text number) (map literal_text clause ++ codes "0 " ∷ (map signed_text (all_hints hints groups) ++ codes "0\n" ∷ [])) ≡ Ok (Numbered (Adds number clause hints groups))
+      → line_in numbered variables is_last (number_text number) (map literal_text clause ++ codes "0 " ∷ (map
+          signed_text (all_hints hints groups) ++ codes "0\n" ∷ [])) ≡ Ok (Numbered (Adds number clause hints groups))
   added_read clause hints groups below are begins =
       let numbers = all_hints hints groups in
       begun (map literal_text clause ++ codes "0 " ∷ (map signed_text numbers ++ codes "0\n" ∷ []))
-      ∙ after_literals variables few is_last (codes "0 ") zero_read numbered (true, number) clause (map signed_text numbers ++ codes "0\n" ∷ []) below
+      ∙ after_literals variables few is_last (codes "0 ") zero_read numbered (true, number) clause (map signed_text
+          numbers ++ codes "0\n" ∷ []) below
       ∙ after_hints clause numbers are
       ∙ ap (λ (list : List ℕ). Ok (Numbered (Adds number clause list (groups_at numbers)))) (hints_all hints groups begins)
       ∙ ap (λ (list : List (Bool × ℕ)). Ok (Numbered (Adds number clause hints list))) (groups_all hints groups begins)
@@ -165,23 +174,33 @@ spaced_hints : (numbers : List (Bool × ℕ)) → AreNumbers numbers → AllByRe
 spaced_hints [] are = tt
 spaced_hints (hint ∷ numbers) are = (hint_spaced hint are.0.1, spaced_hints numbers are.1)
 
-hints_line : (numbers : List (Bool × ℕ)) (rest : List ℕ) → AreNumbers numbers → Reads (flat_map signed_text numbers ++ codes "0\n" ++ rest) (map signed_text numbers ++ codes "0\n" ∷ []) (lines_of rest)
+hints_line : (numbers : List (Bool × ℕ)) (rest : List ℕ) → AreNumbers numbers
+    → Reads (flat_map signed_text numbers ++ codes "0\n" ++ rest) (map signed_text numbers ++ codes "0\n" ∷ []) (lines_of rest)
 hints_line numbers rest are =
     rw (append_assoc (flat_map signed_text numbers) (codes "0\n") rest)
-    (each_on signed_text numbers (codes "0\n" ++ rest) (codes "0\n" ∷ []) (lines_of rest) (spaced_hints numbers are) (word_last (48 ∷ []) rest zero_plain))
+    (each_on signed_text numbers (codes "0\n" ++ rest) (codes "0\n" ∷ []) (lines_of rest) (spaced_hints numbers
+        are) (word_last (48 ∷ []) rest zero_plain))
 
 module _ (variables : ℕ) (few : variables < 2 ^ 32) (number : ℕ) (is : IsNumber number) (rest : List ℕ) where
-  pub added_words : (clause : List Lit) (hints : List ℕ) (groups : List (Bool × ℕ)) → AllByRecursion (λ lit. variable_of lit < variables) clause → AreNumbers (all_hints hints groups)
-      → Reads (added_line number clause hints groups ++ rest) (number_text number ∷ (map literal_text clause ++ codes "0 " ∷ (map signed_text (all_hints hints groups) ++ codes "0\n" ∷ []))) (lines_of rest)
+  pub added_words : (clause : List Lit) (hints : List ℕ) (groups : List (Bool × ℕ))
+      → AllByRecursion (λ lit. variable_of lit < variables) clause → AreNumbers (all_hints hints groups)
+      → Reads (added_line number clause hints groups ++ rest) (number_text number ∷ (map literal_text clause ++
+          codes "0 " ∷ (map signed_text (all_hints hints groups) ++ codes "0\n" ∷ []))) (lines_of rest)
   added_words clause hints groups below are =
       let numbers = all_hints hints groups in
       let later = flat_map signed_text numbers ++ codes "0\n" ++ rest in
-      let apart : added_line number clause hints groups ++ rest ≡ number_text number ++ (flat_map literal_text clause ++ (codes "0 " ++ ((flat_map number_text hints ++ flat_map signed_text groups) ++ codes "0\n" ++ rest))) = simp append_assoc in
-      let regroup : added_line number clause hints groups ++ rest ≡ number_text number ++ (flat_map literal_text clause ++ (codes "0 " ++ (flat_map signed_text numbers ++ codes "0\n" ++ rest))) =
-      apart ∙ ap (λ (list : List ℕ). number_text number ++ (flat_map literal_text clause ++ (codes "0 " ++ (list ++ codes "0\n" ++ rest)))) (hints_text hints groups) in
+      let apart : added_line number clause hints groups ++ rest
+          ≡ number_text number ++ (flat_map literal_text clause ++ (codes "0 " ++ ((flat_map number_text hints ++
+          flat_map signed_text groups) ++ codes "0\n" ++ rest))) = simp append_assoc in
+      let regroup : added_line number clause hints groups ++ rest
+          ≡ number_text number ++ (flat_map literal_text clause ++ (codes "0 " ++ (flat_map signed_text numbers ++ codes "0\n" ++ rest))) =
+      apart ∙ ap (λ (list : List ℕ). number_text number ++ (flat_map literal_text clause ++ (codes "0 " ++ (list ++
+          codes "0\n" ++ rest)))) (hints_text hints groups) in
       rw regroup
-      (spaced_on (number_text number) (flat_map literal_text clause ++ (codes "0 " ++ later)) (map literal_text clause ++ codes "0 " ∷ (map signed_text numbers ++ codes "0\n" ∷ [])) (lines_of rest) (number_spaced number is.1)
-      (each_on literal_text clause (codes "0 " ++ later) (codes "0 " ∷ (map signed_text numbers ++ codes "0\n" ∷ [])) (lines_of rest) (spaced_below variables clause few below)
+      (spaced_on (number_text number) (flat_map literal_text clause ++ (codes "0 " ++ later)) (map literal_text
+          clause ++ codes "0 " ∷ (map signed_text numbers ++ codes "0\n" ∷ [])) (lines_of rest) (number_spaced number is.1)
+      (each_on literal_text clause (codes "0 " ++ later) (codes "0 " ∷ (map signed_text numbers ++ codes "0\n" ∷
+          [])) (lines_of rest) (spaced_below variables clause few below)
       (word_on (48 ∷ []) later (map signed_text numbers ++ codes "0\n" ∷ []) (lines_of rest) zero_plain (hints_line numbers rest are))))
 
   pub deleted_words : (numbers : List ℕ) → AllByRecursion IsNumber numbers

@@ -34,11 +34,13 @@ step_number last (Adds number clause hints groups) = number
 step_number last (Deletes numbers) = last
 
 abbrev step_words : Step → List (List ℕ)
-step_words (Adds number clause hints groups) = map literal_text clause ++ codes "0 " ∷ (map signed_text (all_hints hints groups) ++ codes "0\n" ∷ [])
+step_words (Adds number clause hints groups) = map literal_text clause ++ codes "0 " ∷ (map signed_text (all_hints
+    hints groups) ++ codes "0\n" ∷ [])
 step_words (Deletes numbers) = codes "d " ∷ (map number_text numbers ++ codes "0\n" ∷ [])
 
 are_hints : (hints : List ℕ) (groups : List (Bool × ℕ)) → All IsNumber hints → AreGroups groups → AreNumbers (all_hints hints groups)
-are_hints hints groups are behind = are_all hints groups (recursion_from_All IsNumber hints are) (recursion_from_All (λ hint. IsNumber hint.1) groups behind.0)
+are_hints hints groups are behind = are_all hints groups (recursion_from_All IsNumber hints are)
+    (recursion_from_All (λ hint. IsNumber hint.1) groups behind.0)
 
 module _ (variables : ℕ) (few : variables < 2 ^ 32) where
   number_is : (last : ℕ) (step : Step) → IsNumber last → IsStep variables step → IsNumber (step_number last step)
@@ -49,14 +51,16 @@ module _ (variables : ℕ) (few : variables < 2 ^ 32) where
       → lines_of (proof_text last (step ∷ steps)) ≡ (number_text (step_number last step) ∷ step_words step) ∷ lines_of (proof_text (step_number last step) steps)
   unfolding proof_text
   step_lines last (Adds number clause hints groups) steps before is =
-      reads_lines _ _ _ (added_words variables few number is.0 (proof_text number steps) clause hints groups (recursion_from_All (λ lit. variable_of lit < variables) clause is.1) (are_hints hints groups is.2 is.3))
+      reads_lines _ _ _ (added_words variables few number is.0 (proof_text number steps) clause hints groups
+          (recursion_from_All (λ lit. variable_of lit < variables) clause is.1) (are_hints hints groups is.2 is.3))
   step_lines last (Deletes numbers) steps before is =
       reads_lines _ _ _ (deleted_words variables few last before (proof_text last steps) numbers (recursion_from_All IsNumber numbers is))
 
   step_read : (numbered is_last : Bool) (last : ℕ) (step : Step) → IsNumber last → IsStep variables step
       → line_in numbered variables is_last (number_text (step_number last step)) (step_words step) ≡ Ok (Numbered step)
   step_read numbered is_last last (Adds number clause hints groups) before is =
-      added_read variables few numbered is_last number is.0 clause hints groups (recursion_from_All (λ lit. variable_of lit < variables) clause is.1) (are_hints hints groups is.2 is.3) is.3.1
+      added_read variables few numbered is_last number is.0 clause hints groups (recursion_from_All (λ lit.
+          variable_of lit < variables) clause is.1) (are_hints hints groups is.2 is.3) is.3.1
   step_read numbered is_last last (Deletes numbers) before is =
       deleted_read variables few numbered is_last last before numbers (recursion_from_All IsNumber numbers is)
 
@@ -89,7 +93,9 @@ module _ (variables : ℕ) (few : variables < 2 ^ 32) where
   begins-step : (k last : ℕ) (step : Step) (steps : List Step) → IsNumber last → IsStep variables step → is_digit k ≡ false → begins k (proof_text last (step ∷ steps)) ≡ false
   unfolding proof_text
   begins-step k last (Adds number clause hints groups) steps before is apart =
-      let regroup : added_line number clause hints groups ++ proof_text number steps ≡ number_text number ++ (flat_map literal_text clause ++ (codes "0 " ++ (flat_map number_text hints ++ (flat_map signed_text groups ++ (codes "0\n" ++ proof_text number steps))))) = simp append_assoc in
+      let regroup : added_line number clause hints groups ++ proof_text number steps
+          ≡ number_text number ++ (flat_map literal_text clause ++ (codes "0 " ++ (flat_map number_text hints ++
+          (flat_map signed_text groups ++ (codes "0\n" ++ proof_text number steps))))) = simp append_assoc in
       ap (begins k) regroup ∙ begins-number k number is.0.1 apart _
   begins-step k last (Deletes numbers) steps before is apart =
       let regroup : deleted_line last numbers ++ proof_text last steps ≡ number_text last ++ (codes "d " ++ (flat_map number_text numbers ++ (codes "0\n" ++ proof_text last steps))) = simp append_assoc in
