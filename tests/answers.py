@@ -150,10 +150,14 @@ class Answers:
                 self.check_cut(line, wanted[1], path.parent)
 
     def check_places(self, path):
-        """Checks which file a refusal names, and the place there."""
+        """Checks which file a refusal names, and the place there; aigedit tells it of a pipe, too."""
         for words, given, printed in self.rows(path):
             wanted = spelled(printed.replace("GIVEN", str(self.folder / "GIVEN")))
             self.tally.wants(f"{words}: {given}", (1, b"", wanted), self.given_by(words, path.parent, stdin=subprocess.DEVNULL))
+            if words.startswith("aigedit ") and "GIVEN" in words:
+                piped, wanted = words.replace("GIVEN", "/dev/stdin"), spelled(printed.replace("GIVEN", "/dev/stdin"))
+                ended = self.given_by(piped, path.parent, input=(self.folder / "GIVEN").read_bytes())
+                self.tally.wants(f"{piped}: {given}", (1, b"", wanted), ended)
 
     def check_made(self):
         """Checks the rows that are made here."""

@@ -5,6 +5,7 @@ use Rattle.std.specs.List.{FoldsTo}
 use Rattle.aig_command_line.specs.Notices.{lines_of, tells_line}
 use Rattle.aig_command_line.specs.declared.notice.Headers.{Headers}
 use Rattle.aig_command_line.specs.declared.notice.Regard.{Regard}
+use Rattle.aig_command_line.specs.declared.placed.Placed.{Placed}
 use Rattle.aig_command_line.specs.declared.status.Ending.{Ending}
 use Rattle.aig_command_line.specs.declared.status.Ending.TheVariants.{Done}
 use Rattle.aig_edits.specs.declared.edit.Edit.TheVariants as edits
@@ -30,8 +31,8 @@ regard_of c = record { leaves_out = false; compares = false }
 
 -- where the program is done, each file's lines are told, and else nothing
 pub record TellsBeside {T : Type 0} (tells : T → Option (List ℕ) → T → Type 0)
-    (words : List (List ℕ)) (headers : Headers) (ending : Ending CommandError) (old new : T)
-    : Type 0 where
+    (words : List (List ℕ)) (headers : Headers) (ending : Ending (Placed CommandError))
+    (old new : T) : Type 0 where
   pub done : ending ≡ Done → (limit : ℕ) (c : Command) (paths : List (List ℕ))
       → IsCall words limit c paths
       → FoldsTo (tells_line tells) old (lines_of (codes "aigedit") paths (regard_of c) headers) new

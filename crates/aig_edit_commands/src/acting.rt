@@ -1,24 +1,38 @@
 //! What the program does with its words.
 
-ghost use Rattle.std.specs.Prelude.{◌≡◌, ◌++◌, ◌∷◌, [], IfOk, IfSome, IsErr, IsNone, length, map, string_bytes};
+ghost use Rattle.std.specs.Prelude.{◌≡◌, ◌++◌, ◌∷◌, [], ℕ, IfOk, IfSome, IsErr, IsNone, IsTrue, OnOk, length, map, string_bytes};
+ghost use Rattle.aig_circuit.specs.Circuit.{IsCircuit};
+ghost use Rattle.aig_circuit.specs.View.{lists_circuit};
 ghost use Rattle.aig_command_line.specs.declared.status.Ending.TheVariants as endings;
 ghost use Rattle.aig_command_line.specs.Ending.{Says};
 ghost use Rattle.aig_command_line.specs.Limits.{IsLimit};
+ghost use Rattle.aig_command_line.specs.Places.{whole};
+ghost use Rattle.aig_format.specs.File.{File};
+ghost use Rattle.aig_format.specs.Fits.{Fits};
+ghost use Rattle.aig_format.specs.Writable.{IsWritable};
+ghost use Rattle.aig_reader.specs.Reading.{AreListsOf};
+ghost use Rattle.aig_reader.specs.Verdicts.{Accepted, verdict_by};
 ghost use Rattle.aig_edits.specs.declared.error.PairError.TheVariants as errors;
 ghost use Rattle.aig_edits.specs.declared.edit_error.EditError.TheVariants as edit_errors;
+ghost use Rattle.aig_edits.specs.Joints.{IsUnwritten, PrintsJoint, first_verdict, second_verdict};
+ghost use Rattle.aig_edits.specs.Pairs.{OfTwoFiles};
 ghost use Rattle.aig_edit_commands.specs.declared.acting.CommandError.TheVariants as refusals;
-ghost use Rattle.aig_edit_commands.specs.Acting.{Acts, Obeys, Prints, PrintsBeside, PrintsFile, PrintsFiles, PrintsOpen, PrintsPair, edit_unopened, told, unopened};
+ghost use Rattle.aig_edit_commands.specs.Acting.{Acts, Obeys, Prints, PrintsBeside, PrintsFile, PrintsFiles, PrintsOpen, PrintsPair, ReadsBoth, edit_unopened, told, unopened};
 ghost use Rattle.aig_edit_commands.specs.Asked.{answer_of};
-ghost use Rattle.aig_edits.specs.Edits.{IsEditOwn, IsEditUnwritten, ReadsFile, edit_verdict};
+ghost use Rattle.aig_edits.specs.Edits.{IsEditUnwritten, edit_verdict};
 ghost use Rattle.aig_edit_commands.specs.Words.{paths_of};
 
 use crate::command::{Command, FileCommand, call_of};
 use aig_base::{MemoryError, Sink, Source, StreamFault};
-use aig_command_line::{Ending, Flush, HasStatus, OpenError, Opens, Question, asked, write_text};
-use aig_edits::{
-    EditError, PairError, Pairing, print_edit, print_info, print_joint, print_live, print_question,
-    print_reduction,
+use aig_circuit::{CircuitLists, CircuitView};
+use aig_command_line::{
+    Ending, Flush, HasStatus, OpenError, Opens, Placed, Question, asked, read_placed, write_text,
 };
+use aig_edits::{
+    EditError, PairError, Pairing, write_edit, write_info, write_joint, write_live, write_question,
+    write_reduction,
+};
+use aig_format_laws::files_are_circuits;
 use aig_reader::ReadError;
 use std::alloc::Global;
 use thiserror::Error;
@@ -74,44 +88,72 @@ fn edit_unopened(error: OpenError) -> EditError
     }
 }
 
-/// Prints what a command prints of a file that is opened.
-fn print_read<R: Source, W: Sink>(
+/// Writes what a command makes of the circuit of a file.
+fn write_made<W: Sink>(
     alloc: Global,
     limit: usize,
     command: &FileCommand,
-    r: &mut R,
+    lists: CircuitLists,
     w: &mut W,
 ) -> Result<(), EditError>
-    requires { IsLimit limit }
-    ensures reads { ReadsFile R.left R.failed limit
-        (Prints W.held W.failed limit command.now w.old w.new) edit_verdict IsEditOwn r.old result
-        r.new }
+    requires limit { IsLimit limit }
+    requires circuit { IsCircuit (lists_circuit lists) }
+    requires plain { IsWritable (lists_circuit lists) }
+    ensures prints { (f : File) (bound : ℕ) → Fits f bound → AreListsOf f lists
+        → Prints W.held W.failed limit command.now w.old w.new f result }
+    ensures never_read { verdict_by edit_verdict result ≡ Accepted }
     ensures kept { IsEditUnwritten result → w.new ≡ w.old }
 {
     match command {
-        FileCommand::Edit(edit) => print_edit(alloc, edit, r, limit, w),
-        FileCommand::Reduction => print_reduction(alloc, r, limit, w),
-        FileCommand::Question(k) => print_question(alloc, *k, r, limit, w),
-        FileCommand::Live(j) => print_live(alloc, *j, r, limit, w),
-        FileCommand::Info => print_info(alloc, r, limit, w),
+        FileCommand::Edit(edit) => write_edit(edit, lists, limit, w),
+        FileCommand::Reduction => write_reduction(alloc, &CircuitView::new(&lists), w),
+        FileCommand::Question(k) => write_question(alloc, *k, &CircuitView::new(&lists), limit, w),
+        FileCommand::Live(j) => write_live(alloc, *j, &CircuitView::new(&lists), w),
+        FileCommand::Info => write_info(alloc, &CircuitView::new(&lists), w),
     }
 }
 
-/// Prints what a command prints of a file that is opened, and flushes that.
-fn print_open<R: Source, W: Flush>(
+/// Writes what a command makes of the circuit of a file, and flushes that.
+fn write_flushed<W: Flush>(
     alloc: Global,
     limit: usize,
     command: &FileCommand,
-    r: &mut R,
+    lists: CircuitLists,
     w: &mut W,
 ) -> Result<(), EditError>
-    requires { IsLimit limit }
-    ensures { PrintsOpen R.left R.failed W.held W.failed W.flushed limit command.now r.old w.old
-        result
-        r.new w.new }
+    requires limit { IsLimit limit }
+    requires circuit { IsCircuit (lists_circuit lists) }
+    requires plain { IsWritable (lists_circuit lists) }
+    ensures prints { (f : File) (bound : ℕ) → Fits f bound → AreListsOf f lists
+        → Prints W.held W.failed limit command.now w.old w.new f result }
+    ensures never_read { verdict_by edit_verdict result ≡ Accepted }
+    ensures kept { IsEditUnwritten result → w.new ≡ w.old }
+    ensures done { OnOk result (IsTrue (W.flushed w.new)) }
 {
-    print_read(alloc, limit, command, r, w)?;
+    write_made(alloc, limit, command, lists, w)?;
     Ok(w.flush()?)
+}
+
+/// Prints what a command prints of a file that is opened, and flushes that.
+fn print_open<R: Source + Drop, W: Flush>(
+    alloc: Global,
+    limit: usize,
+    command: &FileCommand,
+    r: R,
+    w: &mut W,
+) -> Result<(), Placed<EditError>>
+    requires { IsLimit limit }
+    ensures { (rest : R) × PrintsOpen R.left R.failed W.held W.failed W.flushed limit command.now r
+        w.old result rest w.new }
+{
+    files_are_circuits();
+    match read_placed(alloc, r, limit) {
+        Ok(lists) => Placed::in_whole(write_flushed(alloc, limit, command, lists, w)),
+        Err(refused) => Err(Placed {
+            error: EditError::Read(refused.error),
+            place: refused.place,
+        }),
+    }
 }
 
 /// Prints what a command prints of the file at a path, and flushes that.
@@ -122,15 +164,15 @@ fn print_file<F: Opens, W: Flush>(
     command: &FileCommand,
     path: &str,
     w: &mut W,
-) -> Result<(), EditError>
+) -> Result<(), Placed<EditError>>
     requires { IsLimit limit }
     ensures { PrintsFile (F.opens files.now) F.File.left F.File.failed W.held W.failed W.flushed
         limit
         command.now path.now w.old result w.new }
 {
     match files.open(path) {
-        Ok(mut file) => print_open(alloc, limit, command, &mut file, w),
-        Err(error) => Err(edit_unopened(error)),
+        Ok(file) => print_open(alloc, limit, command, file, w),
+        Err(error) => Err(Placed::whole(edit_unopened(error))),
     }
 }
 
@@ -152,42 +194,88 @@ fn other_unopened(error: OpenError) -> PairError
     }
 }
 
-/// Prints the joint circuit of two files that are opened, and flushes that.
-fn print_pair<R: Source, S: Source, W: Flush>(
+/// Reads two files that are opened, the second one only where the first is taken.
+fn read_both<R: Source + Drop, S: Source + Drop>(
     alloc: Global,
     limit: usize,
+    first: R,
+    second: S,
+) -> Result<(CircuitLists, CircuitLists), Placed<PairError>>
+    requires { IsLimit limit }
+    ensures { (rest : R) × (other : S) × ReadsBoth R.left R.failed S.left S.failed limit first second
+        result rest other }
+{
+    match read_placed(alloc, first, limit) {
+        Ok(own) => match read_placed(alloc, second, limit) {
+            Ok(other) => Ok((own, other)),
+            Err(refused) => Err(Placed {
+                error: PairError::Other(refused.error),
+                place: refused.place,
+            }),
+        },
+        Err(refused) => Err(Placed {
+            error: PairError::Read(refused.error),
+            place: refused.place,
+        }),
+    }
+}
+
+/// Writes the joint circuit of two circuits, and flushes that.
+fn write_pair<W: Flush>(
     pairing: Pairing,
-    first: &mut R,
-    second: &mut S,
+    own: &CircuitLists,
+    other: &CircuitLists,
     w: &mut W,
 ) -> Result<(), PairError>
-    requires { IsLimit limit }
-    ensures { PrintsPair R.left R.failed S.left S.failed W.held W.failed W.flushed limit pairing
-        first.old second.old w.old result first.new second.new w.new }
+    requires own { IsCircuit (lists_circuit own.now) }
+    requires other { IsCircuit (lists_circuit other.now) }
+    ensures prints { OfTwoFiles own.now other.now
+        (λ f g. PrintsJoint W.held W.failed pairing w.old w.new f g result) }
+    ensures never_read { verdict_by first_verdict result ≡ Accepted }
+    ensures never_other { verdict_by second_verdict result ≡ Accepted }
+    ensures kept { IsUnwritten result → w.new ≡ w.old }
+    ensures done { OnOk result (IsTrue (W.flushed w.new)) }
 {
-    print_joint(alloc, pairing, first, second, limit, w)?;
+    write_joint(pairing, own, other, w)?;
     Ok(w.flush()?)
 }
 
+/// Prints the joint circuit of two files that are opened, and flushes that.
+fn print_pair<R: Source + Drop, S: Source + Drop, W: Flush>(
+    alloc: Global,
+    limit: usize,
+    pairing: Pairing,
+    first: R,
+    second: S,
+    w: &mut W,
+) -> Result<(), Placed<PairError>>
+    requires { IsLimit limit }
+    ensures { (rest : R) × (other : S) × PrintsPair R.left R.failed S.left S.failed W.held W.failed
+        W.flushed limit pairing first second w.old result rest other w.new }
+{
+    match read_both(alloc, limit, first, second) {
+        Ok((own, other)) => Placed::in_whole(write_pair(pairing, &own, &other, w)),
+        Err(refused) => Err(refused),
+    }
+}
+
 /// Prints the joint circuit of a file that is open and the file at a path, and flushes that.
-fn print_beside<F: Opens, R: Source, W: Flush>(
+fn print_beside<F: Opens, R: Source + Drop, W: Flush>(
     alloc: Global,
     files: &F,
     limit: usize,
     pairing: Pairing,
-    first: &mut R,
+    first: R,
     other: &str,
     w: &mut W,
-) -> Result<(), PairError>
+) -> Result<(), Placed<PairError>>
     requires { IsLimit limit }
-    ensures { PrintsBeside (F.opens files.now) R.left R.failed F.File.left
-        F.File.failed W.held W.failed W.flushed limit pairing first.old other.now w.old result
-        first.new
-        w.new }
+    ensures { (rest : R) × PrintsBeside (F.opens files.now) R.left R.failed F.File.left F.File.failed
+        W.held W.failed W.flushed limit pairing first other.now w.old result rest w.new }
 {
     match files.open(other) {
-        Ok(mut second) => print_pair(alloc, limit, pairing, first, &mut second, w),
-        Err(error) => Err(other_unopened(error)),
+        Ok(second) => print_pair(alloc, limit, pairing, first, second, w),
+        Err(error) => Err(Placed::whole(other_unopened(error))),
     }
 }
 
@@ -200,14 +288,14 @@ fn print<F: Opens, W: Flush>(
     file: &str,
     other: &str,
     w: &mut W,
-) -> Result<(), PairError>
+) -> Result<(), Placed<PairError>>
     requires { IsLimit limit }
     ensures { PrintsFiles (F.opens files.now) F.File.left F.File.failed
         W.held W.failed W.flushed limit pairing file.now other.now w.old result w.new }
 {
     match files.open(file) {
-        Ok(mut first) => print_beside(alloc, files, limit, pairing, &mut first, other, w),
-        Err(error) => Err(unopened(error)),
+        Ok(first) => print_beside(alloc, files, limit, pairing, first, other, w),
+        Err(error) => Err(Placed::whole(unopened(error))),
     }
 }
 
@@ -219,7 +307,7 @@ fn run_file<F: Opens, W: Flush>(
     command: &FileCommand,
     paths: &[String],
     w: &mut W,
-) -> Result<(), CommandError>
+) -> Result<(), Placed<CommandError>>
     requires limit { IsLimit limit }
     requires paths { length paths.now ≡ 1 }
     ensures { Acts (F.opens files.now) F.File.left F.File.failed W.held W.failed W.flushed limit
@@ -227,7 +315,10 @@ fn run_file<F: Opens, W: Flush>(
 {
     match print_file(alloc, files, limit, command, paths[0].as_str(), w) {
         Ok(()) => Ok(()),
-        Err(error) => Err(CommandError::One(error)),
+        Err(refused) => Err(Placed {
+            error: CommandError::One(refused.error),
+            place: refused.place,
+        }),
     }
 }
 
@@ -239,7 +330,7 @@ fn pair_files<F: Opens, W: Flush>(
     pairing: Pairing,
     paths: &[String],
     w: &mut W,
-) -> Result<(), CommandError>
+) -> Result<(), Placed<CommandError>>
     requires limit { IsLimit limit }
     requires paths { length paths.now ≡ 2 }
     ensures { Acts (F.opens files.now) F.File.left F.File.failed W.held W.failed W.flushed limit
@@ -255,7 +346,10 @@ fn pair_files<F: Opens, W: Flush>(
         w,
     ) {
         Ok(()) => Ok(()),
-        Err(error) => Err(CommandError::Two(error)),
+        Err(refused) => Err(Placed {
+            error: CommandError::Two(refused.error),
+            place: refused.place,
+        }),
     }
 }
 
@@ -267,7 +361,7 @@ fn perform<F: Opens, W: Flush>(
     command: &Command,
     paths: &[String],
     w: &mut W,
-) -> Result<(), CommandError>
+) -> Result<(), Placed<CommandError>>
     requires limit { IsLimit limit }
     requires paths { length paths.now ≡ paths_of command.now }
     ensures { Acts (F.opens files.now) F.File.left F.File.failed W.held W.failed W.flushed limit
@@ -304,12 +398,12 @@ fn obey<F: Opens, W: Flush>(
     words: &[String],
     files: &F,
     w: &mut W,
-) -> Ending<CommandError>
+) -> Ending<Placed<CommandError>>
     ensures { Obeys (F.opens files.now) F.File.left F.File.failed W.held
         W.failed W.flushed answer_of (map string_bytes words.now) w.old result w.new }
 {
     if let Some(question) = asked(words) {
-        return Ending::of(say(answer(question), w));
+        return Ending::of(Placed::in_whole(say(answer(question), w)));
     }
     let Some(call) = call_of(words) else {
         return Ending::NoCommand;
@@ -324,7 +418,7 @@ pub fn act<F: Opens, W: Flush>(
     words: &Result<Option<Vec<String>>, MemoryError>,
     files: &F,
     w: &mut W,
-) -> Ending<CommandError>
+) -> Ending<Placed<CommandError>>
     ensures words { IfOk words.now (λ read. IfSome read (λ given.
         Obeys (F.opens files.now) F.File.left F.File.failed W.held
         W.failed W.flushed answer_of (map string_bytes given.items) w.old result w.new)) }
@@ -332,11 +426,11 @@ pub fn act<F: Opens, W: Flush>(
     ensures other { IfOk words.now (λ read. IsNone read
         → (result ≡ endings.NoCommand) × (w.new ≡ w.old)) }
     ensures memory { IsErr words.now
-        → (result ≡ endings.Refused refusals.Memory) × (w.new ≡ w.old) }
+        → (result ≡ endings.Refused (whole refusals.Memory)) × (w.new ≡ w.old) }
 {
     match words {
         Ok(Some(words)) => obey(alloc, words.as_slice(), files, w),
         Ok(None) => Ending::NoCommand,
-        Err(_) => Ending::Refused(CommandError::Memory),
+        Err(_) => Ending::Refused(Placed::whole(CommandError::Memory)),
     }
 }

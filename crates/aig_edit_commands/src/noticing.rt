@@ -6,7 +6,7 @@ ghost use Rattle.aig_edit_commands.specs.Noticing.{TellsBeside, regard_of};
 use crate::acting::CommandError;
 use crate::command::{Command, FileCommand, call_of};
 use aig_base::MemoryError;
-use aig_command_line::{Ending, Headers, Regard, Tells, tell_of_files};
+use aig_command_line::{Ending, Headers, Placed, Regard, Tells, tell_of_files};
 use aig_edits::{Edit, Pairing};
 
 /// What a command does with parts of its files that its answer isn't about: which leave out justice and fairness, and which compares.
@@ -33,7 +33,7 @@ fn regard_of(command: &Command) -> Regard
 fn tell_beside<T: Tells>(
     words: &[String],
     headers: Headers,
-    ending: Ending<CommandError>,
+    ending: Ending<Placed<CommandError>>,
     errors: &mut T,
 )
     ensures { let given = map string_bytes words.now in
@@ -58,7 +58,7 @@ fn tell_beside<T: Tells>(
 pub fn notice<T: Tells>(
     words: &Result<Option<Vec<String>>, MemoryError>,
     headers: Headers,
-    ending: Ending<CommandError>,
+    ending: Ending<Placed<CommandError>>,
     errors: &mut T,
 )
     ensures words { IfOk words.now (λ read. IfSome read (λ given.

@@ -7,6 +7,7 @@ use Rattle.aig_format.specs.Circuit.{circuit_of, text_of}
 use Rattle.aig_format.specs.File.{File}
 use Rattle.aig_format.specs.Fits.{Accepts}
 use Rattle.aig_runs.specs.Safety.{IsSafeAt}
+use Rattle.aig_command_line.specs.declared.placed.Placed.{Placed}
 use Rattle.aig_command_line.specs.declared.status.Ending.TheVariants.{Done}
 use Rattle.aig_command_line.specs.declared.files.OpenError.{OpenError}
 use Rattle.aig_command_line.specs.Ending.{ended}
@@ -203,7 +204,8 @@ module _ {F W : Type 0} (file proof : List ℕ) (left : F → Option (List ℕ))
     compressed_opened u (Ok r) opened prints = compressed_read r prints.0 u (opened.0 refl) prints.1
     compressed_opened u (Err e) opened prints = let h = prints.0 in cc
 
-    compressed_told : (done : Result (Unit {0}) CommandError) (edited : Result (Unit {0}) EditError)
+    compressed_told : (done : Result (Unit {0}) (Placed CommandError))
+        (edited : Result (Unit {0}) (Placed EditError))
         → Done ≡ ended done → done ≡ editing.told refusals.One edited
         → editing.PrintsFile OpensTwo left read_failed held write_failed flushed (2 ^ 24)
         (edit_files.Edit edits.Compress) (codes "FILE") w edited made
@@ -211,9 +213,10 @@ module _ {F W : Type 0} (file proof : List ℕ) (left : F → Option (List ℕ))
     compressed_told done (Ok u) is same prints = compressed_opened u prints.opened prints.opens_so
         prints.prints
     compressed_told done (Err e) is same prints =
-        absurd (not_done (refusals.One e) (is ∙ ap ended same))
+        let error : Placed CommandError = record { error = refusals.One e.error; place = e.place } in
+        absurd (not_done error (is ∙ ap ended same))
 
-    pub compressed_done : (done : Result (Unit {0}) CommandError) → Done ≡ ended done
+    pub compressed_done : (done : Result (Unit {0}) (Placed CommandError)) → Done ≡ ended done
         → editing.Acts OpensTwo left read_failed held write_failed flushed (2 ^ 24)
         (edit_commands.File (edit_files.Edit edits.Compress)) (codes "FILE" ∷ []) w done made
         → IsCompressed

@@ -15,7 +15,7 @@ fn main(rt: HostRuntime) -> ExitCode {
     let mut out = FlushedWriter::new(io::writer(&rt));
     let mut errors = StandardError::new(&rt);
     let ending = act(rt.alloc(), &words, &files, &mut out);
-    let told = explain(rt.alloc(), &words, &files, ending);
+    let told = explain(&words, ending);
     let status = end("aigedit", USAGE, &told, &mut errors);
     notice(&words, watch.headers(), ending, &mut errors);
     ExitCode::from(status)

@@ -1,14 +1,58 @@
-use Rattle.std.proofs.lemmas.Result.{err_from_is_err_and}
-use Rattle.aig_edit_commands.proofs.Flushing.{file_flushed, file_unflushed}
+use Rattle.aig_base.proofs.Words.{refl, subst, sym}
+use Rattle.aig_circuit.proofs.Words.{IsCircuit}
+use Rattle.aig_format.proofs.Words.{IsWritable}
+use Rattle.aig_edits.proofs.ReadFiles.{own_of, refused_file, taken_file}
+use Rattle.aig_edit_commands.specs.Acting.{Prints}
+use Rattle.aig_edit_commands.proofs.Opening.{open_whole}
 use Rattle.aig_edit_commands.proofs.acting.print_open.Goals as goal
 
-pub returns-in_err-flush : goal.returns-in_err-flush
-returns-in_err-flush g c =
-    let p = err_from_is_err_and c.from_residual-in_err-flush.result c.from_residual-in_err-flush.ensures.1 in
-    let failed = rw c.in_err-flush.was at c.flush.ensures.tells in
-    rw (p.1, p.2) (file_unflushed g.R.Source.left g.R.Source.failed g.W.Sink.held g.W.Sink.failed g.W.Flush.flushed c.args.limit c.args.command.now c.args.r.now c.print_read.new.r c.args.w.now c.print_read.new.w c.flush.new.self c.flush.ensures.kept tt c.in_ok-print_read.ensures.reads failed)
+pub write_flushed-requires-clause-circuit : goal.write_flushed-requires-clause-circuit
+write_flushed-requires-clause-circuit g c =
+    let read = c.in-Ok.ensures.circuit in
+    subst IsCircuit (sym read.means)
+    (c.files_are_circuits.ensures.circuit read.file c.args.limit read.holds.1)
 
-pub returns : goal.returns
-returns g c =
-    let sound = rw c.in_ok-flush.was at c.flush.ensures.tells in
-    file_flushed g.R.Source.left g.R.Source.failed g.W.Sink.held g.W.Sink.failed g.W.Flush.flushed c.args.limit c.args.command.now c.args.r.now c.print_read.new.r c.args.w.now c.print_read.new.w c.flush.new.self c.flush.ensures.kept tt c.in_ok-print_read.ensures.reads sound c.in_ok-flush.ensures.done
+pub write_flushed-requires-clause-plain : goal.write_flushed-requires-clause-plain
+write_flushed-requires-clause-plain g c =
+    let read = c.in-Ok.ensures.circuit in
+    subst IsWritable (sym read.means)
+    (c.files_are_circuits.ensures.writable read.file c.args.limit read.bytes c.requires.1
+    read.holds)
+
+pub returns-in-Ok : goal.returns-in-Ok
+returns-in-Ok g c =
+    let left = g.R.Source.left in
+    let failed = g.R.Source.failed in
+    let held = g.W.Sink.held in
+    let write_failed = g.W.Sink.failed in
+    let limit = c.args.limit in
+    let command = c.args.command.now in
+    let told = c.in-Ok.ensures in
+    let done = c.write_flushed.result in
+    let written = c.write_flushed.ensures in
+    let w = c.args.w.now in
+    let made = c.write_flushed.new.w in
+    let reads = taken_file left failed limit c.args.r told.rest
+    (Prints held write_failed limit command w made) c.in-Ok.lists done told.verdict told.circuit
+    written.never_read (own_of done written.never_read) (λ f fits is. written.prints f limit fits is)
+    in
+    rw c.in_whole.ensures (
+      told.rest,
+      open_whole left failed held write_failed g.W.Flush.flushed
+          limit command c.args.r told.rest w made done reads written.never_read written.kept written.done,
+    )
+
+pub returns-in-Err : goal.returns-in-Err
+returns-in-Err g c =
+    let told = c.in-Err.ensures in
+    let w = c.args.w.now in (
+      told.rest,
+      record {
+        reads = refused_file g.R.Source.left g.R.Source.failed c.args.limit c.args.r told.rest
+            (Prints g.W.Sink.held g.W.Sink.failed c.args.limit c.args.command.now w w)
+            c.in-Err.refused.error told.verdict told.own;
+        kept = λ un. refl;
+        done = tt;
+        place = told.place;
+      },
+    )

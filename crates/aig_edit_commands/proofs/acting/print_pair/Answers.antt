@@ -1,14 +1,49 @@
-use Rattle.std.proofs.lemmas.Result.{err_from_is_err_and}
-use Rattle.aig_edit_commands.proofs.Flushing.{pair_flushed, pair_unflushed}
+use Rattle.aig_base.proofs.Words.{refl}
+use Rattle.aig_edits.specs.Joints.{IsOwn, PrintsJoint, first_verdict, second_verdict}
+use Rattle.aig_edits.proofs.JointFiles.{circuits_read, own_joint}
+use Rattle.aig_edits.proofs.Reading.{reads_on}
+use Rattle.aig_edit_commands.proofs.Opening.{pair_whole}
 use Rattle.aig_edit_commands.proofs.acting.print_pair.Goals as goal
 
-pub returns-in_err-flush : goal.returns-in_err-flush
-returns-in_err-flush g c =
-    let p = err_from_is_err_and c.from_residual-in_err-flush.result c.from_residual-in_err-flush.ensures.1 in
-    let failed = rw c.in_err-flush.was at c.flush.ensures.tells in
-    rw (p.1, p.2) (pair_unflushed g.R.Source.left g.R.Source.failed g.S.Source.left g.S.Source.failed g.W.Sink.held g.W.Sink.failed g.W.Flush.flushed c.args.limit c.args.pairing c.args.first.now c.print_joint.new.first c.args.second.now c.print_joint.new.second c.args.w.now c.print_joint.new.w c.flush.new.self c.flush.ensures.kept tt c.in_ok-print_joint.ensures.reads failed)
+pub write_pair-requires-clause-own : goal.write_pair-requires-clause-own
+write_pair-requires-clause-own g c =
+    let read = c.in-Ok.ensures.2.reads.answer refl refl in
+    let also = read.means in
+    (circuits_read c.args.limit read.file also.file read.bytes also.bytes c.in-Ok.own c.in-Ok.other
+    read.holds also.holds also.means).0
 
-pub returns : goal.returns
-returns g c =
-    let sound = rw c.in_ok-flush.was at c.flush.ensures.tells in
-    pair_flushed g.R.Source.left g.R.Source.failed g.S.Source.left g.S.Source.failed g.W.Sink.held g.W.Sink.failed g.W.Flush.flushed c.args.limit c.args.pairing c.args.first.now c.print_joint.new.first c.args.second.now c.print_joint.new.second c.args.w.now c.print_joint.new.w c.flush.new.self c.flush.ensures.kept tt c.in_ok-print_joint.ensures.reads sound c.in_ok-flush.ensures.done
+pub write_pair-requires-clause-other : goal.write_pair-requires-clause-other
+write_pair-requires-clause-other g c =
+    let read = c.in-Ok.ensures.2.reads.answer refl refl in
+    let also = read.means in
+    (circuits_read c.args.limit read.file also.file read.bytes also.bytes c.in-Ok.own c.in-Ok.other
+    read.holds also.holds also.means).1
+
+pub returns-in-Ok : goal.returns-in-Ok
+returns-in-Ok g c =
+    let left = g.R.Source.left in
+    let failed = g.R.Source.failed in
+    let left_of = g.S.Source.left in
+    let failed_of = g.S.Source.failed in
+    let held = g.W.Sink.held in
+    let write_failed = g.W.Sink.failed in
+    let limit = c.args.limit in
+    let pairing = c.args.pairing in
+    let told = c.in-Ok.ensures in
+    let done = c.write_pair.result in
+    let written = c.write_pair.ensures in
+    let w = c.args.w.now in
+    let made = c.write_pair.new.w in
+    let reads = reads_on left failed left_of failed_of limit c.args.first c.args.second told.0 told.1
+    (PrintsJoint held write_failed pairing w made) first_verdict second_verdict IsOwn done
+    told.2.reads written.never_read written.never_other
+    (own_joint done written.never_read written.never_other)
+    (λ f h bytes others is also lists. written.prints f h limit bytes others c.requires.1 is also
+    lists.0 lists.1) in
+    rw c.in_whole.ensures (
+      told.0,
+      told.1,
+      pair_whole left failed left_of failed_of held
+          write_failed g.W.Flush.flushed limit pairing c.args.first told.0 c.args.second told.1 w made done
+          reads written.never_read written.never_other written.kept written.done,
+    )

@@ -1,0 +1,18 @@
+use Rattle.std.proofs.Common.{◌∙◌}
+use Rattle.aig_edit_commands.proofs.acting.write_made.Goals as goal
+
+pub returns-in-Edit-clause-prints : goal.returns-in-Edit-clause-prints
+returns-in-Edit-clause-prints g c = λ f bound fits is. rw c.in-Edit.is
+    (c.write_edit.ensures.prints f bound fits is)
+
+pub returns-in-Reduction-clause-prints : goal.returns-in-Reduction-clause-prints
+returns-in-Reduction-clause-prints g c = λ f bound fits is. rw c.in-Reduction.is
+    (c.write_reduction.ensures.prints f bound fits (c.new.ensures ∙ is))
+
+pub returns-in-Question-clause-prints : goal.returns-in-Question-clause-prints
+returns-in-Question-clause-prints g c = λ f bound fits is. rw c.in-Question.is
+    (c.write_question.ensures.prints f bound fits (c.new-in-Question.ensures ∙ is))
+
+pub returns-in-Live-clause-prints : goal.returns-in-Live-clause-prints
+returns-in-Live-clause-prints g c = λ f bound fits is. rw c.in-Live.is
+    (c.write_live.ensures.prints f bound fits (c.new-in-Live.ensures ∙ is))
