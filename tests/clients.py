@@ -89,6 +89,9 @@ def table_rows():
             words, given, printed = map(repeated, row[:3])
             program, *words = shlex.split(form.format(words))
             known = [(path.parent / word).is_file() or word in ("GIVEN", *WORDS) or word.isdigit() for word in words[1:]]
+            # The call `equal` is about one step.
+            if words[:1] == ["equal"] and "to" in words:
+                continue
             if printed != "usage" and all(known) and len(words) > 1 and words[0] in [*CALLED, *EDITS]:
                 for command in ["clauses", "numbers"] if words[0] == "clauses" else words[:1]:
                     yield path.parent, program, [command, *words[1:]], spelled(given), printed
