@@ -4,7 +4,6 @@ import functools
 import re
 
 from aigprove import waves
-from aigprove.judge import Claim
 from aigprove.programs import Fault, Sealed
 from aigprove.report import Answer
 from aigprove.source import Asked, Given, changes_of, counted, of_kind
@@ -86,10 +85,6 @@ class Justice(Asked):
     def confirm(self, told):
         judge = self.given.judge
         self.loop = judge.printed(*judge.aigcheck, "run", self.given.file, self.lasso(told)).bytes().decode().rstrip("\n")
-
-    def claims(self, told):
-        files = {self.given.name: self.given.file, "lasso": self.lasso(told)}
-        return [Claim(self.loop, ["run", *files], files)]
 
     def found(self, shown, tolds):
         """The line that says where the loop of a lasso is, as aigcheck found."""
