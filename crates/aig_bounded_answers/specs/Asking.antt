@@ -36,8 +36,8 @@ use Rattle.aig_bounded_answers.specs.Naming.{IsNamed}
 abbrev pub IsAskedWithin : ℕ → List ℕ → File → Type 0
 IsAskedWithin limit bytes f = Accepts bytes limit f × (f.properties.bads ≢ [])
 
--- The clauses of the question whether the circuit reaches a bad state up to step k, and the one that
--- its output is true.
+-- The clauses of the question whether the circuit reaches a bad state up to step k, and the one
+-- that its output is true.
 pub record AsksOfBads (c : Circuit) (k : ℕ) (optimize : Bool) (made : BoundedClauses) : Type 0 where
   pub output : AigEdge
   pub asks : IsQuestion c k (lists_circuit made.question.circuit) output
@@ -134,8 +134,8 @@ pub record TellsOfProof {P : Type 0} (left : P → Option (List ℕ)) (made : Bo
   pub settled : IsSettled made → (result ≡ Ok tt) × (rest ≡ p)
   pub shown : ¬ IsSettled made → ShowsProof made (left p) result
 
--- the circuit has a question, and it is told so of the clauses of each: of those that any call gives
--- or prints, as there is one (`circuit_questions_are_one`)
+-- the circuit has a question, and it is told so of the clauses of each: of those that any call
+-- gives or prints, as there is one (`circuit_questions_are_one`)
 abbrev pub AnswersCircuit : {P : Type 0} → (P → Option (List ℕ)) → ℕ → Bool → P → P → Circuit
     → Result Unit BoundedAnswerError → Type 0
 AnswersCircuit left k optimize p rest c result =

@@ -15,8 +15,8 @@ pub record Came (start left : Option (List ℕ)) (failed : Bool) (t : Tally) : T
   pub now : (bytes : List ℕ) → start ≡ Some bytes → failed ≡ false
       → left ≡ Some (drop t.bytes bytes)
 
--- Of these bytes some came, from the first on: the counts are of those before the last piece, and the
--- others are left, where no read failed.
+-- Of these bytes some came, from the first on: the counts are of those before the last piece, and
+-- the others are left, where no read failed.
 pub record ComesIn (bytes : List ℕ) (left : Option (List ℕ)) (failed : Bool) (t : Tally)
     (piece : List ℕ) : Type 0 where
   pub counts : IsTally t (take t.bytes bytes)

@@ -67,16 +67,16 @@ abbrev pub in_whole : {T E : Type 0} → Result T E → Result T (Placed E)
 in_whole (Ok x) = Ok x
 in_whole (Err e) = Err (whole e)
 
--- the place where reading these bytes stopped for this error, where this is left of them, or the file
--- as a whole where the error has no place
+-- the place where reading these bytes stopped for this error, where this is left of them, or the
+-- file as a whole where the error has no place
 abbrev pub IsPlaceOfError : Option (List ℕ) → Option (List ℕ) → Bool → ReadError → Place
     → Type 0
 IsPlaceOfError known left failed error place =
     MatchOption (read_measure error) (place ≡ Whole)
     (λ measure. IsPlaceOf known left failed measure place)
 
--- A file is read of a source, of which this is left: the lists of its circuit, or why it is refused,
--- and the place where this reading stopped.
+-- A file is read of a source, of which this is left: the lists of its circuit, or why it is
+-- refused, and the place where this reading stopped.
 pub record ReadsPlaced {R : Type 0} (left : R → Option (List ℕ)) (failed : R → Bool) (limit : ℕ)
     (r : R) (result : Result CircuitLists (Placed ReadError)) : Type 0 where
   pub rest : R

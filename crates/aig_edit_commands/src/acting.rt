@@ -202,8 +202,8 @@ fn read_both<R: Source + Drop, S: Source + Drop>(
     second: S,
 ) -> Result<(CircuitLists, CircuitLists), Placed<PairError>>
     requires { IsLimit limit }
-    ensures { (rest : R) × (other : S) × ReadsBoth R.left R.failed S.left S.failed limit first second
-        result rest other }
+    ensures { (rest : R) × (other : S) × ReadsBoth R.left R.failed S.left S.failed limit first
+        second result rest other }
 {
     match read_placed(alloc, first, limit) {
         Ok(own) => match read_placed(alloc, second, limit) {
@@ -270,8 +270,9 @@ fn print_beside<F: Opens, R: Source + Drop, W: Flush>(
     w: &mut W,
 ) -> Result<(), Placed<PairError>>
     requires { IsLimit limit }
-    ensures { (rest : R) × PrintsBeside (F.opens files.now) R.left R.failed F.File.left F.File.failed
-        W.held W.failed W.flushed limit pairing first other.now w.old result rest w.new }
+    ensures { (rest : R) × PrintsBeside (F.opens files.now) R.left R.failed F.File.left
+        F.File.failed W.held W.failed W.flushed limit pairing first other.now w.old result rest
+        w.new }
 {
     match files.open(other) {
         Ok(second) => print_pair(alloc, limit, pairing, first, second, w),
