@@ -41,7 +41,8 @@ END = "--\0"
 # Options that name files, folders and programs.
 NAMED = [
     ("equal", "OTHER", "compare FILE with this file"),
-    ("certificate", "CERT", "check an inductive machine in AIGER form that somebody else made"),
+    ("certificate", "CERT", "check an inductive machine in AIGER form that somebody else made, or an invariant that pdr of ABC wrote of FILE"),
+    ("write-certificate", "OUT", "write a certificate of the answer that no bad state is reached to OUT, a witness circuit"),
     ("run", "WITNESS", "check a witness that somebody else made, or what ABC's write_cex wrote"),
     ("keep", "FOLDER", "make FOLDER, with what shows each line, and check.sh, which shows it again"),
     ("witness", "OUT", "write the witness of a bad state to OUT, in the form of the AIGER report"),
@@ -273,6 +274,8 @@ def parse(line):
     words.kind, words.later = ASSERT if words.justice is None else LIVE, set() if is_one else {LIVE, FAIR, *[COVER] * words.each}
     if words.justice is not None and (words.equal or words.certificate or words.run or words.each or words.property is not None):
         made.error("--justice goes with none of --equal, --certificate, --run, --each and --property")
+    if words.write_certificate and (words.certificate or words.run):
+        made.error("--write-certificate is about an answer of our own, and not with --certificate and --run")
     words.deadline = math.inf if words.timeout is None else time.monotonic() + words.timeout
     given = words.certificate or words.run
     words.engines = words.engine or ([] if given else [*ENGINES, *[REGISTERS] * bool(words.equal)])
@@ -289,9 +292,9 @@ def check_each(made, words):
     alone = [f"--{name}" for name in ["json", "junit", "shortest"] if getattr(words, name)]
     if alone and not words.each:
         made.error(f"{alone[0]} is for the table of --each")
-    for name in ["equal", "certificate", "run", "property", "aiger"] if words.each else ["equal"] if words.property is not None else []:
+    for name in ["equal", "certificate", "write_certificate", "run", "property", "aiger"] if words.each else ["equal"] if words.property is not None else []:
         if getattr(words, name) is not None and getattr(words, name) is not False:
-            made.error(f"--{name} is about one question, and not with " + ("--each" if words.each else "--property"))
+            made.error(f"--{name.replace('_', '-')} is about one question, and not with " + ("--each" if words.each else "--property"))
     if words.tasks and not words.keep:
         made.error("--tasks keeps what is asked about in a folder: --keep FOLDER says which")
     if words.gather and (words.keep or words.tasks):

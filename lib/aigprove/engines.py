@@ -5,18 +5,22 @@ line of why, and nothing else."""
 import collections
 import concurrent.futures
 import itertools
+import re
 import shutil
 import threading
 
-from aigprove import aiger, witness
+from aigprove import aiger, simulation, witness
 from aigprove.programs import Fault, Folder, Sealed, ending
 from aigprove.questions import Question
+from aigprove.shown import Shown
 
 # How many proofs are checked at once, beside the next question.
 CHECKS = 2
 # How many variables the windows without repeated states may have to tell states apart.
 PAIRS = 1 << 22
 ABCS = ["berkeley-abc", "yosys-abc", "abc"]
+# How an invariant is told that ABC wrote, and how many words of a state are told.
+PLA, SHOWN = re.compile(rb"^\.ilb ", re.M), 20
 # Bounded model checking, where 0 is no bound; and property directed reachability, whose invariant becomes a certificate.
 COMMANDS = {"bmc3": "bmc3 -F {steps}", "pdr": "pdr -d -I inv.pla"}
 
@@ -169,7 +173,7 @@ class Windows(Asking):
                 return
         shown = self.source.proved(question, base, window, step)
         self.judge.check(shown)
-        self.race.induction(window.k, claim, shown)
+        self.race.induction(window, claim, shown)
 
     def forms(self, k):
         latches = self.race.circuit.header.latches
@@ -222,7 +226,7 @@ class Abc:
 
 
 class Certificate(Asking):
-    """A certificate, sealed."""
+    """A certificate, sealed, or an invariant that ABC wrote of the file."""
 
     def __init__(self, race, certificate):
         super().__init__(race)
@@ -230,13 +234,49 @@ class Certificate(Asking):
 
     def run(self):
         """Has the certificate checked, by proofs about the file beside it, and hands it in."""
+        if PLA.search(self.certificate.bytes()):
+            self.certificate = self.of_invariant()
         self.race.programs.answers()
         joint = self.judge.made("join", self.source.asked, self.certificate)
         with concurrent.futures.ThreadPoolExecutor(CHECKS, threading.current_thread().name) as both:
-            proofs = list(both.map(lambda command: self.solver.refute(Question(command, 0), joint), ["query", "window"]))
-        claim = self.source.certified(self.certificate, *proofs)
+            base, step = both.map(lambda command: self.solver.ask(Question(command, 0), joint), ["query", "window"])
+        if base[0] or step[0]:
+            raise Fault(self.broken(self.judge.circuit(joint, "the joint file"), base[1] if base[0] else None, step[1]))
+        claim = self.source.certified(self.certificate, base[1], step[1])
         self.judge.check(claim)
-        self.race.certificate(claim)
+        self.race.certificate(claim, self.certificate)
+
+    def of_invariant(self):
+        """The certificate of an invariant of the file, or of one that isn't about its latches."""
+        plain = self.race.plain
+        made = plain.certificate(self.certificate.bytes().decode("utf-8", "surrogateescape"), plain.of_abc())
+        if made is None:
+            raise Fault("the invariant names other latches than the file's")
+        return Sealed(made)
+
+    def broken(self, joint, base, step):
+        """What breaks a certificate, by a solution of its question about the start, or else of the one about a step."""
+        shown, values = Shown(joint), solved(base or step)
+        state, inputs = ([values(literal) for literal in literals] for literals in (joint.latches, joint.inputs))
+        if base:
+            return f"it doesn't hold at the start: {listed(shown.values('l', state))}, inputs {listed(shown.values('i', inputs))}"
+        *_, last = simulation.run(joint, state, [inputs, "x" * len(inputs)])
+        after = [last[literal] for literal in joint.latches]
+        moved = {i for i, (old, new) in enumerate(zip(state, after)) if old != new}
+        parts = [listed(shown.values("l", state)), listed(shown.values("i", inputs)), listed(shown.values("l", after, moved))]
+        return "a step breaks it: from {}, by {}, to {}".format(*parts)
+
+
+def solved(solution):
+    """The value of each literal of a file in text form at step 0, by a solver's solution of a question about it."""
+    lines = solution.bytes().decode("ascii", "replace").splitlines()
+    true = {int(word) for line in lines if line.startswith("v ") for word in line.split()[1:] if word.lstrip("-").isdigit()}
+    return lambda literal: "1" if literal // 2 + 1 in true else "0"
+
+
+def listed(words):
+    """Words with spaces between, of many the first."""
+    return " ".join(words[:SHOWN] + [f"and {len(words) - SHOWN} more"] * (len(words) > SHOWN)) or "none"
 
 
 class Run:

@@ -110,15 +110,22 @@ class Plain:
         start = "".join(str(reset) if reset < 2 else named.values.get((0, f"r{i}"), "0") for i, reset in resets)
         return start, named.rows(self.inputs[: len(self.circuit.inputs)])
 
-    def certificate(self, pla):
+    def of_abc(self):
+        """The names of the latches as ABC has them of the circuit's own file: those that the file gives, or places."""
+        width = len(str(max(len(self.circuit.latches) - 1, 0)))
+        named = (self.circuit.names.get(("l", i)) for i in range(len(self.circuit.latches)))
+        return [name.decode("utf-8", "surrogateescape") if name else f"lo{i:0{width}}" for i, name in enumerate(named)]
+
+    def certificate(self, pla, names=None):
         """The text of a certificate: inputs and latches as the circuit has them, and one bad state property, the states that an
-        invariant of the plain machine excludes. None where that isn't one of the machine.
+        invariant of the plain machine excludes, or one whose latches have these names. None where that isn't one of the machine.
 
         Where a latch is open at first, the first states aren't among them."""
         inputs, resets = len(self.circuit.inputs), self.circuit.resets
         latches = range(2 * (inputs + 1), 2 * (inputs + len(resets) + 1), 2)
         gates = Gates(latches.stop)
-        excluded = excluded_by(pla, {f"l{i}": latch ^ (reset != 1) for i, (latch, reset) in enumerate(zip(latches, resets))})
+        sides = [latch ^ (reset != 1) for latch, reset in zip(latches, resets)]
+        excluded = excluded_by(pla, dict(zip(names or self.latches, sides)))
         if excluded is None:
             return None
         bad = gates.any(map(gates.all, excluded))

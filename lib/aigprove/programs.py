@@ -33,6 +33,8 @@ MARK = "#"
 PART = 4
 # How many files an engine may write.
 FILES = 1000
+# How many bytes a file has whose check is told of while it is read.
+LONG = 1 << 22
 
 
 class Stopped(Exception):
@@ -100,6 +102,9 @@ class Sealed:
         with open(self.path, "rb") as file:
             return file.read()
 
+    def size(self):
+        return os.fstat(self.descriptor).st_size
+
     def line(self, most=1 << 16):
         """The first line, of which so many bytes are read at most."""
         with open(self.path, "rb") as file:
@@ -120,6 +125,18 @@ def engine_here():
     return threading.current_thread().name.partition("_")[0]
 
 
+def read_of(process, file):
+    """How many bytes of a sealed file a process has read, as far as that can be seen."""
+    places, own = [0], os.fstat(file.descriptor)
+    with contextlib.suppress(OSError):
+        # The descriptor by which it got the file stands at its end.
+        for name in set(os.listdir(f"/proc/{process}/fd")) - {str(file.descriptor)}:
+            if os.path.samestat(os.stat(f"/proc/{process}/fd/{name}"), own):
+                with open(f"/proc/{process}/fdinfo/{name}", encoding="ascii") as lines:
+                    places.append(int(lines.readline().split()[1]))
+    return max(places)
+
+
 class Group:
     """A program that was started in a session of its own, so that all that it starts is stopped, continued and ended with it."""
 
@@ -127,7 +144,14 @@ class Group:
         environment = {**os.environ, "TMPDIR": folder} if folder else None
         # The folder whose limit it keeps, the engine whose thread started it, and up to when its time was counted.
         self.folder, self.engine, self.counted = None, engine_here(), time.monotonic()
+        # The long files among its words.
+        self.reads = [word for word in words if isinstance(word, Sealed) and word.size() >= LONG]
+        words = list(map(str, words))
         self.process = subprocess.Popen(words, cwd=folder, env=environment, start_new_session=True, stdin=subprocess.DEVNULL, **streams)
+
+    def reading(self):
+        """How far it has read each long file, in words."""
+        return [f"{100 * read_of(self.process.pid, file) // file.size()} % of {file.size() >> 20} MiB checked" for file in self.reads]
 
     def signal(self, number):
         signal_group(self.process.pid, number)
@@ -197,6 +221,11 @@ class Programs:
         """Takes that an engine got further."""
         with self.lock:
             self.further[engine] = self.used[engine]
+
+    def reading(self):
+        """How far long files have been read by our programs, in words."""
+        with self.lock:
+            return [text for group in self.running for text in group.reading()]
 
     def answers(self):
         """Takes that the engine whose thread this is has an answer."""
@@ -295,7 +324,7 @@ class Programs:
         sealed = [word for word in words if isinstance(word, Sealed)]
         descriptors = [word.descriptor for word in sealed]
         with tempfile.TemporaryFile() as out, tempfile.TemporaryFile() as said:
-            group = self.start(list(map(str, words)), **{"stdout": out, "stderr": said, "pass_fds": descriptors, **streams})
+            group = self.start(words, **{"stdout": out, "stderr": said, "pass_fds": descriptors, **streams})
             status = self.finish(group)
             out.seek(0), said.seek(0)
             return status, out.read().decode("ascii", "surrogateescape"), unnamed(plain(said.read()).strip(), sealed)

@@ -8,7 +8,7 @@ from aigprove.programs import MARK, Part
 from aigprove.race import SAFE, UNSAFE, Race
 
 # What a race about one of several properties has none of.
-NONE = dict.fromkeys(["keep", "witness", "vcd", "aiger", "certificate", "run", "verbose"])
+NONE = dict.fromkeys(["keep", "witness", "vcd", "aiger", "certificate", "write_certificate", "run", "verbose"])
 
 
 class Quest(Race):

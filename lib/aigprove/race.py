@@ -6,7 +6,7 @@ import sys
 import threading
 import time
 
-from aigprove import aiger, files, met, plain, witness
+from aigprove import aiger, certificates, files, met, plain, witness
 from aigprove.engines import COMMANDS, Abc, Bounded, Certificate, Missing, Run, Steps, Windows
 from aigprove.evidence import Evidence
 from aigprove.minimal import minimal, simulated
@@ -105,13 +105,14 @@ class Race:
             self.programs.achieved(threading.current_thread().name)
         self.hand_in(lambda: self.print_step(k, claim, self.source.of_step if prefix is None else prefix))
 
-    def induction(self, k, window, claim):
-        """Takes a window of k + 2 steps, and the claim that it makes with a proof of the steps before."""
-        self.windowed = k + 1
-        self.hand_in(lambda: self.print_induction(window, claim))
+    def induction(self, question, window, claim):
+        """Takes a question of a window, the claim that it has no solution, and the one that it makes with a proof of the steps before."""
+        self.windowed = question.k + 1
+        self.hand_in(lambda: self.print_induction(question, window, claim))
 
-    def certificate(self, claim):
-        self.hand_in(lambda: self.print_safe(claim))
+    def certificate(self, claim, machine):
+        """Takes the claim that an inductive machine makes."""
+        self.hand_in(lambda: self.print_safe(claim) if self.words.certificate else self.print_inductive(claim, machine))
 
     def hand_in(self, answer):
         """Takes an answer of the engine whose thread this is."""
@@ -171,10 +172,27 @@ class Race:
             self.print_claim(claim, prefix)
             self.steps = k + 1
 
-    def print_induction(self, window, claim):
+    def print_induction(self, question, window, claim):
         """Prints a window, and what is shown by it and by the steps before."""
         self.print_claim(window, self.source.prefix)
-        return self.print_safe(claim)
+        status = self.print_safe(claim)
+        self.write_certificate(None if question.form else lambda: certificates.by_window(self.circuit, question.k))
+        return status
+
+    def print_inductive(self, claim, machine):
+        """Prints what an inductive machine shows."""
+        status = self.print_safe(claim)
+        self.write_certificate(lambda: certificates.by_invariant(self.circuit, self.judge.circuit(machine, "the certificate")))
+        return status
+
+    def write_certificate(self, make):
+        """Writes a certificate of the answer, where that is wanted and there is one."""
+        if not self.words.write_certificate:
+            return
+        if make is None:
+            say("no certificate: the answer is about runs on which no state comes twice")
+        else:
+            files.write(self.words.write_certificate, [make()])
 
     def print_safe(self, claim):
         """Prints a claim that no step has what is asked about; or one about a file that was made of others, and what follows of these."""
@@ -326,5 +344,5 @@ class Race:
     def show_progress(self, text=None):
         """Shows what is being done, on a terminal."""
         if sys.stderr.isatty():
-            doing = ", ".join(list(self.doing.values())) + f": {time.monotonic() - self.begun:.0f} s"
+            doing = ", ".join([*self.doing.values(), *self.programs.reading()]) + f": {time.monotonic() - self.begun:.0f} s"
             tell("\r\x1b[K" + (doing if text is None else text), end="")
