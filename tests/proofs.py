@@ -151,6 +151,15 @@ def binary_steps_of(formula, data):
         yield letter == ord("d"), clause
 
 
+def has_rat(clauses, clause):
+    """Whether what follows of a clause and each other one that has the inverse of its first literal follows (RAT). What was fixed is a
+    clause of one literal, with which that doesn't follow."""
+    if not clause or -clause[0] in clauses.fixed:
+        return False
+    others = [clauses.all[number] for number in clauses.having[-clause[0]]]
+    return all(clauses.follow([*clause, *(literal for literal in other if literal != -clause[0])]) is not None for other in others)
+
+
 def check_unnumbered(formula, steps):
     """Takes steps of a DRAT file up to a conflict, or refuses them."""
     clauses, number = Clauses(formula.clauses), len(formula.clauses)
@@ -158,7 +167,7 @@ def check_unnumbered(formula, steps):
         deletes, clause = next(steps, (None, None))
         needs(clause is not None)
         if not deletes:
-            needs(clauses.follow(clause) is not None)
+            needs(clauses.follow(clause) is not None or has_rat(clauses, clause))
             number += 1
             clauses.add(number, tuple(clause))
         # What has one literal alone is never deleted, nor is what was fixed, as in the checkers that are in use.

@@ -33,7 +33,7 @@ false_has : (clause : List Lit) (lit : Lit) → when_false clause lit ≡ has cl
 false_has clause lit =
     ap (λ (p : Lit → Bool). list_any p clause) (fun_ext (λ other. inverse_alike other lit))
 
-any_at : (p : Lit → Bool) (b : List Lit) (lit : Lit) → p lit ≡ true → has b lit ≡ true
+pub any_at : (p : Lit → Bool) (b : List Lit) (lit : Lit) → p lit ≡ true → has b lit ≡ true
     → list_any p b ≡ true
 any_at p [] lit is h = absurd (false≢true h)
 any_at p (first ∷ rest) lit is h = by (is_lit lit first) refl h (any_at p rest lit is)
@@ -49,7 +49,7 @@ any_at p (first ∷ rest) lit is h = by (is_lit lit first) refl h (any_at p rest
         or_later true d f = refl
         or_later false d f = f
 
-any_among : (p : Lit → Bool) (a b : List Lit)
+pub any_among : (p : Lit → Bool) (a b : List Lit)
     → ((lit : Lit) → has a lit ≡ true → has b lit ≡ true) → list_any p a ≡ true
     → list_any p b ≡ true
 any_among p [] b each h = absurd (false≢true h)

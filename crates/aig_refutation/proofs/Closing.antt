@@ -1,13 +1,12 @@
 -- What is found along clauses, one after another.
 use Rattle.std.proofs.Common.{◌≡◌, inr, ℕ, zero, suc, ◌+◌, ◌-◌, ◌*◌, ◌<◌, Bool, true, false, cond, Option, Some, None, List, [], ◌∷◌, length, slice_get, refl, sym, ap, subst, ◌∙◌, arith}
-use Rattle.aig_base.proofs.Words.{◌==◌, All, is_some, nat_lt, slice_index_or, slice_set, false≢true, true_from_ne_false, same_Some, AllPass-from_list_all}
+use Rattle.aig_base.proofs.Words.{◌==◌, All, is_some, nat_lt, slice_index_or, slice_set, false≢true, true_from_ne_false, same_Some}
 use Rattle.aig_base.specs.declared.logic.literal.Lit.{Lit}
-use Rattle.aig_base.specs.Clauses.{are_true, is_true_clause, number_of_lit, variable_of}
+use Rattle.aig_base.specs.Clauses.{is_true_clause, number_of_lit, variable_of}
 use Rattle.aig_refutation.specs.declared.propagation.Reading.TheVariants.{Conflict, Implied}
 use Rattle.aig_refutation.specs.declared.closure.Found.{Found}
 use Rattle.aig_refutation.specs.declared.closure.Found.TheVariants as found
-use Rattle.aig_refutation.specs.Closure.{Entails, Finds, unmarked}
-use Rattle.aig_refutation.specs.Formula.{Implies}
+use Rattle.aig_refutation.specs.Closure.{AreTrue, Entails, Finds, IsImplied, unmarked}
 use Rattle.aig_refutation.specs.Propagation.{FitsMarks, also, marked, reading_of, when_false}
 use Rattle.aig_refutation.specs.Tables.{Table, clause_in, entry_at, place_in}
 use Rattle.aig_refutation.proofs.Literals.{clause_there, implied_within, number-fits}
@@ -47,29 +46,25 @@ module _ (t : Table) (n : ℕ) where
 
 -- ---- what is so of an assignment
 
-pub entails_start : (clauses : List (List Lit)) (clause : List Lit)
-    → Entails clauses clause (when_false clause)
-entails_start clauses clause v are fails = inverses_true v clause fails
+pub entails_start : (t : Table) (clause : List Lit) → Entails t clause (when_false clause)
+entails_start t clause v are fails = inverses_true v clause fails
 
-module _ (clauses : List (List Lit)) (clause : List Lit) (holds : Lit → Bool)
-    (so_far : Entails clauses clause holds) (n : ℕ) (other : List Lit)
-    (there : slice_get clauses n ≡ Some other) where
-  says_there : (v : ℕ → Bool) → are_true v clauses ≡ true → is_true_clause v clause ≡ false
+module _ (t : Table) (clause : List Lit) (holds : Lit → Bool) (so_far : Entails t clause holds)
+    (n : ℕ) (other : List Lit) (there : clause_in t n ≡ Some other) where
+  says_there : (v : ℕ → Bool) → AreTrue v t → is_true_clause v clause ≡ false
       → Says v (reading_of holds other)
   says_there v are fails =
-      says_clause v holds (so_far v are fails) Conflict other (inr
-      (clause_there (λ c. is_true_clause v c ≡ true) clauses n other there
-      (AllPass-from_list_all (is_true_clause v) clauses are)))
+      says_clause v holds (so_far v are fails) Conflict other (inr (are n other there))
 
   -- all literals of a clause are false
-  pub found_conflict : Conflict ≡ reading_of holds other → Implies clauses clause
+  pub found_conflict : Conflict ≡ reading_of holds other → IsImplied t clause
   found_conflict is v are =
       true_from_ne_false (is_true_clause v clause)
       (λ fails. subst (Says v) (sym is) (says_there v are fails))
 
   -- a literal follows
   pub found_more : (lit : Lit) → Implied lit ≡ reading_of holds other
-      → Entails clauses clause (also lit holds)
+      → Entails t clause (also lit holds)
   found_more lit is v are fails =
       also_true v holds (so_far v are fails) lit (subst (Says v) (sym is) (says_there v are fails))
 
@@ -85,11 +80,11 @@ unmarked_set (false ∷ marks) (suc i) h is =
     let later = unmarked_set marks i (omega (arith, h)) is in omega (arith, later)
 
 -- no conflict was found
-pub found_none : (clauses : List (List Lit)) (clause : List Lit) (holds : Lit → Bool) (f : Found)
-    → (f ≡ found.Conflict → ⊥) → Finds clauses clause holds f → Entails clauses clause holds
-found_none clauses clause holds found.Conflict none finds = absurd (none refl)
-found_none clauses clause holds found.More none finds = finds
-found_none clauses clause holds found.Nothing none finds = finds
+pub found_none : (t : Table) (clause : List Lit) (holds : Lit → Bool) (f : Found)
+    → (f ≡ found.Conflict → ⊥) → Finds t clause holds f → Entails t clause holds
+found_none t clause holds found.Conflict none finds = absurd (none refl)
+found_none t clause holds found.More none finds = finds
+found_none t clause holds found.Nothing none finds = finds
 
 -- ---- a clause that a number names
 

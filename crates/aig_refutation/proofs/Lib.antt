@@ -32,6 +32,7 @@ mod Sameness
 mod Amounts
 mod Unfollowed
 mod Keeping
+mod Kept
 mod Plainly
 mod Groups
 mod Fronts

@@ -15,7 +15,7 @@ use Rattle.aig_refutation.proofs.Rup.{rup_is_true}
 use Rattle.aig_refutation.proofs.Tautologies.{tautology_is_true}
 
 -- a choice that gives a value
-chosen : {A : Type 0} (b : Bool) (e : RefutationError) (r : Result A RefutationError) (a : A) →
+pub chosen : {A : Type 0} (b : Bool) (e : RefutationError) (r : Result A RefutationError) (a : A) →
     cond b (Err e) r ≡ Ok a → (b ≡ false) × (r ≡ Ok a)
 chosen true e r a is = absurd cc
 chosen false e r a is = (refl, is)
@@ -25,7 +25,7 @@ not_false true e = refl
 not_false false e = sym e
 
 -- a clause that follows is true
-follows_true : (v : ℕ → Bool) (live : Live) (clause : List Lit) (hints : List ℕ)
+pub follows_true : (v : ℕ → Bool) (live : Live) (clause : List Lit) (hints : List ℕ)
     → AllTrue v live.clauses → follows live clause hints ≡ true → is_true_clause v clause ≡ true
 follows_true v live clause hints are is =
     elim (or_cases (is_rup (clause_at live) clause hints) (is_tautology clause) is) [
@@ -64,7 +64,7 @@ module _ (variables : ℕ) (live next : Live) where
       let w = stands_on live clause hints groups can on.0 in
       subst CanHold on.1 (w.0, (w.2, w.1))
 
-deleted_keeps : (numbers : List ℕ) (live next : Live) → deleted live numbers ≡ Ok next
+pub deleted_keeps : (numbers : List ℕ) (live next : Live) → deleted live numbers ≡ Ok next
     → KeepsLive live next
 unfolding deleted
 deleted_keeps [] live next is can = let same : live ≡ next = cc in subst CanHold same can

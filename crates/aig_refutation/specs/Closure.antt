@@ -1,20 +1,28 @@
 -- Serves private clauses alone.
 -- Unit propagation along all clauses: what it makes true, and that no more follows.
-use Rattle.std.specs.Prelude.{◌≡◌, ℕ, ◌+◌, ◌<◌, Bool, true, false, IsTrue, List, [], ◌∷◌}
+use Rattle.std.specs.Prelude.{◌≡◌, ℕ, ◌+◌, ◌<◌, Bool, true, false, IsTrue, List, [], ◌∷◌, Some}
 use Rattle.aig_base.specs.declared.logic.literal.Lit.{Lit}
-use Rattle.aig_base.specs.Clauses.{are_true, is_true_clause, literal_value}
+use Rattle.aig_base.specs.Clauses.{is_true_clause, literal_value}
 use Rattle.aig_refutation.specs.declared.closure.Found.{Found}
 use Rattle.aig_refutation.specs.declared.closure.Found.TheVariants as found
 use Rattle.aig_refutation.specs.declared.propagation.Reading.{Reading}
 use Rattle.aig_refutation.specs.declared.propagation.Reading.TheVariants as readings
-use Rattle.aig_refutation.specs.Formula.{Implies}
 use Rattle.aig_refutation.specs.Propagation.{reading_if, when_false}
 use Rattle.aig_refutation.specs.Tables.{Table, clause_in}
 
--- where the clauses are true and this one is false, these literals are true
-abbrev pub Entails : List (List Lit) → List Lit → (Lit → Bool) → Type 0
-Entails clauses clause holds =
-    (v : ℕ → Bool) → IsTrue (are_true v clauses) → is_true_clause v clause ≡ false
+-- each clause is true that a number names
+abbrev pub AreTrue : (ℕ → Bool) → Table → Type 0
+AreTrue v t =
+    (n : ℕ) (clause : List Lit) → clause_in t n ≡ Some clause → IsTrue (is_true_clause v clause)
+
+-- a clause is true wherever all those are
+abbrev pub IsImplied : Table → List Lit → Type 0
+IsImplied t clause = (v : ℕ → Bool) → AreTrue v t → IsTrue (is_true_clause v clause)
+
+-- where they are true and this one is false, these literals are true
+abbrev pub Entails : Table → List Lit → (Lit → Bool) → Type 0
+Entails t clause holds =
+    (v : ℕ → Bool) → AreTrue v t → is_true_clause v clause ≡ false
     → (lit : Lit) → holds lit ≡ true → literal_value v lit ≡ true
 
 -- all of the first literals are among the others
@@ -22,10 +30,10 @@ abbrev pub AreAmong : (Lit → Bool) → (Lit → Bool) → Type 0
 AreAmong some holds = (lit : Lit) → some lit ≡ true → holds lit ≡ true
 
 -- what a look along clauses shows
-abbrev pub Finds : List (List Lit) → List Lit → (Lit → Bool) → Found → Type 0
-Finds clauses clause holds found.Conflict = Implies clauses clause
-Finds clauses clause holds found.More = Entails clauses clause holds
-Finds clauses clause holds found.Nothing = Entails clauses clause holds
+abbrev pub Finds : Table → List Lit → (Lit → Bool) → Found → Type 0
+Finds t clause holds found.Conflict = IsImplied t clause
+Finds t clause holds found.More = Entails t clause holds
+Finds t clause holds found.Nothing = Entails t clause holds
 
 -- how many literals aren't true
 abbrev pub unmarked : List Bool → ℕ

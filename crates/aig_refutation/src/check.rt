@@ -8,7 +8,7 @@ ghost use Rattle.aig_refutation.specs.Ahead.{AddsAhead, IsAhead, LearnsAhead, St
 ghost use Rattle.aig_refutation.specs.Binary.{binary_steps_in};
 ghost use Rattle.aig_refutation.specs.Checking.{IsInConflict, Live, Shows, are_in, is_last_step, taken};
 ghost use Rattle.aig_refutation.specs.Concluding.{Concludes, ConcludesConflict, ConcludesPlain, IsFormula, MovesStep, RefusesFormula, ShowsPlain, ShowsText, TakesLine, TakesStep, left_outcome, plain_left, text_outcome};
-ghost use Rattle.aig_refutation.specs.Formula.{Implies, ImpliesAll};
+ghost use Rattle.aig_refutation.specs.Kept.{Keeps, KeepsMore, KeepsOrEnds};
 ghost use Rattle.aig_refutation.specs.Proofs.{Numbered};
 ghost use Rattle.aig_refutation.specs.Reading.{plain_by, said_by};
 ghost use Rattle.aig_refutation.specs.Steps as steps;
@@ -23,7 +23,7 @@ use crate::error::RefutationError;
 use crate::form::{TELLING, is_binary};
 use crate::step::Step;
 use crate::units::find_conflict;
-use crate::words::Words;
+use crate::words::{Number, Words};
 use aig_base::{DagCnf, Lit, LitVvec, Source, Var};
 use aig_hints::Search;
 use aig_lexer::InputBuffer;
@@ -101,7 +101,8 @@ fn add_units(
     search: &mut Search,
     hints: &mut Vec<u32>,
 ) -> Result<(), RefutationError>
-    ensures implied { OnOk result (ImpliesAll checker.old.table.clauses checker.new.table.clauses) }
+    ensures keeps { (live : Live) → Holds checker.old.table live
+        → Keeps live checker.new.table result }
     ensures variables { checker.new.variables ≡ checker.old.variables }
     ensures ahead { (clauses : List (List Lit)) → IsAhead clauses checker.old.table
         → StaysAhead clauses checker.new.table result }
@@ -126,7 +127,8 @@ fn start_search(
     checker: &mut Checker,
     search: &mut Search,
 ) -> Result<(), RefutationError>
-    ensures implied { OnOk result (ImpliesAll checker.old.table.clauses checker.new.table.clauses) }
+    ensures keeps { (live : Live) → Holds checker.old.table live
+        → Keeps live checker.new.table result }
     ensures variables { checker.new.variables ≡ checker.old.variables }
     ensures ahead { (clauses : List (List Lit)) → IsAhead clauses checker.old.table
         → StaysAhead clauses checker.new.table result }
@@ -150,9 +152,8 @@ fn add_empty(
     search: &mut Search,
     hints: &mut Vec<u32>,
 ) -> Result<bool, RefutationError>
-    ensures implied { OnOk result (ImpliesAll checker.old.table.clauses checker.new.table.clauses) }
-    ensures refuted { IfOk result (λ done. IsTrue done
-        → ¬ IsSatisfiable checker.old.table.clauses) }
+    ensures keeps { (live : Live) → Holds checker.old.table live
+        → KeepsOrEnds live checker.new.table result }
     ensures variables { checker.new.variables ≡ checker.old.variables }
     ensures ahead { (clauses : List (List Lit)) → IsAhead clauses checker.old.table
         → StaysAhead clauses checker.new.table result }
@@ -165,17 +166,66 @@ fn add_empty(
     Ok(checker.add_next(&[], hints)?.is_some())
 }
 
-/// Adds a clause under the next number, and returns that, if it follows by unit propagation. `hints`
-/// is used, whatever it has.
+/// Where a clause has the literal that a proof has first.
+#[derive(Clone, Copy)]
+enum Pivot {
+    /// At its beginning.
+    First,
+    /// At its end: in a text the first number of a line may be that of a clause, and so is read last.
+    Last,
+}
+
+impl Pivot {
+    /// That literal, unless the clause is empty.
+    fn of(self, clause: &[Lit]) -> Option<Lit> {
+        match self {
+            Pivot::First => clause.first().copied(),
+            Pivot::Last => clause.last().copied(),
+        }
+    }
+}
+
+/// Adds a clause under the next number, and returns that, if hints are found along which it follows
+/// by unit propagation, or has the RAT property on its pivot. `hints` and `groups` are used, whatever
+/// they have.
+fn add_hinted(
+    checker: &mut Checker,
+    search: &mut Search,
+    pivot: Pivot,
+    clause: &[Lit],
+    hints: &mut Vec<u32>,
+    groups: &mut Vec<Number>,
+) -> Result<Option<u32>, RefutationError>
+    ensures keeps { (live : Live) → Holds checker.old.table live
+        → KeepsMore live clause.now checker.new.table result }
+    ensures variables { checker.new.variables ≡ checker.old.variables }
+    ensures ahead { (clauses : List (List Lit)) → IsAhead clauses checker.old.table
+        → AddsAhead clauses clause.now checker.new.table result }
+    ensures no_stream { IsErrOf result RefutationError.Stream → ⊥ }
+{
+    search.find(clause, hints)?;
+    let number = checker.add_next(clause, hints)?;
+    if number.is_some() {
+        return Ok(number);
+    }
+    let Some(lit) = pivot.of(clause) else {
+        return Ok(None);
+    };
+    checker.add_rat(search, lit, clause, groups)
+}
+
+/// Adds a clause under the next number, and returns that, if it follows by unit propagation, or is
+/// found to have the RAT property on its pivot. `hints` and `groups` are used, whatever they have.
 fn add_found(
     checker: &mut Checker,
     search: &mut Search,
+    pivot: Pivot,
     clause: &[Lit],
     hints: &mut Vec<u32>,
+    groups: &mut Vec<Number>,
 ) -> Result<Option<u32>, RefutationError>
-    ensures implied { OnOk result (ImpliesAll checker.old.table.clauses checker.new.table.clauses) }
-    ensures follows { IfOk result (λ number. IsSome number
-        → Implies checker.old.table.clauses clause.now) }
+    ensures keeps { (live : Live) → Holds checker.old.table live
+        → KeepsMore live clause.now checker.new.table result }
     ensures variables { checker.new.variables ≡ checker.old.variables }
     ensures ahead { (clauses : List (List Lit)) → IsAhead clauses checker.old.table
         → AddsAhead clauses clause.now checker.new.table result }
@@ -184,8 +234,7 @@ fn add_found(
         → Follows clauses clause.now → ⊥ }
     ensures no_stream { IsErrOf result RefutationError.Stream → ⊥ }
 {
-    search.find(clause, hints)?;
-    let number = checker.add_next(clause, hints)?;
+    let number = add_hinted(checker, search, pivot, clause, hints, groups)?;
     if number.is_some() {
         return Ok(number);
     }
@@ -198,18 +247,25 @@ fn add_found(
 fn add_searched(
     checker: &mut Checker,
     search: &mut Search,
+    pivot: Pivot,
     step: &mut Step,
 ) -> Result<bool, RefutationError>
-    ensures implied { OnOk result (ImpliesAll checker.old.table.clauses checker.new.table.clauses) }
-    ensures refuted { IfOk result (λ done. IsTrue done
-        → ¬ IsSatisfiable checker.old.table.clauses) }
+    ensures keeps { (live : Live) → Holds checker.old.table live
+        → KeepsOrEnds live checker.new.table result }
     ensures variables { checker.new.variables ≡ checker.old.variables }
     ensures same { step.new.is_numbered ≡ step.old.is_numbered }
     ensures ahead { (clauses : List (List Lit)) → IsAhead clauses checker.old.table
         → LearnsAhead checker.old.variables clauses step.old.clause.items checker.new.table result }
     ensures no_stream { IsErrOf result RefutationError.Stream → ⊥ }
 {
-    let found = add_found(checker, search, &step.clause, &mut step.numbers)?;
+    let found = add_found(
+        checker,
+        search,
+        pivot,
+        &step.clause,
+        &mut step.numbers,
+        &mut step.groups,
+    )?;
     let Some(number) = found else {
         return Err(RefutationError::Step);
     };
@@ -226,11 +282,11 @@ fn add_searched(
 fn take_searched(
     checker: &mut Checker,
     search: &mut Search,
+    pivot: Pivot,
     step: &mut Step,
 ) -> Result<bool, RefutationError>
-    ensures implied { OnOk result (ImpliesAll checker.old.table.clauses checker.new.table.clauses) }
-    ensures refuted { IfOk result (λ done. IsTrue done
-        → ¬ IsSatisfiable checker.old.table.clauses) }
+    ensures keeps { (live : Live) → Holds checker.old.table live
+        → KeepsOrEnds live checker.new.table result }
     ensures variables { checker.new.variables ≡ checker.old.variables }
     ensures same { step.new.is_numbered ≡ step.old.is_numbered }
     ensures ahead { (clauses : List (List Lit)) → IsAhead clauses checker.old.table
@@ -238,7 +294,7 @@ fn take_searched(
     ensures no_stream { IsErrOf result RefutationError.Stream → ⊥ }
 {
     if !step.deletes {
-        return add_searched(checker, search, step);
+        return add_searched(checker, search, pivot, step);
     }
     if let Some(number) = search.remove(&step.clause)? {
         checker.delete_same(number, &step.clause)?;
@@ -263,15 +319,13 @@ fn take_step(
     ensures plain { (clauses : List (List Lit)) → IsSome search.old
         → IsAhead clauses checker.old.table → TakesLine checker.old.variables clauses
         (said_by step.old) checker.new.table result }
-    ensures implied { IsSome search.old
-        → OnOk result (ImpliesAll checker.old.table.clauses checker.new.table.clauses) }
-    ensures refuted { IsSome search.old → IfOk result (λ done. IsTrue done
-        → ¬ IsSatisfiable checker.old.table.clauses) }
+    ensures keeps { (live : Live) → IsSome search.old → Holds checker.old.table live
+        → KeepsOrEnds live checker.new.table result }
     ensures no_stream { IsErrOf result RefutationError.Stream → ⊥ }
 {
     match search {
         None if step.is_numbered => take_numbered(checker, step),
-        Some(search) if !step.is_numbered => take_searched(checker, search, step),
+        Some(search) if !step.is_numbered => take_searched(checker, search, Pivot::Last, step),
         _ => Err(RefutationError::Line),
     }
 }
@@ -285,7 +339,8 @@ fn search_for(
 ) -> Result<Option<Search>, RefutationError>
     ensures numbered { step.now.is_numbered ≡ true
         → (checker.new ≡ checker.old) × (result ≡ Ok None) }
-    ensures implied { OnOk result (ImpliesAll checker.old.table.clauses checker.new.table.clauses) }
+    ensures keeps { (live : Live) → Holds checker.old.table live
+        → Keeps live checker.new.table result }
     ensures variables { checker.new.variables ≡ checker.old.variables }
     ensures ahead { (clauses : List (List Lit)) → IsAhead clauses checker.old.table
         → StaysAhead clauses checker.new.table result }
@@ -309,9 +364,8 @@ fn refutes_at_first(
 ) -> Result<bool, RefutationError>
     ensures numbered { search.old ≡ None → (checker.new ≡ checker.old) × (search.new ≡ None)
         × (step.new ≡ step.old) × (result ≡ Ok false) }
-    ensures implied { OnOk result (ImpliesAll checker.old.table.clauses checker.new.table.clauses) }
-    ensures refuted { IfOk result (λ done. IsTrue done
-        → ¬ IsSatisfiable checker.old.table.clauses) }
+    ensures keeps { (live : Live) → Holds checker.old.table live
+        → KeepsOrEnds live checker.new.table result }
     ensures variables { checker.new.variables ≡ checker.old.variables }
     ensures ahead { (clauses : List (List Lit)) → IsAhead clauses checker.old.table
         → StaysAhead clauses checker.new.table result }
@@ -336,7 +390,8 @@ fn take_steps<R: Source>(
     variables: usize,
 ) -> Result<(), RefutationError>
     requires { variables ≤ 2 ^ 31 }
-    ensures refuted { IsSome search.old → OnOk result (¬ IsSatisfiable checker.old.table.clauses) }
+    ensures searched { (live : Live) → IsSome search.old → Holds checker.old.table live
+        → OnOk result (¬ CanHold live) }
     ensures fails { (live : Live) → search.old ≡ None → Holds checker.old.table live
         → checker.old.variables ≡ variables → OnOk result (¬ CanHold live) }
     ensures stream { IsErrOf result RefutationError.Stream → R.failed r.new ≡ true }
@@ -405,7 +460,7 @@ fn take_binary<R: Source>(
     variables: usize,
 ) -> Result<(), RefutationError>
     requires { variables ≤ 2 ^ 31 }
-    ensures refuted { OnOk result (¬ IsSatisfiable checker.old.table.clauses) }
+    ensures fails { (live : Live) → Holds checker.old.table live → OnOk result (¬ CanHold live) }
     ensures stream { IsErrOf result RefutationError.Stream → R.failed r.new ≡ true }
     ensures plain { (clauses : List (List Lit)) → IsAhead clauses checker.old.table
         → checker.old.variables ≡ variables
@@ -413,7 +468,7 @@ fn take_binary<R: Source>(
         (binary_steps_in variables) result }
 {
     'steps: while read_step(buffer, r, step, variables)? {
-        if take_searched(checker, search, step)? {
+        if take_searched(checker, search, Pivot::First, step)? {
             return Ok(());
         }
     }
@@ -431,7 +486,7 @@ fn check_binary<R: Source>(
     variables: usize,
 ) -> Result<(), RefutationError>
     requires { variables ≤ 2 ^ 31 }
-    ensures refuted { OnOk result (¬ IsSatisfiable checker.old.table.clauses) }
+    ensures fails { (live : Live) → Holds checker.old.table live → OnOk result (¬ CanHold live) }
     ensures stream { IsErrOf result RefutationError.Stream → R.failed r.new ≡ true }
     ensures plain { (clauses : List (List Lit)) → IsAhead clauses checker.old.table
         → checker.old.variables ≡ variables
@@ -497,10 +552,10 @@ fn check_clauses<R: Source>(
     check_proof(alloc, r, checker, step, cnf.num_vars())
 }
 
-/// Checks a proof that clauses can't be satisfied: the text of an LRAT file, whose steps follow by
-/// reverse unit propagation or have the RAT property, or a DRAT file, text or binary, whose steps
-/// follow. The clauses of `cnf`, variable by variable,
-/// and those of `further` after them are numbered from 1 on, and variable v is written as v + 1.
+/// Checks a proof that clauses can't be satisfied: the text of an LRAT file, or a DRAT file, text or
+/// binary, whose steps follow by reverse unit propagation or have the RAT property. The clauses of
+/// `cnf`, variable by variable, and those of `further` after them are numbered from 1 on, and
+/// variable v is written as v + 1.
 ///
 /// Clauses of which a literal has no variable are refused as `Variable`. Others in conflict at once
 /// need no proof, and nothing is read: one is empty, or one has a literal alone and another its
@@ -516,8 +571,9 @@ fn check_clauses<R: Source>(
 /// stand, before the last 0, `-M` and further hints for the clause of the number `M`, for each that
 /// needs some. The cost of such a step is that of a pass over all clauses.
 ///
-/// The lines of a DRAT file are `L.. 0` and `d L.. 0`. Hints are searched for; a clause of one
-/// literal is never deleted, and to delete one that isn't there does nothing.
+/// The lines of a DRAT file are `L.. 0` and `d L.. 0`. Hints are searched for, also those for the
+/// RAT property on the first literal as it is written; a clause of one literal is never deleted, nor
+/// is a literal given up that followed once, and to delete a clause that isn't there does nothing.
 ///
 /// A binary DRAT file has the letter `a` or `d` for each step, then each literal as twice its number,
 /// one more where it is inverted, in groups of seven bits, the lowest first, and then a 0. The bytes
@@ -525,7 +581,7 @@ fn check_clauses<R: Source>(
 ///
 /// A proof is binary where it begins with `a`, or with `d` and a byte 0 is among the first 1,024. The
 /// first line of a text says which form all have. A clause that can't be added is refused as `Step`,
-/// and as `Asymmetry` where it has hints for other clauses. RAT steps of a DRAT file are refused.
+/// and as `Asymmetry` where it has hints for other clauses.
 ///
 /// The proof is read through a buffer of 16,384 bytes, up to the empty clause, and nothing is
 /// trusted of it. The memory is that of the clauses that are not deleted, a few times over, and
@@ -544,7 +600,7 @@ pub fn check_refutation<R: Source>(
     // clauses are in conflict at once. Of another LRAT proof whose bytes are known Ok exactly where
     // its steps refute the clauses, and else the error that its text has. Such a DRAT proof, text or
     // binary, is refused only as Step, where not all its steps follow, or as what is wrong with its
-    // bytes after steps none of which adds the empty clause.
+    // bytes after steps none of which adds the empty clause. Of one with RAT steps no more is said.
     ensures shown { Shows (length cnf.now) (clauses_in cnf.now ++ further.now) (R.left r.old)
         result }
 {

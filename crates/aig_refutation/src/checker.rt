@@ -1,15 +1,16 @@
 //! Clauses that follow from those of a formula.
 
-ghost use Rattle.std.specs.Prelude.{◌≡◌, ◌+◌, ◌<◌, ◌≤◌, ◌*◌, ◌^◌, ◌++◌, ◌∷◌, ◌||◌, [], Bool, List, None, Ok, All, IfOk, IsErrOf, IsSome, IsTrue, OnOk, length, slice_get, true};
+ghost use Rattle.std.specs.Prelude.{◌≡◌, ◌+◌, ◌<◌, ◌≤◌, ◌*◌, ◌^◌, ◌++◌, ◌∷◌, ◌||◌, [], ℕ, Bool, List, None, Ok, All, IfOk, IsErrOf, IsSome, IsTrue, OnOk, length, slice_get, true};
 ghost use Rattle.std.specs.List.{Contains, IsDistinct, list_all};
 ghost use Rattle.aig_base.specs.declared.logic.literal.Lit.{Lit};
 ghost use Rattle.aig_base.specs.Clauses.{variable_of};
 ghost use Rattle.aig_refutation.specs.Ahead.{AddsAhead, IsAhead, StaysAhead};
-ghost use Rattle.aig_refutation.specs.Checking.{Live, added, are_in, deleted, numbered_clause, why_not};
-ghost use Rattle.aig_refutation.specs.Formula.{Implies, ImpliesAll};
+ghost use Rattle.aig_refutation.specs.Checking.{Live, added, are_in, deleted, numbered_clause, why_not, with_clause};
+ghost use Rattle.aig_refutation.specs.Kept.{Keeps, KeepsMore};
 ghost use Rattle.aig_refutation.specs.Propagation.{FitsMarks, is_lit, reading_of};
 ghost use Rattle.aig_refutation.specs.Steps.{Follows, without_one};
 ghost use Rattle.aig_refutation.specs.Tables.{Holds, HoldsFormula, Moves, RefusesClause};
+ghost use Rattle.aig_refutation.specs.Taken.{KeepsLive};
 ghost use Rattle.aig_refutation.specs.Words.{said_numbers};
 
 use crate::closure::is_entailed;
@@ -17,9 +18,10 @@ use crate::compare::are_same;
 use crate::error::RefutationError;
 use crate::marks::Marks;
 use crate::numbered::Numbered;
-use crate::standing::{Resolvent, are_named, find_hints, is_implied};
+use crate::standing::{Resolvent, are_named, find_hints, has, is_implied, lead};
 use crate::words::Number;
 use aig_base::{Lit, LitVvec, MemoryError};
+use aig_hints::Search;
 use std::alloc::Global;
 use std::marker::Model;
 
@@ -34,6 +36,8 @@ pub(crate) struct Checker {
     hints: Vec<usize>,
     /// The literals of the clause at hand, each once.
     kept: Vec<Lit>,
+    /// The literals of the clause at hand, behind its pivot.
+    led: Vec<Lit>,
     /// What follows of the clause at hand and another one.
     resolvent: Resolvent,
 }
@@ -126,6 +130,7 @@ impl Checker {
             variables,
             hints: Vec::new(alloc),
             kept: Vec::new(alloc),
+            led: Vec::new(alloc),
             resolvent: Resolvent::new(alloc),
         })
     }
@@ -172,8 +177,6 @@ impl Checker {
     /// Adds a clause, under a number. Each of its literals is kept once.
     fn put(&mut self, number: u32, clause: &[Lit]) -> Result<(), RefutationError>
         requires inside { All (λ lit. variable_of lit < self.old.variables) clause.now }
-        ensures implied { Implies self.old.table.clauses clause.now
-            → OnOk result (ImpliesAll self.old.table.clauses self.new.table.clauses) }
         ensures variables { self.new.variables ≡ self.old.variables }
         ensures moves { (live : Live) → Holds self.old.table live → Moves self.new.table result
             (numbered_clause live number clause.now) }
@@ -221,11 +224,11 @@ impl Checker {
         self.put(number, clause)
     }
 
-    /// Adds a clause that follows, under the next number, and returns that.
+    /// Adds a clause under the next number, and returns that.
     fn put_next(&mut self, clause: &[Lit]) -> Result<u32, RefutationError>
         requires inside { All (λ lit. variable_of lit < self.old.variables) clause.now }
-        requires follows { Implies self.old.table.clauses clause.now }
-        ensures implied { OnOk result (ImpliesAll self.old.table.clauses self.new.table.clauses) }
+        ensures adds { (live : Live) → Holds self.old.table live → IfOk result (λ number.
+            Holds self.new.table (with_clause live number clause.now)) }
         ensures variables { self.new.variables ≡ self.old.variables }
         ensures ahead { (clauses : List (List Lit)) → IsAhead clauses self.old.table
             → StaysAhead (clause.now ∷ clauses) self.new.table result }
@@ -243,9 +246,8 @@ impl Checker {
         clause: &[Lit],
         hints: &[u32],
     ) -> Result<Option<u32>, RefutationError>
-        ensures implied { OnOk result (ImpliesAll self.old.table.clauses self.new.table.clauses) }
-        ensures follows { IfOk result (λ number. IsSome number
-            → Implies self.old.table.clauses clause.now) }
+        ensures keeps { (live : Live) → Holds self.old.table live
+            → KeepsMore live clause.now self.new.table result }
         ensures variables { self.new.variables ≡ self.old.variables }
         ensures ahead { (clauses : List (List Lit)) → IsAhead clauses self.old.table
             → AddsAhead clauses clause.now self.new.table result }
@@ -265,16 +267,75 @@ impl Checker {
         Ok(Some(self.put_next(clause)?))
     }
 
-    /// The same by unit propagation along all clauses, those of `first` first. It is for a clause
-    /// that `add_next` didn't add, and that mostly isn't added then either.
+    /// Whether a clause has the RAT property on one of its literals, along hints that are searched
+    /// for. `groups` is used, whatever it has.
+    fn has_rat(
+        &mut self,
+        search: &mut Search,
+        pivot: Lit,
+        clause: &[Lit],
+        groups: &mut Vec<Number>,
+    ) -> Result<bool, MemoryError>
+        ensures same { self.new ≡ self.old }
+        ensures keeps { (live : Live) → Holds self.old.table live → IfOk result (λ is. IsTrue is
+            → (n : ℕ) → KeepsLive live (with_clause live n clause.now)) }
+    {
+        lead(pivot, clause, &mut self.led)?;
+        if !has(clause, pivot) || !is_below(&self.led, self.variables) {
+            return Ok(false);
+        }
+        if !self.resolvent.search(
+            &self.numbered,
+            &mut self.marks,
+            search,
+            &self.led,
+            pivot,
+            groups,
+        )? {
+            return Ok(false);
+        }
+        if !are_named(&self.numbered, groups) {
+            return Ok(false);
+        }
+        self.resolvent
+            .is_rat(&self.numbered, &mut self.marks, &self.led, &[], groups)
+    }
+
+    /// Adds a clause under the next number, and returns that, if it has the RAT property on one of
+    /// its literals, along hints that are searched for. `groups` is used, whatever it has.
+    pub(crate) fn add_rat(
+        &mut self,
+        search: &mut Search,
+        pivot: Lit,
+        clause: &[Lit],
+        groups: &mut Vec<Number>,
+    ) -> Result<Option<u32>, RefutationError>
+        ensures keeps { (live : Live) → Holds self.old.table live
+            → KeepsMore live clause.now self.new.table result }
+        ensures variables { self.new.variables ≡ self.old.variables }
+        ensures ahead { (clauses : List (List Lit)) → IsAhead clauses self.old.table
+            → AddsAhead clauses clause.now self.new.table result }
+        ensures no_stream { IsErrOf result RefutationError.Stream → ⊥ }
+    {
+        if !is_below(clause, self.variables) {
+            return Ok(None);
+        }
+        if !self.has_rat(search, pivot, clause, groups)? {
+            return Ok(None);
+        }
+        Ok(Some(self.put_next(clause)?))
+    }
+
+    /// Adds a clause under the next number, and returns that, if it follows by unit propagation along
+    /// all clauses, those of `first` first, or it has a literal and its inverse. It is for a clause
+    /// that neither `add_next` nor `add_rat` added, and that mostly isn't added then either.
     pub(crate) fn add_by_all(
         &mut self,
         clause: &[Lit],
         first: &[u32],
     ) -> Result<Option<u32>, RefutationError>
-        ensures implied { OnOk result (ImpliesAll self.old.table.clauses self.new.table.clauses) }
-        ensures follows { IfOk result (λ number. IsSome number
-            → Implies self.old.table.clauses clause.now) }
+        ensures keeps { (live : Live) → Holds self.old.table live
+            → KeepsMore live clause.now self.new.table result }
         ensures variables { self.new.variables ≡ self.old.variables }
         ensures ahead { (clauses : List (List Lit)) → IsAhead clauses self.old.table
             → AddsAhead clauses clause.now self.new.table result }
@@ -295,7 +356,8 @@ impl Checker {
 
     /// Deletes the clause of a number, if there is one and it has the same literals as this one.
     pub(crate) fn delete_same(&mut self, number: u32, clause: &[Lit]) -> Result<(), RefutationError>
-        ensures implied { OnOk result (ImpliesAll self.old.table.clauses self.new.table.clauses) }
+        ensures keeps { (live : Live) → Holds self.old.table live
+            → Keeps live self.new.table result }
         ensures variables { self.new.variables ≡ self.old.variables }
         ensures ahead { (clauses : List (List Lit)) → IsAhead clauses self.old.table
             → StaysAhead (without_one clause.now clauses) self.new.table result }
@@ -316,7 +378,8 @@ impl Checker {
 
     /// Deletes the clauses of these numbers.
     pub(crate) fn delete(&mut self, numbers: &[u32]) -> Result<(), RefutationError>
-        ensures implied { OnOk result (ImpliesAll self.old.table.clauses self.new.table.clauses) }
+        ensures keeps { (live : Live) → Holds self.old.table live
+            → Keeps live self.new.table result }
         ensures variables { self.new.variables ≡ self.old.variables }
         ensures moves { (live : Live) → Holds self.old.table live
             → Moves self.new.table result (deleted live numbers.now) }

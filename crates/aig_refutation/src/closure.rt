@@ -2,8 +2,7 @@
 
 ghost use Rattle.std.specs.Prelude.{◌≡◌, ◌<◌, ℕ, IsTrue, List, All, false, length};
 ghost use Rattle.aig_base.specs.declared.logic.literal.Lit.{Lit};
-ghost use Rattle.aig_refutation.specs.Closure.{AreAmong, Entails, Finds, IfNothing, IsClosed, IsSettled, Narrows};
-ghost use Rattle.aig_refutation.specs.Formula.{Implies};
+ghost use Rattle.aig_refutation.specs.Closure.{AreAmong, Entails, Finds, IfNothing, IsClosed, IsImplied, IsSettled, Narrows};
 ghost use Rattle.aig_refutation.specs.Propagation.{FitsMarks, is_tautology, marked, reading_if};
 ghost use Rattle.aig_refutation.specs.Tables.{clause_in};
 
@@ -29,8 +28,8 @@ fn follow(numbered: &Numbered, marks: &mut Marks, number: u32) -> Found
     requires { All (FitsMarks marks.old) numbered.now.clauses }
     ensures length { length marks.new ≡ length marks.old }
     ensures kept { AreAmong (marked marks.old) (marked marks.new) }
-    ensures finds { (clause : List Lit) → Entails numbered.now.clauses clause (marked marks.old)
-        → Finds numbered.now.clauses clause (marked marks.new) result }
+    ensures finds { (clause : List Lit) → Entails numbered.now clause (marked marks.old)
+        → Finds numbered.now clause (marked marks.new) result }
     ensures narrows { Narrows marks.old marks.new result }
     ensures settled { IfNothing result (IsSettled (marked marks.old)
         (reading_if (marked marks.old) (clause_in numbered.now number))) }
@@ -55,11 +54,11 @@ fn follow_all(numbered: &Numbered, marks: &mut Marks, numbers: &[u32]) -> bool
     ensures length { length marks.new ≡ length marks.old }
     ensures kept { AreAmong (marked marks.old) (marked marks.new) }
     ensures conflict { IsTrue result → (clause : List Lit)
-        → Entails numbered.now.clauses clause (marked marks.old)
-        → Implies numbered.now.clauses clause }
+        → Entails numbered.now clause (marked marks.old)
+        → IsImplied numbered.now clause }
     ensures entails { result ≡ false → (clause : List Lit)
-        → Entails numbered.now.clauses clause (marked marks.old)
-        → Entails numbered.now.clauses clause (marked marks.new) }
+        → Entails numbered.now clause (marked marks.old)
+        → Entails numbered.now clause (marked marks.new) }
 {
     for number in numbers {
         if let Found::Conflict = follow(numbered, marks, *number) {
@@ -74,8 +73,8 @@ fn pass(numbered: &Numbered, marks: &mut Marks, end: u32) -> Found
     requires { All (FitsMarks marks.old) numbered.now.clauses }
     ensures length { length marks.new ≡ length marks.old }
     ensures kept { AreAmong (marked marks.old) (marked marks.new) }
-    ensures finds { (clause : List Lit) → Entails numbered.now.clauses clause (marked marks.old)
-        → Finds numbered.now.clauses clause (marked marks.new) result }
+    ensures finds { (clause : List Lit) → Entails numbered.now clause (marked marks.old)
+        → Finds numbered.now clause (marked marks.new) result }
     ensures narrows { Narrows marks.old marks.new result }
     ensures settled { IfNothing result ((n : ℕ) → n < end → IsSettled (marked marks.old)
         (reading_if (marked marks.old) (clause_in numbered.now n))) }
@@ -107,7 +106,7 @@ fn refutes_inverses(
     requires clauses { All (FitsMarks marks.old) numbered.now.clauses }
     requires clause { FitsMarks marks.old clause.now }
     ensures length { length marks.new ≡ length marks.old }
-    ensures implied { IsTrue result → Implies numbered.now.clauses clause.now }
+    ensures implied { IsTrue result → IsImplied numbered.now clause.now }
     ensures closed { result ≡ false → IsClosed numbered.now end clause.now }
 {
     assume_false(marks, clause);
@@ -135,7 +134,7 @@ pub(crate) fn is_entailed(
     requires clauses { All (FitsMarks marks.old) numbered.now.clauses }
     requires clause { FitsMarks marks.old clause.now }
     ensures length { length marks.new ≡ length marks.old }
-    ensures implied { IsTrue result → Implies numbered.now.clauses clause.now }
+    ensures implied { IsTrue result → IsImplied numbered.now clause.now }
     ensures closed { result ≡ false → IsClosed numbered.now end clause.now }
     ensures open { result ≡ false → is_tautology clause.now ≡ false }
 {

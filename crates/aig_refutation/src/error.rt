@@ -34,7 +34,7 @@ pub enum RefutationError {
     #[error("number too large in proof")]
     Large,
     /// A clause doesn't follow: by unit propagation along its hints, or at all where it has none. Nor
-    /// has it the RAT property in a step with a number.
+    /// has it the RAT property, or hints for that are not found where it has none.
     #[error("proof step does not follow")]
     Step,
     /// The same of a clause that has hints for other clauses: it neither follows nor has the RAT

@@ -1,9 +1,8 @@
 //! Clauses that may be added to others: they follow, or keep them satisfiable.
 
-ghost use Rattle.std.specs.Prelude.{◌≡◌, ◌<◌, ◌++◌, ◌||◌, IfOk, IsTrue, OnOk, All, false, is_some, length, slice_get, true};
+ghost use Rattle.std.specs.Prelude.{◌≡◌, ◌<◌, ◌++◌, ◌∷◌, ◌||◌, IfOk, IsTrue, OnOk, All, false, is_some, length, slice_get, true};
 ghost use Rattle.std.specs.List.{list_all};
 ghost use Rattle.aig_refutation.specs.Checking.{Live, are_named, clause_at, stands};
-ghost use Rattle.aig_refutation.specs.Formula.{Implies};
 ghost use Rattle.aig_refutation.specs.Propagation.{FitsMarks, has, is_rup, is_tautology};
 ghost use Rattle.aig_refutation.specs.Rat.{hints_for, is_rat, resolvent};
 ghost use Rattle.aig_refutation.specs.Tables.{FindsHints, Holds, entry_in, is_apart_if, place_in, places_of};
@@ -15,6 +14,7 @@ use crate::numbered::Numbered;
 use crate::propagation::{is_rup, is_tautology};
 use crate::words::Number;
 use aig_base::{Lit, LitVvec, MemoryError};
+use aig_hints::Search;
 use std::alloc::Global;
 
 /// Whether a clause follows: by reverse unit propagation along the clauses at these places, or from
@@ -28,7 +28,6 @@ pub(crate) fn is_implied(
     requires clauses { All (FitsMarks marks.old) clauses.now }
     requires clause { FitsMarks marks.old clause.now }
     ensures length { length marks.new ≡ length marks.old }
-    ensures implied { IsTrue result → Implies clauses.now clause.now }
     ensures exact { result
         ≡ (is_rup (slice_get clauses.now) clause.now hints.now || is_tautology clause.now) }
 {
@@ -67,7 +66,7 @@ pub(crate) fn are_named(numbered: &Numbered, numbers: &[Number]) -> bool
 }
 
 /// Whether a clause has a literal.
-fn has(clause: &[Lit], lit: Lit) -> bool
+pub(crate) fn has(clause: &[Lit], lit: Lit) -> bool
     ensures { result ≡ has clause.now lit }
 {
     for other in clause {
@@ -90,6 +89,30 @@ fn push_hints_for(groups: &[Number], number: u32, hints: &mut Vec<u32>) -> Resul
         } else if is_here {
             push(hints, hint.value)?;
         }
+    }
+    Ok(())
+}
+
+/// Makes a list of a literal and those of a clause.
+pub(crate) fn lead(pivot: Lit, clause: &[Lit], led: &mut Vec<Lit>) -> Result<(), MemoryError>
+    ensures { OnOk result (led.new.items ≡ pivot ∷ clause.now) }
+{
+    led.clear();
+    push(led, pivot)?;
+    Ok(led.extend_from_slice(clause)?)
+}
+
+/// Appends a group of hints, for the clause of a number.
+fn push_group(groups: &mut Vec<Number>, number: u32, hints: &[u32]) -> Result<(), MemoryError> {
+    groups.push(Number {
+        value: number,
+        positive: false,
+    })?;
+    for hint in hints {
+        groups.push(Number {
+            value: *hint,
+            positive: true,
+        })?;
     }
     Ok(())
 }
@@ -209,6 +232,67 @@ impl Resolvent {
         };
         for place in 0..numbered.clauses().len() {
             if !self.is_apart(numbered, marks, clause, *pivot, hints, groups, place)? {
+                return Ok(false);
+            }
+        }
+        Ok(true)
+    }
+
+    /// Looks for hints for the clause at a place, if that is still there and has the inverse of a
+    /// clause's pivot. It says whether there are some, or none are needed. The marks are used,
+    /// whatever they are.
+    fn search_at(
+        &mut self,
+        numbered: &Numbered,
+        marks: &mut Marks,
+        search: &mut Search,
+        clause: &[Lit],
+        pivot: Lit,
+        groups: &mut Vec<Number>,
+        place: usize,
+    ) -> Result<bool, MemoryError>
+        requires clauses { All (FitsMarks marks.old) numbered.now.clauses }
+        requires clause { FitsMarks marks.old clause.now }
+        requires place { place < length numbered.now.clauses }
+        ensures length { length marks.new ≡ length marks.old }
+    {
+        let Some(number) = numbered.name(place) else {
+            return Ok(true);
+        };
+        let inverse = !pivot;
+        let other = numbered.clauses().clause(place);
+        if !has(other, inverse) {
+            return Ok(true);
+        }
+        self.resolve(clause, pivot, other)?;
+        if is_tautology(marks, &self.clause) {
+            return Ok(true);
+        }
+        search.find(&self.clause, &mut self.hints)?;
+        push_group(groups, number, &self.hints)?;
+        Ok(!self.hints.is_empty())
+    }
+
+    /// Looks for hints by which a clause has the RAT property on a literal, and says whether there
+    /// are some for each clause that needs them. What was in `groups` is lost. Nothing is said of
+    /// what is found. The marks are used, whatever they are.
+    pub(crate) fn search(
+        &mut self,
+        numbered: &Numbered,
+        marks: &mut Marks,
+        search: &mut Search,
+        clause: &[Lit],
+        pivot: Lit,
+        groups: &mut Vec<Number>,
+    ) -> Result<bool, MemoryError>
+        requires clauses { All (FitsMarks marks.old) numbered.now.clauses }
+        requires clause { FitsMarks marks.old clause.now }
+        ensures length { length marks.new ≡ length marks.old }
+    {
+        groups.clear();
+        let count = numbered.clauses().len();
+        for place in 0..count {
+            if !self.search_at(numbered, marks, search, clause, pivot, groups, place)? {
                 return Ok(false);
             }
         }

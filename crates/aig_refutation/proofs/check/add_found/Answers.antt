@@ -1,14 +1,15 @@
-use Rattle.std.proofs.Common.{ℕ, List, ap, ◌∙◌}
+use Rattle.std.proofs.Common.{ℕ, List, ap, sym, ◌∙◌}
 use Rattle.aig_base.specs.declared.logic.literal.Lit.{Lit}
 use Rattle.aig_refutation.specs.Ahead.{IsAhead}
 use Rattle.aig_refutation.specs.Checking.{are_in}
 use Rattle.aig_refutation.proofs.Keeping.{adds_stays}
+use Rattle.aig_refutation.proofs.Kept.{none_kept}
 use Rattle.aig_refutation.proofs.check.add_found.Goals as goal
 
 still : (c : goal.After-add_by_all) (clauses : List (List Lit))
-    → IsAhead clauses c.args.checker.now.table → IsAhead clauses c.add_next.new.self.table
+    → IsAhead clauses c.args.checker.now.table → IsAhead clauses c.add_hinted.new.checker.table
 still c clauses ahead =
-    adds_stays clauses c.args.clause.now c.add_next.new.self.table c.in_ok-number.number
+    adds_stays clauses c.args.clause.now c.add_hinted.new.checker.table c.in_ok-number.number
     (c.in_ok-number.ensures.ahead clauses ahead)
 
 pub returns-clause-ahead : goal.returns-clause-ahead
@@ -18,3 +19,9 @@ pub returns-clause-refused : goal.returns-clause-refused
 returns-clause-refused c clauses ahead inside none =
     c.add_by_all.ensures.refused clauses (still c clauses ahead)
     (ap (λ (n : ℕ). are_in n c.args.clause.now) c.in_ok-number.ensures.variables ∙ inside) none
+
+pub returns-clause-keeps : goal.returns-clause-keeps
+returns-clause-keeps c live h =
+    c.add_by_all.ensures.keeps live
+    (none_kept live c.args.clause.now c.add_hinted.new.checker.table c.in_ok-number.number
+    (sym c.is_some.ensures ∙ c.if-is_some.false) (c.in_ok-number.ensures.keeps live h))

@@ -1,6 +1,6 @@
 use Rattle.aig_base.proofs.Words.{[], ◌∷◌, ◌∙◌, err_from_is_err_and}
-use Rattle.aig_refutation.proofs.Following.{implied_on}
 use Rattle.aig_refutation.proofs.Keeping.{adds_stays}
+use Rattle.aig_refutation.proofs.Kept.{kept_itself, kept_on, more_kept}
 use Rattle.aig_refutation.proofs.check.add_units.Goals as goal
 
 pub returns-in_err-number-clause-ahead : goal.returns-in_err-number-clause-ahead
@@ -14,7 +14,11 @@ loop-preserved c =
     let before = c.loop.invariant in
     let then = c.in_ok-number.ensures in
     record {
-      implied = implied_on _ _ _ before.implied then.implied;
+      keeps = λ live h.
+          let now = before.keeps live h in
+          kept_on live now.0 c.add_next.new.self.table now.2
+          (more_kept now.0 (c.in-Some.lit ∷ []) c.add_next.new.self.table c.in_ok-number.field-0
+          (then.keeps now.0 now.1));
       variables = then.variables ∙ before.variables;
       ahead = λ clauses ahead.
           adds_stays clauses (c.in-Some.lit ∷ []) c.add_next.new.self.table c.in_ok-number.field-0

@@ -1,12 +1,14 @@
 use Rattle.std.proofs.Common.{◌≡◌, List}
 use Rattle.aig_base.specs.declared.logic.literal.Lit.{Lit}
 use Rattle.aig_refutation.specs.Ahead.{IsAhead}
-use Rattle.aig_refutation.specs.Formula.{ImpliesAll}
+use Rattle.aig_refutation.specs.Checking.{Live}
+use Rattle.aig_refutation.specs.Kept.{IsKept}
+use Rattle.aig_refutation.specs.Tables.{Holds}
 use Rattle.aig_refutation.proofs.check.add_units.Given as goal
 
 abbrev pub invariant-loop : goal.invariant-loop
 invariant-loop l = record {
-  implied : ImpliesAll l.fn.checker.table.clauses l.checker.table.clauses;
+  keeps : (live : Live) → Holds l.fn.checker.table live → IsKept live l.checker.table;
   variables : l.checker.variables ≡ l.fn.checker.variables;
   ahead : (clauses : List (List Lit)) → IsAhead clauses l.fn.checker.table
       → IsAhead clauses l.checker.table;

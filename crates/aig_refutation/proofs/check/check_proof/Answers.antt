@@ -1,14 +1,17 @@
 use Rattle.std.proofs.Common.{◌≡◌, true, false, List, sym, ap, subst, ◌∙◌}
 use Rattle.aig_base.specs.declared.logic.literal.Lit.{Lit}
+use Rattle.aig_base.specs.Formula.{IsSatisfiable}
 use Rattle.aig_lexer.specs.Takes.{feed}
 use Rattle.aig_refutation.specs.Ahead.{IsAhead}
 use Rattle.aig_refutation.specs.Checking.{all_live}
 use Rattle.aig_refutation.specs.Forms.{is_binary}
 use Rattle.aig_refutation.specs.Tables.{Holds}
+use Rattle.aig_refutation.specs.Taken.{CanHold}
 use Rattle.aig_refutation.specs.Words.{Text}
 use Rattle.aig_refutation.proofs.Formulas.{formula_inside, shows_binary, shows_text}
 use Rattle.aig_refutation.proofs.Fronts.{front_binary, front_coming}
 use Rattle.aig_refutation.proofs.Keeping.{formula_ahead}
+use Rattle.aig_refutation.proofs.Showing.{formula_holds, ok_on}
 use Rattle.aig_refutation.proofs.check.check_proof.Goals as goal
 
 pub returns-then-is_binary-clause-shown : goal.returns-then-is_binary-clause-shown
@@ -51,3 +54,10 @@ returns-clause-shown g c clauses fresh formula list same none =
     ∙ told) c.check_steps.result
     (c.check_steps.ensures.shown (all_live clauses) goes_on fresh holds same)
     (c.check_steps.ensures.plain clauses goes_on fresh ahead same)
+
+pub returns-then-is_binary-clause-refuted : goal.returns-then-is_binary-clause-refuted
+returns-then-is_binary-clause-refuted g c formula same =
+    let clauses = c.args.checker.now.table.clauses in
+    ok_on c.check_binary.result (¬ CanHold (all_live clauses)) (¬ IsSatisfiable clauses)
+    (λ fails can. fails (formula_holds clauses can))
+    (c.check_binary.ensures.fails (all_live clauses) formula.holds)

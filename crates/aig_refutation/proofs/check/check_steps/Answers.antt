@@ -4,6 +4,7 @@ use Rattle.aig_refutation.specs.declared.error.RefutationError.TheVariants as er
 use Rattle.aig_refutation.specs.Checking.{all_live, are_in}
 use Rattle.aig_refutation.specs.Concluding.{Concludes, ConcludesPlain, ShowsPlain, ShowsText, left_outcome, plain_left, text_outcome}
 use Rattle.aig_refutation.specs.Proofs.{Line}
+use Rattle.aig_refutation.specs.Kept.{KeepsOrEnds}
 use Rattle.aig_refutation.specs.Reading.{GivesStep, said_by}
 use Rattle.aig_refutation.specs.Tables.{Checked, Holds}
 use Rattle.aig_refutation.specs.Taken.{CanHold}
@@ -229,8 +230,19 @@ returns-clause-refuted g c formula same =
     (c.take_steps.ensures.fails (all_live clauses) begun.1 here
     (ap (λ h. h.variables) kept ∙ same)))
     (λ n.
-    ok_on r (¬ IsSatisfiable c.refutes_at_first.new.checker.table.clauses)
-    (¬ IsSatisfiable clauses)
-    (λ refuted can. refuted
-    (can.0, first.implied can.0 (c.in_ok-search.ensures.implied can.0 can.1)))
-    (c.take_steps.ensures.refuted (first.same.3 (c.in_ok-search.ensures.searches n))))
+    let begun = c.in_ok-search.ensures.keeps (all_live clauses) formula.holds in
+    let new = c.refutes_at_first.new.checker.table in
+    let now : KeepsOrEnds begun.0 new (Ok false) = subst (λ (b : Bool). KeepsOrEnds begun.0 new
+    (Ok b)) c.if-branch.false (first.keeps begun.0 begun.1) in
+    ok_on r (¬ CanHold now.0) (¬ IsSatisfiable clauses)
+    (λ fails can. fails (now.2 (begun.2 (formula_holds clauses can))))
+    (c.take_steps.ensures.searched now.0 (first.same.3 (c.in_ok-search.ensures.searches n)) now.1))
+
+pub returns-then-branch-clause-refuted : goal.returns-then-branch-clause-refuted
+returns-then-branch-clause-refuted g c formula same = λ can.
+    let clauses = c.args.checker.now.table.clauses in
+    let begun = c.in_ok-search.ensures.keeps (all_live clauses) formula.holds in
+    let new = c.refutes_at_first.new.checker.table in
+    let ends : KeepsOrEnds begun.0 new (Ok true) = subst (λ (b : Bool). KeepsOrEnds begun.0 new
+    (Ok b)) c.if-branch.true (c.in_ok-refutes_at_first.ensures.keeps begun.0 begun.1) in
+    ends (begun.2 (formula_holds clauses can))

@@ -1,9 +1,10 @@
 use Rattle.aig_base.proofs.Words.{ℕ, Bool, true, false, Ok, Err, subst, ◌∙◌, err_from_is_err_and}
 use Rattle.aig_lexer.specs.Takes.{feed}
 use Rattle.aig_refutation.specs.Ahead.{TakesPlain}
+use Rattle.aig_refutation.specs.Kept.{KeepsOrEnds}
 use Rattle.aig_refutation.specs.Reading.{plain_by}
 use Rattle.aig_refutation.specs.ReadingBinary.{GivesBinary}
-use Rattle.aig_refutation.proofs.Following.{implied_on}
+use Rattle.aig_refutation.proofs.Kept.{kept_on}
 use Rattle.aig_refutation.proofs.BinarySteps.{binary_more, binary_none, binary_unread, binary_wrong}
 use Rattle.aig_refutation.proofs.check.take_binary.Goals as goal
 
@@ -43,7 +44,12 @@ returns-in_err-take_searched-clause-plain g c clauses ahead same =
 
 pub steps-preserved : goal.steps-preserved
 steps-preserved g c = record {
-  implied = implied_on _ _ _ c.steps.invariant.implied c.in_ok-take_searched.ensures.implied;
+  keeps = λ live h.
+      let now = c.steps.invariant.keeps live h in
+      let t = c.take_searched.new.checker.table in
+      let on : KeepsOrEnds now.0 t (Ok false) = subst (λ (b : Bool). KeepsOrEnds now.0 t (Ok b))
+      c.if-branch-2.false (c.in_ok-take_searched.ensures.keeps now.0 now.1) in
+      kept_on live now.0 t now.2 on;
   plain = λ clauses ahead same.
       let at = feed g.R.Source.left g.R.Source.failed g.R.Source.pulls in
       let before = at c.args.buffer.now c.args.r.now in
@@ -81,3 +87,11 @@ returns-clause-plain g c clauses ahead same =
     let given : GivesBinary variables step mid after (Ok false) = subst (λ (b : Bool).
     GivesBinary variables step mid after (Ok b)) c.if-branch.false c.in_ok-read_step.ensures.step in
     binary_none variables clauses before s.now mid s.goes step after given
+
+pub returns-then-branch-2-clause-fails : goal.returns-then-branch-2-clause-fails
+returns-then-branch-2-clause-fails g c live h = λ can.
+    let now = c.steps.invariant.keeps live h in
+    let t = c.take_searched.new.checker.table in
+    let ends : KeepsOrEnds now.0 t (Ok true) = subst (λ (b : Bool). KeepsOrEnds now.0 t (Ok b))
+    c.if-branch-2.true (c.in_ok-take_searched.ensures.keeps now.0 now.1) in
+    ends (now.2 can)

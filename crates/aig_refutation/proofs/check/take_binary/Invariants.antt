@@ -2,13 +2,15 @@ use Rattle.std.proofs.Common.{◌≡◌, List}
 use Rattle.aig_base.specs.declared.logic.literal.Lit.{Lit}
 use Rattle.aig_lexer.specs.Takes.{feed}
 use Rattle.aig_refutation.specs.Ahead.{IsAhead}
-use Rattle.aig_refutation.specs.Formula.{ImpliesAll}
+use Rattle.aig_refutation.specs.Checking.{Live}
+use Rattle.aig_refutation.specs.Kept.{IsKept}
+use Rattle.aig_refutation.specs.Tables.{Holds}
 use Rattle.aig_refutation.proofs.BinarySteps.{GoesBinary}
 use Rattle.aig_refutation.proofs.check.take_binary.Given as goal
 
 abbrev pub invariant-steps : goal.invariant-steps
 invariant-steps g l = record {
-  implied : ImpliesAll l.fn.checker.table.clauses l.checker.table.clauses;
+  keeps : (live : Live) → Holds l.fn.checker.table live → IsKept live l.checker.table;
   plain : (clauses : List (List Lit)) → IsAhead clauses l.fn.checker.table
       → l.fn.checker.variables ≡ l.variables
       → record {

@@ -1,5 +1,6 @@
 use Rattle.aig_base.proofs.Words.{false, Err, Ok, err_from_is_err_and}
 use Rattle.aig_refutation.proofs.Keeping.{drop_ahead, takes_dropped, takes_learned}
+use Rattle.aig_refutation.proofs.Kept.{kept_itself}
 use Rattle.aig_refutation.proofs.check.take_searched.Goals as goal
 
 pub returns-then-not-step-clause-ahead : goal.returns-then-not-step-clause-ahead
@@ -23,3 +24,6 @@ returns-in_default-clause-ahead c clauses ahead =
     takes_dropped c.args.checker.now.variables clauses c.args.step.now
     c.args.checker.now.table (Ok false) c.if-not-step.false
     (drop_ahead c.args.checker.now.table clauses c.args.step.now.clause.items ahead)
+
+pub returns-in_default-clause-keeps : goal.returns-in_default-clause-keeps
+returns-in_default-clause-keeps c live h = kept_itself live c.args.checker.now.table h

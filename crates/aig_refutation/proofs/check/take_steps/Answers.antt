@@ -1,8 +1,9 @@
 use Rattle.aig_base.proofs.Words.{Bool, true, false, Ok, Err, ℕ, subst, ◌∙◌, err_from_is_err_and}
 use Rattle.aig_refutation.specs.Concluding.{TakesLine, TakesStep}
+use Rattle.aig_refutation.specs.Kept.{KeepsOrEnds}
 use Rattle.aig_refutation.specs.Reading.{GivesStep, said_by}
 use Rattle.aig_refutation.specs.Words.{place}
-use Rattle.aig_refutation.proofs.Following.{implied_on}
+use Rattle.aig_refutation.proofs.Kept.{kept_on}
 use Rattle.aig_refutation.proofs.Outcomes.{loop_last, loop_more, loop_none, loop_unread, loop_wrong, step_fails}
 use Rattle.aig_refutation.proofs.Plainly.{is_plain, plain_more, plain_none, plain_unread, plain_wrong}
 use Rattle.aig_refutation.proofs.check.take_steps.Goals as goal
@@ -72,11 +73,13 @@ returns-then-not-branch-2-clause-shown g c live none holds same =
 
 pub steps-preserved : goal.steps-preserved
 steps-preserved g c = record {
-  implied = λ searching.
-      let before = c.steps.invariant.implied searching in (
-        c.in_ok-take_step.ensures.searches before.0,
-        implied_on _ _ _ before.1 (c.in_ok-take_step.ensures.implied before.0),
-      );
+  keeps = λ live searching h.
+      let before = c.steps.invariant.keeps live searching h in
+      let now = before.1 in
+      let t = c.take_step.new.checker.table in
+      let on : KeepsOrEnds now.0 t (Ok false) = subst (λ (b : Bool). KeepsOrEnds now.0 t (Ok b))
+      c.if-not-branch.true (c.in_ok-take_step.ensures.keeps now.0 before.0 now.1) in
+      (c.in_ok-take_step.ensures.searches before.0, kept_on live now.0 t now.2 on);
   shown = λ live none holds same.
       let at = place g.R.Source.left g.R.Source.failed g.R.Source.pulls in
       let before = at c.args.words.now c.args.r.now in
@@ -229,8 +232,11 @@ returns-clause-fails g c live none holds same = λ can.
     s.holds)) in
     step_fails variables t s.now step on (s.keeps can)
 
-pub returns-clause-refuted : goal.returns-clause-refuted
-returns-clause-refuted g c searching = λ can.
-    let before = c.steps.invariant.implied searching in
-    c.in_ok-take_step.ensures.refuted before.0 c.if-not-branch.false
-    (can.0, before.1 can.0 can.1)
+pub returns-clause-searched : goal.returns-clause-searched
+returns-clause-searched g c live searching h = λ can.
+    let before = c.steps.invariant.keeps live searching h in
+    let now = before.1 in
+    let t = c.take_step.new.checker.table in
+    let ends : KeepsOrEnds now.0 t (Ok true) = subst (λ (b : Bool). KeepsOrEnds now.0 t (Ok b))
+    c.if-not-branch.false (c.in_ok-take_step.ensures.keeps now.0 before.0 now.1) in
+    ends (now.2 can)

@@ -3,7 +3,7 @@ use Rattle.std.specs.Prelude.{IsSome}
 use Rattle.aig_base.specs.declared.logic.literal.Lit.{Lit}
 use Rattle.aig_refutation.specs.Ahead.{IsAhead}
 use Rattle.aig_refutation.specs.Checking.{Live, are_in}
-use Rattle.aig_refutation.specs.Formula.{ImpliesAll}
+use Rattle.aig_refutation.specs.Kept.{IsKept}
 use Rattle.aig_refutation.specs.Reading.{said_by}
 use Rattle.aig_refutation.specs.Tables.{Holds}
 use Rattle.aig_refutation.specs.Taken.{KeepsLive}
@@ -14,8 +14,8 @@ use Rattle.aig_refutation.proofs.check.take_steps.Given as goal
 
 abbrev pub invariant-steps : goal.invariant-steps
 invariant-steps g l = record {
-  implied : IsSome l.fn.search
-      → IsSome l.search × ImpliesAll l.fn.checker.table.clauses l.checker.table.clauses;
+  keeps : (live : Live) → IsSome l.fn.search → Holds l.fn.checker.table live
+      → IsSome l.search × IsKept live l.checker.table;
   shown : (live : Live) → l.fn.search ≡ None → Holds l.fn.checker.table live
       → l.fn.checker.variables ≡ l.variables
       → record {

@@ -10,7 +10,7 @@ loop-number-preserved c =
     record {
       length = then.length ∙ before.length;
       kept = λ lit is. then.kept lit (before.kept lit is);
-      entails = λ clause start. found_none c.args.numbered.now.clauses clause
+      entails = λ clause start. found_none c.args.numbered.now clause
           (marked c.follow.new.marks) c.follow.result c.in_default.not-Conflict
           (then.finds clause (before.entails clause start));
     }

@@ -8,6 +8,6 @@ abbrev pub invariant-loop-number : goal.invariant-loop-number
 invariant-loop-number l = record {
   length : length l.marks ≡ length l.fn.marks;
   kept : AreAmong (marked l.fn.marks) (marked l.marks);
-  entails : (clause : List Lit) → Entails l.numbered.clauses clause (marked l.fn.marks)
-      → Entails l.numbered.clauses clause (marked l.marks);
+  entails : (clause : List Lit) → Entails l.numbered clause (marked l.fn.marks)
+      → Entails l.numbered clause (marked l.marks);
 }

@@ -10,8 +10,8 @@ abbrev pub invariant-loop-number : goal.invariant-loop-number
 invariant-loop-number l = record {
   length : length l.marks ≡ length l.fn.marks;
   kept : AreAmong (marked l.fn.marks) (marked l.marks);
-  entails : (clause : List Lit) → Entails l.numbered.clauses clause (marked l.fn.marks)
-      → Entails l.numbered.clauses clause (marked l.marks);
+  entails : (clause : List Lit) → Entails l.numbered clause (marked l.fn.marks)
+      → Entails l.numbered clause (marked l.marks);
   clear : l.found ≡ found.Conflict → ⊥;
   narrows : Narrows l.fn.marks l.marks l.found;
   settled : IfNothing l.found ((n : ℕ) → n < l.number → IsSettled (marked l.fn.marks)

@@ -7,7 +7,7 @@ abbrev pub invariant-loop : goal.invariant-loop
 invariant-loop l = record {
   length : length l.marks ≡ length l.fn.marks;
   start : AreAmong (when_false l.clause) (marked l.marks);
-  entails : Entails l.numbered.clauses l.clause (marked l.marks);
+  entails : Entails l.numbered l.clause (marked l.marks);
 }
 
 abbrev pub decreases-loop : goal.decreases-loop

@@ -1,6 +1,7 @@
 use Rattle.aig_base.proofs.Words.{◌≡◌, ◌<◌, ◌^◌, ◌+◌, arith, ap, sym, subst, ◌∙◌, err_from_is_err_and}
 use Rattle.aig_refutation.specs.Ahead.{IsAhead}
-use Rattle.aig_refutation.specs.Tables.{Table}
+use Rattle.aig_refutation.specs.Tables.{Holds, Table}
+use Rattle.aig_refutation.proofs.Kept.{implied_keeps}
 use Rattle.aig_refutation.proofs.Unfollowed.{unfollowed}
 use Rattle.aig_refutation.proofs.checker.Checker.add_by_all.Goals as goal
 
@@ -25,3 +26,13 @@ returns-in_err-put_next-clause-ahead c clauses ahead =
     let here : IsAhead clauses c.self.inside.numbered = subst (λ (table : Table). IsAhead clauses
     table) (sym (ap (λ v. v.table) c.self.view_is)) ahead in
     rw (p.1, p.2) (c.in_err-put_next.ensures.ahead clauses here)
+
+pub returns-clause-keeps : goal.returns-clause-keeps
+returns-clause-keeps c live h =
+    let t : Table = c.self.inside.numbered in
+    let before : Holds t live = subst (λ (table : Table). Holds table live)
+    (sym (ap (λ v. v.table) c.self.view_is)) h in (
+      c.in_ok-put_next.ensures.adds live before,
+      implied_keeps live c.args.clause.now c.in_ok-put_next.field-0 t before
+          (c.is_entailed.ensures.implied c.if-not-is_entailed.false),
+    )

@@ -1,6 +1,11 @@
-use Rattle.aig_base.proofs.Words.{ap, sym, subst, err_from_is_err_and}
+use Rattle.aig_base.proofs.Words.{◌≡◌, ◌||◌, Bool, true, List, Ok, ap, slice_get, sym, subst, ◌∙◌, err_from_is_err_and}
+use Rattle.aig_base.specs.declared.MemoryError.{MemoryError}
+use Rattle.aig_base.specs.declared.logic.literal.Lit.{Lit}
 use Rattle.aig_refutation.specs.Ahead.{IsAhead}
-use Rattle.aig_refutation.specs.Tables.{Table}
+use Rattle.aig_refutation.specs.Checking.{follows}
+use Rattle.aig_refutation.specs.Propagation.{is_rup, is_tautology}
+use Rattle.aig_refutation.specs.Tables.{FindsHints, Holds, Table}
+use Rattle.aig_refutation.proofs.Kept.{follows_keeps, same_follows}
 use Rattle.aig_refutation.proofs.checker.Checker.add_next.Goals as goal
 
 pub returns-in_err-put_next-clause-ahead : goal.returns-in_err-put_next-clause-ahead
@@ -11,3 +16,21 @@ returns-in_err-put_next-clause-ahead c clauses ahead =
     let here : IsAhead clauses c.self.inside.numbered = subst (λ (table : Table). IsAhead clauses
     table) (sym (ap (λ v. v.table) c.self.view_is)) ahead in
     rw (p.1, p.2) (c.in_err-put_next.ensures.ahead clauses here)
+
+pub returns-clause-keeps : goal.returns-clause-keeps
+returns-clause-keeps c live h =
+    let t : Table = c.self.inside.numbered in
+    let before : Holds t live = subst (λ (table : Table). Holds table live)
+    (sym (ap (λ v. v.table) c.self.view_is)) h in
+    let clause = c.args.clause.now in
+    let hints = c.args.hints.now in
+    let finds : FindsHints {E = MemoryError} t hints c.find_hints.new.places.items (Ok true) =
+    subst (λ (b : Bool). FindsHints {E = MemoryError} t hints c.find_hints.new.places.items (Ok b))
+    c.if-not-branch.false c.in_ok-find_hints.ensures in
+    let does : follows live clause hints ≡ true =
+    sym (same_follows t live before clause hints c.clauses.result.now c.deref.result.now finds.1
+    c.clauses.ensures (c.deref.ensures.value ∙ finds.0))
+    ∙ sym c.is_implied.ensures.exact ∙ c.if-not-is_implied.false in (
+      c.in_ok-put_next.ensures.adds live before,
+      follows_keeps live clause c.in_ok-put_next.field-0 hints does,
+    )

@@ -2,7 +2,8 @@ use Rattle.std.proofs.Common.{ap, sym, subst, ◌∙◌}
 use Rattle.aig_refutation.specs.Checking.{deleted}
 use Rattle.aig_refutation.specs.Tables.{Holds, Table}
 use Rattle.aig_refutation.proofs.Adding.{moves_freed}
-use Rattle.aig_refutation.proofs.Following.{kept_either, kept_implied_on_ok}
+use Rattle.aig_refutation.proofs.Following.{kept_either}
+use Rattle.aig_refutation.proofs.Kept.{moved_kept}
 use Rattle.aig_refutation.proofs.checker.Checker.delete.Goals as goal
 
 pub invariant_of-self-2 : goal.invariant_of-self-2
@@ -14,12 +15,6 @@ invariant_of-self-2 c =
           c.reclaim.ensures.kept c.reclaim.ensures.err c.self.invariant.1,
     )
 
-pub returns-clause-implied : goal.returns-clause-implied
-returns-clause-implied c =
-    kept_implied_on_ok c.reclaim.result c.args.self.now.table.clauses
-    c.remove_all.new.numbered.clauses c.reclaim.new.self.clauses (c.remove_all.ensures.same ∙
-    ap (λ t. t.table.clauses) c.self.view_is) c.reclaim.ensures.kept
-
 pub returns-clause-moves : goal.returns-clause-moves
 returns-clause-moves c live h =
     let before : Holds c.self.inside.numbered live = subst (λ (t : Table). Holds t live) (sym (ap
@@ -27,3 +22,8 @@ returns-clause-moves c live h =
     let then = c.in_ok-remove_all.ensures.moves live before in
     moves_freed c.reclaim.new.self c.reclaim.result (deleted live c.args.numbers.now) then.0 then.1
     c.reclaim.ensures.memory (c.reclaim.ensures.holds then.0 then.2)
+
+pub returns-clause-keeps : goal.returns-clause-keeps
+returns-clause-keeps c live h =
+    moved_kept live c.args.numbers.now c.reclaim.new.self c.reclaim.result
+    (returns-clause-moves c live h)

@@ -3,9 +3,10 @@ use Rattle.aig_base.proofs.Words.{All}
 use Rattle.aig_base.specs.declared.logic.literal.Lit.{Lit}
 use Rattle.aig_base.specs.Clauses.{variable_of}
 use Rattle.aig_refutation.specs.Ahead.{IsAhead}
-use Rattle.aig_refutation.specs.Tables.{Table, clause_in, place_in}
+use Rattle.aig_refutation.specs.Tables.{Holds, Table, clause_in, place_in}
 use Rattle.aig_refutation.proofs.Closing.{in_place}
 use Rattle.aig_refutation.proofs.Keeping.{delete_ahead, drop_ahead}
+use Rattle.aig_refutation.proofs.Kept.{kept_itself}
 use Rattle.aig_refutation.proofs.Literals.{clause_there}
 use Rattle.aig_refutation.proofs.checker.Checker.delete_same.Goals as goal
 
@@ -16,6 +17,18 @@ returns-in_default-clause-ahead c clauses ahead =
 pub returns-then-not-is_below-clause-ahead : goal.returns-then-not-is_below-clause-ahead
 returns-then-not-is_below-clause-ahead c clauses ahead =
     drop_ahead c.args.self.now.table clauses c.args.clause.now ahead
+
+pub returns-in_default-clause-keeps : goal.returns-in_default-clause-keeps
+returns-in_default-clause-keeps c live h = kept_itself live c.args.self.now.table h
+
+pub returns-then-not-is_below-clause-keeps : goal.returns-then-not-is_below-clause-keeps
+returns-then-not-is_below-clause-keeps c live h = kept_itself live c.args.self.now.table h
+
+pub returns-then-not-are_same-clause-keeps : goal.returns-then-not-are_same-clause-keeps
+returns-then-not-are_same-clause-keeps c live h =
+    let here : Holds c.self.inside.numbered live = subst (λ (table : Table). Holds table live)
+    (sym (ap (λ v. v.table) c.self.view_is)) h in
+    kept_itself live c.self.inside.numbered here
 
 pub are_same-requires-clause-other : goal.are_same-requires-clause-other
 are_same-requires-clause-other c k d h =

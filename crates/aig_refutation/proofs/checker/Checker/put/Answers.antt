@@ -1,7 +1,7 @@
 use Rattle.aig_base.proofs.Words.{◌≡◌, ◌<◌, ℕ, sym, ap, subst, ◌∙◌, All}
 use Rattle.std.specs.List.{Contains}
 use Rattle.aig_base.specs.Clauses.{variable_of}
-use Rattle.aig_refutation.proofs.Following.{added_implied, below_either, kept_follows, kept_literals}
+use Rattle.aig_refutation.proofs.Following.{below_either, kept_literals}
 use Rattle.aig_refutation.proofs.checker.Checker.put.Goals as goal
 
 pub invariant_of-self-2 : goal.invariant_of-self-2
@@ -19,14 +19,3 @@ invariant_of-self-2 c =
       below_either c.add.result inside.variables inside.numbered.clauses c.add.new.self.clauses
           kept c.add.ensures.ok c.add.ensures.err c.self.invariant.1 below,
     )
-
-pub returns-clause-implied : goal.returns-clause-implied
-returns-clause-implied c follows =
-    let given = c.args.self.now.table.clauses in
-    let same : c.self.inside.numbered.clauses ≡ given = ap (λ t. t.table.clauses) c.self.view_is in
-    let clause = c.args.clause.now in
-    let kept = c.deref.result.now in
-    let all : All (Contains kept) clause = rw c.deref.ensures.value c.in_ok-keep_once.ensures.all
-    in
-    added_implied c.add.result given c.self.inside.numbered.clauses c.add.new.self.clauses kept
-    same (kept_follows given clause kept all follows) c.add.ensures.ok
