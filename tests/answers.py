@@ -105,10 +105,6 @@ def wanted_of(program, printed):
     return int(not out and bool(said)), out, said
 
 
-# What `run` says beside a lasso too, as of each file that has justice properties.
-NOTICED = b"aigcheck: justice and fairness were not looked at\n"
-
-
 class Answers:
     """The programs, a folder of files, and what was seen."""
 
@@ -149,8 +145,6 @@ class Answers:
             line = form.format(words)
             program = line.split()[0]
             wanted = wanted_of(program, spelled(printed))
-            if path.name == "lassos.tsv" and wanted[0] == 0:
-                wanted = *wanted[:2], NOTICED
             self.check(line, wanted, path.parent, given[:500])
             if program in CUT:
                 self.check_cut(line, wanted[1], path.parent)

@@ -1,12 +1,17 @@
 #!/usr/bin/env python3
-"""Has each question printed by one process, answered here, and its proof taken by another: printed.py
+"""Has each question printed by one process, answered here, and its proof taken by another: printed.py [--solver]
 
 Of each question about one file and two, in both settings: the clauses are what the program prints, a search over assignments writes a
 proof of them, as a text in DRAT, in LRAT and as binary DRAT, and the later command is given the files and that proof alone. It knows
-nothing of the library. A proof of no step has to be refused, where the clauses aren't in conflict at once."""
+nothing of the library. A proof of no step has to be refused, where the clauses aren't in conflict at once.
+
+With --solver cadical writes proofs, too (a search here finds the hints of LRAT), of larger machines: counters by unlike gates, one beside
+the other, side by side, and as a certificate of themselves. A text that is a proof of the one setting is given to the other one, which
+has to take it exactly where a checker here does. It is no part of tests/run then."""
 import sys
 
 import harness
+from aiger import Gates, Machine
 from harness import CHECK, EDIT, TOOL, Tally, output, run
 from proofs import Clauses, Formula, is_taken, numbered
 
@@ -15,6 +20,34 @@ DIFFERING, HELD, STUCK = (str(FILES / f"{name}.aag") for name in ["differing", "
 # The and of two inputs, and the same by other gates: the first input, unless it is true and the second one isn't.
 AND = "aag 3 2 0 1 1\n2\n4\n6\n6 4 2\n"
 OTHER = "aag 4 2 0 1 2\n2\n4\n8\n6 5 2\n8 7 2\n"
+# How many bits the counters have.
+BITS = 4
+
+
+def differ(gates, one, other, other_way):
+    """A literal that is true where two others differ: as an or of two ands, or the other way."""
+    if other_way:
+        return gates.both(gates.both(one ^ 1, other ^ 1) ^ 1, gates.both(one, other) ^ 1)
+    return gates.both(gates.both(one, other ^ 1) ^ 1, gates.both(one ^ 1, other) ^ 1) ^ 1
+
+
+def counters(*ways):
+    """Counters of the steps on which the input is true, a row of latches for each: the bits of one are outputs, and where two differ is
+    bad."""
+    gates = Gates(1 + BITS * len(ways))
+    rows = [[4 + 2 * (BITS * at + bit) for bit in range(BITS)] for at in range(len(ways))]
+    latches = []
+    for row, way in zip(rows, ways):
+        carry = 2
+        for bit in row:
+            latches.append([bit, differ(gates, bit, carry, way)])
+            carry = gates.both(bit, carry)
+    if len(rows) == 1:
+        return Machine([2], latches, rows[0], gates=gates).text()
+    same = 1
+    for one, other in zip(*rows):
+        same = gates.both(same, differ(gates, one, other, False) ^ 1)
+    return Machine([2], latches, bads=[same ^ 1], gates=gates).text()
 
 
 def negated(decisions):
@@ -82,6 +115,32 @@ def proofs_of(text):
     return [(proof, True) for proof in made] + [(b"", is_taken(formula, b""))]
 
 
+def solved(folder, text):
+    """cadical's proofs of a formula in each form, which have to be taken. The hints are found here."""
+    clauses, proof = folder / "clauses", folder / "made"
+    clauses.write_text(text)
+    made = []
+    for form in ["--no-binary", "--binary"]:
+        status, printed, _ = run(["cadical", "-q", form, clauses, proof])
+        if status != 20:
+            sys.exit(f"cadical ends with status {status}: {printed}, of\n{text}")
+        made.append(proof.read_bytes())
+    lines = [line.split() for line in made[0].decode().splitlines()]
+    made.insert(1, text_of(numbered(Formula(text), lines)))
+    return [(proof, True) for proof in made]
+
+
+def larger(twins, one, other, miter):
+    """The same questions of counters."""
+    yield [CHECK, "clauses", twins, "5"], [CHECK, "refuted", twins, "5"], [], "no bad state at step 5\n"
+    yield [CHECK, "bounded", twins, "5"], [CHECK, "refuted", twins, "to", "5"], [], "no bad state up to step 5\n"
+    for k, form in [("0", []), ("1", []), ("0", ["distinct"]), ("1", ["distinct"])]:
+        line = f"no bad state at any step, if none up to step {k}\n"
+        yield [CHECK, "window", twins, k, *form], [CHECK, "inductive", twins, k], form, line
+    yield [CHECK, "obligations", twins, twins], [CHECK, "certified", twins, twins], [], "no bad state at any step\n"
+    yield [TOOL, "query", miter, "5"], [CHECK, "equal", one, other, "5"], [], "equal at step 5\n"
+
+
 def questions(miter, one, other):
     """What prints the clauses of a question, what takes proofs of these, the words behind the proofs, and the line that it then prints."""
     for file, k in [(STUCK, 0), (STUCK, 3), (DIFFERING, 1)]:
@@ -100,21 +159,49 @@ def parts_of(text):
     return [first, mark + second] if mark else [text]
 
 
-def compare(tally, folder, words, taking, after, line):
+def compare(tally, folder, words, taking, after, line, proofs_of=proofs_of):
     """Has proofs in each form taken of what the first words print."""
     tried = zip(*map(proofs_of, parts_of(output(words))))
-    for at, proofs in enumerate(tried):
+    for form, proofs in zip(["DRAT", "LRAT", "binary", "no step"], tried):
         paths = [folder / f"proof{part}" for part in range(len(proofs))]
         for path, (proof, _) in zip(paths, proofs):
             path.write_bytes(proof)
         status, printed, said = run([*taking, *map(str, paths), *after])
         wanted = (0, line.encode()) if all(taken for _, taken in proofs) else (1, b"")
-        tally.wants(f"{words}, {['DRAT', 'LRAT', 'binary', 'no step'][at]}: {said}", wanted, (status, printed))
+        tally.wants(f"{words}, {form}: {said}", wanted, (status, printed))
+
+
+def mix(tally, folder, words, taking, after, line):
+    """Gives cadical's proof of each setting to the other one, where it is taken if the checker here takes it."""
+    settings = [[], ["raw"]]
+    printed = [output([*words, *setting]) for setting in settings]
+    if len(parts_of(printed[0])) > 1:
+        return
+    for text, setting, other in zip(printed, reversed(settings), reversed(printed)):
+        proof = solved(folder, text)[0][0]
+        (folder / "proof").write_bytes(proof)
+        status, shown, said = run([*taking, str(folder / "proof"), *after, *setting])
+        wanted = (0, line.encode()) if is_taken(Formula(other), proof) else (1, b"")
+        tally.wants(f"{words} {setting}, a proof of the other setting: {said}", wanted, (status, shown))
+
+
+def check_solver(tally, folder):
+    """Has cadical's proofs taken."""
+    made = {"twins.aag": counters(False, True), "one.aag": counters(False), "other.aag": counters(True)}
+    harness.write_files(folder, {name: text.encode() for name, text in made.items()})
+    twins, one, other = (str(folder / name) for name in made)
+    (folder / "joint.aag").write_text(output([EDIT, "miter", one, other]))
+    for words, taking, after, line in larger(twins, one, other, str(folder / "joint.aag")):
+        for setting in [[], ["raw"]]:
+            wanted = [*words, *setting], taking, [*after, *setting], line
+            compare(tally, folder, *wanted, proofs_of=lambda text: solved(folder, text))
+        mix(tally, folder, words, taking, after, line)
 
 
 def main():
-    harness.parser(__doc__).parse_args()
-    tally = Tally()
+    parser = harness.parser(__doc__)
+    parser.add_argument("--solver", action="store_true", help="with proofs of cadical, too")
+    given, tally = parser.parse_args(), Tally()
     with harness.new_folder() as folder:
         one, other, miter = (str(folder / name) for name in ["and.aag", "other.aag", "miter.aag"])
         harness.write_files(folder, {"and.aag": AND.encode(), "other.aag": OTHER.encode()})
@@ -122,6 +209,8 @@ def main():
         for words, taking, after, line in questions(miter, one, other):
             for setting in [[], ["raw"]]:
                 compare(tally, folder, [*words, *setting], taking, [*after, *setting], line)
+        if given.solver:
+            check_solver(tally, folder)
     return tally.end()
 
 

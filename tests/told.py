@@ -103,6 +103,14 @@ def what_limits_a_comparison_is_told(room):
     ends(room, room.checker, ["clauses", "held.aag", "0"], 0, ASKED.replace(b"2 2\n-1 0\n", b"2 3\n-1 0\n-2 0\n"), b"")
 
 
+def a_run_names_its_property(room):
+    """So beside a witness nothing is told of justice and fairness, whether it is of a bad state or of a fair lasso."""
+    harness.write_files(room.folder, FILES)
+    for letter, shown in [("b", b"b0 at step 0\n"), ("j", b"j0 in a loop from step 0 to 0\n")]:
+        room.write("witness", f"1\n{letter}0\n\n1\n.\n".encode())
+        ends(room, room.checker, ["run", "live.aag", "witness"], 0, shown, b"")
+
+
 def commands_tell_what_they_leave_out(room):
     """Those of aigedit whose files have no justice and fairness."""
     harness.write_files(room.folder, FILES)

@@ -9,14 +9,17 @@ use Rattle.aig_command_line.specs.declared.status.Ending.{Ending}
 use Rattle.aig_command_line.specs.declared.status.Ending.TheVariants as endings
 use Rattle.aig_checks.specs.declared.command.Command.{Command}
 use Rattle.aig_checks.specs.declared.command.Command.TheVariants as commands
+use Rattle.aig_checks.specs.declared.command.FileCommand.TheVariants as on_file
 use Rattle.aig_checks.specs.declared.command.PairCommand.TheVariants as on_pair
 use Rattle.aig_checks.specs.declared.tool.CheckError.{CheckError}
 use Rattle.aig_checks.specs.declared.tool.CheckError.TheVariants as errors
 use Rattle.aig_checks.specs.Words.{IsCall}
 
--- what a command does with parts of its files that its answer is not about: none looks at justice
--- and fairness, and `equal` compares
+-- What a command does with parts of its files that its answer is not about: `equal` compares. None
+-- but `run` leaves out justice and fairness: it names the property that the witness shows, and in a
+-- fair lasso it looks at both.
 abbrev pub regard_of : Command → Regard
+regard_of (commands.File on_file.Run) = record { leaves_out = false; compares = false }
 regard_of (commands.Pair (on_pair.Equal k optimize)) = record { leaves_out = true; compares = true }
 regard_of (commands.Pair (on_pair.AlwaysEqual k form optimize)) =
     record { leaves_out = true; compares = true }

@@ -3,17 +3,27 @@
 ghost use Rattle.std.specs.Prelude.{◌≡◌, ◌↔◌, true, IfOk, IfSome, IsErr, IsNone, map, string_bytes};
 ghost use Rattle.aig_checks.specs.Noticing.{IsAnswer, TellsBeside, regard_of};
 
-use crate::command::{Command, PairCommand, call_of};
+use crate::command::{Command, FileCommand, PairCommand, call_of};
 use crate::tool::CheckError;
 use aig_base::MemoryError;
 use aig_command_line::{Ending, Headers, Regard, Tells, tell_of_files};
 
-/// What a command does with parts of its files that its answer isn't about: none looks at justice and fairness, and `equal` compares.
+/// Whether a command answers without a look at justice and fairness: each but `run`, which names the property that the witness shows.
+fn leaves_out(command: Command) -> bool
+    ensures { result ≡ (regard_of command).leaves_out }
+{
+    match command {
+        Command::File(FileCommand::Run) => false,
+        _ => true,
+    }
+}
+
+/// What a command does with parts of its files that its answer isn't about.
 fn regard_of(command: Command) -> Regard
     ensures { result ≡ regard_of command }
 {
     Regard {
-        leaves_out: true,
+        leaves_out: leaves_out(command),
         compares: match command {
             Command::Pair(PairCommand::Equal { .. } | PairCommand::AlwaysEqual { .. }) => true,
             _ => false,
