@@ -34,7 +34,8 @@ pub GivesEach-there : (most : ℕ) (old new : List AigNode) (wanted : ℕ → (�
 GivesEach-there most old new wanted count es made k d h = (made.each k d (omega
     (arith, h, made.long))).there
 
-there_grown : (old new : List AigNode) (es : List AigEdge) → Grows old new → All (IsInRange old) es
+pub there_grown : (old new : List AigNode) (es : List AigEdge) → Grows old new
+    → All (IsInRange old) es
     → All (IsInRange new) es
 there_grown old new es grows all k d h = omega (arith, all k d h, Grows-longer old new grows)
 

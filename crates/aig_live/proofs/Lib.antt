@@ -5,3 +5,9 @@ pub mod Made
 pub mod Assembled
 pub mod Lived
 pub mod Circuits
+pub mod Extended
+pub mod Running
+pub mod Counts
+pub mod Ending
+pub mod Counted
+pub mod Roundly

@@ -1,0 +1,56 @@
+-- The circuit that counts rounds, from its parts.
+use Rattle.aig_base.proofs.Words.{◌≡◌, ℕ, ◌+◌, List, [], ◌∷◌, ◌++◌, length, sym, ap, ◌∙◌, arith, append-nil}
+use Rattle.aig_circuit.specs.declared.edge.AigEdge.{AigEdge}
+use Rattle.aig_circuit.specs.declared.node.AigLatch.{AigLatch}
+use Rattle.aig_circuit.proofs.Words.{Circuit, no_properties}
+use Rattle.aig_live.specs.declared.counting.Counted.{Counted}
+use Rattle.aig_live.specs.Counting.{AreCounted}
+use Rattle.aig_live.specs.Live.{false_latches}
+use Rattle.aig_live.specs.Rounds.{IsRoundsOf}
+
+pub IsRoundsOf-made : (edges : List AigEdge) (count : ℕ) (c new : Circuit) (p : Counted)
+    → AreCounted c.nodes new.nodes edges count p
+    → new.latchs ≡ c.latchs ++ false_latches (length c.nodes) p.nexts.items
+    → new
+    ≡ record c {
+      nodes = new.nodes;
+      latchs = new.latchs;
+      properties = record no_properties {
+        bads = p.bad ∷ [];
+        constraints = c.properties.constraints;
+      };
+    }
+    → IsRoundsOf edges count c new
+IsRoundsOf-made edges count c new p are latchs rest =
+    let with_lists : List ℕ → List AigLatch → Circuit = λ inputs ls. record c {
+      nodes = new.nodes;
+      inputs = inputs;
+      latchs = ls;
+      properties = record no_properties {
+        bads = p.bad ∷ [];
+        constraints = c.properties.constraints;
+      };
+    } in
+    let here : length c.nodes ≡ length c.nodes + 0 = omega arith in
+    record {
+      nexts = p.nexts.items;
+      bad = p.bad;
+      extended = record {
+        nodes = are.grows;
+        leaves = λ n low high. are.leaves n low (omega (arith, high, are.nexts_count));
+        longer = omega (arith, are.longer, are.nexts_count);
+        gates = λ n low high. are.gates n (omega (arith, low, are.nexts_count)) high;
+        nexts_there = are.nexts_there;
+        bad_there = are.bad_there;
+        rest = rest
+            ∙ ap (with_lists c.inputs) (latchs ∙ ap (λ n. c.latchs ++ false_latches n p.nexts.items)
+            here)
+            ∙ ap (λ ins. with_lists ins (c.latchs ++ false_latches (length c.nodes + 0)
+            p.nexts.items)) (sym (append-nil c.inputs));
+      };
+      few = are.few;
+      nexts_count = are.nexts_count;
+      met_values = are.met_values;
+      ended_values = are.ended_values;
+      bad_value = are.bad_value;
+    }
