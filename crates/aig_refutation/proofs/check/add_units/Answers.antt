@@ -15,7 +15,6 @@ loop-preserved c =
     let then = c.in_ok-number.ensures in
     record {
       implied = implied_on _ _ _ before.implied then.implied;
-      variables = then.variables ∙ before.variables;
       ahead = λ clauses ahead.
           adds_stays clauses (c.in-Some.lit ∷ []) c.add_next.new.self.table c.in_ok-number.field-0
           (then.ahead clauses (before.ahead clauses ahead));

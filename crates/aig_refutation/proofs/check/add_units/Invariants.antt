@@ -7,7 +7,6 @@ use Rattle.aig_refutation.proofs.check.add_units.Given as goal
 abbrev pub invariant-loop : goal.invariant-loop
 invariant-loop l = record {
   implied : ImpliesAll l.fn.checker.table.clauses l.checker.table.clauses;
-  variables : l.checker.variables ≡ l.fn.checker.variables;
   ahead : (clauses : List (List Lit)) → IsAhead clauses l.fn.checker.table
       → IsAhead clauses l.checker.table;
 }

@@ -5,7 +5,7 @@ use Rattle.aig_refutation.proofs.Unfollowed.{unfollowed}
 use Rattle.aig_refutation.proofs.checker.Checker.add_by_all.Goals as goal
 
 pub returns-then-not-is_entailed-clause-refused : goal.returns-then-not-is_entailed-clause-refused
-returns-then-not-is_entailed-clause-refused c clauses ahead inside none =
+returns-then-not-is_entailed-clause-refused c clauses ahead none =
     let t : Table = c.self.inside.numbered in
     let here : IsAhead clauses t = subst (λ (table : Table). IsAhead clauses table)
     (sym (ap (λ v. v.table) c.self.view_is)) ahead in
