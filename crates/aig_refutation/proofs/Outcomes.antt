@@ -38,8 +38,9 @@ script_past variables ((word ∷ words) ∷ lines) = by (is_comment word) (scrip
   where
     by : (b : Bool) → script_of variables lines ≡ script_said variables (said_line true variables
         (lines_past lines)) → cond b (script_of variables lines) (then_lines (line_in true
-        variables (is_none lines) word words) (script_of (widened variables) lines)) ≡ script_said variables
-        (said_line true variables (cond b (lines_past lines) ((word ∷ words) ∷ lines)))
+        variables (is_none lines) word words) (script_of (widened variables) lines))
+        ≡ script_said variables (said_line true variables
+        (cond b (lines_past lines) ((word ∷ words) ∷ lines)))
     by true later = later
     by false later = refl
 
@@ -54,13 +55,14 @@ script_if_past variables ((word ∷ words) ∷ lines) = by (is_comment word) (sc
     by : (b : Bool) → script_if variables lines ≡ script_if_said variables (said_line false
         variables (lines_past lines)) → cond b (script_if variables lines) (if_numbered (line_in
         false variables (is_none lines) word words) (script_of (widened variables) lines))
-        ≡ script_if_said variables (said_line false variables (cond b (lines_past lines) ((word ∷ words) ∷ lines)))
+        ≡ script_if_said variables (said_line false variables (cond b (lines_past lines) ((word ∷
+        words) ∷ lines)))
     by true later = later
     by false later = refl
 
 -- ---- one step
 
-module _ (variables : ℕ) (live : Live) where
+module _ (live : Live) where
   outcome_none : (fault : RefutationError) → outcome live [] fault ≡ Err fault
   unfolding outcome
   outcome_none fault = refl
@@ -76,14 +78,10 @@ module _ (variables : ℕ) (live : Live) where
     unfolding outcome
     outcome_last next is last = rw (is, last) refl
 
-    outcome_wrong : (e : RefutationError) → taken live step ≡ Err e → outcome
-        live (step ∷ steps) fault ≡ Err e
+    outcome_wrong : (e : RefutationError) → taken live step ≡ Err e
+        → outcome live (step ∷ steps) fault ≡ Err e
     unfolding outcome
     outcome_wrong e is = rw is refl
-
-  -- what the steps after one show
-  left_lines : Place → List ℕ → Result (Unit {0}) RefutationError
-  left_lines place bytes = shown_of live (script_of (widened variables) (lines_at place.end bytes))
 
 -- ---- a loop over steps
 
@@ -98,31 +96,37 @@ module _ (variables : ℕ) (t : Table) (live : Live) where
     h.0,
     h.2,
     taken_keeps live h.0 step h.1,
-    λ place bytes. outcome_more live step (script_of (widened variables) (lines_at place.end
-        bytes)).steps (script_of (widened variables) (lines_at place.end bytes)).fault h.0 h.1 (sym h.3),
+    λ place bytes.
+        let rest = script_of (widened variables) (lines_at place.end bytes) in
+        outcome_more live step rest.steps rest.fault h.0 h.1 (sym h.3),
   )
 
   step_last : (step : Line) → TakesStep live t (Ok true) step → (place : Place)
       (bytes : List ℕ) → left_outcome variables live step place bytes ≡ Ok tt
   step_last (Plain step) h place bytes = absurd h
-  step_last (Numbered step) h place bytes = outcome_last live step (script_of (widened variables)
-      (lines_at place.end bytes)).steps (script_of (widened variables) (lines_at place.end bytes)).fault h.0
-      h.1 (sym h.3)
-
-  -- the clauses can't all be true before the last step
-  pub step_fails : (step : Line) → TakesStep live t (Ok true) step → ¬ CanHold live
-  step_fails (Plain step) h = absurd h
-  step_fails (Numbered step) h = last_fails live h.0 step h.1 (sym h.3)
+  step_last (Numbered step) h place bytes =
+      let rest = script_of (widened variables) (lines_at place.end bytes) in
+      outcome_last live step rest.steps rest.fault h.0 h.1 (sym h.3)
 
   step_wrong : (step : Line) (e : RefutationError) → TakesStep live t (Err e) step
       → Tells e ((place : Place) (bytes : List ℕ) → left_outcome variables live step place bytes ≡
       Err e)
   step_wrong (Plain step) e h = tells_on e (e ≡ errors.Line) ((place : Place) (bytes : List ℕ) →
-      left_outcome variables live (Plain step) place bytes ≡ Err e) (λ is place bytes. outcome_none live errors.Line ∙ ap (λ (f : RefutationError). Err f) (sym is)) h
-  step_wrong (Numbered step) e h = tells_on e (taken live step ≡ Err e) ((place : Place)
-      (bytes : List ℕ) → left_outcome variables live (Numbered step) place bytes ≡ Err e) (λ is place
-      bytes. outcome_wrong live step (script_of (widened variables) (lines_at place.end
-      bytes)).steps (script_of (widened variables) (lines_at place.end bytes)).fault e is) h
+      left_outcome variables live (Plain step) place bytes ≡ Err e) (λ is place bytes. outcome_none
+      live errors.Line ∙ ap (λ (f : RefutationError). Err f) (sym is)) h
+  step_wrong (Numbered step) e h =
+      tells_on e (taken live step ≡ Err e)
+      ((place : Place) (bytes : List ℕ) → left_outcome variables live (Numbered step) place bytes
+      ≡ Err e)
+      (λ is place bytes.
+      let rest = script_of (widened variables) (lines_at place.end bytes) in
+      outcome_wrong live step rest.steps rest.fault e is) h
+
+-- the clauses can't all be true before the last step
+pub step_fails : (t : Table) (live : Live) (step : Line) → TakesStep live t (Ok true) step
+    → ¬ CanHold live
+step_fails t live (Plain step) h = absurd h
+step_fails t live (Numbered step) h = last_fails live h.0 step h.1 (sym h.3)
 
 -- what is left shows the same
 abbrev pub GoesOn : ℕ → Live → Line → Place → ℕ → Live → Line → Place → Type 0
@@ -134,8 +138,8 @@ pub goes_start : (variables : ℕ) (live : Live) (step : Line) (before : Place) 
 goes_start variables live step before bytes known = (bytes, known, refl)
 
 module _ (variables : ℕ) (live : Live) (first : Line) (before : Place) (bound : ℕ) (now : Live)
-    (step : Line) (mid : Place) (so_far : GoesOn variables live first before bound now step mid) (t :
-    Table) where
+    (step : Line) (mid : Place) (so_far : GoesOn variables live first before bound now step mid)
+    (t : Table) where
   abbrev Same : List ℕ → List ℕ → Type 0
   Same bytes rest = left_outcome variables live first before bytes ≡ left_outcome bound now step
       mid rest
@@ -154,8 +158,8 @@ module _ (variables : ℕ) (live : Live) (first : Line) (before : Place) (bound 
       variables live first before bytes ≡ Err e) (λ bytes rest same. same ∙ is mid rest))
       (step_wrong bound t now step e h)
 
-  module _ (taken_on : TakesStep now t (Ok false) step) (wider : ℕ) (is_wider : wider ≡ widened bound)
-      where
+  module _ (taken_on : TakesStep now t (Ok false) step) (wider : ℕ)
+      (is_wider : wider ≡ widened bound) where
     next_live : Live
     next_live = (step_on bound t now step taken_on).0
 
@@ -163,7 +167,9 @@ module _ (variables : ℕ) (live : Live) (first : Line) (before : Place) (bound 
         ≡ shown_of next_live (script_said wider (next_said true wider mid bytes))
     unfolding next_live step_on
     next_same bytes =
-        rw is_wider ((step_on bound t now step taken_on).3 mid bytes
+        subst (λ (n : ℕ). left_outcome bound now step mid bytes
+        ≡ shown_of next_live (script_said n (next_said true n mid bytes))) (sym is_wider)
+        ((step_on bound t now step taken_on).3 mid bytes
         ∙ ap (shown_of next_live) (script_past (widened bound) (lines_at mid.end bytes)))
 
     next_by : (bytes : List ℕ) (said : Option Said) → next_said true wider mid bytes ≡ said
@@ -245,8 +251,9 @@ module _ (variables : ℕ) (live : Live) (before : Place) (open_line : before.en
   text_none given = untold (λ bytes known. text_by bytes None (given bytes known))
 
   -- the first one has no number
-  pub text_other : (plain : PlainStep) → step ≡ Plain plain → GivesStep false variables step before after (Ok true) → (r : Result
-      (Unit {0}) RefutationError) → ShowsText before.feed (text_outcome variables live) r
+  pub text_other : (plain : PlainStep) → step ≡ Plain plain
+      → GivesStep false variables step before after (Ok true)
+      → (r : Result (Unit {0}) RefutationError) → ShowsText before.feed (text_outcome variables live) r
   text_other plain is given = untold (λ bytes known.
       let h = given bytes known in
       text_by bytes (Some (Ok step, lines_at after.end h.0)) h.2 ∙ rw is refl)
@@ -265,8 +272,8 @@ module _ (variables : ℕ) (live : Live) (before : Place) (open_line : before.en
       e)) refl) given
 
   -- the first one has a number, and what is left was taken
-  module _ (s : Step) (is : step ≡ Numbered s) (given : GivesStep false variables step before after (Ok
-      true)) where
+  module _ (s : Step) (is : step ≡ Numbered s)
+      (given : GivesStep false variables step before after (Ok true)) where
     told : (R : Result (Unit {0}) RefutationError) → Says after.feed (λ bytes. left_outcome
         variables live step after bytes ≡ R) → Says before.feed (λ bytes. IfSome (text_outcome
         variables live bytes) (λ x. x ≡ R))
@@ -296,7 +303,8 @@ module _ (variables : ℕ) (live : Live) (before : Place) (open_line : before.en
       s) before after (Ok there) → (r : Result (Unit {0}) RefutationError) → ShowsText before.feed
       (text_outcome variables live) r
   text_unnumbered is true given r = text_other variables live before open_line (said_by s) after
-      (plain_by s) (ap (λ (b : Bool). cond b (Numbered (step_by s)) (Plain (plain_by s))) is) given r
+      (plain_by s) (ap (λ (b : Bool). cond b (Numbered (step_by s)) (Plain (plain_by s))) is)
+      given r
   text_unnumbered is false given r = text_none variables live before open_line (said_by s) after
       given r
 

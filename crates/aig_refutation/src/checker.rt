@@ -272,7 +272,8 @@ impl Checker {
         ensures no_stream { IsErrOf result RefutationError.Stream → ⊥ }
     {
         self.fit(clause)?;
-        if !find_hints(&self.numbered, hints, &mut self.hints)?
+        let are_there = find_hints(&self.numbered, hints, &mut self.hints)?;
+        if !are_there
             || !is_implied(
                 self.numbered.clauses(),
                 &mut self.marks,

@@ -1,5 +1,5 @@
 -- A proof of printed clauses is taken.
-use Rattle.aig_base.proofs.Words.{◌≡◌, ◌≢◌, ℕ, ◌-◌, ◌^◌, inl, inr, Bool, true, IsTrue, List, All, Option, Some, Result, Ok, Err, IfErr, IfSome, refl, sym, ap, subst, ◌∙◌, arith, same_Some, IsAtEnd}
+use Rattle.aig_base.proofs.Words.{◌≡◌, ◌≢◌, ℕ, ◌-◌, ◌^◌, inl, inr, Bool, true, IsTrue, List, All, Option, Some, Result, Ok, Err, IfErr, IfSome, refl, sym, ap, subst, ◌∙◌, same_Some, IsAtEnd}
 use Rattle.aig_base.specs.declared.logic.literal.Lit.{Lit}
 use Rattle.aig_dimacs.specs.Reading.{parse_formula}
 use Rattle.aig_format.specs.File.{File}

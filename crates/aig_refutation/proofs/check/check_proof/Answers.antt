@@ -31,7 +31,7 @@ returns-then-is_binary-clause-shown g c clauses fresh formula list same none =
     (λ bytes known. front_binary left after held moved c.in_ok-hold.ensures.enough bytes known
     ∙ told) c.check_binary.result
     (subst (λ (n : ℕ). ConcludesPlain f clauses (binary_steps_in n) c.check_binary.result)
-    c.allowed.ensures.allowed (c.check_binary.ensures.plain clauses ahead))
+    c.allowed-bound.ensures.allowed (c.check_binary.ensures.plain clauses ahead))
 
 pub returns-clause-shown : goal.returns-clause-shown
 returns-clause-shown g c clauses fresh formula list same none =
@@ -54,7 +54,7 @@ returns-clause-shown g c clauses fresh formula list same none =
     (λ bytes known. front_binary left after held moved c.in_ok-hold.ensures.enough bytes known
     ∙ told) c.check_steps.result
     (subst (λ (n : ℕ). ShowsText f (text_outcome n (all_live clauses)) c.check_steps.result)
-    c.allowed.ensures.allowed
+    c.allowed-bound.ensures.allowed
     (c.check_steps.ensures.shown (all_live clauses) goes_on fresh holds))
-    (subst (λ (n : ℕ). ShowsPlain f n clauses c.check_steps.result) c.allowed.ensures.allowed
+    (subst (λ (n : ℕ). ShowsPlain f n clauses c.check_steps.result) c.allowed-bound.ensures.allowed
     (c.check_steps.ensures.plain clauses goes_on fresh ahead))

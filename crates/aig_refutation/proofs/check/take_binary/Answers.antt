@@ -36,13 +36,14 @@ returns-in_err-take_searched-clause-plain g c clauses ahead =
     let e = c.in_err-take_searched.field-0.0 in
     let p = err_from_is_err_and c.from_residual-in_err-take_searched.result
     c.from_residual-in_err-take_searched.ensures.1 in
-    let wrong : TakesPlain s.now (plain_by step) t (Err e) = c.in_err-take_searched.ensures.ahead s.now s.ahead in
+    let wrong : TakesPlain s.now (plain_by step) t (Err e) = c.in_err-take_searched.ensures.ahead
+    s.now s.ahead in
     rw (p.1, p.2) (binary_wrong variables clauses before bound s.now mid s.goes step after given t e
     wrong)
 
 pub steps-preserved : goal.steps-preserved
 steps-preserved g c = record {
-  most = c.widened.ensures.most;
+  most = c.widened-bound.ensures.most;
   implied = implied_on _ _ _ c.steps.invariant.implied c.in_ok-take_searched.ensures.implied;
   plain = λ clauses ahead.
       let at = feed g.R.Source.left g.R.Source.failed g.R.Source.pulls in
@@ -50,7 +51,7 @@ steps-preserved g c = record {
       let mid = at c.steps.buffer c.steps.r in
       let after = at c.read_step.new.buffer c.read_step.new.r in
       let variables = c.args.variables in
-    let bound = c.steps.bound in
+      let bound = c.steps.bound in
       let step = c.read_step.new.step in
       let t = c.take_searched.new.checker.table in
       let s = c.steps.invariant.plain clauses ahead in
@@ -58,13 +59,15 @@ steps-preserved g c = record {
       GivesBinary bound (plain_by step) mid after (Ok b)) c.if-branch.true
       c.in_ok-read_step.ensures.step in
       let on : TakesPlain s.now (plain_by step) t (Ok false) = subst (λ (b : Bool).
-      TakesPlain s.now (plain_by step) t (Ok b)) c.if-branch-2.false (c.in_ok-take_searched.ensures.ahead s.now s.ahead) in
-      let more = binary_more variables clauses before bound s.now mid s.goes step after given t on in
+      TakesPlain s.now (plain_by step) t (Ok b)) c.if-branch-2.false
+      (c.in_ok-take_searched.ensures.ahead s.now s.ahead) in
+      let more = binary_more variables clauses before bound s.now mid s.goes step after given t on
+      in
       record {
         now = more.0;
         ahead = more.1;
         goes = subst (λ (n : ℕ). GoesBinary variables clauses before n more.0 after)
-            (sym c.widened.ensures.widened) more.2;
+            (sym c.widened-bound.ensures.widened) more.2;
       };
 }
 

@@ -20,7 +20,8 @@ returns-in_err-take_step-clause-shown g c live none holds =
     let s = c.steps.invariant.shown live none holds in
     let e = c.in_err-take_step.field-0.0 in
     let p = err_from_is_err_and c.from_residual.result c.from_residual.ensures.1 in
-    let wrong : TakesStep s.now t (Err e) step = c.in_err-take_step.ensures.takes s.now s.search s.holds in
+    let wrong : TakesStep s.now t (Err e) step = c.in_err-take_step.ensures.takes s.now s.search
+    s.holds in
     rw (p.1, p.2) (loop_wrong variables live first before bound s.now step mid s.goes t e wrong)
 
 pub returns-in_err-read-clause-shown : goal.returns-in_err-read-clause-shown
@@ -30,13 +31,14 @@ returns-in_err-read-clause-shown g c live none holds =
     let mid = at c.steps.words c.steps.r in
     let variables = c.args.variables in
     let bound = c.steps.bound in
-    let wider = c.widened.result in
-    let is_wider = c.widened.ensures.widened in
+    let wider = c.widened-bound.result in
+    let is_wider = c.widened-bound.ensures.widened in
     let first = said_by c.args.step.now in
     let step = said_by c.steps.step in
     let t = c.take_step.new.checker.table in
     let s = c.steps.invariant.shown live none holds in
-    let on : TakesStep s.now t (Ok false) step = subst (λ (b : Bool). TakesStep s.now t (Ok b) step) c.if-not-branch.true (c.in_ok-take_step.ensures.takes s.now s.search
+    let on : TakesStep s.now t (Ok false) step = subst (λ (b : Bool). TakesStep s.now t (Ok b)
+    step) c.if-not-branch.true (c.in_ok-take_step.ensures.takes s.now s.search
     s.holds) in
     let after = at c.read.new.words c.read.new.r in
     let other = said_by c.read.new.self in
@@ -44,9 +46,11 @@ returns-in_err-read-clause-shown g c live none holds =
     let e = c.in_err-read.field-0.0 in
     let p = err_from_is_err_and c.from_residual-in_err-read.result
     c.from_residual-in_err-read.ensures.1 in
-    let given : GivesStep true wider other mid after (Err e) = subst (λ (b : Bool). GivesStep b wider other mid after (Err e)) numbered.1 c.in_err-read.ensures.step in
+    let given : GivesStep true wider other mid after (Err e) = subst (λ (b : Bool). GivesStep b
+    wider other mid after (Err e)) numbered.1 c.in_err-read.ensures.step in
     rw (p.1, p.2)
-    (loop_unread variables live first before bound s.now step mid s.goes t on wider is_wider other after e given)
+    (loop_unread variables live first before bound s.now step mid s.goes t on wider is_wider other
+    after e given)
 
 pub returns-then-not-branch-2-clause-shown : goal.returns-then-not-branch-2-clause-shown
 returns-then-not-branch-2-clause-shown g c live none holds =
@@ -55,23 +59,27 @@ returns-then-not-branch-2-clause-shown g c live none holds =
     let mid = at c.steps.words c.steps.r in
     let variables = c.args.variables in
     let bound = c.steps.bound in
-    let wider = c.widened.result in
-    let is_wider = c.widened.ensures.widened in
+    let wider = c.widened-bound.result in
+    let is_wider = c.widened-bound.ensures.widened in
     let first = said_by c.args.step.now in
     let step = said_by c.steps.step in
     let t = c.take_step.new.checker.table in
     let s = c.steps.invariant.shown live none holds in
-    let on : TakesStep s.now t (Ok false) step = subst (λ (b : Bool). TakesStep s.now t (Ok b) step) c.if-not-branch.true (c.in_ok-take_step.ensures.takes s.now s.search
+    let on : TakesStep s.now t (Ok false) step = subst (λ (b : Bool). TakesStep s.now t (Ok b)
+    step) c.if-not-branch.true (c.in_ok-take_step.ensures.takes s.now s.search
     s.holds) in
     let after = at c.read.new.words c.read.new.r in
     let other = said_by c.read.new.self in
     let numbered = c.in_ok-take_step.ensures.numbered s.search in
-    let given : GivesStep true wider other mid after (Ok false) = subst (λ (b : Bool). GivesStep true wider other mid after (Ok b)) c.if-not-branch-2.true (subst (λ (b : Bool). GivesStep b wider other mid after (Ok c.in_ok-read.field-0)) numbered.1 c.in_ok-read.ensures.step) in
-    loop_none variables live first before bound s.now step mid s.goes t on wider is_wider other after given
+    let given : GivesStep true wider other mid after (Ok false) = subst (λ (b : Bool). GivesStep
+    true wider other mid after (Ok b)) c.if-not-branch-2.true (subst (λ (b : Bool). GivesStep b
+    wider other mid after (Ok c.in_ok-read.field-0)) numbered.1 c.in_ok-read.ensures.step) in
+    loop_none variables live first before bound s.now step mid s.goes t on wider is_wider other
+    after given
 
 pub steps-preserved : goal.steps-preserved
 steps-preserved g c = record {
-  most = c.widened.ensures.most;
+  most = c.widened-bound.ensures.most;
   implied = λ searching.
       let before = c.steps.invariant.implied searching in (
         c.in_ok-take_step.ensures.searches before.0,
@@ -82,20 +90,24 @@ steps-preserved g c = record {
       let before = at c.args.words.now c.args.r.now in
       let mid = at c.steps.words c.steps.r in
       let variables = c.args.variables in
-    let bound = c.steps.bound in
-    let wider = c.widened.result in
-    let is_wider = c.widened.ensures.widened in
+      let bound = c.steps.bound in
+      let wider = c.widened-bound.result in
+      let is_wider = c.widened-bound.ensures.widened in
       let first = said_by c.args.step.now in
       let step = said_by c.steps.step in
       let t = c.take_step.new.checker.table in
       let s = c.steps.invariant.shown live none holds in
-      let on : TakesStep s.now t (Ok false) step = subst (λ (b : Bool). TakesStep s.now t (Ok b) step) c.if-not-branch.true (c.in_ok-take_step.ensures.takes s.now s.search
+      let on : TakesStep s.now t (Ok false) step = subst (λ (b : Bool). TakesStep s.now t (Ok b)
+      step) c.if-not-branch.true (c.in_ok-take_step.ensures.takes s.now s.search
       s.holds) in
       let after = at c.read.new.words c.read.new.r in
       let other = said_by c.read.new.self in
       let numbered = c.in_ok-take_step.ensures.numbered s.search in
-      let given : GivesStep true wider other mid after (Ok true) = subst (λ (b : Bool). GivesStep true wider other mid after (Ok b)) c.if-not-branch-2.false (subst (λ (b : Bool). GivesStep b wider other mid after (Ok c.in_ok-read.field-0)) numbered.1 c.in_ok-read.ensures.step) in
-      let more = loop_more variables live first before bound s.now step mid s.goes t on wider is_wider other after given
+      let given : GivesStep true wider other mid after (Ok true) = subst (λ (b : Bool). GivesStep
+      true wider other mid after (Ok b)) c.if-not-branch-2.false (subst (λ (b : Bool). GivesStep b
+      wider other mid after (Ok c.in_ok-read.field-0)) numbered.1 c.in_ok-read.ensures.step) in
+      let more = loop_more variables live first before bound s.now step mid s.goes t on wider
+      is_wider other after given
       in
       record {
         search = numbered.0;
@@ -109,9 +121,9 @@ steps-preserved g c = record {
       let before = at c.args.words.now c.args.r.now in
       let mid = at c.steps.words c.steps.r in
       let variables = c.args.variables in
-    let bound = c.steps.bound in
-    let wider = c.widened.result in
-    let is_wider = c.widened.ensures.widened in
+      let bound = c.steps.bound in
+      let wider = c.widened-bound.result in
+      let is_wider = c.widened-bound.ensures.widened in
       let first = said_by c.args.step.now in
       let t = c.take_step.new.checker.table in
       let s = c.steps.invariant.plain clauses searching ahead in
@@ -125,7 +137,8 @@ steps-preserved g c = record {
       GivesStep false wider other mid after (Ok b)) c.if-not-branch-2.false
       (subst (λ (b : Bool). GivesStep b wider other mid after (Ok c.in_ok-read.field-0)) plain
       c.in_ok-read.ensures.step) in
-      let more = plain_more variables clauses first before bound s.now c.steps.step mid s.goes t on wider is_wider other
+      let more = plain_more variables clauses first before bound s.now c.steps.step mid s.goes t on
+      wider is_wider other
       after given in
       record {
         search = c.in_ok-take_step.ensures.searches s.search;
@@ -146,7 +159,8 @@ returns-clause-shown g c live none holds =
     let step = said_by c.steps.step in
     let t = c.take_step.new.checker.table in
     let s = c.steps.invariant.shown live none holds in
-    let on : TakesStep s.now t (Ok true) step = subst (λ (b : Bool). TakesStep s.now t (Ok b) step) c.if-not-branch.false (c.in_ok-take_step.ensures.takes s.now s.search
+    let on : TakesStep s.now t (Ok true) step = subst (λ (b : Bool). TakesStep s.now t (Ok b) step)
+    c.if-not-branch.false (c.in_ok-take_step.ensures.takes s.now s.search
     s.holds) in
     loop_last variables live first before bound s.now step mid s.goes t on
 
@@ -162,7 +176,8 @@ returns-in_err-take_step-clause-plain g c clauses searching ahead =
     let s = c.steps.invariant.plain clauses searching ahead in
     let e = c.in_err-take_step.field-0.0 in
     let p = err_from_is_err_and c.from_residual.result c.from_residual.ensures.1 in
-    let wrong : TakesLine s.now (said_by c.steps.step) t (Err e) = c.in_err-take_step.ensures.plain s.now s.search s.ahead in
+    let wrong : TakesLine s.now (said_by c.steps.step) t (Err e) = c.in_err-take_step.ensures.plain
+    s.now s.search s.ahead in
     rw (p.1, p.2)
     (plain_wrong variables clauses first before bound s.now c.steps.step mid s.goes t e wrong)
 
@@ -173,8 +188,8 @@ returns-in_err-read-clause-plain g c clauses searching ahead =
     let mid = at c.steps.words c.steps.r in
     let variables = c.args.variables in
     let bound = c.steps.bound in
-    let wider = c.widened.result in
-    let is_wider = c.widened.ensures.widened in
+    let wider = c.widened-bound.result in
+    let is_wider = c.widened-bound.ensures.widened in
     let first = said_by c.args.step.now in
     let t = c.take_step.new.checker.table in
     let s = c.steps.invariant.plain clauses searching ahead in
@@ -187,9 +202,11 @@ returns-in_err-read-clause-plain g c clauses searching ahead =
     let e = c.in_err-read.field-0.0 in
     let p = err_from_is_err_and c.from_residual-in_err-read.result
     c.from_residual-in_err-read.ensures.1 in
-    let given : GivesStep false wider other mid after (Err e) = subst (λ (b : Bool). GivesStep b wider other mid after (Err e)) plain c.in_err-read.ensures.step in
+    let given : GivesStep false wider other mid after (Err e) = subst (λ (b : Bool). GivesStep b
+    wider other mid after (Err e)) plain c.in_err-read.ensures.step in
     rw (p.1, p.2)
-    (plain_unread variables clauses first before bound s.now c.steps.step mid s.goes t on wider is_wider other after e
+    (plain_unread variables clauses first before bound s.now c.steps.step mid s.goes t on wider
+    is_wider other after e
     given)
 
 pub returns-then-not-branch-2-clause-plain : goal.returns-then-not-branch-2-clause-plain
@@ -199,8 +216,8 @@ returns-then-not-branch-2-clause-plain g c clauses searching ahead =
     let mid = at c.steps.words c.steps.r in
     let variables = c.args.variables in
     let bound = c.steps.bound in
-    let wider = c.widened.result in
-    let is_wider = c.widened.ensures.widened in
+    let wider = c.widened-bound.result in
+    let is_wider = c.widened-bound.ensures.widened in
     let first = said_by c.args.step.now in
     let t = c.take_step.new.checker.table in
     let s = c.steps.invariant.plain clauses searching ahead in
@@ -214,14 +231,16 @@ returns-then-not-branch-2-clause-plain g c clauses searching ahead =
     GivesStep false wider other mid after (Ok b)) c.if-not-branch-2.true (subst (λ (b : Bool).
     GivesStep b wider other mid after (Ok c.in_ok-read.field-0)) plain
     c.in_ok-read.ensures.step) in
-    plain_none variables clauses first before bound s.now c.steps.step mid s.goes t on wider is_wider other after given
+    plain_none variables clauses first before bound s.now c.steps.step mid s.goes t on wider
+    is_wider other after given
 
 pub returns-clause-fails : goal.returns-clause-fails
 returns-clause-fails g c live none holds = λ can.
     let step = said_by c.steps.step in
     let t = c.take_step.new.checker.table in
     let s = c.steps.invariant.shown live none holds in
-    let on : TakesStep s.now t (Ok true) step = subst (λ (b : Bool). TakesStep s.now t (Ok b) step) c.if-not-branch.false (c.in_ok-take_step.ensures.takes s.now s.search
+    let on : TakesStep s.now t (Ok true) step = subst (λ (b : Bool). TakesStep s.now t (Ok b) step)
+    c.if-not-branch.false (c.in_ok-take_step.ensures.takes s.now s.search
     s.holds) in
     step_fails t s.now step on (s.keeps can)
 

@@ -45,8 +45,9 @@ returns-then-not-branch-clause-moves c live h =
     let clause = c.args.clause.now in
     let hints = c.args.hints.now in
     let numbers = c.args.groups.now in
-    let before : Holds t live = subst (λ (table : Table). Holds table live) (sym (ap (λ v. v.table)
-    c.self.view_is)) h in
+    let before : Holds t live = subst (λ (table : Table). Holds table live)
+    (sym (ap (λ v. v.table) c.self.view_is)) (subst (λ (table : Table). Holds table live)
+    (sym c.fit.ensures.same) h) in
     let none : are_named live hints (said_numbers numbers) ≡ false =
     elim c.then-not-branch.branch [
       | then-not-branch-via-then-not-branch w ↦
@@ -58,7 +59,7 @@ returns-then-not-branch-clause-moves c live h =
           group_unnamed t live before hints numbers
           (sym w.are_named.ensures ∙ w.if-not-are_named.true)
     ] in
-    rw (← c.self.view_is) (added_unnamed live c.args.number clause hints
+    (added_unnamed live c.args.number clause hints
     (said_numbers numbers) none)
 
 pub returns-then-not-branch-2-clause-moves : goal.returns-then-not-branch-2-clause-moves
@@ -68,8 +69,9 @@ returns-then-not-branch-2-clause-moves c live h =
     let clause = c.args.clause.now in
     let hints = c.args.hints.now in
     let groups = said_numbers c.args.groups.now in
-    let before : Holds t live = subst (λ (table : Table). Holds table live) (sym (ap (λ v. v.table)
-    c.self.view_is)) h in
+    let before : Holds t live = subst (λ (table : Table). Holds table live)
+    (sym (ap (λ v. v.table) c.self.view_is)) (subst (λ (table : Table). Holds table live)
+    (sym c.fit.ensures.same) h) in
     let finds : FindsHints {E = MemoryError} t hints c.find_hints.new.places.items (Ok true) =
     subst (λ (b : Bool). FindsHints {E = MemoryError} t hints c.find_hints.new.places.items (Ok b))
     c.if-not-branch.false c.in_ok-find_hints.ensures in
@@ -79,7 +81,6 @@ returns-then-not-branch-2-clause-moves c live h =
     sym (c.in_ok-stands.ensures.stands live before named (c.deref.ensures.value ∙ finds.0))
     ∙ c.if-not-branch-2.true in
     let e = c.refusal.result in
-    rw (← c.self.view_is)
     (tells e (added live number clause hints groups ≡ Err e)
     (added_not live number clause hints groups named not
     ∙ ap (λ (f : RefutationError). Err f) (sym c.refusal.ensures.refusal)))
@@ -91,8 +92,9 @@ returns-clause-moves c live h =
     let clause = c.args.clause.now in
     let hints = c.args.hints.now in
     let groups = said_numbers c.args.groups.now in
-    let before : Holds t live = subst (λ (table : Table). Holds table live) (sym (ap (λ v. v.table)
-    c.self.view_is)) h in
+    let before : Holds t live = subst (λ (table : Table). Holds table live)
+    (sym (ap (λ v. v.table) c.self.view_is)) (subst (λ (table : Table). Holds table live)
+    (sym c.fit.ensures.same) h) in
     let finds : FindsHints {E = MemoryError} t hints c.find_hints.new.places.items (Ok true) =
     subst (λ (b : Bool). FindsHints {E = MemoryError} t hints c.find_hints.new.places.items (Ok b))
     c.if-not-branch.false c.in_ok-find_hints.ensures in
@@ -102,5 +104,5 @@ returns-clause-moves c live h =
     sym (c.in_ok-stands.ensures.stands live before named (c.deref.ensures.value ∙ finds.0))
     ∙ c.if-not-branch-2.false in
     let is = added_on live number clause hints groups named does in
-    rw (← c.self.view_is) (subst (λ said. Moves c.put.new.self.table c.put.result said) (sym is)
+    (subst (λ said. Moves c.put.new.self.table c.put.result said) (sym is)
     (c.put.ensures.moves live before))

@@ -8,7 +8,8 @@ pub returns-then-not-is_entailed-clause-refused : goal.returns-then-not-is_entai
 returns-then-not-is_entailed-clause-refused c clauses ahead none =
     let t : Table = c.self.inside.numbered in
     let here : IsAhead clauses t = subst (λ (table : Table). IsAhead clauses table)
-    (sym (ap (λ v. v.table) c.self.view_is)) ahead in
+    (sym (ap (λ v. v.table) c.self.view_is))
+    (subst (λ (table : Table). IsAhead clauses table) (sym c.fit.ensures.same) ahead) in
     let end = c.in_ok-end.end in
     let next : end ≡ t.added + 1 = c.in_ok-end.ensures ∙ ap (λ v. v.table.added + 1) (sym
     c.self.view_is) in
@@ -23,5 +24,6 @@ returns-in_err-put_next-clause-ahead c clauses ahead =
     let p = err_from_is_err_and c.from_residual-in_err-put_next.result
     c.from_residual-in_err-put_next.ensures.1 in
     let here : IsAhead clauses c.self.inside.numbered = subst (λ (table : Table). IsAhead clauses
-    table) (sym (ap (λ v. v.table) c.self.view_is)) ahead in
+    table) (sym (ap (λ v. v.table) c.self.view_is))
+    (subst (λ (table : Table). IsAhead clauses table) (sym c.fit.ensures.same) ahead) in
     rw (p.1, p.2) (c.in_err-put_next.ensures.ahead clauses here)
