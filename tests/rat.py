@@ -218,7 +218,8 @@ class Trial(Question):
 
     def new(self, writer, last):
         """A variable that no clause has: the next one, one further up, or the last that may be named."""
-        return max(last + 1, self.rng.choice([0, last + self.rng.randint(1, 1000), self.formula.variables + NEW + len(writer.lines)]))
+        most = self.formula.variables + NEW + len(writer.lines)
+        return min(most, self.rng.choice([last + 1, last + self.rng.randint(1, 1000), most]))
 
     def define(self, writer):
         """Lets variables stand for the and of two literals, and uses them in place of these. Some are spare, and most are new."""
