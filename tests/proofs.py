@@ -20,6 +20,8 @@ from random_machines import Files, counted, mangled, random_machine, text_of, to
 
 # How often a proof is mangled.
 MANGLED = 2
+# How many variables that the clauses don't have the first step may name; each later one may name one more.
+NEW = 1 << 16
 SETTINGS = [[], ["--plain"], ["--unsat"], ["--sat"], ["--no-elim"], ["--no-probe"], ["--decompose=0"], ["--reduceint=10"], ["--seed=7"]]
 
 
@@ -83,8 +85,9 @@ class Formula:
         self.variables = int(header[2])
         self.clauses = [tuple(map(int, words[:-1])) for words in lines]
 
-    def has(self, literals):
-        return all(abs(literal) <= self.variables for literal in literals)
+    def may_name(self, literals, steps):
+        """Whether a step may name these, with so many steps before it."""
+        return all(abs(literal) <= min(self.variables + NEW + steps, 1 << 31) for literal in literals)
 
     def is_in_conflict(self):
         """Whether there is the empty clause, or a literal and its inverse alone."""
@@ -111,18 +114,18 @@ def numbers_of(words):
         raise Refusal from None
 
 
-def step_of(formula, line):
-    """Whether the line of a DRAT file deletes a clause, and that clause."""
+def step_of(formula, steps, line):
+    """Whether the line of a DRAT file deletes a clause, and that clause, with so many lines before it."""
     deletes = line[:1] == ["d"]
     clause, rest = numbers_of(line[deletes:])
-    needs(not rest and formula.has(clause))
+    needs(not rest and formula.may_name(clause, steps))
     return deletes, clause
 
 
 def steps_of(formula, lines):
     """The steps of a DRAT file. The first line says which form the others have, and so it is read in any case."""
-    first = [step_of(formula, line) for line in lines[:1]]
-    return itertools.chain(first, (step_of(formula, line) for line in lines[1:]))
+    first = [step_of(formula, 0, line) for line in lines[:1]]
+    return itertools.chain(first, (step_of(formula, steps, line) for steps, line in enumerate(lines[1:], 1)))
 
 
 def binary_number(data):
@@ -141,13 +144,13 @@ def binary_number(data):
 def binary_steps_of(formula, data):
     """The steps of a binary DRAT file: `a` or `d`, twice each literal's number and one more for an inverted one, and 0."""
     data = iter(data)
-    for letter in data:
+    for steps, letter in enumerate(data):
         needs(letter in b"ad")
         clause = []
         while code := binary_number(data):
             needs(code > 1)
             clause.append(-(code // 2) if code % 2 else code // 2)
-            needs(formula.has(clause[-1:]))
+            needs(formula.may_name(clause[-1:], steps))
         yield letter == ord("d"), clause
 
 
@@ -214,7 +217,7 @@ def check_numbered(formula, lines):
     """Takes the lines of an LRAT file up to the empty clause, or refuses them."""
     clauses = Clauses(formula.clauses)
     used = set(clauses.all)
-    for line in lines:
+    for steps, line in enumerate(lines):
         if line[1:2] == ["d"]:
             deleted, rest = numbers_of(line[2:])
             needs(not rest and int(line[0]) > 0 and min(deleted, default=1) > 0)
@@ -225,7 +228,7 @@ def check_numbered(formula, lines):
         clause, hints = numbers_of(line[1:])
         hints, rest = numbers_of(hints)
         number = int(line[0])
-        needs(not rest and number > 0 and formula.has(clause) and number not in used)
+        needs(not rest and number > 0 and formula.may_name(clause, steps) and number not in used)
         needs(clauses.all.keys() >= set(map(abs, hints)))
         hints, groups = parted(hints)
         needs(follows(clauses, clause, hints) or is_rat(clauses, clause, hints, groups))

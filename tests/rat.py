@@ -2,10 +2,11 @@
 """Compares which proofs with RAT steps are taken with the checker of proofs.py: rat.py [PROOFS [SEED]]
 
 Writes PROOFS (500) LRAT proofs for random clauses that have no solution, with steps by resolution asymmetry: clauses are deleted and
-added again, spare variables get definitions, and what cadical proves of all these clauses stands behind. Pigeonholes of 3 to 5 holes are
-refuted by extended resolution (Cook, 1976). `aigcheck refuted` takes each. Each is mangled, too: hints for a clause are left out, or one
-of them, another literal comes first, a clause that they are for is deleted before, a number is skipped. aigcheck takes what comes of it
-exactly where the checker of proofs.py does, which was written from the form's description and knows nothing of the library.
+added again, blocked ones are added, spare variables and new ones get definitions, and what cadical proves of all these clauses stands
+behind. Pigeonholes of 3 to 12 holes are refuted by extended resolution (Cook, 1976), whose variables are new. `aigcheck refuted` takes
+each. Each is mangled four times, too: hints for a clause are left out, or one of them, another literal comes first, a clause that they are
+for is deleted before, a number is skipped, a new variable goes up to the last number that may be named, or past it. aigcheck takes what
+comes of it exactly where the checker of proofs.py does, which was written from the form's description and knows nothing of the library.
 
 It ends with the first that differs, and else prints one line. It is no part of tests/run."""
 import concurrent.futures
@@ -18,14 +19,14 @@ from pathlib import Path
 import harness
 from aiger import Gates, Machine
 from harness import CHECK, numbers, output
-from proofs import Clauses, Formula, is_taken, numbered
+from proofs import NEW, Clauses, Formula, is_taken, numbered
 from random_machines import Files, counted, mangled, text_of, told
 
 # How often a proof is mangled.
 MANGLED = 4
 # How many variables of a random formula are spare.
 SPARE = 4
-HOLES = [3, 4, 5]
+HOLES = range(3, 13)
 INPUT = re.compile(r"^c i(\d+) at step 0 is (-?\d+)$", re.M)
 
 
@@ -112,11 +113,20 @@ class Writer:
                 count += 1
         return count
 
-    def conclude(self, formula, solve):
+    def block(self, rng):
+        """Adds a clause that is blocked by its first literal: it has the inverse of another one of each clause with that literal's."""
+        pivot = rng.choice(sorted(self.clauses.having))
+        others = [self.clauses.all[number] for number in sorted(self.clauses.having[-pivot])]
+        rests = [[literal for literal in other if literal != -pivot] for other in others]
+        if len(rests) < 6 and all(rests):
+            self.put([pivot, *{-rng.choice(rest) for rest in rests}], [])
+        return len(rests) < 6 and all(rests)
+
+    def conclude(self, solve):
         """Adds the steps of cadical's proof of the clauses that are there."""
         order = sorted(self.clauses.all)
         names = dict(enumerate(order, 1))
-        made = Formula(f"p cnf {formula.variables} 0\n")
+        made = Formula(f"p cnf {max(abs(literal) for clause in self.clauses.all.values() for literal in clause)} 0\n")
         made.clauses = [self.clauses.all[number] for number in order]
         for line in numbered(made, solve(made)):
             self.lines.append(renamed(line, names, self.number - len(order)))
@@ -173,8 +183,9 @@ class Question(Files):
         self.counts[kind] += 1
         if not is_taken(self.formula, text_of(lines).encode()) or not self.is_taken(lines):
             self.fail(f"a proof is refused:\n{text_of(lines)}")
+        turned = [spoilt, spoilt, functools.partial(mangled, count=1), functools.partial(renumbered, self.formula.variables)]
         for _ in range(MANGLED):
-            self.compare_mangled(rng.choice([spoilt, spoilt, functools.partial(mangled, count=1)])(rng, lines))
+            self.compare_mangled(rng.choice(turned)(rng=rng, lines=lines))
 
     def compare_mangled(self, lines):
         taken = is_taken(self.formula, text_of(lines).encode())
@@ -199,15 +210,24 @@ class Trial(Question):
         self.counts["clauses again"] += writer.again(self.rng)
         if self.rng.random() < 0.8:
             self.define(writer)
+        self.counts["blocked clauses"] += sum(writer.block(self.rng) for _ in range(self.rng.randint(0, 3)))
         self.counts["clauses again"] += writer.again(self.rng)
-        writer.conclude(self.formula, self.solve)
+        writer.conclude(self.solve)
         self.compare(self.rng, "proofs", writer.lines)
         return self
 
+    def new(self, writer, last):
+        """A variable that no clause has: the next one, one further up, or the last that may be named."""
+        most = self.formula.variables + NEW + len(writer.lines)
+        return min(most, self.rng.choice([last + 1, last + self.rng.randint(1, 1000), most]))
+
     def define(self, writer):
-        """Lets spare variables stand for the and of two literals, and uses them in place of these."""
+        """Lets variables stand for the and of two literals, and uses them in place of these. Some are spare, and most are new."""
         others = sorted({abs(literal) for clause in writer.clauses.all.values() for literal in clause})
-        for variable in self.spare:
+        last = self.formula.variables
+        for spare in self.rng.sample([*self.spare, 0, 0, 0, 0], SPARE):
+            variable = spare or self.new(writer, last)
+            last = max(last, variable)
             made = variable * self.rng.choice([-1, 1])
             a, b = (other * self.rng.choice([-1, 1]) for other in self.rng.sample(others, 2))
             assert all(writer.add(*clause) for clause in [(made, -a, -b), (-made, a), (-made, b)])
@@ -226,15 +246,15 @@ class Pigeons(Question):
         self.holes, self.rng = holes, random.Random(holes)
         pigeons = [[pigeon * holes + hole + 1 for hole in range(holes)] for pigeon in range(holes + 1)]
         apart = [[-a, -b] for row in zip(*pigeons) for a, b in itertools.combinations(row, 2)]
-        self.ask(holes * (holes + 1), pigeons + apart, sum(m * (m - 1) for m in range(2, holes + 1)))
+        self.ask(holes * (holes + 1), pigeons + apart, 0)
         self.rows = [[self.literals[i - 1] for i in row] for row in pigeons]
 
     def run(self):
         writer, rows = Writer(self.formula), self.rows
         self.learn_level(writer, rows)
-        spare = iter(self.spare)
+        new = itertools.count(self.formula.variables + 1)
         while len(rows) > 2:
-            rows = self.fewer(writer, rows, spare)
+            rows = self.fewer(writer, rows, new)
         writer.learn()
         self.compare(self.rng, "pigeonholes", writer.lines)
         return self
@@ -247,16 +267,16 @@ class Pigeons(Question):
             for a, b in itertools.combinations(column, 2):
                 writer.learn(-a, -b)
 
-    def fewer(self, writer, rows, spare):
+    def fewer(self, writer, rows, new):
         """Definitions for one pigeon less, and what follows of them: who is in the last hole takes the place of the last pigeon."""
         *rest, last = rows
-        made = [[next(spare) for _ in row[:-1]] for row in rest]
-        for new, row in zip(made, rest):
-            for q, p, other in zip(new, row, last):
+        made = [[next(new) for _ in row[:-1]] for row in rest]
+        for one, row in zip(made, rest):
+            for q, p, other in zip(one, row, last):
                 clauses = [(q, -p), (q, -row[-1], -other), (-q, p, row[-1]), (-q, p, other)]
                 assert all(writer.add(*clause) for clause in clauses)
-        for new in made:
-            writer.learn(*new)
+        for one in made:
+            writer.learn(*one)
         for (one, row), (two, _) in itertools.combinations(list(zip(made, rest)), 2):
             for a, b, p in zip(one, two, row):
                 writer.learn(-a, -b, -p)
@@ -288,6 +308,32 @@ def spoilt(rng, lines):
             lines.insert(lines.index(line), [line[0], "d", line[at][1:], "0"])
         if change == "group" or rng.random() < 0.7:
             del line[at : next((place for place in places if place > at), len(line) - 1)]
+    return lines
+
+
+def literals_of(line):
+    """The places of the literals in a line that adds a clause."""
+    return range(1, line.index("0", 1)) if line[1] != "d" else ()
+
+
+def renumbered(variables, rng, lines):
+    """A proof in which a variable past so many has the last number that the first step with it may name, or the one after."""
+    first = {}
+    for steps, line in enumerate(lines):
+        for at in literals_of(line):
+            first.setdefault(line[at].lstrip("-"), steps)
+    new = [word for word in sorted(first) if int(word) > variables]
+    if not new:
+        return lines
+    old = rng.choice(new)
+    now = str(variables + NEW + first[old] + rng.choice([0, 1]))
+    # Another one that has this number changes places with it.
+    names = {old: now, now: old}
+    lines = [list(line) for line in lines]
+    for line in lines:
+        for at in literals_of(line):
+            word = line[at].lstrip("-")
+            line[at] = "-" * (line[at][0] == "-") + names.get(word, word)
     return lines
 
 

@@ -3,33 +3,27 @@ use Rattle.std.proofs.Common.{◌≡◌, ℕ, Bool, true, false, cond, List, [],
 use Rattle.aig_base.specs.declared.logic.literal.Lit.{Lit}
 use Rattle.aig_refutation.specs.declared.error.RefutationError.{RefutationError}
 use Rattle.aig_refutation.specs.declared.error.RefutationError.TheVariants as errors
-use Rattle.aig_refutation.specs.Checking.{Live, added, are_in, are_named, deleted, is_named, numbered_clause, stands, why_not, without_clause}
+use Rattle.aig_refutation.specs.Checking.{Live, added, are_named, deleted, is_named, numbered_clause, stands, why_not, without_clause}
 use Rattle.aig_refutation.specs.Tables.{Holds, Moves, OnlyMemory, Table}
 use Rattle.aig_refutation.proofs.Known.{tells_on}
 
-module _ (variables : ℕ) (live : Live) (number : ℕ) (clause : List Lit) (hints : List ℕ)
+module _ (live : Live) (number : ℕ) (clause : List Lit) (hints : List ℕ)
     (groups : List (Bool × ℕ)) where
-  pub added_literal : are_in variables clause ≡ false → added variables live number clause hints
-      groups ≡ Err errors.Literal
+  pub added_unnamed : are_named live hints groups ≡ false
+      → added live number clause hints groups ≡ Err errors.Unnamed
   unfolding added
-  added_literal is = rw is refl
+  added_unnamed is = rw is refl
 
-  module _ (inside : are_in variables clause ≡ true) where
-    pub added_unnamed : are_named live hints groups ≡ false → added variables live number clause
-        hints groups ≡ Err errors.Unnamed
+  module _ (named : are_named live hints groups ≡ true) where
+    pub added_not : stands live clause hints groups ≡ false
+        → added live number clause hints groups ≡ Err (why_not groups)
     unfolding added
-    added_unnamed is = rw (inside, is) refl
+    added_not is = rw (named, is) refl
 
-    module _ (named : are_named live hints groups ≡ true) where
-      pub added_not : stands live clause hints groups ≡ false → added variables live number clause
-          hints groups ≡ Err (why_not groups)
-      unfolding added
-      added_not is = rw (inside, named, is) refl
-
-      pub added_on : stands live clause hints groups ≡ true → added variables live number clause
-          hints groups ≡ numbered_clause live number clause
-      unfolding added
-      added_on is = rw (inside, named, is) refl
+    pub added_on : stands live clause hints groups ≡ true
+        → added live number clause hints groups ≡ numbered_clause live number clause
+    unfolding added
+    added_on is = rw (named, is) refl
 
 module _ (live : Live) (n : ℕ) where
   pub deleted_none : deleted live [] ≡ Ok live

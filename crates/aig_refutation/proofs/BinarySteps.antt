@@ -7,10 +7,10 @@ use Rattle.aig_refutation.specs.declared.error.RefutationError.{RefutationError}
 use Rattle.aig_refutation.specs.declared.error.RefutationError.TheVariants as errors
 use Rattle.aig_refutation.specs.declared.step.Step as held
 use Rattle.aig_refutation.specs.Ahead.{IsAhead, TakesPlain}
-use Rattle.aig_refutation.specs.Binary.{after_letter, after_literal, binary_script, binary_steps_in, code_of, groups_in, literal_by, no_step, step_before, with_byte, with_literal}
-use Rattle.aig_refutation.specs.Checking.{IsRefusal, are_in}
+use Rattle.aig_refutation.specs.Binary.{after_letter, after_literal, binary_script, binary_steps_in, code_of, groups_in, literal_by, no_step, step_before, widened_after, with_byte, with_literal}
+use Rattle.aig_refutation.specs.Checking.{IsRefusal}
 use Rattle.aig_refutation.specs.Concluding.{ConcludesPlain}
-use Rattle.aig_refutation.specs.Proofs.{Plain, Script}
+use Rattle.aig_refutation.specs.Proofs.{Plain, Script, widened}
 use Rattle.aig_refutation.specs.Reading.{plain_by}
 use Rattle.aig_refutation.specs.ReadingBinary.{EndsStep, GivesBinary, GivesCode, GivesLetter, IsNoCode, binary_left}
 use Rattle.aig_refutation.specs.Steps.{Drops, Learns, PlainStep}
@@ -18,7 +18,7 @@ use Rattle.aig_refutation.specs.Tables.{Table}
 use Rattle.aig_refutation.specs.Text.{◌>>=◌}
 use Rattle.aig_refutation.specs.Words.{Leaves, Says, Tells, front}
 use Rattle.aig_refutation.proofs.Known.{leaves_on, leaves_same, says_now, says_on, step_leaves, tells, tells_on}
-use Rattle.aig_refutation.proofs.Plainly.{IsInside, PassesOn, line_passes, line_refused, passed_on, refused_on}
+use Rattle.aig_refutation.proofs.Plainly.{PassesOn, line_passes, line_refused, passed_on, refused_on}
 
 -- ---- letters
 
@@ -112,12 +112,13 @@ said_code variables code =
 code_said : (variables : ℕ) (step : PlainStep) (bytes rest word : List ℕ) (code : ℕ)
     → groups_in bytes ≡ word ∷ groups_in rest → code_of (parse_delta word) ≡ Ok code
     → binary_left variables (Some step) bytes
-    ≡ after_literal step (said_code variables code) (λ next. binary_left variables next rest)
+    ≡ after_literal step (said_code variables code)
+    (λ next. binary_left (widened_after variables next) next rest)
 unfolding binary_script
 code_said variables step bytes rest word code is value =
     ap (binary_script variables (Some step)) is
     ∙ ap (λ (r : Result ℕ RefutationError). after_literal step (r >>= said_code variables)
-    (λ next. binary_script variables next (groups_in rest))) value
+    (λ next. binary_script (widened_after variables next) next (groups_in rest))) value
 
 code_missing : (variables : ℕ) (step : PlainStep) (words : List (List ℕ)) → IsNoCode words
     → binary_script variables (Some step) words ≡ no_step errors.Binary
@@ -125,7 +126,7 @@ unfolding binary_script
 code_missing variables step [] none = refl
 code_missing variables step (word ∷ words) none =
     ap (λ (r : Result ℕ RefutationError). after_literal step (r >>= said_code variables)
-    (λ next. binary_script variables next words)) none
+    (λ next. binary_script (widened_after variables next) next words)) none
 
 said_end : (variables code : ℕ) → code ≡ 0 → said_code variables code ≡ Ok None
 said_end variables code is = ap (said_code variables) is
@@ -169,11 +170,11 @@ module _ (variables : ℕ) (first step : PlainStep) (before mid : Feed)
   literals_end code given none =
       leaves_on before mid Goes so_far after (Word code)
       (λ bytes rest. binary_left variables (Some first) bytes
-      ≡ step_before step (binary_left variables None rest)) given
+      ≡ step_before step (binary_left (widened variables) None rest)) given
       (λ bytes middle rest goes word. goes
       ∙ code_said variables step middle rest word.0 code word.1 word.2
       ∙ ap (λ (r : Result (Option Lit) RefutationError). after_literal step r (λ next.
-      binary_left variables next rest)) (said_end variables code none))
+      binary_left (widened_after variables next) next rest)) (said_end variables code none))
 
   -- no number
   pub literals_unread : (now : PlainStep) (e : RefutationError) → GivesCode mid after (Err e)
@@ -189,11 +190,12 @@ module _ (variables : ℕ) (first step : PlainStep) (before mid : Feed)
     said : (r : Result Lit RefutationError) → literal_by variables code ≡ r
         → (bytes middle rest : List ℕ) → Goes bytes middle → Word code middle rest
         → binary_left variables (Some first) bytes
-        ≡ after_literal step (r >>= λ lit. Ok (Some lit)) (λ next. binary_left variables next rest)
+        ≡ after_literal step (r >>= λ lit. Ok (Some lit))
+        (λ next. binary_left (widened_after variables next) next rest)
     said r is bytes middle rest goes word =
         goes ∙ code_said variables step middle rest word.0 code word.1 word.2
         ∙ ap (λ (x : Result (Option Lit) RefutationError). after_literal step x (λ next.
-        binary_left variables next rest)) (said_literal variables code r some is)
+        binary_left (widened_after variables next) next rest)) (said_literal variables code r some is)
 
     -- a number that is no literal
     pub literals_wrong : (now : PlainStep) (e : RefutationError) → literal_by variables code ≡ Err e
@@ -251,88 +253,86 @@ module _ (variables : ℕ) (before mid : Feed) (begun_as step : PlainStep) where
     step_read h =
         leaves_on before mid Begins letter after
         (λ bytes rest. binary_left variables (Some begun_as) bytes
-        ≡ step_before step (binary_left variables None rest))
+        ≡ step_before step (binary_left (widened variables) None rest))
         (λ bytes rest. binary_left variables None bytes
-        ≡ step_before step (binary_left variables None rest)) h
+        ≡ step_before step (binary_left (widened variables) None rest)) h
         (λ bytes middle rest begins is. begins variables ∙ is)
 
 -- ---- a loop over steps
 
-abbrev pub GoesBinary : ℕ → List (List Lit) → Feed → List (List Lit) → Feed → Type 0
-GoesBinary variables clauses before now mid = Leaves before mid (λ bytes rest.
-    PassesOn clauses now (binary_left variables None bytes) (binary_left variables None rest))
+abbrev pub GoesBinary : ℕ → List (List Lit) → Feed → ℕ → List (List Lit) → Feed → Type 0
+GoesBinary variables clauses before bound now mid = Leaves before mid (λ bytes rest.
+    PassesOn clauses now (binary_left variables None bytes) (binary_left bound None rest))
 
-inside_plain : (variables : ℕ) (s : held.Step) → are_in variables s.clause.items ≡ true
-    → IsInside variables (Plain (plain_by s))
-inside_plain variables s inside = by s.deletes
-  where
-    by : (d : Bool) → IsInside variables (Plain (cond d (Drops s.clause.items)
-        (Learns s.clause.items)))
-    by true = tt
-    by false = inside
-
-module _ (variables : ℕ) (clauses : List (List Lit)) (before : Feed) (now : List (List Lit))
-    (mid : Feed) (so_far : GoesBinary variables clauses before now mid) where
+module _ (variables : ℕ) (clauses : List (List Lit)) (before : Feed) (bound : ℕ)
+    (now : List (List Lit)) (mid : Feed)
+    (so_far : GoesBinary variables clauses before bound now mid) where
   abbrev Left : List ℕ → Script PlainStep
   Left bytes = binary_left variables None bytes
 
+  abbrev Now : List ℕ → Script PlainStep
+  Now bytes = binary_left bound None bytes
+
+  abbrev Next : List ℕ → Script PlainStep
+  Next bytes = binary_left (widened bound) None bytes
+
   abbrev Passes : List ℕ → List ℕ → Type 0
-  Passes bytes rest = PassesOn clauses now (Left bytes) (Left rest)
+  Passes bytes rest = PassesOn clauses now (Left bytes) (Now rest)
 
   fault_on : (e : RefutationError) (bytes middle : List ℕ) → Passes bytes middle
-      → Left middle ≡ no_step e → IsRefusal clauses (Left bytes) e
+      → Now middle ≡ no_step e → IsRefusal clauses (Left bytes) e
   fault_on e bytes middle passes is =
-      refused_on clauses now (Left bytes) (Left middle) e passes
+      refused_on clauses now (Left bytes) (Now middle) e passes
       (subst (λ (script : Script PlainStep). IsRefusal now script e) (sym is) (inr (refl, refl)))
 
   pub binary_unread : (step : PlainStep) (after : Feed) (e : RefutationError)
-      → GivesBinary variables step mid after (Err e)
+      → GivesBinary bound step mid after (Err e)
       → ConcludesPlain before clauses (binary_steps_in variables) (Err e)
   binary_unread step after e given =
-      let P : List ℕ → Type 0 = λ bytes. Left bytes ≡ no_step e in
+      let P : List ℕ → Type 0 = λ bytes. Now bytes ≡ no_step e in
       let Q : List ℕ → Type 0 = λ bytes. IsRefusal clauses (Left bytes) e in
       tells_on e (Says mid P) (Says before Q)
       (λ says. says_on before mid Passes so_far P Q says (λ bytes middle passes is.
       fault_on e bytes middle passes is)) given
 
   pub binary_none : (step : PlainStep) (after : Feed)
-      → GivesBinary variables step mid after (Ok false)
+      → GivesBinary bound step mid after (Ok false)
       → ConcludesPlain before clauses (binary_steps_in variables) (Err errors.Unfinished)
   binary_none step after given =
-      says_on before mid Passes so_far (λ bytes. Left bytes ≡ no_step errors.Unfinished)
+      says_on before mid Passes so_far (λ bytes. Now bytes ≡ no_step errors.Unfinished)
       (λ bytes. IsRefusal clauses (Left bytes) errors.Unfinished) given
       (λ bytes middle passes is. fault_on errors.Unfinished bytes middle passes is)
 
   module _ (s : held.Step) (after : Feed)
-      (given : GivesBinary variables (plain_by s) mid after (Ok true)) (t : Table) where
+      (given : GivesBinary bound (plain_by s) mid after (Ok true)) (t : Table) where
     abbrev Gives : List ℕ → List ℕ → Type 0
-    Gives bytes rest = Left bytes ≡ step_before (plain_by s) (Left rest)
+    Gives bytes rest = Now bytes ≡ step_before (plain_by s) (Next rest)
 
-    pub binary_wrong : (e : RefutationError) → are_in variables s.clause.items ≡ true
-        → TakesPlain variables now (plain_by s) t (Err e)
+    pub binary_wrong : (e : RefutationError)
+        → TakesPlain now (plain_by s) t (Err e)
         → ConcludesPlain before clauses (binary_steps_in variables) (Err e)
-    binary_wrong e inside h =
+    binary_wrong e h =
         let Q : List ℕ → Type 0 = λ bytes. IsRefusal clauses (Left bytes) e in
         tells_on e ((rest : Script PlainStep) → IsRefusal now (step_before (plain_by s) rest) e)
         (Says before Q)
         (λ wrong. says_now before after (λ bytes rest. Q bytes)
         (leaves_on before mid Passes so_far after Gives (λ bytes rest. Q bytes) given
-        (λ bytes middle rest passes is. refused_on clauses now (Left bytes) (Left middle) e passes
+        (λ bytes middle rest passes is. refused_on clauses now (Left bytes) (Now middle) e passes
         (subst (λ (script : Script PlainStep). IsRefusal now script e) (sym is)
-        (wrong (Left rest))))) Q (λ bytes rest q. q))
-        (line_refused variables now t (Plain (plain_by s)) e (inside_plain variables s inside) h)
+        (wrong (Next rest))))) Q (λ bytes rest q. q))
+        (line_refused now t (Plain (plain_by s)) e h)
 
-    pub binary_more : TakesPlain variables now (plain_by s) t (Ok false)
-        → (next : List (List Lit)) × IsAhead next t × GoesBinary variables clauses before next after
+    pub binary_more : TakesPlain now (plain_by s) t (Ok false)
+        → (next : List (List Lit)) × IsAhead next t × GoesBinary variables clauses before (widened bound) next after
     binary_more h =
-        let more = line_passes variables now t (Plain (plain_by s)) h in (
+        let more = line_passes now t (Plain (plain_by s)) h in (
           more.0,
           more.1,
           leaves_on before mid Passes so_far after Gives
-              (λ bytes rest. PassesOn clauses more.0 (Left bytes) (Left rest)) given
+              (λ bytes rest. PassesOn clauses more.0 (Left bytes) (Next rest)) given
               (λ bytes middle rest passes is. passed_on clauses now more.0 (Left bytes)
-              (Left middle) (Left rest) passes (subst (λ (script : Script PlainStep). PassesOn now more.0 script
-              (Left rest)) (sym is) (more.2 (Left rest)))),
+              (Now middle) (Next rest) passes (subst (λ (script : Script PlainStep).
+              PassesOn now more.0 script (Next rest)) (sym is) (more.2 (Next rest)))),
         )
 
 -- memory ran out

@@ -14,7 +14,7 @@ use Rattle.aig_refutation.specs.Forms.{is_binary, plain_steps_in, steps_in}
 use Rattle.aig_refutation.specs.Proofs.{Script, after_clause, after_first, after_number, after_word, clause_from, clause_in, ended, line_in, numbers_from, numbers_in, plain_of, script_if, script_of}
 use Rattle.aig_refutation.specs.Propagation.{is_rup}
 use Rattle.aig_refutation.specs.Steps.{Adds, Deletes, Drops, Learns, PlainStep, Refute, Step, is_refutation, without_one}
-use Rattle.aig_refutation.specs.Text.{digits_after, lines_after, number_in, word_at, word_in, words_after, words_of}
+use Rattle.aig_refutation.specs.Text.{digits_after, letter_before, lines_after, number_in, word_at, word_in, words_after, words_of}
 use Rattle.aig_refutation.specs.Written.{binary_text, plain_text, proof_text}
 use Rattle.aig_refutation.proofs.Plainly.{refutation_taken}
 
@@ -146,6 +146,14 @@ from_description = refl
 no_literal : binary_steps_in 1 (97 ∷ 4 ∷ 0 ∷ []) ≡ record { steps = []; fault = errors.Literal }
 unfolding groups_in binary_script parse_groups
 no_literal = refl
+
+-- the second step may name one variable more than the first
+second_step : binary_steps_in 1 (97 ∷ 2 ∷ 0 ∷ 97 ∷ 4 ∷ 0 ∷ 97 ∷ 8 ∷ 0 ∷ []) ≡ record {
+  steps = Learns (plain 0 ∷ []) ∷ Learns (plain 1 ∷ []) ∷ [];
+  fault = errors.Literal;
+}
+unfolding groups_in binary_script parse_groups
+second_step = refl
 
 -- 1 is no literal
 no_number : binary_steps_in 1 (97 ∷ 1 ∷ 0 ∷ []) ≡ record { steps = []; fault = errors.Binary }
@@ -304,3 +312,32 @@ exchanged_binary : binary_steps_in 2 (97 ∷ 3 ∷ 0 ∷ []) ≡ record {
 }
 unfolding groups_in binary_script parse_groups
 exchanged_binary = refl
+
+-- ---- new variables
+
+-- the last one that the first step may name, where the clauses have two
+last_new : steps_in 2 (codes "5 65538 0 0\n") ≡ Some (record {
+  steps = Adds 5 (plain 65537 ∷ []) [] [] ∷ [];
+  fault = errors.Unfinished;
+})
+unfolding script_if script_of words_of words_after word_at lines_after line_in word_in number_in digits_after after_first after_number after_word clause_from clause_in after_clause numbers_from ended
+last_new = refl
+
+past_new : steps_in 2 (codes "5 -65539 0 0\n") ≡ Some (record { steps = []; fault = errors.Literal })
+unfolding script_if script_of words_of words_after word_at lines_after line_in word_in number_in digits_after after_first after_number after_word clause_from clause_in after_clause numbers_from ended
+past_new = refl
+
+-- and the second one, after a deletion
+second_new : steps_in 2 (codes "5 d 1 0\n5 65539 0 0\n6 65541 0 0\n") ≡ Some (record {
+  steps = Deletes (1 ∷ []) ∷ Adds 5 (plain 65538 ∷ []) [] [] ∷ [];
+  fault = errors.Literal;
+})
+unfolding script_if script_of words_of words_after word_at lines_after line_in word_in number_in digits_after after_first after_number after_word clause_from clause_in after_clause numbers_from numbers_in ended letter_before
+second_new = refl
+
+plain_new : plain_steps_in 2 (codes "1 0\n65539 0\n65541 0\n") ≡ record {
+  steps = Learns (plain 0 ∷ []) ∷ Learns (plain 65538 ∷ []) ∷ [];
+  fault = errors.Literal;
+}
+unfolding plain_of words_of words_after word_at lines_after line_in word_in number_in digits_after after_first after_number after_word clause_from after_clause
+plain_new = refl

@@ -11,7 +11,7 @@ use Rattle.aig_refutation.specs.Checking.{IsInConflict, IsOutcome, IsPlainOutcom
 use Rattle.aig_refutation.specs.Concluding.{ConcludesPlain, IsFormula, RefusesFormula, ShowsPlain, ShowsText, shown_of, text_outcome}
 use Rattle.aig_refutation.specs.Binary.{binary_steps_in}
 use Rattle.aig_refutation.specs.Forms.{is_binary, plain_steps_in}
-use Rattle.aig_refutation.specs.Proofs.{Script, plain_of, script_if}
+use Rattle.aig_refutation.specs.Proofs.{Script, allowed, plain_of, script_if}
 use Rattle.aig_refutation.specs.Steps.{PlainStep}
 use Rattle.aig_refutation.specs.Tables.{Checked, HoldsFormula}
 use Rattle.aig_refutation.specs.Text.{lines_of}
@@ -212,21 +212,21 @@ module _ (variables : ℕ) (clauses : List (List Lit)) (text : Option (List ℕ)
     -- they are those of a text
     module _ (form : (bytes : List ℕ) → text ≡ Some bytes → is_binary bytes ≡ false) where
       abbrev Plainly : Result (Unit {0}) RefutationError → Type 0
-      Plainly r = Says f (λ bytes. script_if variables (lines_of bytes) ≡ None
-          → IsPlainOutcome clauses (plain_of variables (lines_of bytes)) r)
+      Plainly r = Says f (λ bytes. script_if (allowed variables) (lines_of bytes) ≡ None
+          → IsPlainOutcome clauses (plain_of (allowed variables) (lines_of bytes)) r)
 
       shown_as : (bytes : List ℕ) → text ≡ Some bytes
-          → shown_by variables clauses bytes ≡ text_outcome variables (all_live clauses) bytes
-      shown_as bytes is = ap (λ (b : Bool). option_map (shown_of variables (all_live clauses))
-          (cond b None (script_if variables (lines_of bytes)))) (form bytes is)
+          → shown_by variables clauses bytes ≡ text_outcome (allowed variables) (all_live clauses) bytes
+      shown_as bytes is = ap (λ (b : Bool). option_map (shown_of (all_live clauses))
+          (cond b None (script_if (allowed variables) (lines_of bytes)))) (form bytes is)
 
       plain_as : (bytes : List ℕ) → text ≡ Some bytes
-          → plain_steps_in variables bytes ≡ plain_of variables (lines_of bytes)
-      plain_as bytes is = ap (λ (b : Bool). cond b (binary_steps_in variables bytes)
-          (plain_of variables (lines_of bytes))) (form bytes is)
+          → plain_steps_in variables bytes ≡ plain_of (allowed variables) (lines_of bytes)
+      plain_as bytes is = ap (λ (b : Bool). cond b (binary_steps_in (allowed variables) bytes)
+          (plain_of (allowed variables) (lines_of bytes))) (form bytes is)
 
       is_shown : (r : Result (Unit {0}) RefutationError)
-          → Says f (λ bytes. IfSome (text_outcome variables (all_live clauses) bytes) (λ x. x ≡ r))
+          → Says f (λ bytes. IfSome (text_outcome (allowed variables) (all_live clauses) bytes) (λ x. x ≡ r))
           → Plainly r → IsShown r
       is_shown r says plain = record {
         no_variable = λ out. absurd (false≢true (sym out ∙ inside));
@@ -234,37 +234,37 @@ module _ (variables : ℕ) (clauses : List (List Lit)) (text : Option (List ℕ)
         by_steps = λ _ _. known _ (λ bytes is.
             subst (λ (o : Option (Result (Unit {0}) RefutationError)). IfSome o (λ x. r ≡ x))
             (sym (shown_as bytes is))
-            (turned (text_outcome variables (all_live clauses) bytes) r
+            (turned (text_outcome (allowed variables) (all_live clauses) bytes) r
             (says bytes (there bytes is))));
         by_propagation = λ _ _. known _ (λ bytes is unnumbered.
             subst (λ (script : Script PlainStep). IsPlainOutcome clauses script r)
             (sym (plain_as bytes is))
-            (plain bytes (there bytes is) (unmapped _ (script_if variables (lines_of bytes))
+            (plain bytes (there bytes is) (unmapped _ (script_if (allowed variables) (lines_of bytes))
             (sym (shown_as bytes is) ∙ unnumbered))));
       }
 
       pub shows_text : (r : Result (Unit {0}) RefutationError)
-          → ShowsText f (text_outcome variables (all_live clauses)) r
-          → ShowsPlain f variables clauses r → Shows variables clauses text r
+          → ShowsText f (text_outcome (allowed variables) (all_live clauses)) r
+          → ShowsPlain f (allowed variables) clauses r → Shows variables clauses text r
       shows_text (Ok done) h plain = is_shown (Ok tt) h (λ bytes known none. tt)
       shows_text (Err e) h plain =
           shows_err e (tells_on e _ (IsShown (Err e)) (λ both. is_shown (Err e) both.0 both.1)
-          (tells_both e (Says f (λ bytes. IfSome (text_outcome variables (all_live clauses) bytes)
+          (tells_both e (Says f (λ bytes. IfSome (text_outcome (allowed variables) (all_live clauses) bytes)
           (λ x. x ≡ Err e))) (Plainly (Err e)) h plain))
 
     -- they are those of a binary proof
     module _ (form : (bytes : List ℕ) → text ≡ Some bytes → is_binary bytes ≡ true) where
       unnumbered : (bytes : List ℕ) → text ≡ Some bytes → shown_by variables clauses bytes ≡ None
-      unnumbered bytes is = ap (λ (b : Bool). option_map (shown_of variables (all_live clauses))
-          (cond b None (script_if variables (lines_of bytes)))) (form bytes is)
+      unnumbered bytes is = ap (λ (b : Bool). option_map (shown_of (all_live clauses))
+          (cond b None (script_if (allowed variables) (lines_of bytes)))) (form bytes is)
 
       binary_as : (bytes : List ℕ) → text ≡ Some bytes
-          → plain_steps_in variables bytes ≡ binary_steps_in variables bytes
-      binary_as bytes is = ap (λ (b : Bool). cond b (binary_steps_in variables bytes)
-          (plain_of variables (lines_of bytes))) (form bytes is)
+          → plain_steps_in variables bytes ≡ binary_steps_in (allowed variables) bytes
+      binary_as bytes is = ap (λ (b : Bool). cond b (binary_steps_in (allowed variables) bytes)
+          (plain_of (allowed variables) (lines_of bytes))) (form bytes is)
 
       is_plain : (r : Result (Unit {0}) RefutationError)
-          → Says f (λ bytes. IsPlainOutcome clauses (binary_steps_in variables bytes) r) → IsShown r
+          → Says f (λ bytes. IsPlainOutcome clauses (binary_steps_in (allowed variables) bytes) r) → IsShown r
       is_plain r says = record {
         no_variable = λ out. absurd (false≢true (sym out ∙ inside));
         in_conflict = λ _ conflict. absurd (none conflict);
@@ -277,8 +277,8 @@ module _ (variables : ℕ) (clauses : List (List Lit)) (text : Option (List ℕ)
       }
 
       pub shows_binary : (r : Result (Unit {0}) RefutationError)
-          → ConcludesPlain f clauses (binary_steps_in variables) r → Shows variables clauses text r
+          → ConcludesPlain f clauses (binary_steps_in (allowed variables)) r → Shows variables clauses text r
       shows_binary (Ok done) h = is_plain (Ok tt) (λ bytes is. tt)
       shows_binary (Err e) h =
           shows_err e (tells_on e (Says f (λ bytes. IsRefusal clauses
-          (binary_steps_in variables bytes) e)) (IsShown (Err e)) (is_plain (Err e)) h)
+          (binary_steps_in (allowed variables) bytes) e)) (IsShown (Err e)) (is_plain (Err e)) h)

@@ -6,7 +6,7 @@ use Rattle.aig_refutation.specs.declared.error.RefutationError.{RefutationError}
 use Rattle.aig_refutation.specs.declared.error.RefutationError.TheVariants as errors
 use Rattle.aig_refutation.specs.declared.step.Step as held
 use Rattle.aig_refutation.specs.Ahead.{AddsAhead, IsAhead, LearnsAhead, StaysAhead, TakesPlain, copies}
-use Rattle.aig_refutation.specs.Checking.{Live, all_live, are_in, clause_at, deleted, numbered_clause, with_clause, with_next, without_clause}
+use Rattle.aig_refutation.specs.Checking.{Live, all_live, clause_at, deleted, numbered_clause, with_clause, with_next, without_clause}
 use Rattle.aig_refutation.specs.Reading.{plain_by}
 use Rattle.aig_refutation.specs.Steps.{Drops, Follows, Learns, are_same, is_empty, without_one}
 use Rattle.aig_refutation.specs.Tables.{Holds, HoldsFormula, Moves, SaysSame, Table, clause_in, entry_at}
@@ -148,31 +148,31 @@ adds_stays clauses clause new None ahead = ahead
 
 -- ---- steps
 
-pub learns_from : (variables : ℕ) (clauses : List (List Lit)) (clause : List Lit) (new : Table)
+pub learns_from : (clauses : List (List Lit)) (clause : List Lit) (new : Table)
     (r : Result Bool RefutationError) → StaysAhead (clause ∷ clauses) new r
-    → is_empty clause ≡ false → LearnsAhead variables clauses clause new r
-learns_from variables clauses clause new (Ok true) stays some = tt
-learns_from variables clauses clause new (Ok false) stays some = (stays, some)
-learns_from variables clauses clause new (Err e) stays some =
-    tells_on e ⊥ ((e ≡ errors.Step) × (are_in variables clause ≡ true → Follows clauses clause → ⊥))
+    → is_empty clause ≡ false → LearnsAhead clauses clause new r
+learns_from clauses clause new (Ok true) stays some = tt
+learns_from clauses clause new (Ok false) stays some = (stays, some)
+learns_from clauses clause new (Err e) stays some =
+    tells_on e ⊥ ((e ≡ errors.Step) × (Follows clauses clause → ⊥))
     (λ none. absurd none) stays
 
-pub learns_err : (variables : ℕ) (clauses : List (List Lit)) (clause : List Lit) (new : Table)
-    (e : RefutationError) → Tells e ⊥ → LearnsAhead variables clauses clause new (Err e)
-learns_err variables clauses clause new e tells =
-    tells_on e ⊥ ((e ≡ errors.Step) × (are_in variables clause ≡ true → Follows clauses clause → ⊥))
+pub learns_err : (clauses : List (List Lit)) (clause : List Lit) (new : Table)
+    (e : RefutationError) → Tells e ⊥ → LearnsAhead clauses clause new (Err e)
+learns_err clauses clause new e tells =
+    tells_on e ⊥ ((e ≡ errors.Step) × (Follows clauses clause → ⊥))
     (λ none. absurd none) tells
 
-module _ (variables : ℕ) (clauses : List (List Lit)) (s : held.Step) (new : Table)
+module _ (clauses : List (List Lit)) (s : held.Step) (new : Table)
     (r : Result Bool RefutationError) where
-  pub takes_learned : s.deletes ≡ false → LearnsAhead variables clauses s.clause.items new r
-      → TakesPlain variables clauses (plain_by s) new r
+  pub takes_learned : s.deletes ≡ false → LearnsAhead clauses s.clause.items new r
+      → TakesPlain clauses (plain_by s) new r
   takes_learned is learns =
-      subst (λ (b : Bool). TakesPlain variables clauses (cond b (Drops s.clause.items)
+      subst (λ (b : Bool). TakesPlain clauses (cond b (Drops s.clause.items)
       (Learns s.clause.items)) new r) (sym is) learns
 
   pub takes_dropped : s.deletes ≡ true → StaysAhead (without_one s.clause.items clauses) new r
-      → TakesPlain variables clauses (plain_by s) new r
+      → TakesPlain clauses (plain_by s) new r
   takes_dropped is stays =
-      subst (λ (b : Bool). TakesPlain variables clauses (cond b (Drops s.clause.items)
+      subst (λ (b : Bool). TakesPlain clauses (cond b (Drops s.clause.items)
       (Learns s.clause.items)) new r) (sym is) stays

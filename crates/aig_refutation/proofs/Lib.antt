@@ -37,6 +37,7 @@ mod Plainly
 mod Groups
 mod Fronts
 mod BinarySteps
+mod Widening
 mod WrittenWords
 mod WrittenLines
 mod WrittenProofs

@@ -4,11 +4,11 @@ use Rattle.aig_base.specs.declared.logic.literal.Lit.{Lit}
 use Rattle.aig_base.specs.Clauses.{variable_of}
 use Rattle.aig_refutation.specs.declared.error.RefutationError.{RefutationError}
 use Rattle.aig_refutation.specs.declared.error.RefutationError.TheVariants as errors
-use Rattle.aig_refutation.specs.Checking.{Live, added, all_live, are_in, clause_at, deleted, is_named, outcome, stands, taken, with_clause, with_next, without_clause}
+use Rattle.aig_refutation.specs.Checking.{Live, added, all_live, clause_at, deleted, is_named, outcome, stands, taken, with_clause, with_next, without_clause}
 use Rattle.aig_refutation.specs.Propagation.{is_rup, is_tautology}
 use Rattle.aig_refutation.specs.Rat.{is_apart, is_rat, is_rat_refutation, refutes_by_rat}
 use Rattle.aig_refutation.specs.Steps.{Step, Adds, Deletes, is_empty, is_refutation, numbered, refutes, without}
-use Rattle.aig_refutation.specs.Written.{AreInOrder, IsStep}
+use Rattle.aig_refutation.specs.Written.{AreInOrder}
 
 -- the clause of a number
 abbrev found : List (ℕ × List Lit) → ℕ → Option (List Lit)
@@ -170,13 +170,6 @@ rat_same clauses live are same (pivot ∷ lits) hints groups =
 
 -- ---- steps
 
-are_in-below : (variables : ℕ) (clause : List Lit) → AllByRecursion (λ lit. variable_of lit < variables) clause → are_in variables clause ≡ true
-are_in-below variables [] below = refl
-are_in-below variables (lit ∷ lits) below = rw (within (variable_of lit) below.0, are_in-below variables lits below.1) refl
-  where
-    within : (n : ℕ) → n < variables → nat_lt n variables ≡ true
-    within n h = grind (arith, nat_tests)
-
 -- a clause that follows or has the RAT property stands
 stands_same : (clauses : List (ℕ × List Lit)) (live : Live) → AreFound clauses live
     → AreSame clauses live → (clause : List Lit) (hints : List ℕ) (groups : List (Bool × ℕ))
@@ -192,27 +185,24 @@ stands_same clauses live are same clause hints groups is =
     by false true c e = refl
     by false false c e = e
 
-module _ (variables : ℕ) (fault : RefutationError) where
+module _ (fault : RefutationError) where
   added_ok : (live : Live) (number : ℕ) (clause : List Lit) (hints : List ℕ) (groups : List (Bool × ℕ)) (steps : List Step)
-      → IsStep variables (Adds number clause hints groups)
       → AreInOrder live (Adds number clause hints groups ∷ steps)
       → stands live clause hints groups ≡ true
-      → added variables live number clause hints groups ≡ Ok (with_clause live number clause)
+      → added live number clause hints groups ≡ Ok (with_clause live number clause)
   unfolding added
-  added_ok live number clause hints groups steps is order there =
-      let inside = are_in-below variables clause (recursion_from_All (λ lit. variable_of lit < variables) clause is.1) in
-      rw (inside, order.0, there, order.1, order.2) refl
+  added_ok live number clause hints groups steps order there =
+      rw (order.0, there, order.1, order.2) refl
 
   refuted_ok : (steps : List Step) (clauses : List (ℕ × List Lit)) (live : Live)
-      → AreFound clauses live → AreSame clauses live → AllByRecursion (IsStep variables) steps
-      → AreInOrder live steps
-      → refutes_by_rat clauses steps ≡ true → outcome variables live steps fault ≡ Ok tt
+      → AreFound clauses live → AreSame clauses live → AreInOrder live steps
+      → refutes_by_rat clauses steps ≡ true → outcome live steps fault ≡ Ok tt
   unfolding outcome taken
-  refuted_ok [] clauses live are same all order is = absurd (false≢true is)
-  refuted_ok (Adds number clause hints groups ∷ steps) clauses live are same all order is =
+  refuted_ok [] clauses live are same order is = absurd (false≢true is)
+  refuted_ok (Adds number clause hints groups ∷ steps) clauses live are same order is =
       let parts = and_parts (is_rup (found clauses) clause hints || is_rat clauses clause hints groups) (is_empty clause || refutes_by_rat ((number, clause) ∷ clauses) steps) is in
-      rw (added_ok live number clause hints groups steps all.0 order (stands_same clauses live are same clause hints groups parts.0))
-      (by (is_empty clause) (λ later. refuted_ok steps ((number, clause) ∷ clauses) (with_clause live number clause) more (λ p. ap (λ (b : Bool). p (number, clause) && b) (same p)) all.1 order.3 later) parts.1)
+      rw (added_ok live number clause hints groups steps order (stands_same clauses live are same clause hints groups parts.0))
+      (by (is_empty clause) (λ later. refuted_ok steps ((number, clause) ∷ clauses) (with_clause live number clause) more (λ p. ap (λ (b : Bool). p (number, clause) && b) (same p)) order.3 later) parts.1)
     where
       more : AreFound ((number, clause) ∷ clauses) (with_clause live number clause)
       more n = ap (λ o. cond (n == number) (Some clause) o) (are n)
@@ -223,8 +213,8 @@ module _ (variables : ℕ) (fault : RefutationError) where
           → cond b (Ok tt) r ≡ Ok tt
       by true later e = refl
       by false later e = later e
-  refuted_ok (Deletes numbers ∷ steps) clauses live are same all order is =
-      rw order.1 (refuted_ok steps (without numbers clauses) order.0 (found_deleted numbers clauses live order.0 are order.1) (same_deleted numbers clauses live order.0 same order.1) all.1 order.2 is)
+  refuted_ok (Deletes numbers ∷ steps) clauses live are same order is =
+      rw order.1 (refuted_ok steps (without numbers clauses) order.0 (found_deleted numbers clauses live order.0 are order.1) (same_deleted numbers clauses live order.0 same order.1) order.2 is)
 
 -- steps that follow are a refutation with RAT steps
 follows_rat : (steps : List Step) (clauses : List (ℕ × List Lit)) → refutes clauses steps ≡ true
@@ -243,13 +233,13 @@ follows_rat (Adds number clause hints groups ∷ steps) clauses is =
     by true later e = refl
     by false later e = later e
 
-pub ordered_rat_taken : (variables : ℕ) (clauses : List (List Lit)) (steps : List Step) (fault : RefutationError) → All (IsStep variables) steps → AreInOrder (all_live clauses) steps
+pub ordered_rat_taken : (clauses : List (List Lit)) (steps : List Step) (fault : RefutationError) → AreInOrder (all_live clauses) steps
     → is_rat_refutation clauses steps ≡ true
-    → outcome variables (all_live clauses) steps fault ≡ Ok tt
-ordered_rat_taken variables clauses steps fault all order is =
-    refuted_ok variables fault steps (numbered 1 clauses) (all_live clauses) (found_first clauses) (same_first clauses) (recursion_from_All (IsStep variables) steps all) order is
+    → outcome (all_live clauses) steps fault ≡ Ok tt
+ordered_rat_taken clauses steps fault order is =
+    refuted_ok fault steps (numbered 1 clauses) (all_live clauses) (found_first clauses) (same_first clauses) order is
 
-pub ordered_taken : (variables : ℕ) (clauses : List (List Lit)) (steps : List Step) (fault : RefutationError) → All (IsStep variables) steps → AreInOrder (all_live clauses) steps
-    → is_refutation clauses steps ≡ true → outcome variables (all_live clauses) steps fault ≡ Ok tt
-ordered_taken variables clauses steps fault all order is =
-    ordered_rat_taken variables clauses steps fault all order (follows_rat steps (numbered 1 clauses) is)
+pub ordered_taken : (clauses : List (List Lit)) (steps : List Step) (fault : RefutationError) → AreInOrder (all_live clauses) steps
+    → is_refutation clauses steps ≡ true → outcome (all_live clauses) steps fault ≡ Ok tt
+ordered_taken clauses steps fault order is =
+    ordered_rat_taken clauses steps fault order (follows_rat steps (numbered 1 clauses) is)

@@ -10,7 +10,7 @@ use Rattle.aig_refutation.specs.declared.step.Step as held
 use Rattle.aig_refutation.specs.Ahead.{IsAhead}
 use Rattle.aig_refutation.specs.Checking.{IsRefusal, are_in}
 use Rattle.aig_refutation.specs.Concluding.{ConcludesPlain, ShowsPlain, TakesLine, plain_left}
-use Rattle.aig_refutation.specs.Proofs.{Line, Numbered, Plain, Script, is_comment, is_none, line_in, plain_of, script_if, then_plain}
+use Rattle.aig_refutation.specs.Proofs.{Line, Numbered, Plain, Script, is_comment, is_none, line_in, plain_of, script_if, then_plain, widened}
 use Rattle.aig_refutation.specs.Reading.{GivesStep, next_said, plain_by, said_by, said_line, step_by}
 use Rattle.aig_refutation.specs.Steps.{Drops, Follows, Learns, PlainStep, Refute, Stand, Step, adds_empty, are_same, is_empty, without_one}
 use Rattle.aig_refutation.specs.Tables.{Table}
@@ -26,7 +26,7 @@ use Rattle.aig_refutation.proofs.Tautologies.{tautology_is_true}
 
 abbrev plain_said : ℕ → Option Said → Script PlainStep
 plain_said variables None = record { steps = []; fault = errors.Unfinished }
-plain_said variables (Some x) = then_plain x.0 (plain_of variables x.1)
+plain_said variables (Some x) = then_plain x.0 (plain_of (widened variables) x.1)
 
 plain_past : (variables : ℕ) (lines : List (List (List ℕ)))
     → plain_of variables lines ≡ plain_said variables (said_line false variables (lines_past lines))
@@ -39,7 +39,7 @@ plain_past variables ((word ∷ words) ∷ lines) = by (is_comment word) (plain_
         → plain_of variables lines ≡ plain_said variables (said_line false variables
         (lines_past lines))
         → cond b (plain_of variables lines) (then_plain (line_in false variables (is_none lines)
-        word words) (plain_of variables lines))
+        word words) (plain_of (widened variables) lines))
         ≡ plain_said variables (said_line false variables (cond b (lines_past lines)
         ((word ∷ words) ∷ lines)))
     by true later = later
@@ -70,13 +70,13 @@ abbrev pub GoesBy : List (List Lit) → Line → List (List Lit) → Type 0
 GoesBy now line next = (rest : Script PlainStep)
     → PassesOn now next (then_plain (Ok line) rest) rest
 
-pub line_passes : (variables : ℕ) (now : List (List Lit)) (t : Table) (line : Line)
-    → TakesLine variables now line t (Ok false)
+pub line_passes : (now : List (List Lit)) (t : Table) (line : Line)
+    → TakesLine now line t (Ok false)
     → (next : List (List Lit)) × IsAhead next t × GoesBy now line next
-line_passes variables now t (Numbered step) h = absurd h
-line_passes variables now t (Plain (Drops clause)) h =
+line_passes now t (Numbered step) h = absurd h
+line_passes now t (Plain (Drops clause)) h =
     (without_one clause now, h, λ rest. record { stand = λ s. s; fault = refl; empty = refl })
-line_passes variables now t (Plain (Learns clause)) h = (
+line_passes now t (Plain (Learns clause)) h = (
   clause ∷ now,
   h.0,
   λ rest. record {
@@ -86,37 +86,21 @@ line_passes variables now t (Plain (Learns clause)) h = (
   },
 )
 
--- the literals of a clause that is added have variables
-abbrev pub IsInside : ℕ → Line → Type 0
-IsInside variables (Numbered step) = Unit {0}
-IsInside variables (Plain (Drops clause)) = Unit {0}
-IsInside variables (Plain (Learns clause)) = are_in variables clause ≡ true
-
-inside_said : (variables : ℕ) (s : held.Step) → are_in variables s.clause.items ≡ true
-    → IsInside variables (said_by s)
-inside_said variables s inside = by s.is_numbered s.deletes
-  where
-    by : (numbered deletes : Bool) → IsInside variables (cond numbered (Numbered (step_by s))
-        (Plain (cond deletes (Drops s.clause.items) (Learns s.clause.items))))
-    by true deletes = tt
-    by false true = tt
-    by false false = inside
-
-pub line_refused : (variables : ℕ) (now : List (List Lit)) (t : Table) (line : Line)
-    (e : RefutationError) → IsInside variables line → TakesLine variables now line t (Err e)
+pub line_refused : (now : List (List Lit)) (t : Table) (line : Line)
+    (e : RefutationError) → TakesLine now line t (Err e)
     → Tells e ((rest : Script PlainStep) → IsRefusal now (then_plain (Ok line) rest) e)
-line_refused variables now t (Numbered step) e inside h =
+line_refused now t (Numbered step) e h =
     tells_on e (e ≡ errors.Line)
     ((rest : Script PlainStep) → IsRefusal now (then_plain (Ok (Numbered step)) rest) e)
     (λ is rest. inr (is, refl)) h
-line_refused variables now t (Plain (Drops clause)) e inside h =
+line_refused now t (Plain (Drops clause)) e h =
     tells_on e ⊥
     ((rest : Script PlainStep) → IsRefusal now (then_plain (Ok (Plain (Drops clause))) rest) e)
     (λ none. absurd none) h
-line_refused variables now t (Plain (Learns clause)) e inside h =
-    tells_on e ((e ≡ errors.Step) × (are_in variables clause ≡ true → Follows now clause → ⊥))
+line_refused now t (Plain (Learns clause)) e h =
+    tells_on e ((e ≡ errors.Step) × (Follows now clause → ⊥))
     ((rest : Script PlainStep) → IsRefusal now (then_plain (Ok (Plain (Learns clause))) rest) e)
-    (λ wrong rest. inl (wrong.0, λ stand. wrong.1 inside stand.0)) h
+    (λ wrong rest. inl (wrong.0, λ stand. wrong.1 stand.0)) h
 
 pub inside_more : (variables : ℕ) (clause : List Lit) (lit : Lit) (now : List Lit)
     → are_in variables clause ≡ true → variable_of lit < variables → now ≡ clause ++ lit ∷ []
@@ -132,103 +116,113 @@ inside_more variables clause lit now before here is =
 
 -- ---- a loop over steps
 
-abbrev pub GoesPlain : ℕ → List (List Lit) → Line → Place → List (List Lit) → Line → Place → Type 0
-GoesPlain variables clauses first before now line mid = Leaves before.feed mid.feed (λ bytes rest.
-    PassesOn clauses now (plain_left variables first before bytes)
-    (plain_left variables line mid rest))
+abbrev pub GoesPlain : ℕ → List (List Lit) → Line → Place → ℕ → List (List Lit) → Line → Place
+    → Type 0
+GoesPlain variables clauses first before bound now line mid =
+    Leaves before.feed mid.feed (λ bytes rest. PassesOn clauses now
+    (plain_left variables first before bytes) (plain_left bound line mid rest))
 
 pub plain_start : (variables : ℕ) (clauses : List (List Lit)) (line : Line) (before : Place)
-    → GoesPlain variables clauses line before clauses line before
+    → GoesPlain variables clauses line before variables clauses line before
 plain_start variables clauses line before bytes known =
     (bytes, known, record { stand = λ s. s; fault = refl; empty = refl })
 
 module _ (variables : ℕ) (clauses : List (List Lit)) (first : Line) (before : Place)
-    (now : List (List Lit)) (s : held.Step) (mid : Place)
-    (so_far : GoesPlain variables clauses first before now (said_by s) mid) (t : Table) where
+    (bound : ℕ) (now : List (List Lit)) (s : held.Step) (mid : Place)
+    (so_far : GoesPlain variables clauses first before bound now (said_by s) mid) (t : Table) where
   abbrev Passes : List ℕ → List ℕ → Type 0
   Passes bytes rest = PassesOn clauses now (plain_left variables first before bytes)
-      (plain_left variables (said_by s) mid rest)
+      (plain_left bound (said_by s) mid rest)
 
-  pub plain_wrong : (e : RefutationError) → are_in variables s.clause.items ≡ true
-      → TakesLine variables now (said_by s) t (Err e)
+  pub plain_wrong : (e : RefutationError)
+      → TakesLine now (said_by s) t (Err e)
       → ConcludesPlain before.feed clauses (plain_left variables first before) (Err e)
-  plain_wrong e inside h =
+  plain_wrong e h =
       let Q : List ℕ → Type 0 = λ bytes. IsRefusal clauses (plain_left variables first before bytes) e
       in
       tells_on e ((rest : Script PlainStep) → IsRefusal now (then_plain (Ok (said_by s)) rest) e)
       (Says before.feed Q)
       (λ wrong. says_now before.feed mid.feed Passes so_far Q (λ bytes rest passes.
       refused_on clauses now (plain_left variables first before bytes)
-      (plain_left variables (said_by s) mid rest) e passes
-      (wrong (plain_of variables (lines_at mid.end rest)))))
-      (line_refused variables now t (said_by s) e (inside_said variables s inside) h)
+      (plain_left bound (said_by s) mid rest) e passes
+      (wrong (plain_of (widened bound) (lines_at mid.end rest)))))
+      (line_refused now t (said_by s) e h)
 
-  module _ (taken_on : TakesLine variables now (said_by s) t (Ok false)) where
+  module _ (taken_on : TakesLine now (said_by s) t (Ok false)) (wider : ℕ)
+      (is_wider : wider ≡ widened bound) where
     next : List (List Lit)
-    next = (line_passes variables now t (said_by s) taken_on).0
+    next = (line_passes now t (said_by s) taken_on).0
 
     -- what is read then
-    passes_by : (bytes middle : List ℕ) (said : Option Said) → Passes bytes middle
-        → next_said false variables mid middle ≡ said
-        → PassesOn clauses next (plain_left variables first before bytes) (plain_said variables said)
+    passes_own : (bytes middle : List ℕ) (said : Option Said) → Passes bytes middle
+        → next_said false (widened bound) mid middle ≡ said
+        → PassesOn clauses next (plain_left variables first before bytes) (plain_said (widened bound) said)
     unfolding next
-    passes_by bytes middle said passes is =
+    passes_own bytes middle said passes is =
         let lines = lines_at mid.end middle in
-        let own = plain_of variables lines in
+        let own = plain_of (widened bound) lines in
         passed_on clauses now next (plain_left variables first before bytes)
-        (plain_left variables (said_by s) mid middle) (plain_said variables said) passes
+        (plain_left bound (said_by s) mid middle) (plain_said (widened bound) said) passes
         (subst (λ (script : Script PlainStep).
         PassesOn now next (then_plain (Ok (said_by s)) own) script)
-        (plain_past variables lines ∙ ap (plain_said variables) is)
-        ((line_passes variables now t (said_by s) taken_on).2 own))
+        (plain_past (widened bound) lines ∙ ap (plain_said (widened bound)) is)
+        ((line_passes now t (said_by s) taken_on).2 own))
 
-    pub plain_more : (other : Line) (after : Place) → GivesStep false variables other mid after
+    passes_by : (bytes middle : List ℕ) (said : Option Said) → Passes bytes middle
+        → next_said false wider mid middle ≡ said
+        → PassesOn clauses next (plain_left variables first before bytes) (plain_said wider said)
+    passes_by bytes middle said passes =
+        subst (λ (n : ℕ). next_said false n mid middle ≡ said
+        → PassesOn clauses next (plain_left variables first before bytes) (plain_said n said))
+        (sym is_wider) (passes_own bytes middle said passes)
+
+    pub plain_more : (other : Line) (after : Place) → GivesStep false wider other mid after
         (Ok true) → (next : List (List Lit)) × IsAhead next t
-        × GoesPlain variables clauses first before next other after
+        × GoesPlain variables clauses first before wider next other after
     unfolding next
     plain_more other after given = (
       next,
-      (line_passes variables now t (said_by s) taken_on).1,
+      (line_passes now t (said_by s) taken_on).1,
       leaves_on before.feed mid.feed Passes so_far after.feed
-          (λ bytes rest. next_said false variables mid bytes
+          (λ bytes rest. next_said false wider mid bytes
           ≡ Some (Ok other, lines_at after.end rest))
           (λ bytes rest. PassesOn clauses next (plain_left variables first before bytes)
-          (plain_left variables other after rest)) given
+          (plain_left wider other after rest)) given
           (λ bytes middle rest passes is. passes_by bytes middle
           (Some (Ok other, lines_at after.end rest)) passes is),
     )
 
-    pub plain_none : (other : Line) (after : Place) → GivesStep false variables other mid after
+    pub plain_none : (other : Line) (after : Place) → GivesStep false wider other mid after
         (Ok false) → ConcludesPlain before.feed clauses (plain_left variables first before)
         (Err errors.Unfinished)
     plain_none other after given =
         says_on before.feed mid.feed Passes so_far
-        (λ bytes. next_said false variables mid bytes ≡ None)
+        (λ bytes. next_said false wider mid bytes ≡ None)
         (λ bytes. IsRefusal clauses (plain_left variables first before bytes) errors.Unfinished)
         given (λ bytes middle passes is. refused_on clauses next
-        (plain_left variables first before bytes) (plain_said variables None) errors.Unfinished
+        (plain_left variables first before bytes) (plain_said wider None) errors.Unfinished
         (passes_by bytes middle None passes is) (inr (refl, refl)))
 
     pub plain_unread : (other : Line) (after : Place) (e : RefutationError)
-        → GivesStep false variables other mid after (Err e)
+        → GivesStep false wider other mid after (Err e)
         → ConcludesPlain before.feed clauses (plain_left variables first before) (Err e)
     plain_unread other after e given =
         let P : List ℕ → Type 0 = λ bytes. (lines : List (List (List ℕ)))
-        × (next_said false variables mid bytes ≡ Some (Err e, lines)) in
+        × (next_said false wider mid bytes ≡ Some (Err e, lines)) in
         let Q : List ℕ → Type 0 = λ bytes. IsRefusal clauses (plain_left variables first before bytes)
         e in
         tells_on e (Says mid.feed P) (Says before.feed Q)
         (λ call. says_on before.feed mid.feed Passes so_far P Q call (λ bytes middle passes is.
         refused_on clauses next (plain_left variables first before bytes)
-        (plain_said variables (Some (Err e, is.0))) e
+        (plain_said wider (Some (Err e, is.0))) e
         (passes_by bytes middle (Some (Err e, is.0)) passes is.1) (inr (refl, refl)))) given
 
 -- a step that was taken has no number
-pub is_plain : (variables : ℕ) (now : List (List Lit)) (s : held.Step) (t : Table) (done : Bool)
-    → TakesLine variables now (said_by s) t (Ok done) → s.is_numbered ≡ false
-is_plain variables now s t done h = by s.is_numbered refl h
+pub is_plain : (now : List (List Lit)) (s : held.Step) (t : Table) (done : Bool)
+    → TakesLine now (said_by s) t (Ok done) → s.is_numbered ≡ false
+is_plain now s t done h = by s.is_numbered refl h
   where
-    by : (b : Bool) → s.is_numbered ≡ b → TakesLine variables now (cond b (Numbered (step_by s))
+    by : (b : Bool) → s.is_numbered ≡ b → TakesLine now (cond b (Numbered (step_by s))
         (Plain (plain_by s))) t (Ok done) → s.is_numbered ≡ false
     by true e k = absurd k
     by false e k = e

@@ -14,16 +14,16 @@ use Rattle.aig_refutation.proofs.Refuting.{AllTrue}
 use Rattle.aig_refutation.proofs.Taken.{last_fails, taken_keeps}
 
 -- steps up to the empty clause leave clauses that can't all be true
-no_outcome : (variables : ℕ) (steps : List Step) (live : Live) (fault : RefutationError)
-    → outcome variables live steps fault ≡ Ok tt → CanHold live → ⊥
+no_outcome : (steps : List Step) (live : Live) (fault : RefutationError)
+    → outcome live steps fault ≡ Ok tt → CanHold live → ⊥
 unfolding outcome
-no_outcome variables [] live fault is can = absurd cc
-no_outcome variables (step ∷ steps) live fault is can =
-    let b = bound_ok (taken variables live step)
-    (λ next. cond (is_last_step step) (Ok tt) (outcome variables next steps fault)) tt is in
-    by (is_last_step step) (λ last. last_fails variables live b.0 step b.1 last can)
-    (λ later. no_outcome variables steps b.0 fault later
-    (taken_keeps variables live b.0 step b.1 can)) b.2
+no_outcome [] live fault is can = absurd cc
+no_outcome (step ∷ steps) live fault is can =
+    let b = bound_ok (taken live step)
+    (λ next. cond (is_last_step step) (Ok tt) (outcome next steps fault)) tt is in
+    by (is_last_step step) (λ last. last_fails live b.0 step b.1 last can)
+    (λ later. no_outcome steps b.0 fault later
+    (taken_keeps live b.0 step b.1 can)) b.2
   where
     by : (c : Bool) {r : Result (Unit {0}) RefutationError} → (c ≡ true → ⊥)
         → (r ≡ Ok tt → ⊥) → cond c (Ok tt) r ≡ Ok tt → ⊥
@@ -54,10 +54,10 @@ pub shown : (variables : ℕ) (clauses : List (List Lit)) (bytes : List ℕ) →
     clauses bytes ≡ Some (Ok tt) → ¬ IsSatisfiable clauses
 shown variables clauses bytes is s = by (steps_in variables bytes) is
   where
-    by : (o : Option (Script Step)) → option_map (λ script. outcome variables (all_live clauses)
+    by : (o : Option (Script Step)) → option_map (λ script. outcome (all_live clauses)
         script.steps script.fault) o ≡ Some (Ok tt) → ⊥
     by None e = absurd cc
     by (Some script) e =
-        let is_ok : outcome variables (all_live clauses) script.steps script.fault ≡ Ok tt = cc in
-        no_outcome variables script.steps (all_live clauses) script.fault is_ok
+        let is_ok : outcome (all_live clauses) script.steps script.fault ≡ Ok tt = cc in
+        no_outcome script.steps (all_live clauses) script.fault is_ok
         (formula_holds clauses s)

@@ -4,7 +4,7 @@ use Rattle.aig_base.specs.declared.logic.literal.Lit.{Lit}
 use Rattle.aig_base.specs.Clauses.{is_true_clause}
 use Rattle.aig_refutation.specs.declared.error.RefutationError.{RefutationError}
 use Rattle.aig_refutation.specs.declared.error.RefutationError.TheVariants as errors
-use Rattle.aig_refutation.specs.Checking.{Live, added, are_in, are_named, clause_at, deleted, follows, is_last_step, is_named, is_too_large, is_used, stands, taken, why_not, with_clause, without_clause}
+use Rattle.aig_refutation.specs.Checking.{Live, added, are_named, clause_at, deleted, follows, is_last_step, is_named, is_too_large, is_used, stands, taken, why_not, with_clause, without_clause}
 use Rattle.aig_refutation.specs.Propagation.{is_rup, is_tautology}
 use Rattle.aig_refutation.specs.Rat.{is_rat}
 use Rattle.aig_refutation.specs.Steps.{Step, Adds, Deletes}
@@ -43,14 +43,13 @@ stands_on live clause hints groups can is =
       | inr rat ↦ rat_goes_on live.clauses can.0 can.1 clause hints groups rat
     ]
 
-module _ (variables : ℕ) (live next : Live) where
+module _ (live next : Live) where
   added_is : (number : ℕ) (clause : List Lit) (hints : List ℕ) (groups : List (Bool × ℕ))
-      → added variables live number clause hints groups ≡ Ok next
+      → added live number clause hints groups ≡ Ok next
       → (stands live clause hints groups ≡ true) × (with_clause live number clause ≡ next)
   unfolding added
   added_is number clause hints groups is =
-      let a = chosen (not (are_in variables clause)) errors.Literal _ next is in
-      let b = chosen (not (are_named live hints groups)) errors.Unnamed _ next a.1 in
+      let b = chosen (not (are_named live hints groups)) errors.Unnamed _ next is in
       let c = chosen (not (stands live clause hints groups)) (why_not groups) _ next b.1 in
       let d = chosen (is_used live number) errors.Twice _ next c.1 in
       let e = chosen (is_too_large live number) errors.Large _ next d.1 in
@@ -58,7 +57,7 @@ module _ (variables : ℕ) (live next : Live) where
       (not_false (stands live clause hints groups) c.0, same)
 
   added_keeps : (number : ℕ) (clause : List Lit) (hints : List ℕ) (groups : List (Bool × ℕ))
-      → added variables live number clause hints groups ≡ Ok next → KeepsLive live next
+      → added live number clause hints groups ≡ Ok next → KeepsLive live next
   added_keeps number clause hints groups is can =
       let on = added_is number clause hints groups is in
       let w = stands_on live clause hints groups can on.0 in
@@ -81,20 +80,19 @@ deleted_keeps (n ∷ numbers) live next is can =
     by true later are e = later e (can.0, are)
     by false later are e = absurd cc
 
-pub taken_keeps : (variables : ℕ) (live next : Live) (step : Step)
-    → taken variables live step ≡ Ok next → KeepsLive live next
+pub taken_keeps : (live next : Live) (step : Step) → taken live step ≡ Ok next
+    → KeepsLive live next
 unfolding taken
-taken_keeps variables live next (Adds number clause hints groups) is =
-    added_keeps variables live next number clause hints groups is
-taken_keeps variables live next (Deletes numbers) is = deleted_keeps numbers live next is
+taken_keeps live next (Adds number clause hints groups) is =
+    added_keeps live next number clause hints groups is
+taken_keeps live next (Deletes numbers) is = deleted_keeps numbers live next is
 
 -- the last step leaves clauses that can't all be true
-pub last_fails : (variables : ℕ) (live next : Live) (step : Step)
-    → taken variables live step ≡ Ok next → is_last_step step ≡ true → CanHold live → ⊥
+pub last_fails : (live next : Live) (step : Step) → taken live step ≡ Ok next → is_last_step step ≡ true → CanHold live → ⊥
 unfolding taken
-last_fails variables live next (Adds number clause hints groups) is last can =
-    let on = added_is variables live next number clause hints groups is in
+last_fails live next (Adds number clause hints groups) is last can =
+    let on = added_is live next number clause hints groups is in
     let after : CanHold (with_clause live number clause) =
-    subst CanHold (sym on.1) (added_keeps variables live next number clause hints groups is can) in
+    subst CanHold (sym on.1) (added_keeps live next number clause hints groups is can) in
     empty_false after.0 clause last after.1.0
-last_fails variables live next (Deletes numbers) is last can = false≢true last
+last_fails live next (Deletes numbers) is last can = false≢true last

@@ -8,9 +8,10 @@ use Rattle.aig_format.proofs.Binary.{Reads-delta}
 use Rattle.aig_format.proofs.Printed.{delta_written}
 use Rattle.aig_refutation.specs.declared.error.RefutationError.TheVariants as errors
 use Rattle.aig_refutation.specs.Binary.{binary_script, binary_steps_in, groups_in, literal_said, step_before, with_literal}
+use Rattle.aig_refutation.specs.Proofs.{allowed, widened}
 use Rattle.aig_refutation.specs.Forms.{is_binary, plain_steps_in, steps_in, telling}
 use Rattle.aig_refutation.specs.Steps.{PlainStep, Drops, Learns}
-use Rattle.aig_refutation.specs.Written.{IsPlainStep, binary_text, literal_bytes, step_bytes}
+use Rattle.aig_refutation.specs.Written.{AreWithin, IsClause, IsPlainStep, binary_text, literal_bytes, step_bytes}
 use Rattle.aig_refutation.proofs.WrittenLines.{lit_to-parts}
 
 -- ---- words
@@ -21,21 +22,28 @@ groups_in-number d [] rest h = absurd h
 groups_in-number d (b ∷ []) rest h = rw (lt-ltb b 128 h.0) refl
 groups_in-number d (b ∷ c ∷ bytes) rest h = rw (le-ltb b 128 h.1, groups_in-number h.0 (c ∷ bytes) rest h.3) refl
 
-module _ (variables : ℕ) (few : variables < 2 ^ 31) where
+module _ (variables : ℕ) where
+  -- the variable is one that may be named, and the number of the literal has 32 bits
+  abbrev Fits : Lit → Type 0
+  Fits lit = (variable_of lit < variables) × (variable_of lit < 2 ^ 31 - 1)
+
+  all_fit : (clause : List Lit) → IsClause variables clause → IsClause (2 ^ 31 - 1) clause → AllByRecursion Fits clause
+  all_fit clause named small = recursion_from_All Fits clause (λ k d there. (named k d there, small k d there))
+
   -- the number of a literal
   abbrev code : Lit → ℕ
   code lit = 2 * (variable_of lit + 1) + (if is_positive lit then 0 else 1)
 
-  code_small : (positive : Bool) (v : ℕ) → v < variables → 2 * (v + 1) + (if positive then 0 else 1) < 2 ^ 32
+  code_small : (positive : Bool) (v : ℕ) → v < 2 ^ 31 - 1 → 2 * (v + 1) + (if positive then 0 else 1) < 2 ^ 32
   code_small true v below = omega arith
   code_small false v below = omega arith
 
-  groups_in-clause : (clause : List Lit) (rest : List ℕ) → AllByRecursion (λ lit. variable_of lit < variables) clause
+  groups_in-clause : (clause : List Lit) (rest : List ℕ) → AllByRecursion Fits clause
       → groups_in (flat_map literal_bytes clause ++ 0 ∷ rest) ≡ map literal_bytes clause ++ (0 ∷ []) ∷ groups_in rest
   unfolding groups_in
   groups_in-clause [] rest below = refl
   groups_in-clause (lit ∷ lits) rest below =
-      let is = delta_written (code lit) (code_small (is_positive lit) (variable_of lit) below.0) in
+      let is = delta_written (code lit) (code_small (is_positive lit) (variable_of lit) below.0.1) in
       ap groups_in (append_assoc (literal_bytes lit) (flat_map literal_bytes lits) (0 ∷ rest))
       ∙ groups_in-number (code lit) (literal_bytes lit) (flat_map literal_bytes lits ++ 0 ∷ rest) is.groups
       ∙ ap (λ words. literal_bytes lit ∷ words) (groups_in-clause lits rest below.1)
@@ -46,12 +54,12 @@ module _ (variables : ℕ) (few : variables < 2 ^ 31) where
   code_parts true v = (grind (arith, nat_tests), grind (arith, nat_tests), grind (arith, nat_tests), omega arith)
   code_parts false v = (grind (arith, nat_tests), grind (arith, nat_tests), grind (arith, nat_tests), omega arith)
 
-  literal_said-written : (lit : Lit) → variable_of lit < variables → literal_said variables (literal_bytes lit) ≡ Ok (Some lit)
+  literal_said-written : (lit : Lit) → Fits lit → literal_said variables (literal_bytes lit) ≡ Ok (Some lit)
   literal_said-written lit below =
-      let is = delta_written (code lit) (code_small (is_positive lit) (variable_of lit) below) in
+      let is = delta_written (code lit) (code_small (is_positive lit) (variable_of lit) below.1) in
       let read : parse_delta (literal_bytes lit) ≡ Some (code lit, []) = ap parse_delta (sym (append-nil (literal_bytes lit))) ∙ Reads-delta.complete (code lit) (literal_bytes lit) [] is in
       let parts = code_parts (is_positive lit) (variable_of lit) in
-      rw (read, parts.0, parts.1, parts.2, parts.3, not_zero (variable_of lit), within (variable_of lit) below, lit_to-parts lit) refl
+      rw (read, parts.0, parts.1, parts.2, parts.3, not_zero (variable_of lit), within (variable_of lit) below.0, lit_to-parts lit) refl
     where
       not_zero : (n : ℕ) → (n + 1 == 0) ≡ false
       not_zero n = grind (arith, nat_tests)
@@ -66,38 +74,42 @@ module _ (variables : ℕ) (few : variables < 2 ^ 31) where
   -- ---- steps
 
   module _ (step : List Lit → PlainStep) (goes : (clause : List Lit) (lit : Lit) → with_literal (step clause) lit ≡ step (clause ++ lit ∷ [])) where
-    script-clause : (clause before : List Lit) (words : List (List ℕ)) → AllByRecursion (λ lit. variable_of lit < variables) clause
-        → binary_script variables (Some (step before)) (map literal_bytes clause ++ (0 ∷ []) ∷ words) ≡ step_before (step (before ++ clause)) (binary_script variables None words)
+    script-clause : (clause before : List Lit) (words : List (List ℕ)) → AllByRecursion Fits clause
+        → binary_script variables (Some (step before)) (map literal_bytes clause ++ (0 ∷ []) ∷ words) ≡ step_before (step (before ++ clause)) (binary_script (widened variables) None words)
     unfolding binary_script
     script-clause [] before words below = rw (end_said, append-nil before) refl
     script-clause (lit ∷ lits) before words below =
         rw (literal_said-written lit below.0, goes before lit)
-        (script-clause lits (before ++ lit ∷ []) words below.1 ∙ ap (λ clause. step_before (step clause) (binary_script variables None words)) (append_assoc before (lit ∷ []) lits))
+        (script-clause lits (before ++ lit ∷ []) words below.1 ∙ ap (λ clause. step_before (step clause) (binary_script (widened variables) None words)) (append_assoc before (lit ∷ []) lits))
 
-  script-step : (step : PlainStep) (rest : List ℕ) → IsPlainStep variables step
-      → binary_script variables None (groups_in (step_bytes step ++ rest)) ≡ step_before step (binary_script variables None (groups_in rest))
+  script-step : (step : PlainStep) (rest : List ℕ) → IsPlainStep variables step → IsPlainStep (2 ^ 31 - 1) step
+      → binary_script variables None (groups_in (step_bytes step ++ rest)) ≡ step_before step (binary_script (widened variables) None (groups_in rest))
   unfolding binary_script groups_in
-  script-step (Learns clause) rest is =
-      let below = recursion_from_All (λ lit. variable_of lit < variables) clause is in
+  script-step (Learns clause) rest is small =
+      let below = all_fit clause is small in
       ap (λ bytes. binary_script variables (Some (Learns [])) (groups_in bytes)) (append_assoc (flat_map literal_bytes clause) (0 ∷ []) rest)
       ∙ ap (binary_script variables (Some (Learns []))) (groups_in-clause clause rest below)
       ∙ script-clause (λ c. Learns c) (λ c lit. refl) clause [] (groups_in rest) below
-  script-step (Drops clause) rest is =
-      let below = recursion_from_All (λ lit. variable_of lit < variables) clause is in
+  script-step (Drops clause) rest is small =
+      let below = all_fit clause is small in
       ap (λ bytes. binary_script variables (Some (Drops [])) (groups_in bytes)) (append_assoc (flat_map literal_bytes clause) (0 ∷ []) rest)
       ∙ ap (binary_script variables (Some (Drops []))) (groups_in-clause clause rest below)
       ∙ script-clause (λ c. Drops c) (λ c lit. refl) clause [] (groups_in rest) below
 
-  binary_steps_in-written : (steps : List PlainStep) → AllByRecursion (IsPlainStep variables) steps → binary_steps_in variables (binary_text steps) ≡ record { steps = steps; fault = errors.Unfinished }
-  unfolding binary_script groups_in
-  binary_steps_in-written [] are = refl
-  binary_steps_in-written (step ∷ steps) are =
-      script-step step (binary_text steps) are.0 ∙ ap (step_before step) (binary_steps_in-written steps are.1)
+binary_steps_in-written : (variables : ℕ) (steps : List PlainStep) → AreWithin IsPlainStep variables steps
+    → AllByRecursion (IsPlainStep (2 ^ 31 - 1)) steps
+    → binary_steps_in variables (binary_text steps) ≡ record { steps = steps; fault = errors.Unfinished }
+unfolding binary_script groups_in
+binary_steps_in-written variables [] are small = refl
+binary_steps_in-written variables (step ∷ steps) are small =
+    script-step variables step (binary_text steps) are.0 small.0
+    ∙ ap (step_before step) (binary_steps_in-written (widened variables) steps are.1 small.1)
 
-  pub binary_read : (steps : List PlainStep) → All (IsPlainStep variables) steps → is_binary (binary_text steps) ≡ true
-      → (steps_in variables (binary_text steps) ≡ None) × (plain_steps_in variables (binary_text steps) ≡ record { steps = steps; fault = errors.Unfinished })
-  binary_read steps all binary =
-      (rw binary refl, rw binary (binary_steps_in-written steps (recursion_from_All (IsPlainStep variables) steps all)))
+pub binary_read : (variables : ℕ) (steps : List PlainStep) → AreWithin IsPlainStep (allowed variables) steps
+    → All (IsPlainStep (2 ^ 31 - 1)) steps → is_binary (binary_text steps) ≡ true
+    → (steps_in variables (binary_text steps) ≡ None) × (plain_steps_in variables (binary_text steps) ≡ record { steps = steps; fault = errors.Unfinished })
+binary_read variables steps are small binary =
+    (rw binary refl, rw binary (binary_steps_in-written (allowed variables) steps are (recursion_from_All (IsPlainStep (2 ^ 31 - 1)) steps small)))
 
 -- ---- which are told by their first bytes
 

@@ -7,11 +7,12 @@ use Rattle.aig_format.specs.Text.{IsDigit}
 use Rattle.aig_format.proofs.Printed.{number_written}
 use Rattle.aig_refutation.specs.declared.error.RefutationError.TheVariants as errors
 use Rattle.aig_refutation.specs.Forms.{is_binary, plain_steps_in, steps_in}
-use Rattle.aig_refutation.specs.Proofs.{after_clause, after_first, after_number, ended, is_none, line_in, plain_of, script_if}
+use Rattle.aig_refutation.specs.Proofs.{after_clause, after_first, after_number, allowed, ended, is_none, line_in, plain_of, script_if, widened}
 use Rattle.aig_refutation.specs.Steps.{PlainStep, Drops, Learns}
 use Rattle.aig_refutation.specs.Text.{begins, lines_of}
-use Rattle.aig_refutation.specs.Written.{IsPlainStep, as_read, clause_line, literal_text, number_text, plain_line, plain_text}
+use Rattle.aig_refutation.specs.Written.{AreWithin, IsPlainStep, as_read, clause_line, literal_text, number_text, plain_line, plain_text}
 use Rattle.aig_refutation.proofs.Texts.{end_first}
+use Rattle.aig_refutation.proofs.Widening.{all_most, allowed_most, few, widened_most}
 use Rattle.aig_refutation.proofs.WrittenLines.{after_literals, clause_in-written, last_zero_read, letter_plain, letter_read, literal_of-written, spaced_below, zero_plain}
 use Rattle.aig_refutation.proofs.WrittenWords.{Reads, begins-number, each_on, literal_read, reads_lines, word_last, word_on}
 
@@ -31,14 +32,14 @@ begins_signed : (k : ℕ) (positive : Bool) (n : ℕ) (rest : List ℕ) → n < 
 begins_signed k true n rest small apart no_minus = begins-number k n small apart rest
 begins_signed k false n rest small apart no_minus = no_minus
 
-module _ (variables : ℕ) (few : variables < 2 ^ 32) where
+module _ (variables : ℕ) (small : variables < 2 ^ 32) where
   abbrev Below : List Lit → Type 0
   Below = AllByRecursion (λ lit. variable_of lit < variables)
 
   clause_reads : (clause : List Lit) (rest : List ℕ) → Below clause → Reads (clause_line clause ++ rest) (clause_words clause) (lines_of rest)
   clause_reads clause rest below =
       rw (append_assoc (flat_map literal_text clause) (codes "0\n") rest)
-      (each_on literal_text clause (codes "0\n" ++ rest) (codes "0\n" ∷ []) (lines_of rest) (spaced_below variables clause few below) (word_last (48 ∷ []) rest zero_plain))
+      (each_on literal_text clause (codes "0\n" ++ rest) (codes "0\n" ∷ []) (lines_of rest) (spaced_below variables clause small below) (word_last (48 ∷ []) rest zero_plain))
 
   plain_reads : (step : PlainStep) (rest : List ℕ) → IsPlainStep variables step → Reads (plain_line step ++ rest) (plain_words step) (lines_of rest)
   plain_reads (Learns clause) rest is = clause_reads clause rest (recursion_from_All (λ lit. variable_of lit < variables) clause is)
@@ -53,7 +54,9 @@ module _ (variables : ℕ) (few : variables < 2 ^ 32) where
 
   -- what is read of a line and then of others
   abbrev goes_on : List (List ℕ) → List (List (List ℕ)) → PlainStep → Type 0
-  goes_on words lines step = plain_of variables (words ∷ lines) ≡ record { steps = step ∷ (plain_of variables lines).steps; fault = (plain_of variables lines).fault }
+  goes_on words lines step =
+      let rest = plain_of (widened variables) lines in
+      plain_of variables (words ∷ lines) ≡ record { steps = step ∷ rest.steps; fault = rest.fault }
 
   learned : (clause : List Lit) (lines : List (List (List ℕ))) → Below clause → goes_on (clause_words clause) lines (as_read (Learns clause))
   unfolding plain_of line_in after_first after_number after_clause
@@ -64,27 +67,18 @@ module _ (variables : ℕ) (few : variables < 2 ^ 32) where
         begins_own 112 lit below.0 refl refl,
         begins_own 97 lit below.0 refl refl,
         literal_read lit (omega (arith, below.0)),
-        after_literals variables few (is_none lines) (codes "0\n") last_zero_read false (is_positive lit, variable_of lit + 1) lits [] below.1,
+        after_literals variables small (is_none lines) (codes "0\n") last_zero_read false (is_positive lit, variable_of lit + 1) lits [] below.1,
         literal_of-written variables lit below.0,
       ) refl
 
   dropped : (clause : List Lit) (lines : List (List (List ℕ))) → Below clause → goes_on (codes "d " ∷ clause_words clause) lines (Drops clause)
   unfolding plain_of line_in after_first ended
   dropped clause lines below =
-      rw (letter_read, clause_in-written variables few (is_none lines) (codes "0\n") last_zero_read clause [] below) refl
+      rw (letter_read, clause_in-written variables small (is_none lines) (codes "0\n") last_zero_read clause [] below) refl
 
   plain_step_read : (step : PlainStep) (lines : List (List (List ℕ))) → IsPlainStep variables step → goes_on (plain_words step) lines (as_read step)
   plain_step_read (Learns clause) lines is = learned clause lines (recursion_from_All (λ lit. variable_of lit < variables) clause is)
   plain_step_read (Drops clause) lines is = dropped clause lines (recursion_from_All (λ lit. variable_of lit < variables) clause is)
-
-  plain_of-written : (steps : List PlainStep) → AllByRecursion (IsPlainStep variables) steps
-      → plain_of variables (lines_of (plain_text steps)) ≡ record { steps = map as_read steps; fault = errors.Unfinished }
-  unfolding plain_of
-  plain_of-written [] are = ap (plain_of variables) end_first
-  plain_of-written (step ∷ steps) are =
-      ap (plain_of variables) (reads_lines (plain_line step ++ plain_text steps) (plain_words step) (lines_of (plain_text steps)) (plain_reads step (plain_text steps) are.0))
-      ∙ plain_step_read step (lines_of (plain_text steps)) are.0
-      ∙ rw (plain_of-written steps are.1) refl
 
   -- the first line has no number
   first_learned : (clause : List Lit) (lines : List (List (List ℕ))) → Below clause → script_if variables (clause_words clause ∷ lines) ≡ None
@@ -96,25 +90,18 @@ module _ (variables : ℕ) (few : variables < 2 ^ 32) where
         begins_own 112 lit below.0 refl refl,
         begins_own 97 lit below.0 refl refl,
         literal_read lit (omega (arith, below.0)),
-        after_literals variables few (is_none lines) (codes "0\n") last_zero_read false (is_positive lit, variable_of lit + 1) lits [] below.1,
+        after_literals variables small (is_none lines) (codes "0\n") last_zero_read false (is_positive lit, variable_of lit + 1) lits [] below.1,
         literal_of-written variables lit below.0,
       ) refl
 
   first_dropped : (clause : List Lit) (lines : List (List (List ℕ))) → Below clause → script_if variables ((codes "d " ∷ clause_words clause) ∷ lines) ≡ None
   unfolding script_if line_in after_first ended
   first_dropped clause lines below =
-      rw (letter_read, clause_in-written variables few (is_none lines) (codes "0\n") last_zero_read clause [] below) refl
+      rw (letter_read, clause_in-written variables small (is_none lines) (codes "0\n") last_zero_read clause [] below) refl
 
   first_plain : (step : PlainStep) (lines : List (List (List ℕ))) → IsPlainStep variables step → script_if variables (plain_words step ∷ lines) ≡ None
   first_plain (Learns clause) lines is = first_learned clause lines (recursion_from_All (λ lit. variable_of lit < variables) clause is)
   first_plain (Drops clause) lines is = first_dropped clause lines (recursion_from_All (λ lit. variable_of lit < variables) clause is)
-
-  script_if-plain : (steps : List PlainStep) → AllByRecursion (IsPlainStep variables) steps → script_if variables (lines_of (plain_text steps)) ≡ None
-  unfolding script_if
-  script_if-plain [] are = ap (script_if variables) end_first
-  script_if-plain (step ∷ steps) are =
-      ap (script_if variables) (reads_lines (plain_line step ++ plain_text steps) (plain_words step) (lines_of (plain_text steps)) (plain_reads step (plain_text steps) are.0))
-      ∙ first_plain step (lines_of (plain_text steps)) are.0
 
   -- ---- no byte is 0
 
@@ -175,9 +162,32 @@ module _ (variables : ℕ) (few : variables < 2 ^ 32) where
       none true = refl
       none false = refl
 
-  pub plain_steps_in-written : (steps : List PlainStep) → All (IsPlainStep variables) steps
-      → (steps_in variables (plain_text steps) ≡ None) × (plain_steps_in variables (plain_text steps) ≡ record { steps = map as_read steps; fault = errors.Unfinished })
-  plain_steps_in-written steps all =
-      let are = recursion_from_All (IsPlainStep variables) steps all in
-      let text = is_binary-plain steps are in
-      (rw text (script_if-plain steps are), rw text (plain_of-written steps are))
+-- ---- texts
+
+plain_of-written : (variables : ℕ) → variables ≤ 2 ^ 31 → (steps : List PlainStep)
+    → AreWithin IsPlainStep variables steps
+    → plain_of variables (lines_of (plain_text steps)) ≡ record { steps = map as_read steps; fault = errors.Unfinished }
+unfolding plain_of
+plain_of-written variables most [] are = ap (plain_of variables) end_first
+plain_of-written variables most (step ∷ steps) are =
+    let small = few variables most in
+    ap (plain_of variables) (reads_lines (plain_line step ++ plain_text steps) (plain_words step) (lines_of (plain_text steps)) (plain_reads variables small step (plain_text steps) are.0))
+    ∙ plain_step_read variables small step (lines_of (plain_text steps)) are.0
+    ∙ rw (plain_of-written (widened variables) (widened_most variables) steps are.1) refl
+
+script_if-plain : (variables : ℕ) → variables ≤ 2 ^ 31 → (steps : List PlainStep)
+    → AreWithin IsPlainStep variables steps → script_if variables (lines_of (plain_text steps)) ≡ None
+unfolding script_if
+script_if-plain variables most [] are = ap (script_if variables) end_first
+script_if-plain variables most (step ∷ steps) are =
+    let small = few variables most in
+    ap (script_if variables) (reads_lines (plain_line step ++ plain_text steps) (plain_words step) (lines_of (plain_text steps)) (plain_reads variables small step (plain_text steps) are.0))
+    ∙ first_plain variables small step (lines_of (plain_text steps)) are.0
+
+pub plain_steps_in-written : (variables : ℕ) (steps : List PlainStep)
+    → AreWithin IsPlainStep (allowed variables) steps
+    → (steps_in variables (plain_text steps) ≡ None) × (plain_steps_in variables (plain_text steps) ≡ record { steps = map as_read steps; fault = errors.Unfinished })
+plain_steps_in-written variables steps are =
+    let most = allowed_most variables in
+    let text = is_binary-plain (2 ^ 31) (omega arith) steps (all_most (allowed variables) most steps are) in
+    (rw text (script_if-plain (allowed variables) most steps are), rw text (plain_of-written (allowed variables) most steps are))

@@ -1,5 +1,5 @@
 -- Texts of LRAT files as they are written, and the steps that are read of them.
-use Rattle.aig_base.proofs.Words.{◌≡◌, ℕ, ◌^◌, ◌<◌, Bool, true, false, List, [], ◌∷◌, ◌++◌, map, Some, Ok, Err, inl, inr, ◌⊎◌, IfSome, option_map, refl, sym, ap, subst, ◌∙◌, append_assoc, append-nil, codes, flat_map, AllByRecursion, All, recursion_from_All}
+use Rattle.aig_base.proofs.Words.{◌≤◌, ◌≡◌, ℕ, ◌^◌, ◌<◌, Bool, true, false, List, [], ◌∷◌, ◌++◌, map, Some, Ok, Err, inl, inr, ◌⊎◌, IfSome, option_map, refl, sym, ap, subst, ◌∙◌, append_assoc, append-nil, codes, flat_map, AllByRecursion, All, recursion_from_All}
 use Rattle.aig_base.specs.declared.logic.literal.Lit.{Lit}
 use Rattle.aig_base.specs.Clauses.{variable_of}
 use Rattle.aig_format.specs.Parse.{is_digit}
@@ -7,10 +7,11 @@ use Rattle.aig_refutation.specs.declared.error.RefutationError.{RefutationError}
 use Rattle.aig_refutation.specs.declared.error.RefutationError.TheVariants as errors
 use Rattle.aig_refutation.specs.Checking.{IsInConflict, IsOutcome, Shows, all_live, are_all_in, outcome, shown_by}
 use Rattle.aig_refutation.specs.Forms.{steps_in}
-use Rattle.aig_refutation.specs.Proofs.{Numbered, is_comment, is_none, line_in, script_if, script_of}
+use Rattle.aig_refutation.specs.Proofs.{Numbered, allowed, is_comment, is_none, line_in, script_if, script_of, widened}
 use Rattle.aig_refutation.specs.Steps.{Step, Adds, Deletes}
 use Rattle.aig_refutation.specs.Text.{begins, lines_of}
-use Rattle.aig_refutation.specs.Written.{AreGroups, IsNumber, IsStep, added_line, deleted_line, literal_text, number_text, proof_text, signed_text}
+use Rattle.aig_refutation.specs.Written.{AreGroups, AreWithin, IsNumber, IsStep, added_line, deleted_line, literal_text, number_text, proof_text, signed_text}
+use Rattle.aig_refutation.proofs.Widening.{allowed_most, few, widened_most}
 use Rattle.aig_refutation.proofs.WrittenLines.{AreNumbers, added_read, added_words, all_hints, are_all, deleted_read, deleted_words}
 use Rattle.aig_refutation.proofs.WrittenWords.{begins-number, reads_lines}
 use Rattle.aig_refutation.proofs.Texts.{end_first}
@@ -41,7 +42,7 @@ are_hints : (hints : List ℕ) (groups : List (Bool × ℕ)) → All IsNumber hi
     → AreNumbers (all_hints hints groups)
 are_hints hints groups are behind = are_all hints groups (recursion_from_All IsNumber hints are) (recursion_from_All (λ hint. IsNumber hint.1) groups behind.0)
 
-module _ (variables : ℕ) (few : variables < 2 ^ 32) where
+module _ (variables : ℕ) (small : variables < 2 ^ 32) where
   number_is : (last : ℕ) (step : Step) → IsNumber last → IsStep variables step → IsNumber (step_number last step)
   number_is last (Adds number clause hints groups) before is = is.0
   number_is last (Deletes numbers) before is = before
@@ -50,42 +51,22 @@ module _ (variables : ℕ) (few : variables < 2 ^ 32) where
       → lines_of (proof_text last (step ∷ steps)) ≡ (number_text (step_number last step) ∷ step_words step) ∷ lines_of (proof_text (step_number last step) steps)
   unfolding proof_text
   step_lines last (Adds number clause hints groups) steps before is =
-      reads_lines _ _ _ (added_words variables few number is.0 (proof_text number steps) clause hints groups (recursion_from_All (λ lit. variable_of lit < variables) clause is.1) (are_hints hints groups is.2 is.3))
+      reads_lines _ _ _ (added_words variables small number is.0 (proof_text number steps) clause hints groups (recursion_from_All (λ lit. variable_of lit < variables) clause is.1) (are_hints hints groups is.2 is.3))
   step_lines last (Deletes numbers) steps before is =
-      reads_lines _ _ _ (deleted_words variables few last before (proof_text last steps) numbers (recursion_from_All IsNumber numbers is))
+      reads_lines _ _ _ (deleted_words variables small last before (proof_text last steps) numbers (recursion_from_All IsNumber numbers is))
 
   step_read : (numbered is_last : Bool) (last : ℕ) (step : Step) → IsNumber last → IsStep variables step
       → line_in numbered variables is_last (number_text (step_number last step)) (step_words step) ≡ Ok (Numbered step)
   step_read numbered is_last last (Adds number clause hints groups) before is =
-      added_read variables few numbered is_last number is.0 clause hints groups (recursion_from_All (λ lit. variable_of lit < variables) clause is.1) (are_hints hints groups is.2 is.3) is.3.1
+      added_read variables small numbered is_last number is.0 clause hints groups (recursion_from_All (λ lit. variable_of lit < variables) clause is.1) (are_hints hints groups is.2 is.3) is.3.1
   step_read numbered is_last last (Deletes numbers) before is =
-      deleted_read variables few numbered is_last last before numbers (recursion_from_All IsNumber numbers is)
+      deleted_read variables small numbered is_last last before numbers (recursion_from_All IsNumber numbers is)
 
   no_comment : (n : ℕ) → n < 2 ^ 32 → is_comment (number_text n) ≡ false
   no_comment n small = rw (other 99 refl, other 112 refl) refl
     where
       other : (k : ℕ) → is_digit k ≡ false → begins k (number_text n) ≡ false
       other k apart = ap (begins k) (sym (append-nil (number_text n))) ∙ begins-number k n small apart []
-
-  -- what is read after a step
-  script_of-written : (last : ℕ) (steps : List Step) → IsNumber last → AllByRecursion (IsStep variables) steps
-      → script_of variables (lines_of (proof_text last steps)) ≡ record { steps = steps; fault = errors.Unfinished }
-  unfolding script_of proof_text
-  script_of-written last [] before are = ap (script_of variables) end_first
-  script_of-written last (step ∷ steps) before are =
-      let number = step_number last step in
-      let is = number_is last step before are.0 in
-      let later = lines_of (proof_text number steps) in
-      rw (step_lines last step steps before are.0, no_comment number is.1, step_read true (is_none later) last step before are.0, script_of-written number steps is are.1) refl
-
-  script_if-written : (last : ℕ) (step : Step) (steps : List Step) → IsNumber last → AllByRecursion (IsStep variables) (step ∷ steps)
-      → script_if variables (lines_of (proof_text last (step ∷ steps))) ≡ Some (record { steps = step ∷ steps; fault = errors.Unfinished })
-  unfolding script_if
-  script_if-written last step steps before are =
-      let number = step_number last step in
-      let is = number_is last step before are.0 in
-      let later = lines_of (proof_text number steps) in
-      rw (step_lines last step steps before are.0, no_comment number is.1, step_read false (is_none later) last step before are.0, script_of-written number steps is are.1) refl
 
   begins-step : (k last : ℕ) (step : Step) (steps : List Step) → IsNumber last → IsStep variables step → is_digit k ≡ false → begins k (proof_text last (step ∷ steps)) ≡ false
   unfolding proof_text
@@ -96,22 +77,54 @@ module _ (variables : ℕ) (few : variables < 2 ^ 32) where
       let regroup : deleted_line last numbers ++ proof_text last steps ≡ number_text last ++ (codes "d " ++ (flat_map number_text numbers ++ (codes "0\n" ++ proof_text last steps))) = simp append_assoc in
       ap (begins k) regroup ∙ begins-number k last before.1 apart _
 
-  pub steps_in-written : (last : ℕ) (step : Step) (steps : List Step) → IsNumber last → All (IsStep variables) (step ∷ steps)
-      → steps_in variables (proof_text last (step ∷ steps)) ≡ Some (record { steps = step ∷ steps; fault = errors.Unfinished })
-  steps_in-written last step steps before are =
-      let each = recursion_from_All (IsStep variables) (step ∷ steps) are in
-      rw (begins-step 97 last step steps before each.0 refl, begins-step 100 last step steps before each.0 refl) (script_if-written last step steps before each)
+-- ---- texts
 
-  -- ---- what it shows
+-- what is read after a step
+script_of-written : (variables : ℕ) → variables ≤ 2 ^ 31 → (last : ℕ) (steps : List Step)
+    → IsNumber last → AreWithin IsStep variables steps
+    → script_of variables (lines_of (proof_text last steps)) ≡ record { steps = steps; fault = errors.Unfinished }
+unfolding script_of proof_text
+script_of-written variables most last [] before are = ap (script_of variables) end_first
+script_of-written variables most last (step ∷ steps) before are =
+    let small = few variables most in
+    let number = step_number last step in
+    let is = number_is variables small last step before are.0 in
+    let later = lines_of (proof_text number steps) in
+    rw (step_lines variables small last step steps before are.0, no_comment variables small number is.1, step_read variables small true (is_none later) last step before are.0, script_of-written (widened variables) (widened_most variables) number steps is are.1) refl
 
-  shown_by-written : (last : ℕ) (clauses : List (List Lit)) (steps : List Step) → IsNumber last → All (IsStep variables) steps
-      → outcome variables (all_live clauses) steps errors.Unfinished ≡ Ok tt → shown_by variables clauses (proof_text last steps) ≡ Some (Ok tt)
-  unfolding outcome
-  shown_by-written last clauses [] before are is = absurd cc
-  shown_by-written last clauses (step ∷ steps) before are is =
-      ap (option_map (λ script. outcome variables (all_live clauses) script.steps script.fault)) (steps_in-written last step steps before are) ∙ ap (λ r. Some r) is
+script_if-written : (variables : ℕ) → variables ≤ 2 ^ 31 → (last : ℕ) (step : Step) (steps : List Step)
+    → IsNumber last → AreWithin IsStep variables (step ∷ steps)
+    → script_if variables (lines_of (proof_text last (step ∷ steps))) ≡ Some (record { steps = step ∷ steps; fault = errors.Unfinished })
+unfolding script_if
+script_if-written variables most last step steps before are =
+    let small = few variables most in
+    let number = step_number last step in
+    let is = number_is variables small last step before are.0 in
+    let later = lines_of (proof_text number steps) in
+    rw (step_lines variables small last step steps before are.0, no_comment variables small number is.1, step_read variables small false (is_none later) last step before are.0, script_of-written (widened variables) (widened_most variables) number steps is are.1) refl
 
-  pub written_taken : (last : ℕ) (clauses : List (List Lit)) (steps : List Step) (e : RefutationError) → IsNumber last → All (IsStep variables) steps
-      → are_all_in variables clauses ≡ true → outcome variables (all_live clauses) steps errors.Unfinished ≡ Ok tt
-      → Shows variables clauses (Some (proof_text last steps)) (Err e) → (e ≡ errors.Memory) ⊎ (e ≡ errors.Stream)
-  written_taken last clauses steps e before are fits is shows = not_refused variables clauses (proof_text last steps) fits (shown_by-written last clauses steps before are is) e shows
+pub steps_in-written : (variables last : ℕ) (step : Step) (steps : List Step) → IsNumber last
+    → AreWithin IsStep (allowed variables) (step ∷ steps)
+    → steps_in variables (proof_text last (step ∷ steps)) ≡ Some (record { steps = step ∷ steps; fault = errors.Unfinished })
+steps_in-written variables last step steps before are =
+    let most = allowed_most variables in
+    let small = few (allowed variables) most in
+    rw (begins-step (allowed variables) small 97 last step steps before are.0 refl, begins-step (allowed variables) small 100 last step steps before are.0 refl)
+    (script_if-written (allowed variables) most last step steps before are)
+
+-- ---- what it shows
+
+shown_by-written : (variables last : ℕ) (clauses : List (List Lit)) (steps : List Step) → IsNumber last
+    → AreWithin IsStep (allowed variables) steps
+    → outcome (all_live clauses) steps errors.Unfinished ≡ Ok tt → shown_by variables clauses (proof_text last steps) ≡ Some (Ok tt)
+unfolding outcome
+shown_by-written variables last clauses [] before are is = absurd cc
+shown_by-written variables last clauses (step ∷ steps) before are is =
+    ap (option_map (λ script. outcome (all_live clauses) script.steps script.fault)) (steps_in-written variables last step steps before are) ∙ ap (λ r. Some r) is
+
+pub written_taken : (variables last : ℕ) (clauses : List (List Lit)) (steps : List Step) (e : RefutationError) → IsNumber last
+    → AreWithin IsStep (allowed variables) steps
+    → are_all_in variables clauses ≡ true → outcome (all_live clauses) steps errors.Unfinished ≡ Ok tt
+    → Shows variables clauses (Some (proof_text last steps)) (Err e) → (e ≡ errors.Memory) ⊎ (e ≡ errors.Stream)
+written_taken variables last clauses steps e before are fits is shows =
+    not_refused variables clauses (proof_text last steps) fits (shown_by-written variables last clauses steps before are is) e shows

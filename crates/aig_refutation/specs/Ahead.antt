@@ -4,7 +4,7 @@ use Rattle.std.specs.Prelude.{◌≡◌, ℕ, zero, suc, ◌+◌, ◌<◌, ◌�
 use Rattle.aig_base.specs.declared.logic.literal.Lit.{Lit}
 use Rattle.aig_refutation.specs.declared.error.RefutationError.{RefutationError}
 use Rattle.aig_refutation.specs.declared.error.RefutationError.TheVariants as errors
-use Rattle.aig_refutation.specs.Checking.{Live, are_in, clause_at, is_used}
+use Rattle.aig_refutation.specs.Checking.{Live, clause_at, is_used}
 use Rattle.aig_refutation.specs.Steps.{Drops, Follows, Learns, PlainStep, are_same, is_empty, without_one}
 use Rattle.aig_refutation.specs.Tables.{Holds, Table}
 use Rattle.aig_refutation.specs.Words.{Tells}
@@ -57,18 +57,14 @@ AddsAhead clauses clause new (Err e) = Tells e ⊥
 
 -- A clause is added, and the proof goes on, which isn't the case after the empty clause. Or it
 -- isn't added, since it doesn't follow.
-abbrev pub LearnsAhead : ℕ → List (List Lit) → List Lit → Table → Result Bool RefutationError
-    → Type 0
-LearnsAhead variables clauses clause new (Ok true) = Unit {0}
-LearnsAhead variables clauses clause new (Ok false) =
+abbrev pub LearnsAhead : List (List Lit) → List Lit → Table → Result Bool RefutationError → Type 0
+LearnsAhead clauses clause new (Ok true) = Unit {0}
+LearnsAhead clauses clause new (Ok false) =
     IsAhead (clause ∷ clauses) new × (is_empty clause ≡ false)
-LearnsAhead variables clauses clause new (Err e) = Tells e ((e ≡ errors.Step)
-    × (are_in variables clause ≡ true → Follows clauses clause → ⊥))
+LearnsAhead clauses clause new (Err e) =
+    Tells e ((e ≡ errors.Step) × (Follows clauses clause → ⊥))
 
 -- the same of a step
-abbrev pub TakesPlain : ℕ → List (List Lit) → PlainStep → Table → Result Bool RefutationError
-    → Type 0
-TakesPlain variables clauses (Learns clause) new result =
-    LearnsAhead variables clauses clause new result
-TakesPlain variables clauses (Drops clause) new result =
-    StaysAhead (without_one clause clauses) new result
+abbrev pub TakesPlain : List (List Lit) → PlainStep → Table → Result Bool RefutationError → Type 0
+TakesPlain clauses (Learns clause) new result = LearnsAhead clauses clause new result
+TakesPlain clauses (Drops clause) new result = StaysAhead (without_one clause clauses) new result

@@ -7,7 +7,7 @@ use Rattle.aig_base.specs.declared.logic.literal.Lit.{Lit}
 use Rattle.aig_format.specs.Parse.{parse_delta}
 use Rattle.aig_refutation.specs.declared.error.RefutationError.{RefutationError}
 use Rattle.aig_refutation.specs.declared.error.RefutationError.TheVariants as errors
-use Rattle.aig_refutation.specs.Proofs.{Script, literal_of}
+use Rattle.aig_refutation.specs.Proofs.{Script, literal_of, widened}
 use Rattle.aig_refutation.specs.Steps.{PlainStep, Drops, Learns}
 use Rattle.aig_refutation.specs.Text.{◌>>=◌, begins}
 
@@ -74,6 +74,11 @@ after_literal step (Ok (Some lit)) say = say (Some (with_literal step lit))
 after_literal step (Ok None) say = step_before step (say None)
 after_literal step (Err e) say = no_step e
 
+-- how many variables may be named: a step more may name one more
+abbrev pub widened_after : ℕ → Option PlainStep → ℕ
+widened_after variables None = widened variables
+widened_after variables (Some step) = variables
+
 -- what words say in a step that has begun, or between steps
 unfoldable pub binary_script : ℕ → Option PlainStep → List (List ℕ) → Script PlainStep
 binary_script variables None [] = no_step errors.Unfinished
@@ -81,7 +86,8 @@ binary_script variables (Some step) [] = no_step errors.Binary
 binary_script variables None (word ∷ words) =
     after_letter (begun word) (λ next. binary_script variables next words)
 binary_script variables (Some step) (word ∷ words) =
-    after_literal step (literal_said variables word) (λ next. binary_script variables next words)
+    after_literal step (literal_said variables word)
+    (λ next. binary_script (widened_after variables next) next words)
 
 -- the steps that the bytes of a binary proof say
 abbrev pub binary_steps_in : ℕ → List ℕ → Script PlainStep

@@ -72,13 +72,11 @@ numbered_clause live number clause =
     else if is_too_large live number then Err errors.Large
     else Ok (with_clause live number clause)
 
--- a clause of literals of so many variables is added under a number, where it stands along hints
--- that all name clauses
-unfoldable pub added : ℕ → Live → ℕ → List Lit → List ℕ → List (Bool × ℕ)
+-- a clause is added under a number, where it stands along hints that all name clauses
+unfoldable pub added : Live → ℕ → List Lit → List ℕ → List (Bool × ℕ)
     → Result Live RefutationError
-added variables live number clause hints groups =
-    if not (are_in variables clause) then Err errors.Literal
-    else if not (are_named live hints groups) then Err errors.Unnamed
+added live number clause hints groups =
+    if not (are_named live hints groups) then Err errors.Unnamed
     else if not (stands live clause hints groups) then Err (why_not groups)
     else numbered_clause live number clause
 
@@ -93,10 +91,9 @@ deleted live (n ∷ numbers) =
     if is_named live n then deleted (without_clause live n) numbers else Err errors.Unnamed
 
 -- a step is taken
-unfoldable pub taken : ℕ → Live → Step → Result Live RefutationError
-taken variables live (Adds number clause hints groups) =
-    added variables live number clause hints groups
-taken variables live (Deletes numbers) = deleted live numbers
+unfoldable pub taken : Live → Step → Result Live RefutationError
+taken live (Adds number clause hints groups) = added live number clause hints groups
+taken live (Deletes numbers) = deleted live numbers
 
 -- whether a step adds the empty clause
 abbrev pub is_last_step : Step → Bool
@@ -105,10 +102,10 @@ is_last_step (Deletes numbers) = false
 
 -- Steps are taken up to the first empty clause: what follows it doesn't matter. Without one the
 -- outcome is what is wrong after them.
-unfoldable pub outcome : ℕ → Live → List Step → RefutationError → Result (Unit {0}) RefutationError
-outcome variables live [] fault = Err fault
-outcome variables live (step ∷ steps) fault = taken variables live step >>= λ next.
-    if is_last_step step then Ok tt else outcome variables next steps fault
+unfoldable pub outcome : Live → List Step → RefutationError → Result (Unit {0}) RefutationError
+outcome live [] fault = Err fault
+outcome live (step ∷ steps) fault = taken live step >>= λ next.
+    if is_last_step step then Ok tt else outcome next steps fault
 
 -- a clause more of a formula, under the next number
 abbrev pub with_next : Live → List Lit → Live
@@ -129,7 +126,7 @@ IsInConflict clauses = Contains clauses []
 -- what the bytes of a proof show of clauses, if the first line that is a step has a number
 abbrev pub shown_by : ℕ → List (List Lit) → List ℕ → Option (Result (Unit {0}) RefutationError)
 shown_by variables clauses bytes =
-    option_map (λ script. outcome variables (all_live clauses) script.steps script.fault)
+    option_map (λ script. outcome (all_live clauses) script.steps script.fault)
     (steps_in variables bytes)
 
 -- why steps without hints show nothing of clauses: one of them doesn't follow, or none adds the

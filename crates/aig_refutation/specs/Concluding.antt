@@ -8,7 +8,7 @@ use Rattle.aig_refutation.specs.declared.error.RefutationError.{RefutationError}
 use Rattle.aig_refutation.specs.declared.error.RefutationError.TheVariants as errors
 use Rattle.aig_refutation.specs.Ahead.{TakesPlain}
 use Rattle.aig_refutation.specs.Checking.{IsInConflict, IsRefusal, Live, are_all_in, is_last_step, outcome, taken}
-use Rattle.aig_refutation.specs.Proofs.{Line, Numbered, Plain, Script, plain_of, script_if, script_of, then_lines, then_plain}
+use Rattle.aig_refutation.specs.Proofs.{Line, Numbered, Plain, Script, plain_of, script_if, script_of, then_lines, then_plain, widened}
 use Rattle.aig_refutation.specs.Steps.{PlainStep, Step}
 use Rattle.aig_refutation.specs.Tables.{Checked, Holds, HoldsFormula, Table, clause_by}
 use Rattle.aig_refutation.specs.Text.{lines_of}
@@ -33,21 +33,21 @@ MovesStep new (Ok done) said last =
 MovesStep new (Err e) said last = Tells e (said ≡ Err e)
 
 -- a step of a line is taken, which must have a number
-abbrev pub TakesStep : ℕ → Live → Table → Result Bool RefutationError → Line → Type 0
-TakesStep variables live new result (Numbered step) =
-    MovesStep new result (taken variables live step) (is_last_step step)
-TakesStep variables live new (Ok done) (Plain step) = ⊥
-TakesStep variables live new (Err e) (Plain step) = Tells e (e ≡ errors.Line)
+abbrev pub TakesStep : Live → Table → Result Bool RefutationError → Line → Type 0
+TakesStep live new result (Numbered step) =
+    MovesStep new result (taken live step) (is_last_step step)
+TakesStep live new (Ok done) (Plain step) = ⊥
+TakesStep live new (Err e) (Plain step) = Tells e (e ≡ errors.Line)
 
 -- what steps show of the clauses that are there
-abbrev pub shown_of : ℕ → Live → Script Step → Result (Unit {0}) RefutationError
-shown_of variables live script = outcome variables live script.steps script.fault
+abbrev pub shown_of : Live → Script Step → Result (Unit {0}) RefutationError
+shown_of live script = outcome live script.steps script.fault
 
--- what a step and the lines after it show
+-- what a step, which may name so many variables, and the lines after it show
 abbrev pub left_outcome : ℕ → Live → Line → Place → List ℕ
     → Result (Unit {0}) RefutationError
 left_outcome variables live step place bytes =
-    shown_of variables live (then_lines (Ok step) (script_of variables (lines_at place.end bytes)))
+    shown_of live (then_lines (Ok step) (script_of (widened variables) (lines_at place.end bytes)))
 
 -- this is the result, memory and the stream aside
 abbrev pub Concludes : Feed → (List ℕ → Result (Unit {0}) RefutationError)
@@ -65,7 +65,7 @@ ShowsText before shown (Err e) =
 -- what a text shows, where its first step has a number
 abbrev pub text_outcome : ℕ → Live → List ℕ → Option (Result (Unit {0}) RefutationError)
 text_outcome variables live bytes =
-    option_map (shown_of variables live) (script_if variables (lines_of bytes))
+    option_map (shown_of live) (script_if variables (lines_of bytes))
 
 -- the clauses that these numbers name, from 1 on, are in conflict at once, and none are where there
 -- is no number
@@ -86,15 +86,15 @@ ConcludesConflict clauses (Err e) = Tells e ⊥
 -- ---- steps without numbers
 
 -- a step of a line is taken, which must have no number
-abbrev pub TakesLine : ℕ → List (List Lit) → Line → Table → Result Bool RefutationError → Type 0
-TakesLine variables clauses (Plain step) new result = TakesPlain variables clauses step new result
-TakesLine variables clauses (Numbered step) new (Ok done) = ⊥
-TakesLine variables clauses (Numbered step) new (Err e) = Tells e (e ≡ errors.Line)
+abbrev pub TakesLine : List (List Lit) → Line → Table → Result Bool RefutationError → Type 0
+TakesLine clauses (Plain step) new result = TakesPlain clauses step new result
+TakesLine clauses (Numbered step) new (Ok done) = ⊥
+TakesLine clauses (Numbered step) new (Err e) = Tells e (e ≡ errors.Line)
 
--- the steps of a line and those after it
+-- the steps of a line, which may name so many variables, and those after it
 abbrev pub plain_left : ℕ → Line → Place → List ℕ → Script PlainStep
 plain_left variables line place bytes =
-    then_plain (Ok line) (plain_of variables (lines_at place.end bytes))
+    then_plain (Ok line) (plain_of (widened variables) (lines_at place.end bytes))
 
 -- steps are refused for a reason alone, memory and the stream aside
 abbrev pub ConcludesPlain : Feed → List (List Lit) → (List ℕ → Script PlainStep)

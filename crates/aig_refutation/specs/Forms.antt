@@ -3,7 +3,7 @@
 use Rattle.std.specs.Prelude.{ℕ, ◌==◌, ◌&&◌, ◌||◌, Bool, if◌then◌else◌, List, take, Option, None}
 use Rattle.std.specs.List.{list_any}
 use Rattle.aig_refutation.specs.Binary.{binary_steps_in}
-use Rattle.aig_refutation.specs.Proofs.{Script, plain_of, script_if}
+use Rattle.aig_refutation.specs.Proofs.{Script, allowed, plain_of, script_if}
 use Rattle.aig_refutation.specs.Steps.{PlainStep, Step}
 use Rattle.aig_refutation.specs.Text.{begins, lines_of}
 
@@ -20,11 +20,11 @@ is_binary bytes = begins 97 bytes || begins 100 bytes && list_any (λ b. b == 0)
 -- form of an LRAT file
 abbrev pub steps_in : ℕ → List ℕ → Option (Script Step)
 steps_in variables bytes =
-    if is_binary bytes then None else script_if variables (lines_of bytes)
+    if is_binary bytes then None else script_if (allowed variables) (lines_of bytes)
 
 -- the steps that the bytes of a proof say, if it is binary, or the first line of its text that is a
 -- step has the form of a DRAT file
 abbrev pub plain_steps_in : ℕ → List ℕ → Script PlainStep
 plain_steps_in variables bytes =
-    if is_binary bytes then binary_steps_in variables bytes
-    else plain_of variables (lines_of bytes)
+    if is_binary bytes then binary_steps_in (allowed variables) bytes
+    else plain_of (allowed variables) (lines_of bytes)

@@ -2,7 +2,7 @@
 -- The steps that a proof's text says, and why it says no further one. (LRAT: Cruz-Filipe, Heule,
 -- Hunt, Kaufmann and Schneider-Kamp, 2017. DRAT: Wetzler, Heule and Hunt, 2014. The lines are those
 -- that cadical writes.)
-use Rattle.std.specs.Prelude.{ℕ, ◌-◌, ◌==◌, Bool, true, false, not, ◌&&◌, ◌||◌, nat_lt, if◌then◌else◌, List, [], ◌∷◌, ◌++◌, Option, Some, None, Result, Ok, Err}
+use Rattle.std.specs.Prelude.{ℕ, ◌+◌, ◌-◌, ◌^◌, ◌==◌, min, Bool, true, false, not, ◌&&◌, ◌||◌, nat_lt, if◌then◌else◌, List, [], ◌∷◌, ◌++◌, Option, Some, None, Result, Ok, Err}
 use Rattle.aig_base.specs.declared.logic.literal.Lit.{Lit}
 use Rattle.aig_base.specs.Clauses.{lit_to}
 use Rattle.aig_refutation.specs.declared.error.RefutationError.{RefutationError}
@@ -10,6 +10,18 @@ use Rattle.aig_refutation.specs.declared.error.RefutationError.TheVariants as er
 use Rattle.aig_refutation.specs.Steps.{Step, Adds, Deletes, PlainStep, Drops, Learns}
 use Rattle.aig_refutation.specs.Text.{Word, ◌>>=◌, begins, word_in}
 use Rattle.aig_refutation.specs.Text as text
+
+-- ---- variables
+
+-- how many variables the first step may name: 65,536 more than the clauses have, and no more than
+-- literals of 32 bits can (a new variable gets its meaning by clauses that have the RAT property:
+-- extended resolution, Tseitin, 1968)
+abbrev pub allowed : ℕ → ℕ
+allowed variables = min (variables + 65536) (2 ^ 31)
+
+-- and how many the step after one that may name so many
+abbrev pub widened : ℕ → ℕ
+widened variables = min (variables + 1) (2 ^ 31)
 
 -- ---- parts of a line
 
@@ -185,7 +197,8 @@ script_of variables [] = record { steps = []; fault = errors.Unfinished }
 script_of variables ([] ∷ lines) = script_of variables lines
 script_of variables ((word ∷ words) ∷ lines) =
     if is_comment word then script_of variables lines
-    else then_lines (line_in true variables (is_none lines) word words) (script_of variables lines)
+    else then_lines (line_in true variables (is_none lines) word words)
+    (script_of (widened variables) lines)
 
 -- the same, unless the first line is a step of a DRAT file
 abbrev pub if_numbered : Result Line RefutationError → Script Step → Option (Script Step)
@@ -199,7 +212,7 @@ script_if variables ([] ∷ lines) = script_if variables lines
 script_if variables ((word ∷ words) ∷ lines) =
     if is_comment word then script_if variables lines
     else if_numbered (line_in false variables (is_none lines) word words)
-    (script_of variables lines)
+    (script_of (widened variables) lines)
 
 -- what a line of a DRAT file says, and then others
 abbrev pub then_plain : Result Line RefutationError → Script PlainStep → Script PlainStep
@@ -213,4 +226,5 @@ plain_of variables [] = record { steps = []; fault = errors.Unfinished }
 plain_of variables ([] ∷ lines) = plain_of variables lines
 plain_of variables ((word ∷ words) ∷ lines) =
     if is_comment word then plain_of variables lines
-    else then_plain (line_in false variables (is_none lines) word words) (plain_of variables lines)
+    else then_plain (line_in false variables (is_none lines) word words)
+    (plain_of (widened variables) lines)

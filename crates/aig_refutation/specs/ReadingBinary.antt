@@ -6,7 +6,7 @@ use Rattle.aig_lexer.specs.Takes.{Feed}
 use Rattle.aig_refutation.specs.declared.error.RefutationError.{RefutationError}
 use Rattle.aig_refutation.specs.declared.error.RefutationError.TheVariants as errors
 use Rattle.aig_refutation.specs.Binary.{binary_script, code_of, groups_in, no_step, step_before}
-use Rattle.aig_refutation.specs.Proofs.{Script}
+use Rattle.aig_refutation.specs.Proofs.{Script, widened}
 use Rattle.aig_refutation.specs.Steps.{PlainStep}
 use Rattle.aig_refutation.specs.Words.{Leaves, Says, Tells}
 
@@ -40,14 +40,15 @@ abbrev pub EndsStep : ℕ → PlainStep → PlainStep → Feed → Feed
     → Result (Unit {0}) RefutationError → Type 0
 EndsStep variables begun step before after (Ok done) = Leaves before after (λ bytes rest.
     binary_left variables (Some begun) bytes
-    ≡ step_before step (binary_left variables None rest))
+    ≡ step_before step (binary_left (widened variables) None rest))
 EndsStep variables begun step before after (Err e) = Tells e (Says before (λ bytes.
     binary_left variables (Some begun) bytes ≡ no_step e))
 
 -- the next step is read, or there is none
 abbrev pub GivesBinary : ℕ → PlainStep → Feed → Feed → Result Bool RefutationError → Type 0
 GivesBinary variables step before after (Ok true) = Leaves before after (λ bytes rest.
-    binary_left variables None bytes ≡ step_before step (binary_left variables None rest))
+    binary_left variables None bytes
+    ≡ step_before step (binary_left (widened variables) None rest))
 GivesBinary variables step before after (Ok false) = Says before (λ bytes.
     binary_left variables None bytes ≡ no_step errors.Unfinished)
 GivesBinary variables step before after (Err e) = Tells e (Says before (λ bytes.

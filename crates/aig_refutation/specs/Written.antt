@@ -7,7 +7,7 @@ use Rattle.aig_base.specs.declared.logic.literal.Lit.{Lit}
 use Rattle.aig_base.specs.Clauses.{is_positive, variable_of}
 use Rattle.aig_format.specs.Written.{delta_of}
 use Rattle.aig_refutation.specs.Checking.{Live, are_named, deleted, is_too_large, is_used, with_clause}
-use Rattle.aig_refutation.specs.Proofs.{hints_at}
+use Rattle.aig_refutation.specs.Proofs.{hints_at, widened}
 use Rattle.aig_refutation.specs.Steps.{Step, Adds, Deletes, PlainStep, Drops, Learns}
 
 -- ---- what a text can say
@@ -34,6 +34,11 @@ IsStep variables (Deletes numbers) = All IsNumber numbers
 abbrev pub IsPlainStep : ℕ → PlainStep → Type 0
 IsPlainStep variables (Learns clause) = IsClause variables clause
 IsPlainStep variables (Drops clause) = IsClause variables clause
+
+-- steps each of which may name one variable more than the one before, and the first so many
+abbrev pub AreWithin : {S : Type 0} → (ℕ → S → Type 0) → ℕ → List S → Type 0
+AreWithin is variables [] = Unit {0}
+AreWithin is variables (step ∷ steps) = is variables step × AreWithin is (widened variables) steps
 
 -- the numbers of steps are in order: hints and deletions name clauses that are there, and that of a
 -- clause is a new one that doesn't skip too many

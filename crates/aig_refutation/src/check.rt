@@ -6,7 +6,7 @@ ghost use Rattle.aig_base.specs.Formula.{clauses_in, IsSatisfiable};
 ghost use Rattle.aig_lexer.specs.Takes.{feed};
 ghost use Rattle.aig_refutation.specs.Ahead.{AddsAhead, IsAhead, LearnsAhead, StaysAhead, TakesPlain};
 ghost use Rattle.aig_refutation.specs.Binary.{binary_steps_in};
-ghost use Rattle.aig_refutation.specs.Checking.{IsInConflict, Live, Shows, are_in, is_last_step, taken};
+ghost use Rattle.aig_refutation.specs.Checking.{IsInConflict, Live, Shows, is_last_step, taken};
 ghost use Rattle.aig_refutation.specs.Concluding.{Concludes, ConcludesConflict, ConcludesPlain, IsFormula, MovesStep, RefusesFormula, ShowsPlain, ShowsText, TakesLine, TakesStep, left_outcome, plain_left, text_outcome};
 ghost use Rattle.aig_refutation.specs.Kept.{Keeps, KeepsMore, KeepsOrEnds};
 ghost use Rattle.aig_refutation.specs.Proofs.{Numbered};
@@ -18,6 +18,7 @@ ghost use Rattle.aig_refutation.specs.Taken.{CanHold};
 ghost use Rattle.aig_refutation.specs.Words.{place};
 
 use crate::binary::read_step;
+use crate::bound::{allowed, widened};
 use crate::checker::Checker;
 use crate::error::RefutationError;
 use crate::form::{TELLING, is_binary};
@@ -80,10 +81,9 @@ fn refutes_at_once(alloc: Global, checker: &Checker) -> Result<bool, RefutationE
 
 /// Takes a step that has numbers, and says whether it adds the empty clause.
 fn take_numbered(checker: &mut Checker, step: &Step) -> Result<bool, RefutationError>
-    ensures variables { checker.new.variables ≡ checker.old.variables }
     ensures moves { (live : Live) (said : steps.Step) → said_by step.now ≡ Numbered said
         → Holds checker.old.table live → MovesStep checker.new.table result
-        (taken checker.old.variables live said) (is_last_step said) }
+        (taken live said) (is_last_step said) }
     ensures no_stream { IsErrOf result RefutationError.Stream → ⊥ }
 {
     if step.deletes {
@@ -103,7 +103,6 @@ fn add_units(
 ) -> Result<(), RefutationError>
     ensures keeps { (live : Live) → Holds checker.old.table live
         → Keeps live checker.new.table result }
-    ensures variables { checker.new.variables ≡ checker.old.variables }
     ensures ahead { (clauses : List (List Lit)) → IsAhead clauses checker.old.table
         → StaysAhead clauses checker.new.table result }
     ensures no_stream { IsErrOf result RefutationError.Stream → ⊥ }
@@ -129,7 +128,6 @@ fn start_search(
 ) -> Result<(), RefutationError>
     ensures keeps { (live : Live) → Holds checker.old.table live
         → Keeps live checker.new.table result }
-    ensures variables { checker.new.variables ≡ checker.old.variables }
     ensures ahead { (clauses : List (List Lit)) → IsAhead clauses checker.old.table
         → StaysAhead clauses checker.new.table result }
     ensures no_stream { IsErrOf result RefutationError.Stream → ⊥ }
@@ -154,7 +152,6 @@ fn add_empty(
 ) -> Result<bool, RefutationError>
     ensures keeps { (live : Live) → Holds checker.old.table live
         → KeepsOrEnds live checker.new.table result }
-    ensures variables { checker.new.variables ≡ checker.old.variables }
     ensures ahead { (clauses : List (List Lit)) → IsAhead clauses checker.old.table
         → StaysAhead clauses checker.new.table result }
     ensures no_stream { IsErrOf result RefutationError.Stream → ⊥ }
@@ -198,7 +195,6 @@ fn add_hinted(
 ) -> Result<Option<u32>, RefutationError>
     ensures keeps { (live : Live) → Holds checker.old.table live
         → KeepsMore live clause.now checker.new.table result }
-    ensures variables { checker.new.variables ≡ checker.old.variables }
     ensures ahead { (clauses : List (List Lit)) → IsAhead clauses checker.old.table
         → AddsAhead clauses clause.now checker.new.table result }
     ensures no_stream { IsErrOf result RefutationError.Stream → ⊥ }
@@ -226,12 +222,10 @@ fn add_found(
 ) -> Result<Option<u32>, RefutationError>
     ensures keeps { (live : Live) → Holds checker.old.table live
         → KeepsMore live clause.now checker.new.table result }
-    ensures variables { checker.new.variables ≡ checker.old.variables }
     ensures ahead { (clauses : List (List Lit)) → IsAhead clauses checker.old.table
         → AddsAhead clauses clause.now checker.new.table result }
     ensures refused { (clauses : List (List Lit)) → IsAhead clauses checker.old.table
-        → are_in checker.old.variables clause.now ≡ true → result ≡ Ok None
-        → Follows clauses clause.now → ⊥ }
+        → result ≡ Ok None → Follows clauses clause.now → ⊥ }
     ensures no_stream { IsErrOf result RefutationError.Stream → ⊥ }
 {
     let number = add_hinted(checker, search, pivot, clause, hints, groups)?;
@@ -252,10 +246,9 @@ fn add_searched(
 ) -> Result<bool, RefutationError>
     ensures keeps { (live : Live) → Holds checker.old.table live
         → KeepsOrEnds live checker.new.table result }
-    ensures variables { checker.new.variables ≡ checker.old.variables }
     ensures same { step.new.is_numbered ≡ step.old.is_numbered }
     ensures ahead { (clauses : List (List Lit)) → IsAhead clauses checker.old.table
-        → LearnsAhead checker.old.variables clauses step.old.clause.items checker.new.table result }
+        → LearnsAhead clauses step.old.clause.items checker.new.table result }
     ensures no_stream { IsErrOf result RefutationError.Stream → ⊥ }
 {
     let found = add_found(
@@ -287,10 +280,9 @@ fn take_searched(
 ) -> Result<bool, RefutationError>
     ensures keeps { (live : Live) → Holds checker.old.table live
         → KeepsOrEnds live checker.new.table result }
-    ensures variables { checker.new.variables ≡ checker.old.variables }
     ensures same { step.new.is_numbered ≡ step.old.is_numbered }
     ensures ahead { (clauses : List (List Lit)) → IsAhead clauses checker.old.table
-        → TakesPlain checker.old.variables clauses (plain_by step.old) checker.new.table result }
+        → TakesPlain clauses (plain_by step.old) checker.new.table result }
     ensures no_stream { IsErrOf result RefutationError.Stream → ⊥ }
 {
     if !step.deletes {
@@ -310,15 +302,14 @@ fn take_step(
     step: &mut Step,
 ) -> Result<bool, RefutationError>
     ensures numbered { search.old ≡ None → OnOk result ((search.new ≡ None)
-        × (step.new.is_numbered ≡ true) × (checker.new.variables ≡ checker.old.variables)) }
+        × (step.new.is_numbered ≡ true)) }
     ensures takes { (live : Live) → search.old ≡ None → Holds checker.old.table live
-        → TakesStep checker.old.variables live checker.new.table result (said_by step.old) }
+        → TakesStep live checker.new.table result (said_by step.old) }
     ensures same { step.new.is_numbered ≡ step.old.is_numbered }
-    ensures variables { checker.new.variables ≡ checker.old.variables }
     ensures searches { IsSome search.old → IsSome search.new }
     ensures plain { (clauses : List (List Lit)) → IsSome search.old
-        → IsAhead clauses checker.old.table → TakesLine checker.old.variables clauses
-        (said_by step.old) checker.new.table result }
+        → IsAhead clauses checker.old.table
+        → TakesLine clauses (said_by step.old) checker.new.table result }
     ensures keeps { (live : Live) → IsSome search.old → Holds checker.old.table live
         → KeepsOrEnds live checker.new.table result }
     ensures no_stream { IsErrOf result RefutationError.Stream → ⊥ }
@@ -341,7 +332,6 @@ fn search_for(
         → (checker.new ≡ checker.old) × (result ≡ Ok None) }
     ensures keeps { (live : Live) → Holds checker.old.table live
         → Keeps live checker.new.table result }
-    ensures variables { checker.new.variables ≡ checker.old.variables }
     ensures ahead { (clauses : List (List Lit)) → IsAhead clauses checker.old.table
         → StaysAhead clauses checker.new.table result }
     ensures searches { step.now.is_numbered ≡ false → IfOk result (λ search. IsSome search) }
@@ -366,7 +356,6 @@ fn refutes_at_first(
         × (step.new ≡ step.old) × (result ≡ Ok false) }
     ensures keeps { (live : Live) → Holds checker.old.table live
         → KeepsOrEnds live checker.new.table result }
-    ensures variables { checker.new.variables ≡ checker.old.variables }
     ensures ahead { (clauses : List (List Lit)) → IsAhead clauses checker.old.table
         → StaysAhead clauses checker.new.table result }
     ensures same { (step.new.is_numbered ≡ step.old.is_numbered)
@@ -393,22 +382,22 @@ fn take_steps<R: Source>(
     ensures searched { (live : Live) → IsSome search.old → Holds checker.old.table live
         → OnOk result (¬ CanHold live) }
     ensures fails { (live : Live) → search.old ≡ None → Holds checker.old.table live
-        → checker.old.variables ≡ variables → OnOk result (¬ CanHold live) }
+        → OnOk result (¬ CanHold live) }
     ensures stream { IsErrOf result RefutationError.Stream → R.failed r.new ≡ true }
     ensures shown { (live : Live) → search.old ≡ None → Holds checker.old.table live
-        → checker.old.variables ≡ variables
         → Concludes (feed R.left R.failed R.pulls words.old.held r.old)
         (left_outcome variables live (said_by step.old)
         (place R.left R.failed R.pulls words.old r.old)) result }
     ensures plain { (clauses : List (List Lit)) → IsSome search.old
-        → IsAhead clauses checker.old.table → checker.old.variables ≡ variables
-        → are_in variables step.old.clause.items ≡ true
+        → IsAhead clauses checker.old.table
         → ConcludesPlain (feed R.left R.failed R.pulls words.old.held r.old) clauses
         (plain_left variables (said_by step.old) (place R.left R.failed R.pulls words.old r.old))
         result }
 {
+    let mut bound = variables;
     'steps: while !take_step(checker, search, step)? {
-        if !step.read(words, r, variables)? {
+        bound = widened(bound);
+        if !step.read(words, r, bound)? {
             return Err(RefutationError::Unfinished);
         }
     }
@@ -426,16 +415,16 @@ fn check_steps<R: Source>(
     variables: usize,
 ) -> Result<(), RefutationError>
     requires { variables ≤ 2 ^ 31 }
-    ensures refuted { HoldsFormula checker.old.table → checker.old.variables ≡ variables
+    ensures refuted { HoldsFormula checker.old.table
         → OnOk result (¬ IsSatisfiable checker.old.table.clauses) }
     ensures stream { IsErrOf result RefutationError.Stream → R.failed r.new ≡ true }
     ensures shown { (live : Live) → words.old.end ≡ None → step.old.is_numbered ≡ false
-        → Holds checker.old.table live → checker.old.variables ≡ variables
+        → Holds checker.old.table live
         → ShowsText (feed R.left R.failed R.pulls words.old.held r.old)
         (text_outcome variables live) result }
     ensures plain { (clauses : List (List Lit)) → words.old.end ≡ None
         → step.old.is_numbered ≡ false
-        → IsAhead clauses checker.old.table → checker.old.variables ≡ variables
+        → IsAhead clauses checker.old.table
         → ShowsPlain (feed R.left R.failed R.pulls words.old.held r.old) variables clauses
         result }
 {
@@ -463,14 +452,15 @@ fn take_binary<R: Source>(
     ensures fails { (live : Live) → Holds checker.old.table live → OnOk result (¬ CanHold live) }
     ensures stream { IsErrOf result RefutationError.Stream → R.failed r.new ≡ true }
     ensures plain { (clauses : List (List Lit)) → IsAhead clauses checker.old.table
-        → checker.old.variables ≡ variables
         → ConcludesPlain (feed R.left R.failed R.pulls buffer.old r.old) clauses
         (binary_steps_in variables) result }
 {
-    'steps: while read_step(buffer, r, step, variables)? {
+    let mut bound = variables;
+    'steps: while read_step(buffer, r, step, bound)? {
         if take_searched(checker, search, Pivot::First, step)? {
             return Ok(());
         }
+        bound = widened(bound);
     }
     Err(RefutationError::Unfinished)
 }
@@ -489,7 +479,6 @@ fn check_binary<R: Source>(
     ensures fails { (live : Live) → Holds checker.old.table live → OnOk result (¬ CanHold live) }
     ensures stream { IsErrOf result RefutationError.Stream → R.failed r.new ≡ true }
     ensures plain { (clauses : List (List Lit)) → IsAhead clauses checker.old.table
-        → checker.old.variables ≡ variables
         → ConcludesPlain (feed R.left R.failed R.pulls buffer.old r.old) clauses
         (binary_steps_in variables) result }
 {
@@ -521,10 +510,11 @@ fn check_proof<R: Source>(
 {
     let mut words = Words::new();
     words.buffer.hold(r, TELLING)?;
+    let bound = allowed(variables);
     if is_binary(words.buffer.window()) {
-        return check_binary(alloc, &mut words.buffer, r, checker, step, variables);
+        return check_binary(alloc, &mut words.buffer, r, checker, step, bound);
     }
-    check_steps(alloc, &mut words, r, checker, step, variables)
+    check_steps(alloc, &mut words, r, checker, step, bound)
 }
 
 /// Checks steps against a formula's clauses, where these aren't in conflict by themselves. There are
@@ -571,6 +561,10 @@ fn check_clauses<R: Source>(
 /// stand, before the last 0, `-M` and further hints for the clause of the number `M`, for each that
 /// needs some. The cost of such a step is that of a pass over all clauses.
 ///
+/// A step may name new variables, which the clauses don't have: the first step 65,536 more than
+/// theirs, each step one more than the one before it, and none 2^31 or more. A literal past that is
+/// refused as `Literal`. Such a variable gets its meaning by RAT steps (extended resolution).
+///
 /// The lines of a DRAT file are `L.. 0` and `d L.. 0`. Hints are searched for, also those for the
 /// RAT property on the first literal as it is written; a clause of one literal is never deleted, nor
 /// is a literal given up that followed once, and to delete a clause that isn't there does nothing.
@@ -585,7 +579,7 @@ fn check_clauses<R: Source>(
 ///
 /// The proof is read through a buffer of 16,384 bytes, up to the empty clause, and nothing is
 /// trusted of it. The memory is that of the clauses that are not deleted, a few times over, and
-/// four bytes for each number.
+/// four bytes for each number, and eight for each variable up to the largest that occurs.
 pub fn check_refutation<R: Source>(
     alloc: Global,
     cnf: &DagCnf,

@@ -1,6 +1,6 @@
 //! Clauses that follow from those of a formula.
 
-ghost use Rattle.std.specs.Prelude.{◌≡◌, ◌+◌, ◌<◌, ◌≤◌, ◌*◌, ◌^◌, ◌++◌, ◌∷◌, ◌||◌, [], ℕ, Bool, List, None, Ok, All, IfOk, IsErrOf, IsSome, IsTrue, OnOk, length, slice_get, true};
+ghost use Rattle.std.specs.Prelude.{◌≡◌, ◌+◌, ◌<◌, ◌≤◌, ◌*◌, ◌^◌, ◌++◌, ◌∷◌, ◌||◌, [], ℕ, Bool, List, None, Ok, All, IfOk, IsErrOf, IsSome, IsTrue, OnOk, length, max, slice_get, true};
 ghost use Rattle.std.specs.List.{Contains, IsDistinct, list_all};
 ghost use Rattle.aig_base.specs.declared.logic.literal.Lit.{Lit};
 ghost use Rattle.aig_base.specs.Clauses.{variable_of};
@@ -30,7 +30,7 @@ use std::marker::Model;
 pub(crate) struct Checker {
     numbered: Numbered,
     marks: Marks,
-    /// How many variables there are.
+    /// How many variables there are, or occur in clauses that were added.
     variables: usize,
     /// The places of the hints at hand.
     hints: Vec<usize>,
@@ -66,6 +66,19 @@ fn is_below(clause: &[Lit], variables: usize) -> bool
         }
     }
     true
+}
+
+/// How many variables there are, with those of a clause, where there are so many without it.
+fn with_variables(clause: &[Lit], variables: usize) -> usize
+    ensures below { All (λ lit. variable_of lit < result) clause.now }
+    ensures more { variables ≤ result }
+    ensures most { result ≤ max variables (2 ^ 31) }
+{
+    let mut most = variables;
+    for lit in clause {
+        most = most.max(usize::from(lit.var()) + 1);
+    }
+    most
 }
 
 /// Appends the literals of a clause to an empty list, each of them once. The marks are used,
@@ -174,10 +187,23 @@ impl Checker {
         self.numbered.add(number, clause)
     }
 
+    /// Makes room for the variables of a clause.
+    fn fit(&mut self, clause: &[Lit]) -> Result<(), MemoryError>
+        ensures same { self.new.table ≡ self.old.table }
+        ensures inside { OnOk result
+            (All (λ lit. variable_of lit < self.new.variables) clause.now) }
+    {
+        let variables = with_variables(clause, self.variables);
+        if variables > self.variables {
+            self.marks.grow(2 * variables)?;
+            self.variables = variables;
+        }
+        Ok(())
+    }
+
     /// Adds a clause, under a number. Each of its literals is kept once.
     fn put(&mut self, number: u32, clause: &[Lit]) -> Result<(), RefutationError>
         requires inside { All (λ lit. variable_of lit < self.old.variables) clause.now }
-        ensures variables { self.new.variables ≡ self.old.variables }
         ensures moves { (live : Live) → Holds self.old.table live → Moves self.new.table result
             (numbered_clause live number clause.now) }
         ensures no_stream { IsErrOf result RefutationError.Stream → ⊥ }
@@ -197,15 +223,11 @@ impl Checker {
         hints: &[u32],
         groups: &[Number],
     ) -> Result<(), RefutationError>
-        ensures variables { self.new.variables ≡ self.old.variables }
         ensures moves { (live : Live) → Holds self.old.table live → Moves self.new.table result
-            (added self.old.variables live number clause.now hints.now
-            (said_numbers groups.now)) }
+            (added live number clause.now hints.now (said_numbers groups.now)) }
         ensures no_stream { IsErrOf result RefutationError.Stream → ⊥ }
     {
-        if !is_below(clause, self.variables) {
-            return Err(RefutationError::Literal);
-        }
+        self.fit(clause)?;
         if !find_hints(&self.numbered, hints, &mut self.hints)?
             || !are_named(&self.numbered, groups)
         {
@@ -229,7 +251,6 @@ impl Checker {
         requires inside { All (λ lit. variable_of lit < self.old.variables) clause.now }
         ensures adds { (live : Live) → Holds self.old.table live → IfOk result (λ number.
             Holds self.new.table (with_clause live number clause.now)) }
-        ensures variables { self.new.variables ≡ self.old.variables }
         ensures ahead { (clauses : List (List Lit)) → IsAhead clauses self.old.table
             → StaysAhead (clause.now ∷ clauses) self.new.table result }
         ensures no_stream { IsErrOf result RefutationError.Stream → ⊥ }
@@ -248,13 +269,13 @@ impl Checker {
     ) -> Result<Option<u32>, RefutationError>
         ensures keeps { (live : Live) → Holds self.old.table live
             → KeepsMore live clause.now self.new.table result }
-        ensures variables { self.new.variables ≡ self.old.variables }
         ensures ahead { (clauses : List (List Lit)) → IsAhead clauses self.old.table
             → AddsAhead clauses clause.now self.new.table result }
         ensures no_stream { IsErrOf result RefutationError.Stream → ⊥ }
     {
-        if !is_below(clause, self.variables)
-            || !find_hints(&self.numbered, hints, &mut self.hints)?
+        self.fit(clause)?;
+        let are_there = find_hints(&self.numbered, hints, &mut self.hints)?;
+        if !are_there
             || !is_implied(
                 self.numbered.clauses(),
                 &mut self.marks,
@@ -312,14 +333,11 @@ impl Checker {
     ) -> Result<Option<u32>, RefutationError>
         ensures keeps { (live : Live) → Holds self.old.table live
             → KeepsMore live clause.now self.new.table result }
-        ensures variables { self.new.variables ≡ self.old.variables }
         ensures ahead { (clauses : List (List Lit)) → IsAhead clauses self.old.table
             → AddsAhead clauses clause.now self.new.table result }
         ensures no_stream { IsErrOf result RefutationError.Stream → ⊥ }
     {
-        if !is_below(clause, self.variables) {
-            return Ok(None);
-        }
+        self.fit(clause)?;
         if !self.has_rat(search, pivot, clause, groups)? {
             return Ok(None);
         }
@@ -336,17 +354,13 @@ impl Checker {
     ) -> Result<Option<u32>, RefutationError>
         ensures keeps { (live : Live) → Holds self.old.table live
             → KeepsMore live clause.now self.new.table result }
-        ensures variables { self.new.variables ≡ self.old.variables }
         ensures ahead { (clauses : List (List Lit)) → IsAhead clauses self.old.table
             → AddsAhead clauses clause.now self.new.table result }
         ensures refused { (clauses : List (List Lit)) → IsAhead clauses self.old.table
-            → are_in self.old.variables clause.now ≡ true → result ≡ Ok None
-            → Follows clauses clause.now → ⊥ }
+            → result ≡ Ok None → Follows clauses clause.now → ⊥ }
         ensures no_stream { IsErrOf result RefutationError.Stream → ⊥ }
     {
-        if !is_below(clause, self.variables) {
-            return Ok(None);
-        }
+        self.fit(clause)?;
         let end = self.next_number()?;
         if !is_entailed(&self.numbered, &mut self.marks, clause, first, end) {
             return Ok(None);
@@ -358,7 +372,6 @@ impl Checker {
     pub(crate) fn delete_same(&mut self, number: u32, clause: &[Lit]) -> Result<(), RefutationError>
         ensures keeps { (live : Live) → Holds self.old.table live
             → Keeps live self.new.table result }
-        ensures variables { self.new.variables ≡ self.old.variables }
         ensures ahead { (clauses : List (List Lit)) → IsAhead clauses self.old.table
             → StaysAhead (without_one clause.now clauses) self.new.table result }
         ensures no_stream { IsErrOf result RefutationError.Stream → ⊥ }
@@ -380,7 +393,6 @@ impl Checker {
     pub(crate) fn delete(&mut self, numbers: &[u32]) -> Result<(), RefutationError>
         ensures keeps { (live : Live) → Holds self.old.table live
             → Keeps live self.new.table result }
-        ensures variables { self.new.variables ≡ self.old.variables }
         ensures moves { (live : Live) → Holds self.old.table live
             → Moves self.new.table result (deleted live numbers.now) }
         ensures no_stream { IsErrOf result RefutationError.Stream → ⊥ }

@@ -21,7 +21,7 @@ pub enum RefutationError {
     /// A line is no step, or is one of the other form than the first line.
     #[error("bad proof line")]
     Line,
-    /// A literal of the proof has no variable.
+    /// A literal of the proof has no variable that its step may name.
     #[error("literal of no variable in proof")]
     Literal,
     /// A hint, or a number that is to be deleted, names no clause.

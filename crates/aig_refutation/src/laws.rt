@@ -1,17 +1,18 @@
 //! Laws of refutations.
 
-ghost use Rattle.std.specs.Prelude.{◌≡◌, ◌⊎◌, ◌^◌, ◌<◌, ◌≤◌, ◌∷◌, ℕ, All, Bool, Err, IsTrue, List, None, Ok, Option, Some, length, map, true};
+ghost use Rattle.std.specs.Prelude.{◌≡◌, ◌⊎◌, ◌-◌, ◌^◌, ◌≤◌, ◌∷◌, ℕ, All, Bool, Err, IsTrue, List, None, Ok, Option, Some, length, map, true};
 ghost use Rattle.aig_base.specs.declared.logic.literal.Lit.{Lit};
 ghost use Rattle.aig_base.specs.Clauses.{is_true_clause};
 ghost use Rattle.aig_base.specs.Formula.{IsSatisfiable};
 ghost use Rattle.aig_refutation.specs.declared.error.RefutationError.{RefutationError};
 ghost use Rattle.aig_refutation.specs.Checking.{IsPlainOutcome, Live, Shows, all_live, are_all_in, outcome, shown_by, taken};
 ghost use Rattle.aig_refutation.specs.Forms.{is_binary, plain_steps_in, steps_in, telling};
+ghost use Rattle.aig_refutation.specs.Proofs.{allowed};
 ghost use Rattle.aig_refutation.specs.Propagation.{is_rup};
 ghost use Rattle.aig_refutation.specs.Rat.{is_rat_refutation};
 ghost use Rattle.aig_refutation.specs.Steps.{Drops, Learns, PlainStep, Refute, Step, is_refutation};
 ghost use Rattle.aig_refutation.specs.Taken.{KeepsLive};
-ghost use Rattle.aig_refutation.specs.Written.{AreInOrder, IsNumber, IsPlainStep, IsStep, as_read, binary_text, plain_text, proof_text, step_bytes};
+ghost use Rattle.aig_refutation.specs.Written.{AreInOrder, AreWithin, IsNumber, IsPlainStep, IsStep, as_read, binary_text, plain_text, proof_text, step_bytes};
 
 /// Law: a clause that follows by reverse unit propagation is true wherever the clauses are among
 /// which its hints are looked up.
@@ -38,8 +39,8 @@ pub fn rat_refuted_clauses_are_unsatisfiable()
 
 /// Law: a step that is taken keeps the clauses that are there satisfiable.
 pub fn taken_steps_keep_satisfiable()
-    ensures { (variables : ℕ) (live next : Live) (step : Step)
-        → taken variables live step ≡ Ok next → KeepsLive live next }
+    ensures { (live next : Live) (step : Step) → taken live step ≡ Ok next
+        → KeepsLive live next }
 {}
 
 /// Law: clauses that the text of an LRAT file shows to be in conflict can't be satisfied.
@@ -61,10 +62,11 @@ pub fn plain_refutations_are_taken()
         IsPlainOutcome clauses script (Err e) → Refute clauses script.steps → ⊥ }
 {}
 
-/// Law: the steps of an LRAT file are read from the text that is written of them.
+/// Law: the steps of an LRAT file are read from the text that is written of them, also where they name new variables: below 65,536
+/// more than the clauses have, and one more for each step before.
 pub fn proofs_are_read()
-    ensures { (variables last : ℕ) (step : Step) (steps : List Step) → variables < 2 ^ 32
-        → IsNumber last → All (IsStep variables) (step ∷ steps)
+    ensures { (variables last : ℕ) (step : Step) (steps : List Step)
+        → IsNumber last → AreWithin IsStep (allowed variables) (step ∷ steps)
         → steps_in variables (proof_text last (step ∷ steps))
         ≡ Some (record { steps = step ∷ steps; fault = RefutationError.Unfinished }) }
 {}
@@ -72,8 +74,8 @@ pub fn proofs_are_read()
 /// Law: the steps of a DRAT file are read from the text that is written of them, where the first literal of a clause that is added
 /// comes last; no line has a number.
 pub fn plain_proofs_are_read()
-    ensures { (variables : ℕ) (steps : List PlainStep) → variables < 2 ^ 32
-        → All (IsPlainStep variables) steps
+    ensures { (variables : ℕ) (steps : List PlainStep)
+        → AreWithin IsPlainStep (allowed variables) steps
         → (steps_in variables (plain_text steps) ≡ None)
         × (plain_steps_in variables (plain_text steps)
         ≡ record { steps = map as_read steps; fault = RefutationError.Unfinished }) }
@@ -82,8 +84,9 @@ pub fn plain_proofs_are_read()
 /// Law: the steps of a binary DRAT proof are read from the bytes that are written of them, if these are taken for one: where the
 /// first step adds a clause, or drops one of few enough bytes.
 pub fn binary_proofs_are_read()
-    ensures read { (variables : ℕ) (steps : List PlainStep) → variables < 2 ^ 31
-        → All (IsPlainStep variables) steps → is_binary (binary_text steps) ≡ true
+    ensures read { (variables : ℕ) (steps : List PlainStep)
+        → AreWithin IsPlainStep (allowed variables) steps
+        → All (IsPlainStep (2 ^ 31 - 1)) steps → is_binary (binary_text steps) ≡ true
         → (steps_in variables (binary_text steps) ≡ None)
         × (plain_steps_in variables (binary_text steps)
         ≡ record { steps = steps; fault = RefutationError.Unfinished }) }
@@ -98,9 +101,9 @@ pub fn binary_proofs_are_read()
 /// the stream alone.
 pub fn written_proofs_are_taken()
     ensures { (variables last : ℕ) (clauses : List (List Lit)) (steps : List Step)
-        (e : RefutationError) → variables < 2 ^ 32 → IsNumber last → All (IsStep variables) steps
+        (e : RefutationError) → IsNumber last → AreWithin IsStep (allowed variables) steps
         → are_all_in variables clauses ≡ true
-        → outcome variables (all_live clauses) steps RefutationError.Unfinished ≡ Ok tt
+        → outcome (all_live clauses) steps RefutationError.Unfinished ≡ Ok tt
         → Shows variables clauses (Some (proof_text last steps)) (Err e)
         → (e ≡ RefutationError.Memory) ⊎ (e ≡ RefutationError.Stream) }
 {}
@@ -108,13 +111,13 @@ pub fn written_proofs_are_taken()
 /// Law: so is that of a DRAT file, text or binary, which is written of steps that refute the clauses.
 pub fn written_plain_proofs_are_taken()
     ensures text { (variables : ℕ) (clauses : List (List Lit)) (steps : List PlainStep)
-        (e : RefutationError) → variables < 2 ^ 32 → All (IsPlainStep variables) steps
+        (e : RefutationError) → AreWithin IsPlainStep (allowed variables) steps
         → are_all_in variables clauses ≡ true → Refute clauses steps
         → Shows variables clauses (Some (plain_text steps)) (Err e)
         → (e ≡ RefutationError.Memory) ⊎ (e ≡ RefutationError.Stream) }
     ensures binary { (variables : ℕ) (clauses : List (List Lit)) (steps : List PlainStep)
-        (e : RefutationError) → variables < 2 ^ 31 → All (IsPlainStep variables) steps
-        → is_binary (binary_text steps) ≡ true
+        (e : RefutationError) → AreWithin IsPlainStep (allowed variables) steps
+        → All (IsPlainStep (2 ^ 31 - 1)) steps → is_binary (binary_text steps) ≡ true
         → are_all_in variables clauses ≡ true → Refute clauses steps
         → Shows variables clauses (Some (binary_text steps)) (Err e)
         → (e ≡ RefutationError.Memory) ⊎ (e ≡ RefutationError.Stream) }
@@ -122,16 +125,14 @@ pub fn written_plain_proofs_are_taken()
 
 /// Law: steps that refute clauses can all be taken, up to the empty clause, where their numbers are in order.
 pub fn ordered_refutations_are_taken()
-    ensures { (variables : ℕ) (clauses : List (List Lit)) (steps : List Step)
-        (fault : RefutationError) → All (IsStep variables) steps
+    ensures { (clauses : List (List Lit)) (steps : List Step) (fault : RefutationError)
         → AreInOrder (all_live clauses) steps → IsTrue (is_refutation clauses steps)
-        → outcome variables (all_live clauses) steps fault ≡ Ok tt }
+        → outcome (all_live clauses) steps fault ≡ Ok tt }
 {}
 
-/// Law: so can steps that do so with the RAT property.
+/// Law: so can steps that do so with the RAT property, whichever variables they name.
 pub fn ordered_rat_refutations_are_taken()
-    ensures { (variables : ℕ) (clauses : List (List Lit)) (steps : List Step)
-        (fault : RefutationError) → All (IsStep variables) steps
+    ensures { (clauses : List (List Lit)) (steps : List Step) (fault : RefutationError)
         → AreInOrder (all_live clauses) steps → IsTrue (is_rat_refutation clauses steps)
-        → outcome variables (all_live clauses) steps fault ≡ Ok tt }
+        → outcome (all_live clauses) steps fault ≡ Ok tt }
 {}

@@ -2,6 +2,7 @@
 #![tactic(auto)]
 
 mod binary;
+mod bound;
 mod check;
 mod checker;
 mod closure;

@@ -1,5 +1,5 @@
 -- A proof of printed clauses is taken.
-use Rattle.aig_base.proofs.Words.{◌≡◌, ◌≢◌, ℕ, ◌<◌, ◌^◌, inl, inr, Bool, true, IsTrue, List, All, Option, Some, Result, Ok, Err, IfErr, IfSome, refl, sym, ap, subst, ◌∙◌, arith, same_Some, IsAtEnd}
+use Rattle.aig_base.proofs.Words.{◌≡◌, ◌≢◌, ℕ, ◌-◌, ◌^◌, inl, inr, Bool, true, IsTrue, List, All, Option, Some, Result, Ok, Err, IfErr, IfSome, refl, sym, ap, subst, ◌∙◌, same_Some, IsAtEnd}
 use Rattle.aig_base.specs.declared.logic.literal.Lit.{Lit}
 use Rattle.aig_dimacs.specs.Reading.{parse_formula}
 use Rattle.aig_format.specs.File.{File}
@@ -12,8 +12,10 @@ use Rattle.aig_reader.specs.declared.error.ReadError.{ReadError}
 use Rattle.aig_reader.specs.declared.error.ReadError.TheVariants as read
 use Rattle.aig_refutation.specs.Checking.{Shows, all_live, are_all_in, outcome}
 use Rattle.aig_refutation.specs.Forms.{is_binary}
-use Rattle.aig_refutation.specs.Steps.{PlainStep, Refute, Step, is_refutation}
-use Rattle.aig_refutation.specs.Written.{AreInOrder, IsNumber, IsPlainStep, IsStep, binary_text, plain_text, proof_text}
+use Rattle.aig_refutation.specs.Proofs.{allowed}
+use Rattle.aig_refutation.specs.Rat.{is_rat_refutation}
+use Rattle.aig_refutation.specs.Steps.{PlainStep, Refute, Step}
+use Rattle.aig_refutation.specs.Written.{AreInOrder, AreWithin, IsNumber, IsPlainStep, IsStep, binary_text, plain_text, proof_text}
 use Rattle.aig_refutation.specs.declared.error.RefutationError.{RefutationError}
 use Rattle.aig_refutation.specs.declared.error.RefutationError.TheVariants as refutation
 use Rattle.aig_answers.specs.Answers as answering
@@ -34,41 +36,38 @@ SpellOne = (f g : File) (bytes : List ℕ) → Spells f bytes → Spells g bytes
 
 -- what is known of proofs that are written
 pub record Laws : Type 0 where
-  pub ordered : (variables : ℕ) (clauses : List (List Lit)) (steps : List Step)
-      (fault : RefutationError) → All (IsStep variables) steps → AreInOrder (all_live clauses) steps
-      → IsTrue (is_refutation clauses steps)
-      → outcome variables (all_live clauses) steps fault ≡ Ok tt
+  pub ordered : (clauses : List (List Lit)) (steps : List Step) (fault : RefutationError)
+      → AreInOrder (all_live clauses) steps → IsTrue (is_rat_refutation clauses steps)
+      → outcome (all_live clauses) steps fault ≡ Ok tt
   pub numbered : (variables last : ℕ) (clauses : List (List Lit)) (steps : List Step)
-      (e : RefutationError) → variables < 2 ^ 32 → IsNumber last → All (IsStep variables) steps
+      (e : RefutationError) → IsNumber last → AreWithin IsStep (allowed variables) steps
       → are_all_in variables clauses ≡ true
-      → outcome variables (all_live clauses) steps refutation.Unfinished ≡ Ok tt
+      → outcome (all_live clauses) steps refutation.Unfinished ≡ Ok tt
       → Shows variables clauses (Some (proof_text last steps)) (Err e) → IsOutside e
   pub plain : (variables : ℕ) (clauses : List (List Lit)) (steps : List PlainStep)
-      (e : RefutationError) → variables < 2 ^ 32 → All (IsPlainStep variables) steps
+      (e : RefutationError) → AreWithin IsPlainStep (allowed variables) steps
       → are_all_in variables clauses ≡ true → Refute clauses steps
       → Shows variables clauses (Some (plain_text steps)) (Err e) → IsOutside e
   pub binary : (variables : ℕ) (clauses : List (List Lit)) (steps : List PlainStep)
-      (e : RefutationError) → variables < 2 ^ 31 → All (IsPlainStep variables) steps
-      → is_binary (binary_text steps) ≡ true
+      (e : RefutationError) → AreWithin IsPlainStep (allowed variables) steps
+      → All (IsPlainStep (2 ^ 31 - 1)) steps → is_binary (binary_text steps) ≡ true
       → are_all_in variables clauses ≡ true → Refute clauses steps
       → Shows variables clauses (Some (binary_text steps)) (Err e) → IsOutside e
 
 module _ (laws : Laws) where
   -- a proof of clauses is refused for memory and the stream alone
   proof_taken : (variables : ℕ) (clauses : List (List Lit)) (bytes : List ℕ) (e : RefutationError)
-      → variables < 2 ^ 31 → are_all_in variables clauses ≡ true → IsProof variables clauses bytes
+      → are_all_in variables clauses ≡ true → IsProof variables clauses bytes
       → Shows variables clauses (Some bytes) (Err e) → IsOutside e
-  proof_taken variables clauses bytes e few all (inl p) shows =
-      let low : variables < 2 ^ 32 = omega (arith, few) in
-      laws.numbered variables p.last clauses p.steps e low p.number p.spelled all
-      (laws.ordered variables clauses p.steps refutation.Unfinished p.spelled p.order p.refutes)
+  proof_taken variables clauses bytes e all (inl p) shows =
+      laws.numbered variables p.last clauses p.steps e p.number p.spelled all
+      (laws.ordered clauses p.steps refutation.Unfinished p.order p.refutes)
       (subst (λ b. Shows variables clauses (Some b) (Err e)) p.text shows)
-  proof_taken variables clauses bytes e few all (inr (inl p)) shows =
-      let low : variables < 2 ^ 32 = omega (arith, few) in
-      laws.plain variables clauses p.steps e low p.spelled all p.refutes
+  proof_taken variables clauses bytes e all (inr (inl p)) shows =
+      laws.plain variables clauses p.steps e p.spelled all p.refutes
       (subst (λ b. Shows variables clauses (Some b) (Err e)) p.text shows)
-  proof_taken variables clauses bytes e few all (inr (inr p)) shows =
-      laws.binary variables clauses p.steps e few p.spelled p.told all p.refutes
+  proof_taken variables clauses bytes e all (inr (inr p)) shows =
+      laws.binary variables clauses p.steps e p.spelled p.small p.told all p.refutes
       (subst (λ b. Shows variables clauses (Some b) (Err e)) p.text shows)
 
   -- so is one of the clauses of a text
@@ -78,7 +77,7 @@ module _ (laws : Laws) where
   text_taken text bytes variables clauses e again p shows =
       let pair : (variables, clauses) ≡ (p.variables, p.clauses) = same_Some _ _ (sym again
       ∙ p.reads) in
-      proof_taken p.variables p.clauses bytes e p.few (in_text p.variables p.clauses text p.reads)
+      proof_taken p.variables p.clauses bytes e (in_text p.variables p.clauses text p.reads)
       p.proves
       (subst (λ (q : ℕ × List (List Lit)). Shows q.0 q.1 (Some bytes) (Err e)) pair shows)
 

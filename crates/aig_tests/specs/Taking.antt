@@ -1,14 +1,16 @@
 -- Serves private clauses alone.
 -- Proofs of the clauses of a text, as solvers write them, and the answers that take them. (LRAT;
 -- DRAT.)
-use Rattle.std.specs.Prelude.{◌≡◌, ℕ, ◌<◌, ◌^◌, ◌++◌, ◌⊎◌, IsTrue, true, List, Some, All, Result, IfErr, codes}
+use Rattle.std.specs.Prelude.{◌≡◌, ℕ, ◌-◌, ◌^◌, ◌++◌, ◌⊎◌, IsTrue, true, List, Some, All, Result, IfErr, codes}
 use Rattle.aig_base.specs.declared.logic.literal.Lit.{Lit}
 use Rattle.aig_dimacs.specs.Reading.{parse_formula}
 use Rattle.aig_reader.specs.Verdicts.{IsSettled}
 use Rattle.aig_refutation.specs.Checking.{all_live}
 use Rattle.aig_refutation.specs.Forms.{is_binary}
-use Rattle.aig_refutation.specs.Steps.{PlainStep, Refute, Step, is_refutation}
-use Rattle.aig_refutation.specs.Written.{AreInOrder, IsNumber, IsPlainStep, IsStep, binary_text, plain_text, proof_text}
+use Rattle.aig_refutation.specs.Proofs.{allowed}
+use Rattle.aig_refutation.specs.Rat.{is_rat_refutation}
+use Rattle.aig_refutation.specs.Steps.{PlainStep, Refute, Step}
+use Rattle.aig_refutation.specs.Written.{AreInOrder, AreWithin, IsNumber, IsPlainStep, IsStep, binary_text, plain_text, proof_text}
 use Rattle.aig_refutation.specs.declared.error.RefutationError.{RefutationError}
 use Rattle.aig_refutation.specs.declared.error.RefutationError.TheVariants as refutation
 use Rattle.aig_answers.specs.Answers as answering
@@ -22,22 +24,22 @@ use Rattle.aig_certificates.specs.declared.error.CertificateError.TheVariants as
 
 -- ---- proofs
 
--- an LRAT text of steps over so many variables, whose numbers are in order and which refute the
--- clauses
+-- an LRAT text of steps, whose numbers are in order and which refute the clauses of so many
+-- variables, also by the RAT property and with new variables
 pub record IsLrat (variables : ℕ) (clauses : List (List Lit)) (bytes : List ℕ) : Type 0 where
   pub last : ℕ
   pub steps : List Step
   pub text : bytes ≡ proof_text last steps
   pub number : IsNumber last
-  pub spelled : All (IsStep variables) steps
+  pub spelled : AreWithin IsStep (allowed variables) steps
   pub order : AreInOrder (all_live clauses) steps
-  pub refutes : IsTrue (is_refutation clauses steps)
+  pub refutes : IsTrue (is_rat_refutation clauses steps)
 
 -- a DRAT text of steps that refute them
 pub record IsDrat (variables : ℕ) (clauses : List (List Lit)) (bytes : List ℕ) : Type 0 where
   pub steps : List PlainStep
   pub text : bytes ≡ plain_text steps
-  pub spelled : All (IsPlainStep variables) steps
+  pub spelled : AreWithin IsPlainStep (allowed variables) steps
   pub refutes : Refute clauses steps
 
 -- a binary DRAT proof of such steps, which is told from a text
@@ -45,7 +47,8 @@ pub record IsBinaryDrat (variables : ℕ) (clauses : List (List Lit)) (bytes : L
   where
     pub steps : List PlainStep
     pub text : bytes ≡ binary_text steps
-    pub spelled : All (IsPlainStep variables) steps
+    pub spelled : AreWithin IsPlainStep (allowed variables) steps
+    pub small : All (IsPlainStep (2 ^ 31 - 1)) steps
     pub told : is_binary (binary_text steps) ≡ true
     pub refutes : Refute clauses steps
 
@@ -55,12 +58,11 @@ IsProof variables clauses bytes =
     IsLrat variables clauses bytes
     ⊎ (IsDrat variables clauses bytes ⊎ IsBinaryDrat variables clauses bytes)
 
--- a proof of the clauses that a plain reader reads from the text, over few enough variables
+-- a proof of the clauses that a plain reader reads from the text
 pub record IsProofOf (text bytes : List ℕ) : Type 0 where
   pub variables : ℕ
   pub clauses : List (List Lit)
   pub reads : parse_formula text ≡ Some (variables, clauses)
-  pub few : variables < 2 ^ 31
   pub proves : IsProof variables clauses bytes
 
 -- ---- answers

@@ -19,7 +19,7 @@ use aig_edits::{PairError, Pairing, print_joint};
 use aig_format::reads_exactly;
 use aig_join::miters_are_one;
 use aig_refutation::{
-    ordered_refutations_are_taken, written_plain_proofs_are_taken, written_proofs_are_taken,
+    ordered_rat_refutations_are_taken, written_plain_proofs_are_taken, written_proofs_are_taken,
 };
 use aig_runs::Window;
 use std::alloc::Global;
@@ -58,7 +58,7 @@ pub fn taken_at_step(
 {
     reads_exactly();
     written_proofs_are_taken();
-    ordered_refutations_are_taken();
+    ordered_rat_refutations_are_taken();
     written_plain_proofs_are_taken();
     let text = clauses_text(alloc, file, k, optimize)?;
     let (file, proof) = (&mut source_of(file), &mut source_of(proof));
@@ -106,7 +106,7 @@ pub fn taken_of_window(
 {
     reads_exactly();
     written_proofs_are_taken();
-    ordered_refutations_are_taken();
+    ordered_rat_refutations_are_taken();
     written_plain_proofs_are_taken();
     let text = window_text(alloc, file, k, form, optimize)?;
     let (file, proof) = (&mut source_of(file), &mut source_of(proof));
@@ -137,7 +137,7 @@ pub fn taken_up_to_step(
 {
     reads_exactly();
     written_proofs_are_taken();
-    ordered_refutations_are_taken();
+    ordered_rat_refutations_are_taken();
     written_plain_proofs_are_taken();
     let text = bounded_text(alloc, file, k, optimize)?;
     let (file, proof) = (&mut source_of(file), &mut source_of(proof));
@@ -177,7 +177,7 @@ pub fn taken_of_certificate(
 {
     reads_exactly();
     written_proofs_are_taken();
-    ordered_refutations_are_taken();
+    ordered_rat_refutations_are_taken();
     written_plain_proofs_are_taken();
     let text = obligations_text(alloc, file, certificate, optimize)?;
     let (file, certificate) = (&mut source_of(file), &mut source_of(certificate));
@@ -252,7 +252,7 @@ pub fn taken_as_equal(
 {
     reads_exactly();
     written_proofs_are_taken();
-    ordered_refutations_are_taken();
+    ordered_rat_refutations_are_taken();
     written_plain_proofs_are_taken();
     miters_are_one();
     joint_files_ask_the_same();

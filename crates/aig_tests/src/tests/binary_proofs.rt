@@ -47,7 +47,8 @@ fn refuses_other_binary_steps(rt: HostRuntime) -> Result<(), Fail> {
     let alloc = rt.alloc();
     let step = Some(RefutationError::Step);
     assert!(rt; fault(alloc, b"d\x04\x06\0a\x04\0a\0", None)? == step);
-    assert!(rt; fault(alloc, b"a\x08\0", None)? == Some(RefutationError::Literal));
+    assert!(rt; fault(alloc, b"a\x86\x80\x08\0", None)? == Some(RefutationError::Unfinished));
+    assert!(rt; fault(alloc, b"a\x88\x80\x08\0", None)? == Some(RefutationError::Literal));
     assert!(rt; fault(alloc, b"a\x01\0", None)? == Some(RefutationError::Binary));
     Ok(())
 }
@@ -67,6 +68,6 @@ fn refuses_binary_proofs_that_end_early(rt: HostRuntime) -> Result<(), Fail> {
 fn tells_texts_and_binary_proofs_apart(rt: HostRuntime) -> Result<(), Fail> {
     let alloc = rt.alloc();
     assert!(rt; fault(alloc, b"d 2 0\n2 0\n", None)? == None);
-    assert!(rt; fault(alloc, b"d \0a\x04\0", None)? == Some(RefutationError::Literal));
+    assert!(rt; fault(alloc, b"d \0a\x04\0", None)? == None);
     Ok(())
 }

@@ -1,7 +1,6 @@
 use Rattle.std.proofs.Common.{ℕ, List, ap, sym, ◌∙◌}
 use Rattle.aig_base.specs.declared.logic.literal.Lit.{Lit}
 use Rattle.aig_refutation.specs.Ahead.{IsAhead}
-use Rattle.aig_refutation.specs.Checking.{are_in}
 use Rattle.aig_refutation.proofs.Keeping.{adds_stays}
 use Rattle.aig_refutation.proofs.Kept.{none_kept}
 use Rattle.aig_refutation.proofs.check.add_found.Goals as goal
@@ -16,9 +15,8 @@ pub returns-clause-ahead : goal.returns-clause-ahead
 returns-clause-ahead c clauses ahead = c.add_by_all.ensures.ahead clauses (still c clauses ahead)
 
 pub returns-clause-refused : goal.returns-clause-refused
-returns-clause-refused c clauses ahead inside none =
-    c.add_by_all.ensures.refused clauses (still c clauses ahead)
-    (ap (λ (n : ℕ). are_in n c.args.clause.now) c.in_ok-number.ensures.variables ∙ inside) none
+returns-clause-refused c clauses ahead none =
+    c.add_by_all.ensures.refused clauses (still c clauses ahead) none
 
 pub returns-clause-keeps : goal.returns-clause-keeps
 returns-clause-keeps c live h =

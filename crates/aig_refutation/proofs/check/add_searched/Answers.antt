@@ -15,15 +15,14 @@ returns-in_err-found-clause-ahead c clauses ahead =
     let e = c.in_err-found.field-0.0 in
     let p = err_from_is_err_and c.from_residual.result c.from_residual.ensures.1 in
     rw (p.1, p.2)
-    (learns_err c.args.checker.now.variables clauses c.args.step.now.clause.items
+    (learns_err clauses c.args.step.now.clause.items
     c.add_found.new.checker.table e (c.in_err-found.ensures.ahead clauses ahead))
 
 pub returns-in_default-clause-ahead : goal.returns-in_default-clause-ahead
 returns-in_default-clause-ahead c clauses ahead = (
   refl,
-  λ inside follows.
-      c.in_ok-found.ensures.refused clauses ahead
-      (rw c.deref.ensures.value inside) (ap (λ (o : Option ℕ). Ok o) c.in_default.is)
+  λ follows.
+      c.in_ok-found.ensures.refused clauses ahead (ap (λ (o : Option ℕ). Ok o) c.in_default.is)
       (rw c.deref.ensures.value follows),
 )
 
@@ -40,7 +39,7 @@ returns-in_err-add_units-clause-ahead c clauses ahead =
     subst (λ (o : Option ℕ). AddsAhead clauses clause c.add_found.new.checker.table (Ok o))
     c.in-Some.is added in
     rw (p.1, p.2)
-    (learns_err c.args.checker.now.variables clauses clause c.add_units.new.checker.table e
+    (learns_err clauses clause c.add_units.new.checker.table e
     (c.in_err-add_units.ensures.ahead (clause ∷ clauses) more))
 
 pub returns-clause-ahead : goal.returns-clause-ahead
@@ -54,7 +53,7 @@ returns-clause-ahead c clauses ahead =
     c.in-Some.is added in
     let units : IsAhead (clause ∷ clauses) c.add_units.new.checker.table =
     c.in_ok-add_units.ensures.ahead (clause ∷ clauses) more in
-    learns_from c.args.checker.now.variables clauses clause c.add_empty.new.checker.table
+    learns_from clauses clause c.add_empty.new.checker.table
     c.add_empty.result (c.add_empty.ensures.ahead (clause ∷ clauses) units)
     (sym (empty_length clause) ∙ sym (ap (λ (n : ℕ). n == 0) (sym c.deref.ensures.len
     ∙ ap length c.deref.ensures.value)) ∙ sym c.is_empty.ensures ∙ c.if-is_empty.false)

@@ -19,7 +19,6 @@ loop-preserved c =
           kept_on live now.0 c.add_next.new.self.table now.2
           (more_kept now.0 (c.in-Some.lit ∷ []) c.add_next.new.self.table c.in_ok-number.field-0
           (then.keeps now.0 now.1));
-      variables = then.variables ∙ before.variables;
       ahead = λ clauses ahead.
           adds_stays clauses (c.in-Some.lit ∷ []) c.add_next.new.self.table c.in_ok-number.field-0
           (then.ahead clauses (before.ahead clauses ahead));

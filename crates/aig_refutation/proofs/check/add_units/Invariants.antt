@@ -9,7 +9,6 @@ use Rattle.aig_refutation.proofs.check.add_units.Given as goal
 abbrev pub invariant-loop : goal.invariant-loop
 invariant-loop l = record {
   keeps : (live : Live) → Holds l.fn.checker.table live → IsKept live l.checker.table;
-  variables : l.checker.variables ≡ l.fn.checker.variables;
   ahead : (clauses : List (List Lit)) → IsAhead clauses l.fn.checker.table
       → IsAhead clauses l.checker.table;
 }

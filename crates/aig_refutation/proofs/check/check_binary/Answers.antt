@@ -7,7 +7,7 @@ use Rattle.aig_refutation.proofs.Showing.{ok_on}
 use Rattle.aig_refutation.proofs.check.check_binary.Goals as goal
 
 pub returns-in_err-start_search-clause-plain : goal.returns-in_err-start_search-clause-plain
-returns-in_err-start_search-clause-plain g c clauses ahead same =
+returns-in_err-start_search-clause-plain g c clauses ahead =
     let before = feed g.R.Source.left g.R.Source.failed g.R.Source.pulls c.args.buffer.now
     c.args.r.now in
     let e = c.in_err-start_search.field-0.0 in
@@ -17,7 +17,7 @@ returns-in_err-start_search-clause-plain g c clauses ahead same =
     (c.in_err-start_search.ensures.ahead clauses ahead))
 
 pub returns-in_err-add_empty-clause-plain : goal.returns-in_err-add_empty-clause-plain
-returns-in_err-add_empty-clause-plain g c clauses ahead same =
+returns-in_err-add_empty-clause-plain g c clauses ahead =
     let before = feed g.R.Source.left g.R.Source.failed g.R.Source.pulls c.args.buffer.now
     c.args.r.now in
     let e = c.in_err-add_empty.field-0.0 in
@@ -28,10 +28,9 @@ returns-in_err-add_empty-clause-plain g c clauses ahead same =
     (c.in_ok-start_search.ensures.ahead clauses ahead)))
 
 pub returns-clause-plain : goal.returns-clause-plain
-returns-clause-plain g c clauses ahead same =
+returns-clause-plain g c clauses ahead =
     c.take_binary.ensures.plain clauses
     (c.in_ok-add_empty.ensures.ahead clauses (c.in_ok-start_search.ensures.ahead clauses ahead))
-    (c.in_ok-add_empty.ensures.variables ∙ c.in_ok-start_search.ensures.variables ∙ same)
 
 pub returns-then-branch-clause-fails : goal.returns-then-branch-clause-fails
 returns-then-branch-clause-fails g c live h = λ can.

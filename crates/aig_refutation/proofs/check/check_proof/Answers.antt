@@ -1,9 +1,11 @@
-use Rattle.std.proofs.Common.{◌≡◌, true, false, List, sym, ap, subst, ◌∙◌}
+use Rattle.std.proofs.Common.{◌≡◌, ℕ, true, false, List, sym, ap, subst, ◌∙◌}
 use Rattle.aig_base.specs.declared.logic.literal.Lit.{Lit}
 use Rattle.aig_base.specs.Formula.{IsSatisfiable}
 use Rattle.aig_lexer.specs.Takes.{feed}
 use Rattle.aig_refutation.specs.Ahead.{IsAhead}
+use Rattle.aig_refutation.specs.Binary.{binary_steps_in}
 use Rattle.aig_refutation.specs.Checking.{all_live}
+use Rattle.aig_refutation.specs.Concluding.{ConcludesPlain, ShowsPlain, ShowsText, text_outcome}
 use Rattle.aig_refutation.specs.Forms.{is_binary}
 use Rattle.aig_refutation.specs.Tables.{Holds}
 use Rattle.aig_refutation.specs.Taken.{CanHold}
@@ -30,7 +32,9 @@ returns-then-is_binary-clause-shown g c clauses fresh formula list same none =
     ap is_binary (sym c.window.ensures) ∙ sym c.is_binary.ensures ∙ c.if-is_binary.true in
     shows_binary variables clauses left inside none f (front_coming left after held moved)
     (λ bytes known. front_binary left after held moved c.in_ok-hold.ensures.enough bytes known
-    ∙ told) c.check_binary.result (c.check_binary.ensures.plain clauses ahead same)
+    ∙ told) c.check_binary.result
+    (subst (λ (n : ℕ). ConcludesPlain f clauses (binary_steps_in n) c.check_binary.result)
+    c.allowed-bound.ensures.allowed (c.check_binary.ensures.plain clauses ahead))
 
 pub returns-clause-shown : goal.returns-clause-shown
 returns-clause-shown g c clauses fresh formula list same none =
@@ -52,8 +56,11 @@ returns-clause-shown g c clauses fresh formula list same none =
     shows_text variables clauses left inside none f (front_coming left after held moved)
     (λ bytes known. front_binary left after held moved c.in_ok-hold.ensures.enough bytes known
     ∙ told) c.check_steps.result
-    (c.check_steps.ensures.shown (all_live clauses) goes_on fresh holds same)
-    (c.check_steps.ensures.plain clauses goes_on fresh ahead same)
+    (subst (λ (n : ℕ). ShowsText f (text_outcome n (all_live clauses)) c.check_steps.result)
+    c.allowed-bound.ensures.allowed
+    (c.check_steps.ensures.shown (all_live clauses) goes_on fresh holds))
+    (subst (λ (n : ℕ). ShowsPlain f n clauses c.check_steps.result) c.allowed-bound.ensures.allowed
+    (c.check_steps.ensures.plain clauses goes_on fresh ahead))
 
 pub returns-then-is_binary-clause-refuted : goal.returns-then-is_binary-clause-refuted
 returns-then-is_binary-clause-refuted g c formula same =

@@ -1,7 +1,7 @@
 use Rattle.aig_base.proofs.Words.{OnOk, ◌≡◌, Bool, true, false, None, Ok, Err, sym, ap, subst, ◌∙◌, err_from_is_err_and, false≢true}
 use Rattle.aig_base.specs.Formula.{IsSatisfiable}
 use Rattle.aig_refutation.specs.declared.error.RefutationError.TheVariants as errors
-use Rattle.aig_refutation.specs.Checking.{all_live, are_in}
+use Rattle.aig_refutation.specs.Checking.{all_live}
 use Rattle.aig_refutation.specs.Concluding.{Concludes, ConcludesPlain, ShowsPlain, ShowsText, left_outcome, plain_left, text_outcome}
 use Rattle.aig_refutation.specs.Proofs.{Line}
 use Rattle.aig_refutation.specs.Kept.{KeepsOrEnds}
@@ -16,7 +16,7 @@ use Rattle.aig_refutation.proofs.Showing.{formula_holds, ok_on}
 use Rattle.aig_refutation.proofs.check.check_steps.Goals as goal
 
 pub returns-in_err-there-clause-shown : goal.returns-in_err-there-clause-shown
-returns-in_err-there-clause-shown g c live goes_on fresh holds same =
+returns-in_err-there-clause-shown g c live goes_on fresh holds =
     let at = place g.R.Source.left g.R.Source.failed g.R.Source.pulls in
     let before = at c.args.words.now c.args.r.now in
     let after = at c.read.new.words c.read.new.r in
@@ -29,7 +29,7 @@ returns-in_err-there-clause-shown g c live goes_on fresh holds same =
     rw (p.1, p.2) (text_wrong variables live before goes_on (said_by step) after e given)
 
 pub returns-in_err-search-clause-shown : goal.returns-in_err-search-clause-shown
-returns-in_err-search-clause-shown g c live goes_on fresh holds same =
+returns-in_err-search-clause-shown g c live goes_on fresh holds =
     let at = place g.R.Source.left g.R.Source.failed g.R.Source.pulls in
     let before = at c.args.words.now c.args.r.now in
     let after = at c.read.new.words c.read.new.r in
@@ -46,7 +46,7 @@ returns-in_err-search-clause-shown g c live goes_on fresh holds same =
 
 pub returns-in_err-refutes_at_first-clause-shown :
     goal.returns-in_err-refutes_at_first-clause-shown
-returns-in_err-refutes_at_first-clause-shown g c live goes_on fresh holds same =
+returns-in_err-refutes_at_first-clause-shown g c live goes_on fresh holds =
     let at = place g.R.Source.left g.R.Source.failed g.R.Source.pulls in
     let before = at c.args.words.now c.args.r.now in
     let after = at c.read.new.words c.read.new.r in
@@ -65,7 +65,7 @@ returns-in_err-refutes_at_first-clause-shown g c live goes_on fresh holds same =
     c.from_residual-in_err-refutes_at_first.result)
 
 pub returns-then-branch-clause-shown : goal.returns-then-branch-clause-shown
-returns-then-branch-clause-shown g c live goes_on fresh holds same =
+returns-then-branch-clause-shown g c live goes_on fresh holds =
     let at = place g.R.Source.left g.R.Source.failed g.R.Source.pulls in
     let before = at c.args.words.now c.args.r.now in
     let after = at c.read.new.words c.read.new.r in
@@ -85,7 +85,7 @@ returns-then-branch-clause-shown g c live goes_on fresh holds same =
     (λ n. text_unnumbered variables live before goes_on step after n c.in_ok-there.there given (Ok tt))
 
 pub returns-then-not-there-clause-shown : goal.returns-then-not-there-clause-shown
-returns-then-not-there-clause-shown g c live goes_on fresh holds same =
+returns-then-not-there-clause-shown g c live goes_on fresh holds =
     let at = place g.R.Source.left g.R.Source.failed g.R.Source.pulls in
     let before = at c.args.words.now c.args.r.now in
     let after = at c.read.new.words c.read.new.r in
@@ -98,7 +98,7 @@ returns-then-not-there-clause-shown g c live goes_on fresh holds same =
     variables (said_by step) before after (Ok b)) c.if-not-there.true given) (Err errors.Unfinished)
 
 pub returns-clause-shown : goal.returns-clause-shown
-returns-clause-shown g c live goes_on fresh holds same =
+returns-clause-shown g c live goes_on fresh holds =
     let at = place g.R.Source.left g.R.Source.failed g.R.Source.pulls in
     let before = at c.args.words.now c.args.r.now in
     let after = at c.read.new.words c.read.new.r in
@@ -117,7 +117,7 @@ returns-clause-shown g c live goes_on fresh holds same =
     let kept : c.refutes_at_first.new.checker ≡ c.args.checker.now = first.0 ∙ (searches n).0 in
     let here : Holds c.refutes_at_first.new.checker.table live = subst (λ (h : Checked). Holds
     h.table live) (sym kept) holds in
-    let concludes = c.take_steps.ensures.shown live first.1 here (ap (λ h. h.variables) kept ∙ same)
+    let concludes = c.take_steps.ensures.shown live first.1 here
     in
     text_numbered variables live before goes_on step after n (subst (λ (b : Bool). GivesStep false
     variables (said_by step) before after (Ok b)) c.if-not-there.false given) r (subst (λ (s :
@@ -126,7 +126,7 @@ returns-clause-shown g c live goes_on fresh holds same =
     (λ n. text_unnumbered variables live before goes_on step after n c.in_ok-there.there given r)
 
 pub returns-in_err-there-clause-plain : goal.returns-in_err-there-clause-plain
-returns-in_err-there-clause-plain g c clauses goes_on fresh ahead same =
+returns-in_err-there-clause-plain g c clauses goes_on fresh ahead =
     let at = place g.R.Source.left g.R.Source.failed g.R.Source.pulls in
     let before = at c.args.words.now c.args.r.now in
     let after = at c.read.new.words c.read.new.r in
@@ -139,7 +139,7 @@ returns-in_err-there-clause-plain g c clauses goes_on fresh ahead same =
     rw (p.1, p.2) (first_wrong variables clauses before goes_on (said_by step) after e given)
 
 pub returns-in_err-search-clause-plain : goal.returns-in_err-search-clause-plain
-returns-in_err-search-clause-plain g c clauses goes_on fresh ahead same =
+returns-in_err-search-clause-plain g c clauses goes_on fresh ahead =
     let at = place g.R.Source.left g.R.Source.failed g.R.Source.pulls in
     let before = at c.args.words.now c.args.r.now in
     let variables = c.args.variables in
@@ -151,7 +151,7 @@ returns-in_err-search-clause-plain g c clauses goes_on fresh ahead same =
 
 pub returns-in_err-refutes_at_first-clause-plain :
     goal.returns-in_err-refutes_at_first-clause-plain
-returns-in_err-refutes_at_first-clause-plain g c clauses goes_on fresh ahead same =
+returns-in_err-refutes_at_first-clause-plain g c clauses goes_on fresh ahead =
     let at = place g.R.Source.left g.R.Source.failed g.R.Source.pulls in
     let before = at c.args.words.now c.args.r.now in
     let variables = c.args.variables in
@@ -163,7 +163,7 @@ returns-in_err-refutes_at_first-clause-plain g c clauses goes_on fresh ahead sam
     (c.in_ok-search.ensures.ahead clauses ahead)))
 
 pub returns-then-not-there-clause-plain : goal.returns-then-not-there-clause-plain
-returns-then-not-there-clause-plain g c clauses goes_on fresh ahead same =
+returns-then-not-there-clause-plain g c clauses goes_on fresh ahead =
     let at = place g.R.Source.left g.R.Source.failed g.R.Source.pulls in
     let before = at c.args.words.now c.args.r.now in
     let after = at c.read.new.words c.read.new.r in
@@ -178,7 +178,7 @@ returns-then-not-there-clause-plain g c clauses goes_on fresh ahead same =
     first_none variables clauses before goes_on (said_by step) after given
 
 pub returns-clause-plain : goal.returns-clause-plain
-returns-clause-plain g c clauses goes_on fresh ahead same =
+returns-clause-plain g c clauses goes_on fresh ahead =
     let at = place g.R.Source.left g.R.Source.failed g.R.Source.pulls in
     let before = at c.args.words.now c.args.r.now in
     let after = at c.read.new.words c.read.new.r in
@@ -199,18 +199,15 @@ returns-clause-plain g c clauses goes_on fresh ahead same =
     let now = c.refutes_at_first.new.step in
     let said : said_by now ≡ said_by step = plain_same now step first.same.0 first.same.1
     (ap (λ v. v.items) first.same.2) n in
-    let inside : are_in variables now.clause.items ≡ true =
-    ap (λ v. are_in variables v.items) first.same.2 ∙ c.in_ok-there.ensures.inside in
     let concludes = c.take_steps.ensures.plain clauses
     (first.same.3 (c.in_ok-search.ensures.searches n))
-    (first.ahead clauses (c.in_ok-search.ensures.ahead clauses ahead))
-    (first.variables ∙ c.in_ok-search.ensures.variables ∙ same) inside in
+    (first.ahead clauses (c.in_ok-search.ensures.ahead clauses ahead)) in
     first_plain variables clauses before goes_on (said_by step) after given r
     (subst (λ (line : Line). ConcludesPlain after.feed clauses (plain_left variables line after) r)
     said concludes))
 
 pub returns-clause-refuted : goal.returns-clause-refuted
-returns-clause-refuted g c formula same =
+returns-clause-refuted g c formula =
     let old = c.args.checker.now.table in
     let clauses = old.clauses in
     let step = c.read.new.self in
@@ -227,8 +224,7 @@ returns-clause-refuted g c formula same =
     (λ (h : Checked). Holds h.table (all_live clauses)) (sym kept) formula.holds in
     ok_on r (¬ CanHold (all_live clauses)) (¬ IsSatisfiable clauses)
     (λ fails can. fails (formula_holds clauses can))
-    (c.take_steps.ensures.fails (all_live clauses) begun.1 here
-    (ap (λ h. h.variables) kept ∙ same)))
+    (c.take_steps.ensures.fails (all_live clauses) begun.1 here))
     (λ n.
     let begun = c.in_ok-search.ensures.keeps (all_live clauses) formula.holds in
     let new = c.refutes_at_first.new.checker.table in
@@ -239,7 +235,7 @@ returns-clause-refuted g c formula same =
     (c.take_steps.ensures.searched now.0 (first.same.3 (c.in_ok-search.ensures.searches n)) now.1))
 
 pub returns-then-branch-clause-refuted : goal.returns-then-branch-clause-refuted
-returns-then-branch-clause-refuted g c formula same = λ can.
+returns-then-branch-clause-refuted g c formula = λ can.
     let clauses = c.args.checker.now.table.clauses in
     let begun = c.in_ok-search.ensures.keeps (all_live clauses) formula.holds in
     let new = c.refutes_at_first.new.checker.table in

@@ -5,7 +5,7 @@ use Rattle.aig_refutation.proofs.check.take_searched.Goals as goal
 
 pub returns-then-not-step-clause-ahead : goal.returns-then-not-step-clause-ahead
 returns-then-not-step-clause-ahead c clauses ahead =
-    takes_learned c.args.checker.now.variables clauses c.args.step.now
+    takes_learned clauses c.args.step.now
     c.add_searched.new.checker.table c.add_searched.result c.if-not-step.true
     (c.add_searched.ensures.ahead clauses ahead)
 
@@ -15,13 +15,13 @@ returns-in_err-delete_same-clause-ahead c clauses ahead =
     let p = err_from_is_err_and c.from_residual-in_err-delete_same.result
     c.from_residual-in_err-delete_same.ensures.1 in
     rw (p.1, p.2)
-    (takes_dropped c.args.checker.now.variables clauses c.args.step.now
+    (takes_dropped clauses c.args.step.now
     c.delete_same.new.self.table (Err e) c.if-not-step.false
     (c.in_err-delete_same.ensures.ahead clauses ahead))
 
 pub returns-in_default-clause-ahead : goal.returns-in_default-clause-ahead
 returns-in_default-clause-ahead c clauses ahead =
-    takes_dropped c.args.checker.now.variables clauses c.args.step.now
+    takes_dropped clauses c.args.step.now
     c.args.checker.now.table (Ok false) c.if-not-step.false
     (drop_ahead c.args.checker.now.table clauses c.args.step.now.clause.items ahead)
 

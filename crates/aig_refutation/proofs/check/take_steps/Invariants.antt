@@ -1,8 +1,8 @@
-use Rattle.std.proofs.Common.{◌≡◌, List, None, true}
+use Rattle.std.proofs.Common.{◌≡◌, ◌≤◌, ◌^◌, List, None}
 use Rattle.std.specs.Prelude.{IsSome}
 use Rattle.aig_base.specs.declared.logic.literal.Lit.{Lit}
 use Rattle.aig_refutation.specs.Ahead.{IsAhead}
-use Rattle.aig_refutation.specs.Checking.{Live, are_in}
+use Rattle.aig_refutation.specs.Checking.{Live}
 use Rattle.aig_refutation.specs.Kept.{IsKept}
 use Rattle.aig_refutation.specs.Reading.{said_by}
 use Rattle.aig_refutation.specs.Tables.{Holds}
@@ -14,31 +14,26 @@ use Rattle.aig_refutation.proofs.check.take_steps.Given as goal
 
 abbrev pub invariant-steps : goal.invariant-steps
 invariant-steps g l = record {
+  most : l.bound ≤ 2 ^ 31;
   keeps : (live : Live) → IsSome l.fn.search → Holds l.fn.checker.table live
       → IsSome l.search × IsKept live l.checker.table;
   shown : (live : Live) → l.fn.search ≡ None → Holds l.fn.checker.table live
-      → l.fn.checker.variables ≡ l.variables
       → record {
         search : l.search ≡ None;
-        variables : l.checker.variables ≡ l.variables;
         now : Live;
         holds : Holds l.checker.table now;
         keeps : KeepsLive live now;
         goes : GoesOn l.variables live (said_by l.fn.step) (place g.R.Source.left g.R.Source.failed
-            g.R.Source.pulls l.fn.words l.fn.r) now (said_by l.step) (place g.R.Source.left
+            g.R.Source.pulls l.fn.words l.fn.r) l.bound now (said_by l.step) (place g.R.Source.left
             g.R.Source.failed g.R.Source.pulls l.words l.r);
       };
   plain : (clauses : List (List Lit)) → IsSome l.fn.search → IsAhead clauses l.fn.checker.table
-      → l.fn.checker.variables ≡ l.variables
-      → are_in l.variables l.fn.step.clause.items ≡ true
       → record {
         search : IsSome l.search;
-        variables : l.checker.variables ≡ l.variables;
-        inside : are_in l.variables l.step.clause.items ≡ true;
         now : List (List Lit);
         ahead : IsAhead now l.checker.table;
         goes : GoesPlain l.variables clauses (said_by l.fn.step) (place g.R.Source.left
-            g.R.Source.failed g.R.Source.pulls l.fn.words l.fn.r) now (said_by l.step) (place
+            g.R.Source.failed g.R.Source.pulls l.fn.words l.fn.r) l.bound now (said_by l.step) (place
             g.R.Source.left g.R.Source.failed g.R.Source.pulls l.words l.r);
       };
 }

@@ -2,7 +2,7 @@ use Rattle.aig_refutation.proofs.WrittenBinary.{binary_read, told_dropped, told_
 use Rattle.aig_refutation.proofs.laws.binary_proofs_are_read.Goals as goal
 
 pub returns-clause-read : goal.returns-clause-read
-returns-clause-read c = λ variables steps few. binary_read variables few steps
+returns-clause-read c = binary_read
 
 pub returns-clause-adds : goal.returns-clause-adds
 returns-clause-adds c = told_learned

@@ -2,4 +2,4 @@ use Rattle.aig_refutation.proofs.WrittenPlain.{plain_steps_in-written}
 use Rattle.aig_refutation.proofs.laws.plain_proofs_are_read.Goals as goal
 
 pub returns : goal.returns
-returns c = λ variables steps few. plain_steps_in-written variables few steps
+returns c = plain_steps_in-written

@@ -2,4 +2,4 @@ use Rattle.aig_refutation.proofs.WrittenProofs as lemma
 use Rattle.aig_refutation.proofs.laws.proofs_are_read.Goals as goal
 
 pub returns : goal.returns
-returns c = λ variables last step steps few. lemma.steps_in-written variables few last step steps
+returns c = lemma.steps_in-written

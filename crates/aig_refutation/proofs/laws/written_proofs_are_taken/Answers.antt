@@ -2,4 +2,4 @@ use Rattle.aig_refutation.proofs.WrittenProofs as lemma
 use Rattle.aig_refutation.proofs.laws.written_proofs_are_taken.Goals as goal
 
 pub returns : goal.returns
-returns c = λ variables last clauses steps e few. lemma.written_taken variables few last clauses steps e
+returns c = lemma.written_taken

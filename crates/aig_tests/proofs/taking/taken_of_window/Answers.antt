@@ -8,7 +8,7 @@ returns-clause-printed c = c.in_ok-text.ensures
 pub returns-clause-taken : goal.returns-clause-taken
 returns-clause-taken c =
     let laws : Laws = record {
-      ordered = c.ordered_refutations_are_taken.ensures;
+      ordered = c.ordered_rat_refutations_are_taken.ensures;
       numbered = c.written_proofs_are_taken.ensures;
       plain = c.written_plain_proofs_are_taken.ensures.text;
       binary = c.written_plain_proofs_are_taken.ensures.binary;

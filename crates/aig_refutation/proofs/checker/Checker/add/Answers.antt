@@ -2,10 +2,10 @@ use Rattle.aig_base.proofs.Words.{◌≡◌, Bool, true, false, ◌&&◌, List, 
 use Rattle.aig_base.specs.declared.MemoryError.{MemoryError}
 use Rattle.aig_refutation.specs.declared.error.RefutationError.{RefutationError}
 use Rattle.aig_refutation.specs.declared.words.Number.{Number}
-use Rattle.aig_refutation.specs.Checking.{Live, added, are_in, are_named, is_named, stands}
+use Rattle.aig_refutation.specs.Checking.{Live, added, are_named, is_named, stands}
 use Rattle.aig_refutation.specs.Tables.{FindsHints, Holds, Moves, Table, place_in}
 use Rattle.aig_refutation.specs.Words.{said_numbers}
-use Rattle.aig_refutation.proofs.Adding.{added_literal, added_not, added_on, added_unnamed}
+use Rattle.aig_refutation.proofs.Adding.{added_not, added_on, added_unnamed}
 use Rattle.aig_refutation.proofs.Apart.{groups_named}
 use Rattle.aig_refutation.proofs.HintedRup.{all_named}
 use Rattle.aig_refutation.proofs.Known.{tells}
@@ -39,23 +39,15 @@ module _ (t : Table) (live : Live) (h : Holds t live) (hints : List ℕ) (number
       (list_all (λ hint. is_named live hint.1) (said_numbers numbers))
       (all_named t live h hints ∙ first) (groups_named t live h numbers ∙ second)
 
-pub returns-then-not-is_below-clause-moves : goal.returns-then-not-is_below-clause-moves
-returns-then-not-is_below-clause-moves c live h =
-    rw (← c.self.view_is) (added_literal c.self.inside.variables live c.args.number
-    c.args.clause.now c.args.hints.now (said_numbers c.args.groups.now)
-    (sym c.is_below.ensures.exact ∙ c.if-not-is_below.true))
-
 pub returns-then-not-branch-clause-moves : goal.returns-then-not-branch-clause-moves
 returns-then-not-branch-clause-moves c live h =
     let t : Table = c.self.inside.numbered in
-    let variables = c.self.inside.variables in
     let clause = c.args.clause.now in
     let hints = c.args.hints.now in
     let numbers = c.args.groups.now in
-    let before : Holds t live = subst (λ (table : Table). Holds table live) (sym (ap (λ v. v.table)
-    c.self.view_is)) h in
-    let inside : are_in variables clause ≡ true = sym c.is_below.ensures.exact ∙
-    c.if-not-is_below.false in
+    let before : Holds t live = subst (λ (table : Table). Holds table live)
+    (sym (ap (λ v. v.table) c.self.view_is)) (subst (λ (table : Table). Holds table live)
+    (sym c.fit.ensures.same) h) in
     let none : are_named live hints (said_numbers numbers) ≡ false =
     elim c.then-not-branch.branch [
       | then-not-branch-via-then-not-branch w ↦
@@ -67,21 +59,19 @@ returns-then-not-branch-clause-moves c live h =
           group_unnamed t live before hints numbers
           (sym w.are_named.ensures ∙ w.if-not-are_named.true)
     ] in
-    rw (← c.self.view_is) (added_unnamed variables live c.args.number clause hints
-    (said_numbers numbers) inside none)
+    (added_unnamed live c.args.number clause hints
+    (said_numbers numbers) none)
 
 pub returns-then-not-branch-2-clause-moves : goal.returns-then-not-branch-2-clause-moves
 returns-then-not-branch-2-clause-moves c live h =
     let t : Table = c.self.inside.numbered in
-    let variables = c.self.inside.variables in
     let number = c.args.number in
     let clause = c.args.clause.now in
     let hints = c.args.hints.now in
     let groups = said_numbers c.args.groups.now in
-    let before : Holds t live = subst (λ (table : Table). Holds table live) (sym (ap (λ v. v.table)
-    c.self.view_is)) h in
-    let inside : are_in variables clause ≡ true = sym c.is_below.ensures.exact ∙
-    c.if-not-is_below.false in
+    let before : Holds t live = subst (λ (table : Table). Holds table live)
+    (sym (ap (λ v. v.table) c.self.view_is)) (subst (λ (table : Table). Holds table live)
+    (sym c.fit.ensures.same) h) in
     let finds : FindsHints {E = MemoryError} t hints c.find_hints.new.places.items (Ok true) =
     subst (λ (b : Bool). FindsHints {E = MemoryError} t hints c.find_hints.new.places.items (Ok b))
     c.if-not-branch.false c.in_ok-find_hints.ensures in
@@ -91,23 +81,20 @@ returns-then-not-branch-2-clause-moves c live h =
     sym (c.in_ok-stands.ensures.stands live before named (c.deref.ensures.value ∙ finds.0))
     ∙ c.if-not-branch-2.true in
     let e = c.refusal.result in
-    rw (← c.self.view_is)
-    (tells e (added variables live number clause hints groups ≡ Err e)
-    (added_not variables live number clause hints groups inside named not
+    (tells e (added live number clause hints groups ≡ Err e)
+    (added_not live number clause hints groups named not
     ∙ ap (λ (f : RefutationError). Err f) (sym c.refusal.ensures.refusal)))
 
 pub returns-clause-moves : goal.returns-clause-moves
 returns-clause-moves c live h =
     let t : Table = c.self.inside.numbered in
-    let variables = c.self.inside.variables in
     let number = c.args.number in
     let clause = c.args.clause.now in
     let hints = c.args.hints.now in
     let groups = said_numbers c.args.groups.now in
-    let before : Holds t live = subst (λ (table : Table). Holds table live) (sym (ap (λ v. v.table)
-    c.self.view_is)) h in
-    let inside : are_in variables clause ≡ true = sym c.is_below.ensures.exact ∙
-    c.if-not-is_below.false in
+    let before : Holds t live = subst (λ (table : Table). Holds table live)
+    (sym (ap (λ v. v.table) c.self.view_is)) (subst (λ (table : Table). Holds table live)
+    (sym c.fit.ensures.same) h) in
     let finds : FindsHints {E = MemoryError} t hints c.find_hints.new.places.items (Ok true) =
     subst (λ (b : Bool). FindsHints {E = MemoryError} t hints c.find_hints.new.places.items (Ok b))
     c.if-not-branch.false c.in_ok-find_hints.ensures in
@@ -116,6 +103,6 @@ returns-clause-moves c live h =
     let does : stands live clause hints groups ≡ true =
     sym (c.in_ok-stands.ensures.stands live before named (c.deref.ensures.value ∙ finds.0))
     ∙ c.if-not-branch-2.false in
-    let is = added_on variables live number clause hints groups inside named does in
-    rw (← c.self.view_is) (subst (λ said. Moves c.put.new.self.table c.put.result said) (sym is)
+    let is = added_on live number clause hints groups named does in
+    (subst (λ said. Moves c.put.new.self.table c.put.result said) (sym is)
     (c.put.ensures.moves live before))
