@@ -1,9 +1,11 @@
 -- Part of what is promised.
--- The file whose bad states are the fair lassos of one file, printed. (AIGER 1.9, "Properties":
--- justice and fairness. Liveness to safety.)
+-- The file whose bad states are the fair lassos of one file, made and printed. (AIGER 1.9,
+-- "Properties": justice and fairness. Liveness to safety.)
 use Rattle.std.specs.Prelude.{◌≡◌, ℕ, ◌^◌, ◌<◌, ◌≤◌, ◌↔◌, Bool, false, List, length, map, Option, Result, Ok, Err}
 use Rattle.std.specs.Io.KnownBytes.{Appends}
 use Rattle.aig_circuit.specs.Circuit.{Circuit}
+use Rattle.aig_circuit.specs.View.{lists_circuit}
+use Rattle.aig_circuit.specs.declared.view.CircuitLists.{CircuitLists}
 use Rattle.aig_edit_laws.specs.Shown.{HasWitness}
 use Rattle.aig_format.specs.Circuit.{IsReadAgain, circuit_of, edge_of, file_of, text_of}
 use Rattle.aig_format.specs.declared.FileKind.TheVariants.{Text}
@@ -35,6 +37,11 @@ IsLiveRefusal j f errors.TooLarge =
     × (2 ^ 31 < live_size (circuit_of f) (length literals))
 IsLiveRefusal j f errors.Memory = j < length f.properties.justice
 IsLiveRefusal j f e = ⊥
+
+-- the lists are those of the live circuit, or it is said why there are none
+abbrev pub GivesLive : ℕ → File → Result CircuitLists EditError → Type 0
+GivesLive j f (Ok lists) = IsLiveFile j f (lists_circuit lists)
+GivesLive j f (Err e) = IsLiveRefusal j f e
 
 -- its text was written, and the writer has not failed; or a beginning of it, and it has; or it is
 -- said why there is none

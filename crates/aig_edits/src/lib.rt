@@ -25,7 +25,7 @@ pub use edit_printing::{print_edit, write_edit};
 pub use error::PairError;
 pub use info::{Counts, print_info, write_info};
 pub use joining::read_joint;
-pub use living::{print_live, write_live};
+pub use living::{print_live, read_live, write_live};
 pub use misfit::Misfit;
 pub use pairing::Pairing;
 pub use printing::{print_joint, write_joint};

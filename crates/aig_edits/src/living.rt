@@ -1,7 +1,8 @@
-//! Printing the file whose bad states are the fair lassos of one file.
+//! The file whose bad states are the fair lassos of one file: its circuit, and printing it.
 
 ghost use Rattle.std.specs.Prelude.{◌≡◌, ◌≤◌, ◌^◌, ◌↔◌, ◌++◌, ℕ, IsTrue, IfOk, Some, length, slice_get};
 ghost use Rattle.aig_circuit.specs.Circuit.{Circuit, IsCircuit};
+ghost use Rattle.aig_circuit.specs.View.{lists_circuit};
 ghost use Rattle.aig_format.specs.Circuit.{circuit_of};
 ghost use Rattle.aig_format.specs.File.{File};
 ghost use Rattle.aig_format.specs.Fits.{Fits};
@@ -10,7 +11,7 @@ ghost use Rattle.aig_live.specs.Live.{live_size};
 ghost use Rattle.aig_reader.specs.Verdicts.{Accepted, verdict_by};
 ghost use Rattle.aig_edits.specs.Edits.{IsEditOwn, IsEditUnwritten, ReadsFile, edit_verdict};
 ghost use Rattle.aig_edits.specs.LiveParts.{IsLiveCircuit, MakesLive};
-ghost use Rattle.aig_edits.specs.Lives.{IsLiveFile, PrintsLive};
+ghost use Rattle.aig_edits.specs.Lives.{GivesLive, IsLiveFile, PrintsLive};
 
 use crate::edit_error::EditError;
 use crate::format::MOST_NODES;
@@ -87,6 +88,24 @@ fn live_of(alloc: Global, circuit: &CircuitView<'_>, j: usize) -> Result<Circuit
     live_for(alloc, circuit, j, &sets[j])
 }
 
+/// The live circuit of justice property `j` of a circuit with a written form, if there is one and it isn't too large.
+fn live_file_of(
+    alloc: Global,
+    circuit: &CircuitView<'_>,
+    j: usize,
+) -> Result<CircuitLists, EditError>
+    requires { IsWritable circuit.now }
+    ensures gives { (f : File) (bound : ℕ) → Fits f bound → circuit.now ≡ circuit_of f
+        → GivesLive j f result }
+    ensures circuit { IfOk result (λ lists. IsCircuit (lists_circuit lists)) }
+    ensures never_read { verdict_by edit_verdict result ≡ Accepted }
+{
+    live_circuits_are_circuits();
+    live_files_show();
+    let _nodes = circuit.nodes();
+    live_of(alloc, circuit, j)
+}
+
 /// Writes the text form of the live circuit of a circuit to `w`, as `print_live` does. It doesn't flush `w`. Requires a circuit with a
 /// written form.
 ///
@@ -106,10 +125,7 @@ pub fn write_live<W: Sink>(
     ensures never_read { verdict_by edit_verdict result ≡ Accepted }
     ensures kept { IsEditUnwritten result → w.new ≡ w.old }
 {
-    live_circuits_are_circuits();
-    live_files_show();
-    let _nodes = circuit.nodes();
-    let made = live_of(alloc, circuit, j)?;
+    let made = live_file_of(alloc, circuit, j)?;
     Ok(write_text(w, &CircuitView::new(&made))?)
 }
 
@@ -144,4 +160,27 @@ pub fn print_live<R: Source, W: Sink>(
     files_are_circuits();
     let lists = aig_reader::read(alloc, r, limit)?;
     write_live(alloc, j, &CircuitView::new(&lists), w)
+}
+
+/// Reads a file in the AIGER format, and makes its live circuit, which `print_live` writes. Requires `1 <= limit <= 2^31`.
+///
+/// # Errors
+///
+/// Those of `print_live` but `Write`.
+pub fn read_live<R: Source>(
+    alloc: Global,
+    j: usize,
+    r: &mut R,
+    limit: usize,
+) -> Result<CircuitLists, EditError>
+    requires some { 1 ≤ limit }
+    requires few { limit ≤ 2 ^ 31 }
+    // The bytes that were read are a file, and the lists are those of its live circuit.
+    ensures reads { ReadsFile R.left R.failed limit (GivesLive j) edit_verdict IsEditOwn r.old
+        result r.new }
+    ensures circuit { IfOk result (λ lists. IsCircuit (lists_circuit lists)) }
+{
+    files_are_circuits();
+    let lists = aig_reader::read(alloc, r, limit)?;
+    live_file_of(alloc, &CircuitView::new(&lists), j)
 }
