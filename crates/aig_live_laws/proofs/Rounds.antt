@@ -139,14 +139,16 @@ fair_runs_reach f j count has =
     let v = literal_value literals run in
     let found = rounds_reach (length literals) v (met_again run literals fair.fair) count in (
       found.0,
-      literals,
-      has.1,
       (
-        run,
-        record {
-          allowed = fair.allowed found.0;
-          ended = reached (length literals) v count found.0 found.1;
-        },
+        literals,
+        has.1,
+        (
+          run,
+          record {
+            allowed = fair.allowed found.0;
+            ended = reached (length literals) v count found.0 found.1;
+          },
+        ),
       ),
     )
   where
