@@ -18,7 +18,7 @@ use Rattle.aig_edit_commands.specs.declared.command.Command.{Command}
 use Rattle.aig_edit_commands.specs.declared.command.TheConstants.Action.{ALL}
 use Rattle.aig_edit_commands.specs.declared.command.Command.TheVariants as commands
 use Rattle.aig_edit_commands.specs.declared.command.FileCommand.TheVariants as files
-use Rattle.aig_edit_commands.specs.Words.{IsCall, IsCommandOf, form_of, name_of}
+use Rattle.aig_edit_commands.specs.Words.{IsCall, IsCommandOf, form_of, name_of, paths_of}
 
 -- each command is in the list
 among : (a : Action) → Contains ALL a
@@ -83,6 +83,38 @@ pub fits_none : (words rest : List (List ℕ)) (limit : ℕ) → IsLimited words
 fits_none words rest limit limited none other c paths g =
     let same = (one_limit words other limit g.rest rest g.limited limited).1 in
     each (λ a. (x : Arguments) → ¬ Gives (name_of a) (form_of a) rest x) none g.action g.arguments (rw same at g.gives)
+
+-- words whose numbers are none that their command takes give none
+pub further_none : (words rest : List (List ℕ)) (limit : ℕ) (a : Action) (x : Arguments)
+    → IsLimited words limit rest → Gives (name_of a) (form_of a) rest x
+    → ((c : Command) → ¬ IsCommandOf a x.step x.further c)
+    → (other : ℕ) (c : Command) (paths : List (List ℕ)) → ¬ IsCall words other c paths
+further_none words rest limit a x limited gives none other c paths g =
+    let words_are = one_limit words other limit g.rest rest g.limited limited in
+    let same = apart.one_fits name_of form_of ALL refl among rest g.action a g.arguments x (rw words_are.1 at g.gives) gives in
+    none c (subst (λ (y : Arguments). IsCommandOf a y.step y.further c) same.1
+    (subst (λ b. IsCommandOf b g.arguments.step g.arguments.further c) same.0 g.command))
+
+-- a command is run on as many files as its form has paths
+pub as_many : (a : Action) (k : ℕ) (further : List (List ℕ)) (c : Command)
+    → IsCommandOf a k further c → (form_of a).paths ≡ paths_of c
+as_many actions.Rounds k further c is = rw is.2 refl
+as_many actions.Refine k further c is = rw is refl
+as_many actions.Reencode k further c is = rw is refl
+as_many actions.Unroll k further c is = rw is refl
+as_many actions.Move k further c is = rw is refl
+as_many actions.Compress k further c is = rw is refl
+as_many actions.Bads k further c is = rw is refl
+as_many actions.Property k further c is = rw is refl
+as_many actions.Possible k further c is = rw is refl
+as_many actions.Reduce k further c is = rw is refl
+as_many actions.Cone k further c is = rw is refl
+as_many actions.Question k further c is = rw is refl
+as_many actions.Live k further c is = rw is refl
+as_many actions.Info k further c is = rw is refl
+as_many actions.Miter k further c is = rw is refl
+as_many actions.Join k further c is = rw is refl
+as_many actions.Merge k further c is = rw is refl
 
 -- a question is no command
 pub no_command : (words : List (List ℕ)) (q : Question) (limit : ℕ) (c : Command)

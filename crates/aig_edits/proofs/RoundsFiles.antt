@@ -1,9 +1,5 @@
 -- What is made of a justice property of a file's circuit is made of that of the file.
-use Rattle.aig_base.proofs.Words.{◌≡◌, ◌≢◌, ℕ, ◌+◌, ◌<◌, ◌≤◌, ◌^◌, Bool, List, Option, Some, None, Result, Ok, Err, ◌++◌, length, map, refl, sym, ap, subst, ◌∙◌, arith, length-map, map-append, option_map}
-use Rattle.std.specs.Prelude.{IfErr, slice_get}
-use Rattle.std.proofs.lemmas.Option.{slice_get-map}
-use Rattle.aig_circuit.specs.declared.edge.AigEdge.{AigEdge}
-use Rattle.aig_circuit.specs.declared.view.CircuitLists.{CircuitLists}
+use Rattle.aig_base.proofs.Words.{◌≡◌, ℕ, ◌<◌, ◌^◌, Bool, List, Option, Err, length, map, refl, ap, subst, ◌∙◌, arith, length-map}
 use Rattle.aig_circuit.proofs.Words.{Circuit}
 use Rattle.aig_format.proofs.Words.{circuit_of, edge_of, File}
 use Rattle.aig_live.specs.Rounds.{rounds_size}
@@ -11,7 +7,7 @@ use Rattle.aig_reader.specs.Verdicts.{Accepted, verdict_by}
 use Rattle.aig_edits.specs.declared.edit_error.EditError.{EditError}
 use Rattle.aig_edits.specs.declared.edit_error.EditError.TheVariants as errors
 use Rattle.aig_edits.specs.Edits.{edit_verdict}
-use Rattle.aig_edits.specs.Rounds.{IsRoundsRefusal, PrintsRounds}
+use Rattle.aig_edits.specs.Rounds.{PrintsRounds}
 use Rattle.aig_edits.specs.RoundsParts.{MakesRounds}
 use Rattle.aig_edits.proofs.LiveFiles.{asked_back}
 

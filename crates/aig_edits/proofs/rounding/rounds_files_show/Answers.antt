@@ -1,5 +1,5 @@
-use Rattle.aig_base.proofs.Words.{◌≤◌, ◌^◌, ap, length, length-map, subst, ◌∙◌}
-use Rattle.aig_format.specs.Circuit.{circuit_of, edge_of}
+use Rattle.aig_base.proofs.Words.{subst}
+use Rattle.aig_format.specs.Circuit.{circuit_of}
 use Rattle.aig_live.specs.Rounds.{IsRoundsOf}
 use Rattle.aig_edits.proofs.LiveFiles.{asked_back}
 use Rattle.aig_edits.proofs.rounding.rounds_files_show.Goals as goal

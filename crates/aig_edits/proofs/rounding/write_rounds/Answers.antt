@@ -1,5 +1,5 @@
 use Rattle.aig_base.proofs.Words.{subst, err_from_is_err_and}
-use Rattle.aig_circuit.proofs.Words.{IsCircuit, lists_circuit}
+use Rattle.aig_circuit.proofs.Words.{lists_circuit}
 use Rattle.aig_format.proofs.Words.{IsWritable}
 use Rattle.aig_edits.specs.RoundsParts.{IsRoundsCircuit}
 use Rattle.aig_edits.proofs.RoundsFiles.{makes_taken, refused_rounds}
