@@ -1,5 +1,5 @@
 -- What is made of a justice property of a file's circuit is made of that of the file.
-use Rattle.aig_base.proofs.Words.{◌≡◌, ℕ, ◌+◌, ◌<◌, ◌^◌, Bool, List, Option, Some, None, Result, Ok, Err, ◌++◌, length, map, refl, sym, ap, subst, ◌∙◌, arith, length-map, map-append, option_map}
+use Rattle.aig_base.proofs.Words.{◌≡◌, ℕ, ◌<◌, ◌^◌, Bool, List, Option, Some, None, Result, Ok, Err, ◌++◌, length, map, refl, sym, ap, subst, ◌∙◌, arith, length-map, map-append, option_map}
 use Rattle.std.specs.Prelude.{IfOk, slice_get}
 use Rattle.std.proofs.lemmas.Option.{slice_get-map}
 use Rattle.aig_circuit.specs.declared.edge.AigEdge.{AigEdge}

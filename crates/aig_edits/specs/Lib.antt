@@ -11,3 +11,5 @@ pub mod QuestionFaults
 pub mod QuestionParts
 pub mod Lives
 pub mod LiveParts
+pub mod Rounds
+pub mod RoundsParts

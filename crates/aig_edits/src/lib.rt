@@ -17,6 +17,7 @@ mod printing;
 mod question;
 mod reducing;
 mod reduction;
+mod rounding;
 
 pub use edit::Edit;
 pub use edit_error::EditError;
@@ -30,3 +31,4 @@ pub use pairing::Pairing;
 pub use printing::{print_joint, write_joint};
 pub use question::{print_question, write_question};
 pub use reduction::{print_reduction, write_reduction};
+pub use rounding::{print_rounds, write_rounds};

@@ -46,7 +46,11 @@ fn is_small(circuit: &CircuitView<'_>, count: usize) -> bool
 }
 
 /// The edges of both lists.
-fn joined(alloc: Global, first: &[AigEdge], second: &[AigEdge]) -> Result<Vec<AigEdge>, MemoryError>
+pub(crate) fn joined(
+    alloc: Global,
+    first: &[AigEdge],
+    second: &[AigEdge],
+) -> Result<Vec<AigEdge>, MemoryError>
     ensures { IfOk result (λ edges. edges.items ≡ first.now ++ second.now) }
 {
     let mut edges = Vec::new(alloc);

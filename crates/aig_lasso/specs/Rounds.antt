@@ -1,4 +1,4 @@
--- Part of what laws say, and of no promise of a call.
+-- Part of what is promised.
 -- Rounds, in each of which some values were all true. (k-liveness.)
 use Rattle.std.specs.Prelude.{ℕ, zero, suc, ◌<◌, ◌≤◌, ◌&&◌, ◌||◌, if◌then◌else◌, not, Bool, true, IsTrue}
 

@@ -1,4 +1,4 @@
--- Part of what laws say, and of no promise of a call.
+-- Part of what is promised.
 -- The circuit whose bad states are reached where so many rounds ended. (k-liveness.)
 use Rattle.std.specs.Prelude.{◌≡◌, ℕ, zero, suc, ◌+◌, ◌*◌, ◌<◌, ◌≤◌, ◌&&◌, ◌||◌, not, Bool, true, false, List, length, slice_index_or}
 use Rattle.aig_circuit.specs.declared.edge.AigEdge.{AigEdge}

@@ -16,7 +16,7 @@ use Rattle.aig_live_laws.proofs.Files.{asked_known, lasso_back, lasso_forth}
 use Rattle.aig_live_laws.proofs.Going.{IsFairRun-around}
 
 -- a property asks for one list of literals
-asked_same : (f : File) (j : ℕ) (a b : List ℕ) → AreAskedBy f j a → AreAskedBy f j b → a ≡ b
+pub asked_same : (f : File) (j : ℕ) (a b : List ℕ) → AreAskedBy f j a → AreAskedBy f j b → a ≡ b
 asked_same f j a b first second =
     let own : first.0 ≡ second.0 = same_Some first.0 second.0 (sym first.1 ∙ second.1) in
     first.2 ∙ ap (λ es. es ++ f.properties.fairness) own ∙ sym second.2

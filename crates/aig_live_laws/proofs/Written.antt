@@ -1,4 +1,4 @@
--- The text of a live circuit as a file.
+-- The text of a circuit with latches more as a file.
 use Rattle.aig_base.proofs.Words.{◌≡◌, ◌≢◌, ◌↔◌, ℕ, ◌+◌, ◌^◌, ◌<◌, ◌≤◌, AllPairs, All-contains, All-from_recursion, Decides-eqb, IsDistinct-from_AllPairs, is_member-Decides, length-le_from_distinct_below, length-map, IsTrue, Option, Some, None, List, [], ◌∷◌, ◌++◌, length, map, get_or, refl, sym, ap, subst, arith, All, All-append, All-cons, All-nil, get, contains_key, FinMap, nat_cmp, Contains}
 use Rattle.std.specs.Prelude.{IsSomeAnd, is_some}
 use Rattle.aig_circuit.specs.declared.edge.AigEdge.{AigEdge}
@@ -17,9 +17,14 @@ use Rattle.aig_format_laws.proofs.Writable.{names_are_texts}
 use Rattle.aig_format_laws.proofs.Written.{is_read_again}
 use Rattle.aig_edit_laws.specs.Shown.{HasWitness}
 use Rattle.aig_runs.specs.CircuitQueries.{HasCircuitWitness}
-use Rattle.aig_live.specs.Live.{IsLiveOf, false_latches, live_size}
-use Rattle.aig_live.proofs.Circuits.{IsCircuit-live, IsClosed-live, constant_starts, high_latches, inputs_are, leaves_are}
-use Rattle.aig_live_laws.specs.Fair.{AreAskedBy, HasFairLasso}
+use Rattle.aig_live.specs.Extended.{IsExtended, row_from}
+use Rattle.aig_live.specs.Live.{IsLiveOf, live_size}
+use Rattle.aig_live.specs.Rounds.{IsRoundsOf, rounds_size}
+use Rattle.aig_live.proofs.Circuits.{live_extended}
+use Rattle.aig_live.proofs.Extended.{IsCircuit-extended, IsClosed-extended, constant_starts, inputs_are, leaves_are, row_low}
+use Rattle.aig_live_laws.specs.Fair.{AreAskedBy, HasFairLasso, HasFairRun}
+use Rattle.aig_live_laws.specs.Rounds.{HasMachineRounds}
+use Rattle.aig_live_laws.proofs.Rounds.{bads_are_rounds, no_rounds}
 use Rattle.aig_live_laws.proofs.Justice.{bads_are_lassos}
 
 -- a node past those of the circuit has no name
@@ -33,31 +38,35 @@ no_name c is m high = by (get c.names m) refl
         there : get c.names m ≡ Some name → IsTrue (contains_key c.names m)
         there e = ap is_some e
 
-module _ (edges : List AigEdge) (c new : Circuit) (is : IsCircuit c)
-    (live : IsLiveOf edges c new) where
-  pub IsWritable-live : IsWritable c → FitsFormat new → IsWritable new
-  IsWritable-live w small = record {
-    closed = IsClosed-live edges c new is live w.closed;
-    start = constant_starts edges c new is live w.start;
+module _ (inputs : ℕ) (nexts : List AigEdge) (bad : AigEdge) (c new : Circuit) (is : IsCircuit c)
+    (ext : IsExtended inputs nexts bad c new) where
+  row_unnamed : (n count : ℕ) → length c.nodes ≤ n
+      → All (λ m. ¬ HasLineFeed c.names m) (row_from n count)
+  row_unnamed n count high k d h =
+      let low = row_low n count k d h in
+      no_name c is (get_or (row_from n count) k d) (omega (arith, high, low))
+
+  IsWritable-extended : IsWritable c → FitsFormat new → IsWritable new
+  IsWritable-extended w small = record {
+    closed = IsClosed-extended inputs nexts bad c new is ext w.closed;
+    start = constant_starts inputs nexts bad c new is ext w.start;
     names = subst (λ (ns : FinMap nat_cmp (List ℕ)). All (λ m. ¬ HasLineFeed ns m)
-        (new.inputs ++ latch_leaves new.latchs)) (sym (ap (λ (d : Circuit). d.names) live.rest))
+        (new.inputs ++ latch_leaves new.latchs)) (sym (ap (λ (d : Circuit). d.names) ext.rest))
         (subst (λ (ins : List ℕ). All (λ m. ¬ HasLineFeed c.names m)
-        (ins ++ latch_leaves new.latchs)) (sym (inputs_are edges c new is live))
+        (ins ++ latch_leaves new.latchs)) (sym (inputs_are inputs nexts bad c new is ext))
         (subst (λ (ls : List ℕ). All (λ m. ¬ HasLineFeed c.names m)
-        ((c.inputs ++ length c.nodes ∷ []) ++ ls)) (sym (leaves_are edges c new is live))
-        (All-append (λ m. ¬ HasLineFeed c.names m) (c.inputs ++ length c.nodes ∷ [])
-        (latch_leaves c.latchs ++ latch_leaves (false_latches (length c.nodes + 1)
-        (live.active ∷ live.starts ++ live.seen)))
-        (All-append (λ m. ¬ HasLineFeed c.names m) c.inputs (length c.nodes ∷ [])
+        ((c.inputs ++ row_from (length c.nodes) inputs) ++ ls))
+        (sym (leaves_are inputs nexts bad c new is ext))
+        (All-append (λ m. ¬ HasLineFeed c.names m)
+        (c.inputs ++ row_from (length c.nodes) inputs)
+        (latch_leaves c.latchs ++ row_from (length c.nodes + inputs) (length nexts))
+        (All-append (λ m. ¬ HasLineFeed c.names m) c.inputs (row_from (length c.nodes) inputs)
         (All-first (λ m. ¬ HasLineFeed c.names m) c.inputs (latch_leaves c.latchs) w.names)
-        (All-cons (λ m. ¬ HasLineFeed c.names m) (length c.nodes) [] (no_name c is (length c.nodes)
-        (omega arith)) (All-nil (λ m. ¬ HasLineFeed c.names m))))
-        (All-append (λ m. ¬ HasLineFeed c.names m) (latch_leaves c.latchs) (latch_leaves
-        (false_latches (length c.nodes + 1) (live.active ∷ live.starts ++ live.seen)))
+        (row_unnamed (length c.nodes) inputs (omega arith)))
+        (All-append (λ m. ¬ HasLineFeed c.names m) (latch_leaves c.latchs)
+        (row_from (length c.nodes + inputs) (length nexts))
         (All-second (λ m. ¬ HasLineFeed c.names m) c.inputs (latch_leaves c.latchs) w.names)
-        (λ k d h. no_name c is (get_or (latch_leaves (false_latches (length c.nodes + 1)
-        (live.active ∷ live.starts ++ live.seen))) k d) (omega
-        (arith, high_latches edges c new is live k d h)))))));
+        (row_unnamed (length c.nodes + inputs) (length nexts) (omega arith))))));
     small = small;
   }
 
@@ -71,18 +80,17 @@ few_leaves nodes ns leaves distinct =
     (λ q member. kind_at-within nodes q Leaf (All-contains (IsLeaf nodes) ns q leaves
     ((is_member-Decides Decides-eqb ns q).0 member)))
 
--- a live circuit that its size alone could keep from a written form fits
-pub FitsFormat-live : (edges : List AigEdge) (c new : Circuit) → IsCircuit c → IsWritable c
-    → IsLiveOf edges c new
-    → live_size c (length edges) ≤ 2 ^ 31 → FitsFormat new
-FitsFormat-live edges c new is w live small =
-    let nodes : length new.nodes ≤ 2 ^ 31 = omega (arith, live.few, small) in
-    let made = IsCircuit-live edges c new is live in
-    let inputs = few_leaves new.nodes new.inputs made.inputs made.inputs_distinct in
+-- a circuit with latches more that its size alone could keep from a written form fits
+FitsFormat-extended : (inputs : ℕ) (nexts : List AigEdge) (bad : AigEdge) (c new : Circuit)
+    → IsCircuit c → IsWritable c → IsExtended inputs nexts bad c new
+    → length new.nodes ≤ 2 ^ 31 → FitsFormat new
+FitsFormat-extended inputs nexts bad c new is w ext nodes =
+    let made = IsCircuit-extended inputs nexts bad c new is ext in
+    let ins = few_leaves new.nodes new.inputs made.inputs made.inputs_distinct in
     let latchs = few_leaves new.nodes (latch_leaves new.latchs)
     (latch_leaves-leaves new made) made.latchs_distinct in
     let long = length-map new.latchs (λ (latch : AigLatch). latch.input) in
-    let properties = ap (λ (d : Circuit). d.properties) live.rest in
+    let properties = ap (λ (d : Circuit). d.properties) ext.rest in
     let outputs = ap (λ (p : Properties AigEdge). length p.outputs) properties in
     let bads = ap (λ (p : Properties AigEdge). length p.bads) properties in
     let constraints = ap (λ (p : Properties AigEdge). length p.constraints) properties in
@@ -92,7 +100,7 @@ FitsFormat-live edges c new is w live small =
     record {
       nodes = nodes;
       lists = All-from_recursion (λ n. n < 2 ^ 32) (list_lengths new) (
-        omega (arith, inputs, nodes),
+        omega (arith, ins, nodes),
         (
           omega (arith, latchs, long, nodes),
           (
@@ -118,6 +126,31 @@ FitsFormat-live edges c new is w live small =
           (sym properties) (All-nil _);
     }
 
+pub FitsFormat-live : (edges : List AigEdge) (c new : Circuit) → IsCircuit c → IsWritable c
+    → IsLiveOf edges c new
+    → live_size c (length edges) ≤ 2 ^ 31 → FitsFormat new
+FitsFormat-live edges c new is w live small =
+    FitsFormat-extended 1 (live.active ∷ live.starts ++ live.seen) live.bad c new is w
+    (live_extended edges c new live) (omega (arith, live.few, small))
+
+pub FitsFormat-rounds : (edges : List AigEdge) (count : ℕ) (c new : Circuit) → IsCircuit c
+    → IsWritable c → IsRoundsOf edges count c new
+    → rounds_size c (length edges) count ≤ 2 ^ 31 → FitsFormat new
+FitsFormat-rounds edges count c new is w live small =
+    FitsFormat-extended 0 live.nexts live.bad c new is w live.extended
+    (omega (arith, live.few, small))
+
+-- the text of a circuit with latches more is a file
+read_again : (f : File) (limit inputs : ℕ) (nexts : List AigEdge) (bad : AigEdge) (new : Circuit)
+    → Fits f limit → IsWritable (circuit_of f) → IsExtended inputs nexts bad (circuit_of f) new
+    → FitsFormat new → IsReadAgain new (file_of Text new)
+read_again f limit inputs nexts bad new fits writable ext small =
+    let is = IsCircuit-of_file f limit fits in
+    let texts : AreTexts new.names = subst AreTexts (sym (ap (λ (c : Circuit). c.names) ext.rest))
+    (names_are_texts f limit fits) in
+    is_read_again Text new (IsCircuit-extended inputs nexts bad (circuit_of f) new is ext)
+    (IsWritable-extended inputs nexts bad (circuit_of f) new is ext writable small) texts tt
+
 pub written-live : ((m : Circuit) (h : File) (k : ℕ) → IsReadAgain m h
     → HasCircuitWitness m k ↔ HasWitness h k)
     → (f : File) (limit j : ℕ) (literals : List ℕ) (new : Circuit) → Fits f limit
@@ -126,15 +159,31 @@ pub written-live : ((m : Circuit) (h : File) (k : ℕ) → IsReadAgain m h
     → IsReadAgain new (file_of Text new)
     × ((k : ℕ) → HasWitness (file_of Text new) k ↔ HasFairLasso f j k)
 written-live written f limit j literals new fits writable asked live small =
-    let is = IsCircuit-of_file f limit fits in
     let edges = map (edge_of f) literals in
-    let texts : AreTexts new.names = subst AreTexts (sym (ap (λ (c : Circuit). c.names) live.rest))
-    (names_are_texts f limit fits) in
-    let again = is_read_again Text new (IsCircuit-live edges (circuit_of f) new is live)
-    (IsWritable-live edges (circuit_of f) new is live writable small) texts tt in (
+    let again = read_again f limit 1 (live.active ∷ live.starts ++ live.seen) live.bad new fits
+    writable (live_extended edges (circuit_of f) new live) small in (
       again,
       λ k.
           let same = written new (file_of Text new) k again in
           let shows = bads_are_lassos f limit j k literals new fits asked live in
           (λ w. shows.0 (same.1 w), λ lasso. same.0 (shows.1 lasso)),
+    )
+
+pub written-rounds : ((m : Circuit) (h : File) (k : ℕ) → IsReadAgain m h
+    → HasCircuitWitness m k ↔ HasWitness h k)
+    → (f : File) (limit j count : ℕ) (literals : List ℕ) (new : Circuit) → Fits f limit
+    → IsWritable (circuit_of f) → AreAskedBy f j literals
+    → IsRoundsOf (map (edge_of f) literals) count (circuit_of f) new → FitsFormat new
+    → IsReadAgain new (file_of Text new)
+    × ((k : ℕ) → HasWitness (file_of Text new) k ↔ HasMachineRounds f j count k)
+    × (((k : ℕ) → ¬ HasWitness (file_of Text new) k) → ¬ HasFairRun f j)
+written-rounds written f limit j count literals new fits writable asked live small =
+    let again = read_again f limit 0 live.nexts live.bad new fits writable live.extended small in (
+      again,
+      λ k.
+          let same = written new (file_of Text new) k again in
+          let shows = bads_are_rounds f limit j count k literals new fits asked live in
+          (λ w. shows.0 (same.1 w), λ ended. same.0 (shows.1 ended)),
+      λ safe. no_rounds f limit j count literals new fits asked live
+          (λ k has. safe k ((written new (file_of Text new) k again).0 has)),
     )

@@ -1,4 +1,4 @@
-//! Laws of fair runs and fair lassos.
+//! Laws of fair runs, fair lassos and rounds.
 #![tactic(auto)]
 
 ghost use Rattle.std.specs.Prelude.{◌≤◌, ◌^◌, ◌↔◌, ℕ, Bool, List, length, map};
@@ -14,7 +14,9 @@ ghost use Rattle.aig_format.specs.Machine.{Moves};
 ghost use Rattle.aig_format.specs.Fits.{Fits};
 ghost use Rattle.aig_lasso.specs.Turning.{turn};
 ghost use Rattle.aig_live.specs.Live.{IsLiveOf, live_size};
+ghost use Rattle.aig_live.specs.Rounds.{IsRoundsOf, rounds_size};
 ghost use Rattle.aig_live_laws.specs.Fair.{AreAskedBy, HasFairLasso, HasFairRun, IsFairLasso, IsFairRun};
+ghost use Rattle.aig_live_laws.specs.Rounds.{HasMachineRounds};
 
 use aig_edit_laws::written_circuits_have_witnesses;
 
@@ -71,3 +73,43 @@ pub fn loops_start_early()
         → Moves f (run k) (run m) → IsFairLasso f literals l k run
         → IsFairLasso f literals m k run }
 {}
+
+/// Law: on a fair run as many rounds end as one wants.
+pub fn fair_runs_end_rounds()
+    ensures { (f : File) (j count : ℕ) → HasFairRun f j
+        → (k : ℕ) × HasMachineRounds f j count k }
+{}
+
+/// Law: the circuit that counts rounds of the edges of justice property j of a file has a bad state at step k exactly where so
+/// many rounds end in a run of k + 1 steps; and where it has none at any step, the property has no fair run.
+pub fn rounds_circuits_show_rounds()
+    ensures step { (f : File) (limit j count k : ℕ) (literals : List ℕ) (new : Circuit)
+        → Fits f limit
+        → AreAskedBy f j literals → IsRoundsOf (map (edge_of f) literals) count (circuit_of f) new
+        → HasCircuitWitness new k ↔ HasMachineRounds f j count k }
+    ensures none { (f : File) (limit j count : ℕ) (literals : List ℕ) (new : Circuit)
+        → Fits f limit
+        → AreAskedBy f j literals → IsRoundsOf (map (edge_of f) literals) count (circuit_of f) new
+        → ((k : ℕ) → ¬ HasCircuitWitness new k) → ¬ HasFairRun f j }
+{}
+
+/// Law: a circuit that counts rounds of a circuit with a written form fits the format where the bound of its size is at most 2^31.
+pub fn small_rounds_circuits_fit()
+    ensures { (edges : List AigEdge) (count : ℕ) (c new : Circuit) → IsCircuit c → IsWritable c
+        → IsRoundsOf edges count c new → rounds_size c (length edges) count ≤ 2 ^ 31
+        → FitsFormat new }
+{}
+
+/// Law: the text of a circuit that counts rounds, if it fits the format, is a file; its machine reaches its bad state at step k
+/// exactly where so many rounds of justice property j end in a run of k + 1 steps. Where it never does, for some number of
+/// rounds, the property has no fair run.
+pub fn written_rounds_circuits_show_rounds()
+    ensures { (f : File) (limit j count : ℕ) (literals : List ℕ) (new : Circuit) → Fits f limit
+        → IsWritable (circuit_of f) → AreAskedBy f j literals
+        → IsRoundsOf (map (edge_of f) literals) count (circuit_of f) new → FitsFormat new
+        → IsReadAgain new (file_of Text new)
+        × ((k : ℕ) → HasWitness (file_of Text new) k ↔ HasMachineRounds f j count k)
+        × (((k : ℕ) → ¬ HasWitness (file_of Text new) k) → ¬ HasFairRun f j) }
+{
+    written_circuits_have_witnesses();
+}

@@ -1,0 +1,144 @@
+//! Printing the file whose bad states are rounds of a justice property of one file.
+
+ghost use Rattle.std.specs.Prelude.{◌≡◌, ◌≤◌, ◌^◌, ◌↔◌, ℕ, IsTrue, Some, length, slice_get};
+ghost use Rattle.aig_circuit.specs.Circuit.{Circuit, IsCircuit};
+ghost use Rattle.aig_format.specs.Circuit.{circuit_of};
+ghost use Rattle.aig_format.specs.File.{File};
+ghost use Rattle.aig_format.specs.Fits.{Fits};
+ghost use Rattle.aig_format.specs.Writable.{IsWritable};
+ghost use Rattle.aig_live.specs.Rounds.{rounds_size};
+ghost use Rattle.aig_reader.specs.Verdicts.{Accepted, verdict_by};
+ghost use Rattle.aig_edits.specs.Edits.{IsEditOwn, IsEditUnwritten, ReadsFile, edit_verdict};
+ghost use Rattle.aig_edits.specs.Rounds.{IsRoundsFile, PrintsRounds};
+ghost use Rattle.aig_edits.specs.RoundsParts.{IsRoundsCircuit, MakesRounds};
+
+use crate::edit_error::EditError;
+use crate::format::MOST_NODES;
+use crate::living::joined;
+use aig_base::{MemoryError, Sink, Source};
+use aig_circuit::{AigEdge, CircuitLists, CircuitView};
+use aig_format_laws::files_are_circuits;
+use aig_live::{rounds, rounds_circuits_are_circuits};
+use aig_live_laws::{small_rounds_circuits_fit, written_rounds_circuits_show_rounds};
+use aig_writer::write_text;
+use std::alloc::Global;
+
+/// Law: the text of the circuit that counts rounds of a file's circuit is a file, which shows the rounds.
+fn rounds_files_show()
+    ensures { (j count limit : ℕ) (f : File) (m : Circuit) → Fits f limit
+        → IsWritable (circuit_of f)
+        → IsRoundsCircuit j count (circuit_of f) m → IsRoundsFile j count f m }
+{
+    files_are_circuits();
+    small_rounds_circuits_fit();
+    written_rounds_circuits_show_rounds();
+}
+
+/// Whether the circuit that counts so many rounds of so many edges has at most 2^31 nodes, by the bound of its size.
+fn is_within(circuit: &CircuitView<'_>, edges: usize, count: usize) -> bool
+    ensures { IsTrue result ↔ (rounds_size circuit.now edges count ≤ 2 ^ 31) }
+{
+    let nodes = circuit.nodes().len();
+    if nodes > MOST_NODES || edges > MOST_NODES || count > MOST_NODES {
+        return false;
+    }
+    nodes + 5 * edges + 3 * count <= MOST_NODES
+}
+
+/// The circuit that counts rounds of these edges, which are those of justice property `j`, and of fairness, if it isn't too large.
+fn rounds_for(
+    alloc: Global,
+    circuit: &CircuitView<'_>,
+    j: usize,
+    count: usize,
+    own: &[AigEdge],
+) -> Result<CircuitLists, EditError>
+    requires circuit { IsCircuit circuit.now }
+    requires there { slice_get circuit.now.properties.justice j ≡ Some own.now }
+    ensures { MakesRounds j count circuit.now result }
+{
+    if !is_within(circuit, own.len() + circuit.fairness().len(), count) {
+        return Err(EditError::TooLarge);
+    }
+    let edges = joined(alloc, own, circuit.fairness())?;
+    Ok(rounds(circuit, &edges, count)?)
+}
+
+/// The circuit that counts rounds of justice property `j`, if there is one and it isn't too large.
+fn rounds_of(
+    alloc: Global,
+    circuit: &CircuitView<'_>,
+    j: usize,
+    count: usize,
+) -> Result<CircuitLists, EditError>
+    ensures { MakesRounds j count circuit.now result }
+{
+    let sets = circuit.justice();
+    if j >= sets.len() {
+        return Err(EditError::NoJustice);
+    }
+    rounds_for(alloc, circuit, j, count, &sets[j])
+}
+
+/// Writes the text form of the circuit that counts rounds of a circuit to `w`, as `print_rounds` does. It doesn't flush `w`. Requires
+/// a circuit with a written form.
+///
+/// # Errors
+///
+/// Those of `print_rounds` but `Read`.
+pub fn write_rounds<W: Sink>(
+    alloc: Global,
+    j: usize,
+    count: usize,
+    circuit: &CircuitView<'_>,
+    w: &mut W,
+) -> Result<(), EditError>
+    requires { IsWritable circuit.now }
+    // Of each file whose circuit it is, what is written is the text form of the circuit that counts its rounds.
+    ensures prints { (f : File) (bound : ℕ) → Fits f bound → circuit.now ≡ circuit_of f
+        → PrintsRounds W.held W.failed j count w.old w.new f result }
+    ensures never_read { verdict_by edit_verdict result ≡ Accepted }
+    ensures kept { IsEditUnwritten result → w.new ≡ w.old }
+{
+    rounds_circuits_are_circuits();
+    rounds_files_show();
+    let _nodes = circuit.nodes();
+    let made = rounds_of(alloc, circuit, j, count)?;
+    Ok(write_text(w, &CircuitView::new(&made))?)
+}
+
+/// Reads a file in the AIGER format, and writes the text form of a circuit that counts `count` rounds of its justice property `j`,
+/// from 0 on, to `w` (k-liveness): in a round each literal of the property and of fairness is true, and its bad state is reached at
+/// a step exactly where so many rounds ended by then. Where that is never, the property has no fair run. It doesn't flush `w`.
+/// Requires `1 <= limit <= 2^31`.
+///
+/// # Errors
+///
+/// After `Write` a beginning of the text was written. Every other refusal leaves the writer as it was.
+///
+/// - `Read`: the file is refused.
+/// - `NoJustice`: the file has no justice property of this number.
+/// - `TooLarge`: `n + 5 * e + 3 * count` passes 2^31, for the `n` nodes of the circuit and the `e` edges of the justice property
+///   and of fairness.
+/// - `Memory`: memory was refused after the reading.
+/// - `Write`: the writer failed in this call.
+pub fn print_rounds<R: Source, W: Sink>(
+    alloc: Global,
+    j: usize,
+    count: usize,
+    r: &mut R,
+    limit: usize,
+    w: &mut W,
+) -> Result<(), EditError>
+    requires some { 1 ≤ limit }
+    requires few { limit ≤ 2 ^ 31 }
+    // The bytes that were read are a file, and what is written is the text form of the circuit that counts its rounds.
+    ensures reads { ReadsFile R.left R.failed limit
+        (PrintsRounds W.held W.failed j count w.old w.new) edit_verdict IsEditOwn r.old result
+        r.new }
+    ensures kept { IsEditUnwritten result → w.new ≡ w.old }
+{
+    files_are_circuits();
+    let lists = aig_reader::read(alloc, r, limit)?;
+    write_rounds(alloc, j, count, &CircuitView::new(&lists), w)
+}
