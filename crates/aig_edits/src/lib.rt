@@ -1,6 +1,7 @@
 //! What is made of AIGER files and printed as AIGER text again: from the bytes of the files to those of the text.
 #![tactic(auto)]
 
+mod beside;
 mod edit;
 mod edit_error;
 mod edit_printing;
@@ -18,6 +19,7 @@ mod question;
 mod reducing;
 mod reduction;
 
+pub use beside::read_beside;
 pub use edit::Edit;
 pub use edit_error::EditError;
 pub use edit_printing::{print_edit, write_edit};
