@@ -20,6 +20,7 @@ abbrev pub regard_of : Command → Regard
 regard_of (commands.Pair (on_pair.Equal k optimize)) = record { leaves_out = true; compares = true }
 regard_of (commands.Pair (on_pair.AlwaysEqual k form optimize)) =
     record { leaves_out = true; compares = true }
+regard_of (commands.EqualBy optimize) = record { leaves_out = true; compares = true }
 regard_of c = record { leaves_out = true; compares = false }
 
 -- the program has answered: it did what was asked, or the question is settled

@@ -16,6 +16,7 @@ fn regard_of(command: Command) -> Regard
         leaves_out: true,
         compares: match command {
             Command::Pair(PairCommand::Equal { .. } | PairCommand::AlwaysEqual { .. }) => true,
+            Command::EqualBy { .. } => true,
             _ => false,
         },
     }
