@@ -158,33 +158,33 @@ module _ {S : Type 0} (left : S → Option (List ℕ)) (failed : S → Bool) (no
     (known : Known) (limit : ℕ) (low : limit ≤ 2 ^ 31) (optimize : Bool)
     (base step : Option (List ℕ)) (f g : File) (m : Circuit) (joint : IsJointOf Miter f g m)
     (s rest : S) where
-    pub certifies_read : (made : Result Unit CertificateError)
-        → ReadsBeside left failed limit (HoldsBeside limit optimize base step m) s made rest
-        → CertifiesMiter left failed limit optimize base step s rest f g made
-    certifies_read made told = (
-      m,
-      joint,
-      record {
-        verdict = told.verdict;
-        answer = λ taken.
-            let read = told.answer taken in record {
-              file = read.file;
-              bytes = read.bytes;
-              holds = read.holds;
-              means = certifies_miter none known limit low optimize base step f g m joint read.file
-                  read.bytes read.holds made read.means;
-              taken = read.taken;
-            };
-      },
-    )
+  pub certifies_read : (made : Result Unit CertificateError)
+      → ReadsBeside left failed limit (HoldsBeside limit optimize base step m) s made rest
+      → CertifiesMiter left failed limit optimize base step s rest f g made
+  certifies_read made told = (
+    m,
+    joint,
+    record {
+      verdict = told.verdict;
+      answer = λ taken.
+          let read = told.answer taken in record {
+            file = read.file;
+            bytes = read.bytes;
+            holds = read.holds;
+            means = certifies_miter none known limit low optimize base step f g m joint read.file
+                read.bytes read.holds made read.means;
+            taken = read.taken;
+          };
+    },
+  )
 
-    pub equal_read : ReadsBeside left failed limit (HoldsBeside limit optimize base step m) s
-        (Ok tt) rest
-        → (n : ℕ) → AreEqualMachinesAt f g n
-    equal_read told =
-        let read = (certifies_read (Ok tt) told).2.answer refl in
-        equal_where none known limit low optimize base step f g m joint read.file read.bytes
-        read.holds read.means
+  pub equal_read : ReadsBeside left failed limit (HoldsBeside limit optimize base step m) s
+      (Ok tt) rest
+      → (n : ℕ) → AreEqualMachinesAt f g n
+  equal_read told =
+      let read = (certifies_read (Ok tt) told).2.answer refl in
+      equal_where none known limit low optimize base step f g m joint read.file read.bytes
+      read.holds read.means
 
 -- ---- what proofs of a joint circuit say of the certificate that stands in it
 

@@ -28,15 +28,6 @@ pub fn print_equal_by<R: Source, S: Source, C: Source, P: Source, Q: Source, W: 
         file.old other.old certificate.old base.old step.old w.old result
         file.new other.new certificate.new base.new step.new w.new }
 {
-    check_equal_by(
-        alloc,
-        file,
-        other,
-        certificate,
-        limit,
-        optimize,
-        base,
-        step,
-    )?;
+    check_equal_by(alloc, file, other, certificate, limit, optimize, base, step)?;
     Ok(write_text(w, b"equal at every step")?)
 }
