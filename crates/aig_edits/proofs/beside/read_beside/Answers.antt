@@ -12,8 +12,8 @@ join_of-requires-clause-second g c =
     let read = c.in-Ok.ensures.circuit in
     subst IsCircuit (sym read.means) (IsCircuit-of_file read.file c.args.limit read.holds.1)
 
-pub returns-in-Ok-clause-answer : goal.returns-in-Ok-clause-answer
-returns-in-Ok-clause-answer g c = λ taken.
+pub returns-clause-answer : goal.returns-clause-answer
+returns-clause-answer g c = λ taken.
     let read = c.in-Ok.ensures.circuit in record {
       file = read.file;
       bytes = read.bytes;
@@ -24,6 +24,6 @@ returns-in-Ok-clause-answer g c = λ taken.
       taken = read.taken;
     }
 
-pub returns-in-Ok-clause-own : goal.returns-in-Ok-clause-own
-returns-in-Ok-clause-own g c =
+pub returns-clause-own : goal.returns-clause-own
+returns-clause-own g c =
     beside_own Certificate (lists_circuit c.args.circuit.now) _ c.join_of.result c.join_of.ensures
