@@ -1,5 +1,5 @@
 -- What is told of a certificate that is read, and stands beside a circuit.
-use Rattle.aig_base.proofs.Words.{◌≡◌, Result, Ok, Err, refl, IfErr}
+use Rattle.aig_base.proofs.Words.{Result, Ok, Err, IfErr}
 use Rattle.aig_circuit.proofs.Words.{Circuit}
 use Rattle.aig_circuit.specs.declared.view.CircuitLists.{CircuitLists}
 use Rattle.aig_edits.specs.declared.error.PairError.{PairError}

@@ -4,7 +4,6 @@ use Rattle.aig_format.proofs.Circuits.{IsCircuit-of_file}
 use Rattle.aig_edits.specs.declared.pairing.Pairing.TheVariants.{Certificate}
 use Rattle.aig_edits.specs.Circuits.{IsJoinOf}
 use Rattle.aig_edits.proofs.Standing.{beside_own}
-use Rattle.aig_edits.proofs.JointFiles.{second_taken}
 use Rattle.aig_edits.proofs.beside.read_beside.Goals as goal
 
 pub join_of-requires-clause-second : goal.join_of-requires-clause-second
