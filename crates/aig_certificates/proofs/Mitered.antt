@@ -106,10 +106,10 @@ module _ (none : UnrollsByNone) (known : Known) (limit : ℕ) (low : limit ≤ 2
           (IsCircuit-of_file h limit is.1)
           (record { inputs = has.inputs; latches = has.latches })
 
-      told : IsCircuit (certified m (circuit_of h)) → (made : Result Unit CertificateError)
+      certifies_whole : IsCircuit (certified m (circuit_of h)) → (made : Result Unit CertificateError)
           → HoldsBoth limit optimize base step (certified m (circuit_of h)) made
           → Certifies limit optimize base step written h made
-      told circuit made holds =
+      certifies_whole circuit made holds =
           certifies known limit optimize base step written h whole joint_of made
           (subst (λ (c : Circuit). HoldsBoth limit optimize base step c made) same
           (both_told none bare.names (certified m (circuit_of h)) circuit is_circuit limit optimize
@@ -118,33 +118,33 @@ module _ (none : UnrollsByNone) (known : Known) (limit : ℕ) (low : limit ≤ 2
   -- there is no joint circuit
   refused : (e : PairError) → IsJoinOf Certificate m (circuit_of h) (Err e)
       → IsRefusalOf Certificate written h e
-  refused (pair.Misfit x) no =
+  refused (pair.Misfit x) why =
       subst (λ b. IsMisfit Certificate (counted written) b x) (counted-of h)
-      (subst (λ a. IsMisfit Certificate a (counted_circuit (circuit_of h)) x) counted_written no)
-  refused pair.TooLarge no = (
-    lines no.0,
+      (subst (λ a. IsMisfit Certificate a (counted_circuit (circuit_of h)) x) counted_written why)
+  refused pair.TooLarge why = (
+    lines why.0,
     (
       whole,
       refl,
-      λ fits. no.1.2
-          (subst FitsFormat (sym no.1.1) (small_named (subst FitsFormat (sym same) fits))),
+      λ fits. why.1.2
+          (subst FitsFormat (sym why.1.1) (small_named (subst FitsFormat (sym same) fits))),
     ),
   )
-  refused pair.Memory no = lines no
-  refused (pair.Read e) no = absurd no
-  refused (pair.Other e) no = absurd no
-  refused pair.Write no = absurd no
+  refused pair.Memory why = lines why
+  refused (pair.Read e) why = absurd why
+  refused (pair.Other e) why = absurd why
+  refused pair.Write why = absurd why
 
   -- the certificate is one of the miter's file, or it is said why that isn't shown
   pub certifies_miter : (made : Result Unit CertificateError)
       → HoldsBeside limit optimize base step m h made
       → Certifies limit optimize base step written h made
-  certifies_miter (Ok done) (has, circuit, fits, holds) = told has fits circuit (Ok tt) holds
-  certifies_miter (Err (errors.Pair e)) no = refused e no
+  certifies_miter (Ok done) (has, circuit, fits, holds) = certifies_whole has fits circuit (Ok tt) holds
+  certifies_miter (Err (errors.Pair e)) why = refused e why
   certifies_miter (Err (errors.Query e)) (has, circuit, fits, holds) =
-      told has fits circuit (Err (errors.Query e)) holds
+      certifies_whole has fits circuit (Err (errors.Query e)) holds
   certifies_miter (Err (errors.Window e)) (has, circuit, fits, holds) =
-      told has fits circuit (Err (errors.Window e)) holds
+      certifies_whole has fits circuit (Err (errors.Window e)) holds
 
   -- and where it is, the machines are equal
   pub equal_where : Certifies limit optimize base step written h (Ok tt) → (n : ℕ)
@@ -181,6 +181,7 @@ module _ {S : Type 0} (left : S → Option (List ℕ)) (failed : S → Bool) (no
   pub equal_read : ReadsBeside left failed limit (HoldsBeside limit optimize base step m) s
       (Ok tt) rest
       → (n : ℕ) → AreEqualMachinesAt f g n
+  unfolding certifies_read
   equal_read told =
       let read = (certifies_read (Ok tt) told).2.answer refl in
       equal_where none known limit low optimize base step f g m joint read.file read.bytes

@@ -3,12 +3,11 @@ use Rattle.aig_base.proofs.Words.{◌≡◌, ℕ, Bool, List, Option, Result, Ok
 use Rattle.std.specs.FinMap.{FinMap}
 use Rattle.std.specs.Ordering.{nat_cmp}
 use Rattle.aig_answers.proofs.Named.{window_named, with_names}
-use Rattle.aig_answers.specs.Answers.{IsCircuitQuery, TellsOfCircuit, TellsOfCircuitWindow}
+use Rattle.aig_answers.specs.Answers.{IsCircuitQuery}
 use Rattle.aig_answers.specs.declared.circuits.CircuitQuery.{CircuitQuery}
 use Rattle.aig_answers.specs.declared.error.AnswerError.{AnswerError}
 use Rattle.aig_circuit.specs.Circuit.{Circuit, IsCircuit}
-use Rattle.aig_cnf.specs.Cnf.{FixesRoots, HasClauses, NodeValuesSatisfy}
-use Rattle.aig_runs.specs.CircuitQueries.{AsksOfCircuit, HasCircuitWitness, IsCircuitWitness}
+use Rattle.aig_runs.specs.CircuitQueries.{HasCircuitWitness}
 use Rattle.aig_runs.specs.Safety.{IsCircuitSafeAt}
 use Rattle.aig_runs.specs.declared.window.Window.TheVariants.{Plain}
 use Rattle.aig_unroll.specs.Unroll.{UnrollsTo}
@@ -46,10 +45,13 @@ module _ (none : UnrollsByNone) (names : FinMap nat_cmp (List ℕ)) (c : Circuit
       → IsCircuitQuery (with_names names c) 0 optimize (named_query q)
   query_named optimize q is =
       let same : q.unrolled ≡ c = is.steps.exact in
-      let has = subst (λ u. HasClauses u optimize q.clauses) same is.has_clauses in
-      let fixes = subst (λ u. FixesRoots u q.clauses) same is.fixes in
-      let satisfied = subst (λ u. NodeValuesSatisfy u q.clauses) same is.satisfied in
-      let asks = subst (λ u. AsksOfCircuit c 0 u q.clauses q.further) same is.asks in
+      let own : IsCircuitQuery c 0 optimize
+      (record { unrolled = c; clauses = q.clauses; further = q.further }) =
+      subst (λ (u : Circuit). IsCircuitQuery c 0 optimize
+      (record { unrolled = u; clauses = q.clauses; further = q.further })) same is in
+      let has = own.has_clauses in
+      let fixes = own.fixes in
+      let asks = own.asks in
       record {
         steps = none (with_names names c) circuit;
         has_clauses = record {
@@ -63,7 +65,7 @@ module _ (none : UnrollsByNone) (names : FinMap nat_cmp (List ℕ)) (c : Circuit
           next = fixes.next;
           initial = fixes.initial;
         };
-        satisfied = satisfied;
+        satisfied = own.satisfied;
         asks = record {
           exact = asks.exact;
           satisfiable = (
@@ -115,8 +117,8 @@ module _ (none : UnrollsByNone) (names : FinMap nat_cmp (List ℕ)) (c : Circuit
   }
 
   window_told : HasNoWindow optimize c → HasNoWindow optimize (with_names names c)
-  window_told (lists, further, asks, no) =
-      (lists, further, window_named names Plain c 0 optimize lists further circuit asks, no)
+  window_told (lists, further, asks, unmet) =
+      (lists, further, window_named names Plain c 0 optimize lists further circuit asks, unmet)
 
   safe_told : IsCircuitSafeAt c 0 → IsCircuitSafeAt (with_names names c) 0
   safe_told safe w = safe (bare_witness none names c circuit 0 w)

@@ -63,13 +63,13 @@ LeavesWindow (Err (errors.Certificate e)) = certificates.LeavesWindow (Err e)
 -- What a call that reads a certificate tells: s is the reader before it, and rest after it.
 pub record ReadsBeside {S : Type 0} (left : S → Option (List ℕ)) (failed : S → Bool) (limit : ℕ)
     (Means : File → Result Unit CertificateError → Type 0) (s : S)
-    (answer : Result Unit CertificateError) (rest : S) : Type 0 where
+    (result : Result Unit CertificateError) (rest : S) : Type 0 where
   -- what is said of its bytes
   pub verdict : Judges (λ _. Accepted) limit (left s) (left rest) (failed rest)
-      (verdict_by certificates.second_verdict answer)
+      (verdict_by certificates.second_verdict result)
   -- and where they are taken, the answer is what is meant for the file that they are
-  pub answer : verdict_by certificates.second_verdict answer ≡ Accepted
-      → IsReadAs (λ bytes. Accepts bytes limit) Means (left s) (left rest) answer
+  pub answer : verdict_by certificates.second_verdict result ≡ Accepted
+      → IsReadAs (λ bytes. Accepts bytes limit) Means (left s) (left rest) result
 
 -- The answer is that of a certificate of the files' miter, as a file of its own: of the file that
 -- the miter's text is.

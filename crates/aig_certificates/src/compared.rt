@@ -6,7 +6,6 @@ ghost use Rattle.aig_certificates.specs.Certificates as certificates;
 ghost use Rattle.aig_certificates.specs.Comparing.{EqualsBy, IsOfCertificate, IsOwn, LeavesCertificate, LeavesQuery, LeavesWindow, ReadsBeside, first_verdict, second_verdict};
 ghost use Rattle.aig_certificates.specs.Parts.{HoldsBeside};
 ghost use Rattle.aig_certificates.specs.declared.compare_error.MiterError.TheVariants as errors;
-ghost use Rattle.aig_certificates.specs.declared.error.CertificateError.TheVariants as certificate;
 ghost use Rattle.aig_circuit.specs.Circuit.{IsCircuit};
 ghost use Rattle.aig_circuit.specs.View.{lists_circuit};
 ghost use Rattle.aig_edits.specs.Pairs.{ReadsPair};
@@ -42,10 +41,10 @@ fn check_beside<C: Source, P: Source, Q: Source>(
     ensures base_unread { certificates.LeavesQuery result → base.new ≡ base.old }
     ensures step_unread { certificates.LeavesWindow result → step.new ≡ step.old }
     ensures base_stream { IsErrOf result
-        (certificate.Query (answers.Refutation RefutationError.Stream))
+        (CertificateError.Query (answers.Refutation RefutationError.Stream))
         → IsTrue (P.failed base.new) }
     ensures step_stream { IsErrOf result
-        (certificate.Window (answers.Refutation RefutationError.Stream))
+        (CertificateError.Window (answers.Refutation RefutationError.Stream))
         → IsTrue (Q.failed step.new) }
 {
     let joint = read_beside(alloc, &miter, certificate, limit)?;
@@ -90,10 +89,10 @@ pub fn check_equal_by<R: Source, S: Source, C: Source, P: Source, Q: Source>(
     ensures step_unread { LeavesWindow result → step.new ≡ step.old }
     // Stream only where a read failed in this call.
     ensures base_stream { IsErrOf result
-        (errors.Certificate (certificate.Query (answers.Refutation RefutationError.Stream)))
+        (errors.Certificate (CertificateError.Query (answers.Refutation RefutationError.Stream)))
         → IsTrue (P.failed base.new) }
     ensures step_stream { IsErrOf result
-        (errors.Certificate (certificate.Window (answers.Refutation RefutationError.Stream)))
+        (errors.Certificate (CertificateError.Window (answers.Refutation RefutationError.Stream)))
         → IsTrue (Q.failed step.new) }
 {
     safe_steps_are_safe();

@@ -1,4 +1,4 @@
-use Rattle.aig_base.proofs.Words.{Err, refl, sym, err_from_is_err_and}
+use Rattle.aig_base.proofs.Words.{refl, err_from_is_err_and}
 use Rattle.aig_circuit.specs.View.{lists_circuit}
 use Rattle.aig_certificates.proofs.Answering.{second_both}
 use Rattle.aig_certificates.proofs.Mitered.{beside_both, holds_beside}
