@@ -14,9 +14,9 @@ use Rattle.aig_checks.specs.Pairs.{other_verdict_of, own_text}
 use Rattle.aig_checks.specs.Running.{verdict_of}
 use Rattle.aig_checks.proofs.Refusing.{read_as}
 
-module _ {C W : Type 0} {left : C → Option (List ℕ)} {failed : C → Bool}
-    {held : W → Option (List ℕ)} {write_failed : W → Bool} {optimize : Bool} {limit : ℕ}
-    {base step : Option (List ℕ)} {c tried : C} {w made : W} (f g : File) where
+module _ {C W : Type 0} (left : C → Option (List ℕ)) (failed : C → Bool)
+    (held : W → Option (List ℕ)) (write_failed : W → Bool) (optimize : Bool) (limit : ℕ)
+    (base step : Option (List ℕ)) (c tried : C) (w made : W) (f g : File) where
   -- what is told of a certificate that is read is told of its bytes
   why_of : (e : MiterError)
       → EqualsBy left failed limit optimize base step c tried f g (Err e)
@@ -61,11 +61,13 @@ pub refused_again : {R S C P Q W : Type 0} {left : R → Option (List ℕ)} {fai
     → again ≡ e → verdict_of e ≡ Accepted → other_verdict_of e ≡ Accepted
     → AreReadAs limit (RefusesComparing limit optimize (given c) (given tried)) (left r) (left rest)
     (left_of s) (left_of other) e
-refused_again {left = left} {left_of = left_of} {given = given} {optimize = optimize}
-    {limit = limit} {r = r} {rest = rest} {s = s} {other = other} {c = c} {tried = tried} again e
-    runs same =
+refused_again {left = left} {left_of = left_of} {given = given} {given_failed = given_failed}
+    {base_left = base_left} {step_left = step_left} {held = held} {write_failed = write_failed}
+    {optimize = optimize} {limit = limit} {r = r} {rest = rest} {s = s} {other = other} {c = c}
+    {tried = tried} {p = p} {q = q} {w = w} {made = made} again e runs same =
     subst (λ (x : CheckError). verdict_of x ≡ Accepted → other_verdict_of x ≡ Accepted
     → AreReadAs limit (RefusesComparing limit optimize (given c) (given tried)) (left r) (left rest)
     (left_of s) (left_of other) x) same
-    (λ first second. read_as _ _ (λ f. read_as _ _ (λ g. tells_why f g again))
+    (λ first second. read_as _ _ (λ f. read_as _ _ (λ g. tells_why given given_failed held
+    write_failed optimize limit (base_left p) (step_left q) c tried w made f g again))
     (runs.reads.answer first second))

@@ -32,22 +32,12 @@ module _ {R S C P Q W : Type 0} {left : R → Option (List ℕ)} {failed : R →
     {step_left : Q → Option (List ℕ)} {step_failed : Q → Bool} {held : W → Option (List ℕ)}
     {write_failed : W → Bool} {optimize : Bool} {limit : ℕ} {r rest : R} {s other : S}
     {c tried : C} {p used : P} {q spent : Q} {w made : W} where
-  -- what the call tells of both files
-  abbrev Told : Result Unit MiterError → Type 0
-  Told result =
-      ReadsPair left failed left_of failed_of limit
-      (EqualsBy given given_failed limit optimize (base_left p) (step_left q) c tried)
-      comparing.first_verdict comparing.second_verdict comparing.IsOwn r s result rest other
-
-  -- and the command
-  abbrev Runs : Result Unit CheckError → Type 0
-  Runs result =
-      RunsComparing left failed left_of failed_of given given_failed base_left base_failed step_left
-      step_failed held write_failed optimize limit r s c p q w result rest other tried used spent
-      made
-
   -- a file is refused, or a proof
-  pub compare_refused : (e : MiterError) → Told (Err e) → made ≡ w
+  pub compare_refused : (e : MiterError)
+      → ReadsPair left failed left_of failed_of limit
+      (EqualsBy given given_failed limit optimize (base_left p) (step_left q) c tried)
+      comparing.first_verdict comparing.second_verdict comparing.IsOwn r s (Err e) rest other
+      → made ≡ w
       → (comparing.LeavesCertificate (Err e) → tried ≡ c)
       → (comparing.LeavesQuery (Err e) → used ≡ p) → (comparing.LeavesWindow (Err e) → spent ≡ q)
       → (IsErrOf {T = Unit {0}} (Err e)
@@ -56,7 +46,9 @@ module _ {R S C P Q W : Type 0} {left : R → Option (List ℕ)} {failed : R →
       → (IsErrOf {T = Unit {0}} (Err e)
       (miter.Certificate (certificate.Window (answers.Refutation refutation.Stream)))
       → IsTrue (step_failed spent))
-      → Runs (Err (errors.Miter e))
+      → RunsComparing left failed left_of failed_of given given_failed base_left base_failed
+      step_left step_failed held write_failed optimize limit r s c p q w (Err (errors.Miter e))
+      rest other tried used spent made
   compare_refused e told same certificate base step base_stream step_stream = record {
     reads = reads_on left failed left_of failed_of limit r s rest other
         (TellsOfComparing given given_failed held write_failed optimize limit (base_left p)
@@ -72,8 +64,14 @@ module _ {R S C P Q W : Type 0} {left : R → Option (List ℕ)} {failed : R →
   }
 
   -- the line was written
-  pub compare_answered : (v : Unit {0}) → Told (Ok tt)
-      → Appends (held w) (held made) always_line → write_failed made ≡ false → Runs (Ok v)
+  pub compare_answered : (v : Unit {0})
+      → ReadsPair left failed left_of failed_of limit
+      (EqualsBy given given_failed limit optimize (base_left p) (step_left q) c tried)
+      comparing.first_verdict comparing.second_verdict comparing.IsOwn r s (Ok tt) rest other
+      → Appends (held w) (held made) always_line → write_failed made ≡ false
+      → RunsComparing left failed left_of failed_of given given_failed base_left base_failed
+      step_left step_failed held write_failed optimize limit r s c p q w (Ok v) rest other tried used
+      spent made
   compare_answered v told written sound = record {
     reads = reads_on left failed left_of failed_of limit r s rest other
         (TellsOfComparing given given_failed held write_failed optimize limit (base_left p)
@@ -89,8 +87,13 @@ module _ {R S C P Q W : Type 0} {left : R → Option (List ℕ)} {failed : R →
   }
 
   -- the writer failed after a beginning of it
-  pub compare_stopped : Told (Ok tt) → Stops (held w) (held made) (write_failed made) always_line
-      → Runs (Err errors.Write)
+  pub compare_stopped : ReadsPair left failed left_of failed_of limit
+      (EqualsBy given given_failed limit optimize (base_left p) (step_left q) c tried)
+      comparing.first_verdict comparing.second_verdict comparing.IsOwn r s (Ok tt) rest other
+      → Stops (held w) (held made) (write_failed made) always_line
+      → RunsComparing left failed left_of failed_of given given_failed base_left base_failed
+      step_left step_failed held write_failed optimize limit r s c p q w (Err errors.Write)
+      rest other tried used spent made
   compare_stopped told stops = record {
     reads = reads_on left failed left_of failed_of limit r s rest other
         (TellsOfComparing given given_failed held write_failed optimize limit (base_left p)
