@@ -141,7 +141,8 @@ class Pair(Files):
         printed = printed.decode()
         if status != (10 if first is not None else 20 if unmet is None else 0):
             self.fail(f"a search finds a difference at step {first}, and no run from step {unmet} on, and aigprove: {status} {printed} {said}")
-        if ("\nequal at every step\n" in printed) != (first is None) or ("\na difference" in f"\n{printed}") == (first is None):
+        lines = f"\n{printed}"
+        if ("\nequal at every step\n" in lines) != (first is None) or ("\na difference" in lines) == (first is None):
             self.fail(f"a search finds a difference at step {first}, and aigprove: {printed}")
         status, _, said = harness.run([PROVE, "-q", "--engine", "registers", "--equal", self.other, self.file])
         if status not in (0, 20) or status == 20 and first is not None:

@@ -288,6 +288,11 @@ class Pair(Asked):
         words = ["to", str(question.k), question.name, window.name, *window.form]
         return self.compares(self.safe, words, {question.name: base, window.name: step})
 
+    def certified(self, certificate, base, step):
+        """That both are equal at every step, by a certificate of the miter and proofs about both."""
+        files = {"certificate": certificate, "base": base, "step": step}
+        return self.compares(self.safe, ["by", *files], files)
+
     def compares(self, line, words, proofs):
         """What aigcheck says of both files."""
         files = {self.first.name: self.first.file, self.other.name: self.other.file, **proofs}

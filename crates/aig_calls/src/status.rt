@@ -332,7 +332,7 @@ pub(crate) fn of_check(error: CheckError) -> u32
         CheckError::Open => HEADER,
         CheckError::Memory | CheckError::Write => MEMORY,
         // No call has an error of proofs that a machine is safe, or that two are equal at every step.
-        CheckError::Safe(_) | CheckError::Equality(_) => MEMORY,
+        CheckError::Safe(_) | CheckError::Equality(_) | CheckError::Miter(_) => MEMORY,
         CheckError::Answer(error) => of_answer(error),
         CheckError::Solution(error) => of_solution(error),
         CheckError::Show(error) => of_show(error),

@@ -1,2 +1,4 @@
 pub mod Telling
 pub mod Answering
+mod Naming
+mod Mitered

@@ -1,2 +1,3 @@
 pub mod Certificates
+pub mod Comparing
 pub mod Parts

@@ -11,7 +11,13 @@ use Rattle.aig_answers.specs.declared.windows.WindowClauses.{WindowClauses}
 use Rattle.aig_runs.specs.Safety.{IsCircuitSafeAt}
 use Rattle.aig_runs.specs.declared.window.Window.TheVariants.{Plain}
 use Rattle.aig_runs.specs.WindowClauses.{AsksWindow}
-use Rattle.aig_circuit.specs.Circuit.{Circuit}
+use Rattle.aig_circuit.specs.Circuit.{Circuit, IsCircuit}
+use Rattle.aig_edits.specs.Circuits.{IsJoinOf}
+use Rattle.aig_edits.specs.declared.pairing.Pairing.TheVariants.{Certificate}
+use Rattle.aig_format.specs.Circuit.{circuit_of}
+use Rattle.aig_format.specs.File.{File}
+use Rattle.aig_format.specs.Writable.{FitsFormat}
+use Rattle.aig_join.specs.Certificate.{HasLeavesOf, certified}
 use Rattle.aig_certificates.specs.Certificates.{AreObligationsOf, IsSaidOf, TellsOfQuery, TellsOfTwo, joint_verdict}
 use Rattle.aig_certificates.specs.declared.error.CertificateError.{CertificateError}
 use Rattle.aig_certificates.specs.declared.error.CertificateError.TheVariants as errors
@@ -48,6 +54,25 @@ HoldsBoth limit optimize base step m (Err (errors.Query e)) =
 HoldsBoth limit optimize base step m (Err (errors.Window e)) =
     IsOfStep e × TellsOfQuery limit 0 optimize base m (Ok tt)
     × TellsOfTwo limit optimize step m (Err e)
+
+-- so of the circuit beside another, which has its lines and fits the format with it
+abbrev pub StandsBeside : ℕ → Bool → Option (List ℕ) → Option (List ℕ) → Circuit → Circuit
+    → Result Unit CertificateError → Type 0
+StandsBeside limit optimize base step m b made =
+    HasLeavesOf b m × IsCircuit (certified m b) × FitsFormat (certified m b)
+    × HoldsBoth limit optimize base step (certified m b) made
+
+-- and of the circuit beside that of a file, or it is said why there is no joint circuit
+abbrev pub HoldsBeside : ℕ → Bool → Option (List ℕ) → Option (List ℕ) → Circuit → File
+    → Result Unit CertificateError → Type 0
+HoldsBeside limit optimize base step m h (Ok done) =
+    StandsBeside limit optimize base step m (circuit_of h) (Ok tt)
+HoldsBeside limit optimize base step m h (Err (errors.Pair e)) =
+    IsJoinOf Certificate m (circuit_of h) (Err e)
+HoldsBeside limit optimize base step m h (Err (errors.Query e)) =
+    StandsBeside limit optimize base step m (circuit_of h) (Err (errors.Query e))
+HoldsBeside limit optimize base step m h (Err (errors.Window e)) =
+    StandsBeside limit optimize base step m (circuit_of h) (Err (errors.Window e))
 
 -- the circuit is safe at step k, or it is said why that isn't shown
 abbrev pub HoldsStep : ℕ → ℕ → Bool → Option (List ℕ) → Circuit → Result Unit CertificateError

@@ -71,7 +71,7 @@ fn check_step<Q: Source>(
 }
 
 /// Checks proofs for the query of a joint circuit for step 0 and for its window of two steps.
-fn check_both<P: Source, Q: Source>(
+pub(crate) fn check_both<P: Source, Q: Source>(
     alloc: Global,
     joint: CircuitLists,
     limit: usize,

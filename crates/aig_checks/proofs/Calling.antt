@@ -38,6 +38,7 @@ among actions.RefutedTo = (10, omega arith, refl)
 among actions.WitnessTo = (11, omega arith, refl)
 among actions.Safe = (12, omega arith, refl)
 among actions.AlwaysEqual = (13, omega arith, refl)
+among actions.EqualBy = (14, omega arith, refl)
 
 -- what holds of each in the list holds of each
 pub each : (P : Action → Type 0) → All P ALL → (a : Action) → P a
@@ -49,7 +50,8 @@ pub one_call : (words : List (List ℕ)) (limit other : ℕ) (c d : Command) (p 
     → IsCall words other d q s → (limit ≡ other) × (c ≡ d) × (p ≡ q) × (r ≡ s)
 one_call words limit other c d p q r s g h =
     let words_are = one_limit words limit other g.rest h.rest g.limited h.limited in
-    let same = apart.one_fits name_of form_of ALL refl among h.rest g.action h.action g.arguments h.arguments (rw words_are.1 at g.gives) h.gives in (
+    let same = apart.one_fits name_of form_of ALL refl among h.rest g.action h.action g.arguments
+    h.arguments (rw words_are.1 at g.gives) h.gives in (
       words_are.0,
       g.command ∙ ap (λ a. command_of a g.arguments.step g.arguments.distinct g.arguments.optimize) same.0
           ∙ ap (λ (x : Arguments). command_of h.action x.step x.distinct x.optimize) same.1 ∙ sym h.command,
@@ -63,7 +65,8 @@ pub fits_none : (words rest : List (List ℕ)) (limit : ℕ) → IsLimited words
     → (other : ℕ) (c : Command) (paths further : List (List ℕ)) → ¬ IsCall words other c paths further
 fits_none words rest limit limited none other c paths further g =
     let same = (one_limit words other limit g.rest rest g.limited limited).1 in
-    each (λ a. (x : Arguments) → ¬ Gives (name_of a) (form_of a) rest x) none g.action g.arguments (rw same at g.gives)
+    each (λ a. (x : Arguments) → ¬ Gives (name_of a) (form_of a) rest x) none g.action g.arguments
+    (rw same at g.gives)
 
 -- so what they give is told exactly
 pub gives_exactly : (words : List (List ℕ)) (limit : ℕ) (c : Command) (paths further : List (List ℕ))
@@ -124,3 +127,14 @@ two_names [] x y two at_first at_second = absurd (omega (arith, two))
 two_names (a ∷ []) x y two at_first at_second = absurd (omega (arith, two))
 two_names (a ∷ b ∷ []) x y two at_first at_second = rw (at_first, at_second) refl
 two_names (a ∷ b ∷ z ∷ xs) x y two at_first at_second = absurd (omega (arith, two))
+
+pub three_names : (xs : List (String Global)) (x y z : String Global) → length xs ≡ 3
+    → x ≡ get_or xs 0 x → y ≡ get_or xs 1 y → z ≡ get_or xs 2 z
+    → map string_bytes xs ≡ string_bytes x ∷ string_bytes y ∷ string_bytes z ∷ []
+three_names [] x y z three at_first at_second at_third = absurd (omega (arith, three))
+three_names (a ∷ []) x y z three at_first at_second at_third = absurd (omega (arith, three))
+three_names (a ∷ b ∷ []) x y z three at_first at_second at_third = absurd (omega (arith, three))
+three_names (a ∷ b ∷ d ∷ []) x y z three at_first at_second at_third =
+    rw (at_first, at_second, at_third) refl
+three_names (a ∷ b ∷ d ∷ e ∷ xs) x y z three at_first at_second at_third =
+    absurd (omega (arith, three))

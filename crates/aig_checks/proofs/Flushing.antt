@@ -15,8 +15,9 @@ use Rattle.aig_checks.specs.declared.command.PairCommand.{PairCommand}
 use Rattle.aig_checks.specs.declared.tool.CheckError.{CheckError}
 use Rattle.aig_checks.specs.declared.tool.CheckError.TheVariants as errors
 use Rattle.aig_checks.specs.Acting.{Acts, RunsFile, RunsProofs}
+use Rattle.aig_checks.specs.Comparing.{IsErrorOfComparing, RunsComparing, TellsOfComparing}
 use Rattle.aig_checks.specs.Opening.{OnOpening, Opening}
-use Rattle.aig_checks.specs.Pairs.{IsErrorOfPair, RunsPair, TellsOfPair, other_verdict_of, safe_line}
+use Rattle.aig_checks.specs.Pairs.{IsErrorOfPair, RunsPair, TellsOfPair, always_line, other_verdict_of, safe_line}
 use Rattle.aig_checks.specs.Safe.{RunsSafe}
 use Rattle.aig_runs.specs.declared.window.Window.{Window}
 use Rattle.aig_checks.specs.Running.{Runs, nothing_fails, nothing_given, verdict_of}
@@ -160,6 +161,70 @@ module _ {W : Type 0} (held : W → Option (List ℕ)) (write_failed : W → Boo
     safe_ended left failed base_left base_failed step_left step_failed k form optimize limit r rest
         p used q spent (Err e) runs never = absurd never
 
+    module _ {R S C P Q : Type 0} (left : R → Option (List ℕ)) (failed : R → Bool)
+        (left_of : S → Option (List ℕ)) (failed_of : S → Bool) (given : C → Option (List ℕ))
+        (given_failed : C → Bool) (base_left : P → Option (List ℕ)) (base_failed : P → Bool)
+        (step_left : Q → Option (List ℕ)) (step_failed : Q → Bool) (optimize : Bool) (limit : ℕ)
+        (r rest : R) (s other : S) (c tried : C) (p used : P) (q spent : Q) where
+      -- what is told of both files, once more is written
+      abbrev Compares : W → File → File → Result Unit CheckError → Type 0
+      Compares x =
+          TellsOfComparing given given_failed held write_failed optimize limit (base_left p)
+          (step_left q) c tried w x
+
+      compared_ended : (f g : File) (done : Result Unit CheckError) → Compares made f g (Ok u)
+          → EndsBy (write_failed flat) done → Compares flat f g done
+      compared_ended f g (Ok v) told sound =
+          (told.0, appends_kept (held w) (held made) (held flat) always_line told.1 keeps, sound)
+      compared_ended f g (Err errors.Write) told lost = (told.0, stops always_line told.1 lost)
+      compared_ended f g (Err e) told never = absurd never
+
+      compare_own : (done : Result Unit CheckError) → EndsBy (write_failed flat) done
+          → IfErr done IsErrorOfComparing
+      compare_own (Ok v) ends = tt
+      compare_own (Err errors.Write) ends = tt
+      compare_own (Err e) ends = absurd ends
+
+      abbrev Runs_to : W → Result Unit CheckError → Type 0
+      Runs_to x done =
+          RunsComparing left failed left_of failed_of given given_failed base_left base_failed
+          step_left step_failed held write_failed optimize limit r s c p q w done rest other tried
+          used spent x
+
+      compare_ended : (done : Result Unit CheckError) → Runs_to made (Ok u)
+          → EndsBy (write_failed flat) done → Runs_to flat done
+      compare_ended done runs ends =
+          let reads =
+          reads_on left failed left_of failed_of limit r s rest other (Compares flat) verdict_of
+          other_verdict_of IsErrorOfComparing done runs.reads (accepted_by _ done ends)
+          (other_accepted_by _ done ends) (compare_own done ends)
+          (λ f g bytes others fits also told. compared_ended f g done told ends) in
+          end done ends reads
+        where
+          end : (x : Result Unit CheckError) → EndsBy (write_failed flat) x
+              → ReadsPair left failed left_of failed_of limit (Compares flat) verdict_of
+              other_verdict_of IsErrorOfComparing r s x rest other
+              → Runs_to flat x
+          end (Ok v) sound reads = record {
+            reads = reads;
+            kept = tt;
+            certificate_unread = tt;
+            base_unread = tt;
+            step_unread = tt;
+            base_stream = λ is. cc;
+            step_stream = λ is. cc;
+          }
+          end (Err errors.Write) lost reads = record {
+            reads = reads;
+            kept = λ not. absurd (not refl);
+            certificate_unread = λ no. absurd no;
+            base_unread = λ no. absurd no;
+            step_unread = λ no. absurd no;
+            base_stream = λ is. cc;
+            step_stream = λ is. cc;
+          }
+          end (Err e) never reads = absurd never
+
 module _ {F W : Type 0} (opens : List ℕ → Result F OpenError → Type 0) (left : F → Option (List ℕ)) (failed : F → Bool) (held : W → Option (List ℕ)) (write_failed : W → Bool) (w made flat : W) (keeps : Keeps (held made) (held flat)) (u : Unit {0}) (done : Result Unit CheckError) (ends : EndsBy (write_failed flat) done) where
   file_ended : (limit : ℕ) (c : FileCommand) (further : List (List ℕ)) (r rest : F)
       → RunsFile opens left failed left failed held write_failed limit c further r w (Ok u) rest made
@@ -202,5 +267,26 @@ module _ {F W : Type 0} (opens : List ℕ → Result F OpenError → Type 0) (le
       ))
       (λ e no. let is = no.0 in cc) opens step)
       (λ e no. let is = no.0 in cc) opens base)
+      (λ e no. let is = no.0 in cc) opens path acts
+  acts_ended limit (commands.EqualBy optimize) (path ∷ beside ∷ [])
+      (certificate ∷ base ∷ step ∷ []) acts =
+      opening_on _ _ _ _
+      (λ r. opening_on _ _ _ _
+      (λ s. opening_on _ _ _ _
+      (λ c. opening_on _ _ _ _
+      (λ p. opening_on _ _ _ _
+      (λ q so. (
+        so.0,
+        so.1,
+        so.2,
+        so.3,
+        so.4,
+        compare_ended held write_failed w made flat keeps u left failed left failed left failed left
+            failed left failed optimize limit r so.0 s so.1 c so.2 p so.3 q so.4 done so.5 ends,
+      ))
+      (λ e no. let is = no.0 in cc) opens step)
+      (λ e no. let is = no.0 in cc) opens base)
+      (λ e no. let is = no.0 in cc) opens certificate)
+      (λ e no. let is = no.0 in cc) opens beside)
       (λ e no. let is = no.0 in cc) opens path acts
   acts_ended limit c paths further acts = absurd acts

@@ -1,5 +1,7 @@
 mod Commenting
 mod Calling
+mod Comparing
+mod ComparedAgain
 mod Equating
 mod Flushing
 mod Outcomes

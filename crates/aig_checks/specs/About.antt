@@ -5,6 +5,8 @@ use Rattle.aig_answers.specs.declared.error.AnswerError.TheVariants as answers
 use Rattle.aig_bounded.specs.declared.error.BoundedError.TheVariants as questions
 use Rattle.aig_bounded_answers.specs.declared.error.BoundedAnswerError.{BoundedAnswerError}
 use Rattle.aig_bounded_answers.specs.declared.error.BoundedAnswerError.TheVariants as bounded
+use Rattle.aig_certificates.specs.declared.compare_error.MiterError.{MiterError}
+use Rattle.aig_certificates.specs.declared.compare_error.MiterError.TheVariants as miter
 use Rattle.aig_certificates.specs.declared.error.CertificateError.{CertificateError}
 use Rattle.aig_certificates.specs.declared.error.CertificateError.TheVariants as certificate
 use Rattle.aig_command_line.specs.declared.tally.Measure.{Measure}
@@ -151,6 +153,22 @@ abbrev pub about_equality : EqualityError → About
 about_equality (equality.Pair e) = about_pair e
 about_equality (equality.Miter e) = about_safety e
 
+-- the certificate of a miter, which is read after two files
+abbrev pub about_certificate_of : PairError → About
+about_certificate_of (pair.Read e) = about_read subjects.File e
+about_certificate_of (pair.Other e) = about_read subjects.Given e
+about_certificate_of (pair.Misfit m) = whole subjects.Given
+about_certificate_of pair.TooLarge = whole subjects.File
+about_certificate_of pair.Memory = nothing
+about_certificate_of pair.Write = nothing
+
+-- one of two files, or their certificate, or one of the proofs about it
+abbrev pub about_miter : MiterError → About
+about_miter (miter.Pair e) = about_pair e
+about_miter (miter.Certificate (certificate.Pair e)) = about_certificate_of e
+about_miter (miter.Certificate (certificate.Query e)) = about_answer subjects.Step e
+about_miter (miter.Certificate (certificate.Window e)) = about_answer subjects.Third e
+
 -- what an error of the program is about
 abbrev pub about_error : CheckError → About
 about_error errors.Open = whole subjects.Unopened
@@ -165,3 +183,4 @@ about_error (errors.Settled k) = whole subjects.File
 about_error (errors.Safe e) = about_safety e
 about_error (errors.Equality e) = about_equality e
 about_error (errors.Lasso fault) = about_lasso fault
+about_error (errors.Miter e) = about_miter e

@@ -16,6 +16,7 @@ use Rattle.aig_checks.specs.declared.command.PairCommand.{PairCommand}
 use Rattle.aig_checks.specs.declared.tool.CheckError.{CheckError}
 use Rattle.aig_checks.specs.declared.tool.CheckError.TheVariants as errors
 use Rattle.aig_checks.specs.Opening.{Opening}
+use Rattle.aig_checks.specs.Comparing.{RunsComparing}
 use Rattle.aig_checks.specs.Pairs.{RunsPair}
 use Rattle.aig_checks.specs.Safe.{RunsSafe}
 use Rattle.aig_checks.specs.Running.{Runs, nothing_fails, nothing_given}
@@ -91,6 +92,21 @@ Acts {F} opens left failed held write_failed limit (commands.Safe k form optimiz
     (λ q. (rest : F) × (used : F) × (spent : F)
     × RunsSafe left failed left failed left failed held write_failed k form optimize limit r p q w
     result rest used spent made)
+    (λ e. (result ≡ Err e) × (made ≡ w)))
+    (λ e. (result ≡ Err e) × (made ≡ w)))
+    (λ e. (result ≡ Err e) × (made ≡ w))
+Acts {F} opens left failed held write_failed limit (commands.EqualBy optimize)
+    (path ∷ beside ∷ []) (certificate ∷ base ∷ step ∷ []) w result made =
+    Opening opens path
+    (λ r. Opening opens beside
+    (λ s. Opening opens certificate
+    (λ c. Opening opens base
+    (λ p. Opening opens step
+    (λ q. (rest : F) × (other : F) × (tried : F) × (used : F) × (spent : F)
+    × RunsComparing left failed left failed left failed left failed left failed held write_failed
+    optimize limit r s c p q w result rest other tried used spent made)
+    (λ e. (result ≡ Err e) × (made ≡ w)))
+    (λ e. (result ≡ Err e) × (made ≡ w)))
     (λ e. (result ≡ Err e) × (made ≡ w)))
     (λ e. (result ≡ Err e) × (made ≡ w)))
     (λ e. (result ≡ Err e) × (made ≡ w))

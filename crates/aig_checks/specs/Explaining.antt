@@ -3,6 +3,7 @@
 -- file stopped.
 use Rattle.std.specs.Prelude.{◌≡◌, ℕ, ◌+◌, ◌⊎◌, Bool, List, [], ◌∷◌, ◌++◌, Contains, Option, None, Result, Ok, Err, IfSome, slice_get}
 use Rattle.aig_answers.specs.Answers.{IsAsked}
+use Rattle.aig_certificates.specs.Comparing.{EqualsBy}
 use Rattle.aig_command_line.specs.Came.{IsPlaceIn}
 use Rattle.aig_command_line.specs.Faults.{error_of, path_of, place_in}
 use Rattle.aig_command_line.specs.Places.{IsPlaced}
@@ -41,6 +42,7 @@ word_of subjects.File paths further = slice_get paths 0
 word_of subjects.Other paths further = slice_get paths 1
 word_of subjects.Given paths further = slice_get further 0
 word_of subjects.Step paths further = slice_get further 1
+word_of subjects.Third paths further = slice_get further 2
 word_of subject paths further = None
 
 -- it is that word, or one of those at which no file is opened
@@ -95,6 +97,27 @@ pub record IsRefusedOnSafe (limit k : ℕ) (form : Window) (optimize : Bool)
   pub refused : verdict_of e ≡ Accepted
       → IsReadAs (IsAsked limit (k + 1)) (RefusesSafe k form optimize) file rest e
 
+-- why a certificate of these bytes, of which others are left, doesn't show that two files' machines
+-- are equal, by some proofs
+abbrev pub RefusesComparing : ℕ → Bool → Option (List ℕ) → Option (List ℕ) → File → File
+    → CheckError → Type 0
+RefusesComparing limit optimize certificate rest f g (errors.Miter e) =
+    (failed : Bool) × (base : Option (List ℕ)) × (step : Option (List ℕ))
+    × EqualsBy own_text (λ text. failed) limit optimize base step certificate rest f g (Err e)
+RefusesComparing limit optimize certificate rest f g e = Unit {0}
+
+-- a proof about the certificate of two files' miter was read up to this place, and refused so
+pub record IsRefusedOnComparing (limit : ℕ) (optimize : Bool)
+    (file other certificate known : Option (List ℕ)) (e : CheckError) (measure : Measure)
+    (place : Place) : Type 0 where
+  pub at : IsPlaceIn known measure place
+  pub rest : Option (List ℕ)
+  pub other_rest : Option (List ℕ)
+  pub certificate_rest : Option (List ℕ)
+  pub refused : verdict_of e ≡ Accepted → other_verdict_of e ≡ Accepted
+      → AreReadAs limit (RefusesComparing limit optimize certificate certificate_rest) file rest
+      other other_rest e
+
 -- the same of bytes that are given to a command on the files at its paths
 abbrev pub IsRefusedBy : {F : Type 0} → (List ℕ → Result F OpenError → Type 0)
     → (F → Option (List ℕ)) → ℕ → Command → List (List ℕ) → Option (List ℕ) → CheckError → Measure
@@ -108,6 +131,12 @@ IsRefusedBy {F} opens left limit (commands.Safe k form optimize) (path ∷ []) k
     place =
     (file : F) × opens path (Ok file)
     × IsRefusedOnSafe limit k form optimize (left file) known e measure place
+IsRefusedBy {F} opens left limit (commands.EqualBy optimize) (path ∷ beside ∷ []) known e measure
+    place =
+    (file : F) × (other : F) × (certificate : F) × opens path (Ok file) × opens beside (Ok other)
+    × ((name : List ℕ) × opens name (Ok certificate))
+    × IsRefusedOnComparing limit optimize (left file) (left other) (left certificate) known e
+    measure place
 IsRefusedBy opens left limit c paths known e measure place = ⊥
 
 -- the file at the path was opened again, read up to this place, and refused so

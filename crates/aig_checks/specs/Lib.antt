@@ -4,6 +4,7 @@ pub mod Comments
 pub mod Running
 pub mod Safe
 pub mod Pairs
+pub mod Comparing
 pub mod Printing
 pub mod Asked
 pub mod Opening

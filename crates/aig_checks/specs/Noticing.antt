@@ -23,6 +23,7 @@ regard_of (commands.File on_file.Run) = record { leaves_out = false; compares = 
 regard_of (commands.Pair (on_pair.Equal k optimize)) = record { leaves_out = true; compares = true }
 regard_of (commands.Pair (on_pair.AlwaysEqual k form optimize)) =
     record { leaves_out = true; compares = true }
+regard_of (commands.EqualBy optimize) = record { leaves_out = true; compares = true }
 regard_of c = record { leaves_out = true; compares = false }
 
 -- the program has answered: it did what was asked, or the question is settled

@@ -9,6 +9,7 @@ use Rattle.aig_answers.specs.declared.error.AnswerError.TheVariants as answers
 use Rattle.aig_bounded_answers.specs.declared.error.BoundedAnswerError.TheVariants as bounded
 use Rattle.aig_certificates.specs.Certificates as certificates
 use Rattle.aig_certificates.specs.Certificates.{AreObligations, Certifies, Equals, Obliges}
+use Rattle.aig_certificates.specs.Comparing as comparing
 use Rattle.aig_certificates.specs.declared.error.CertificateError.{CertificateError}
 use Rattle.aig_certificates.specs.declared.error.CertificateError.TheVariants as certificate
 use Rattle.aig_answers.specs.declared.windows.WindowClauses.{WindowClauses}
@@ -99,6 +100,7 @@ PairAnswers (commands.AlwaysEqual k form optimize) limit base step f g text =
 abbrev pub other_verdict_of : CheckError → Verdict
 other_verdict_of (errors.Certificate e) = certificates.second_verdict e
 other_verdict_of (errors.Equality e) = equality.second_verdict e
+other_verdict_of (errors.Miter e) = comparing.second_verdict e
 other_verdict_of errors.Write = Accepted
 other_verdict_of e = Refused
 

@@ -5,7 +5,7 @@ use Rattle.aig_runs.specs.declared.window.Window.{Window}
 use Rattle.aig_runs.specs.declared.window.Window.TheVariants.{Plain, Distinct}
 use Rattle.aig_command_line.specs.declared.arguments.Form.{Form}
 use Rattle.aig_command_line.specs.declared.arguments.Step.{Step}
-use Rattle.aig_command_line.specs.declared.arguments.Step.TheVariants.{Absent, At, UpTo}
+use Rattle.aig_command_line.specs.declared.arguments.Step.TheVariants.{Absent, At, UpTo, By}
 use Rattle.aig_command_line.specs.Arguments.{Arguments, Gives}
 use Rattle.aig_command_line.specs.Limits.{IsLimited}
 use Rattle.aig_checks.specs.declared.command.Action.{Action}
@@ -31,6 +31,7 @@ name_of actions.RefutedTo = codes "refuted"
 name_of actions.WitnessTo = codes "witness"
 name_of actions.Safe = codes "safe"
 name_of actions.AlwaysEqual = codes "equal"
+name_of actions.EqualBy = codes "equal"
 
 -- so many paths and a step, so many further paths, `distinct` or nothing where it may be there, and
 -- `raw` or nothing
@@ -44,7 +45,7 @@ on_certificate further =
     record { paths = 2; step = Absent; further = further; distinct = false; raw = true }
 
 -- What comes after it: the paths are FILE, and CERT or OTHER; the further ones are PROOF, SOLUTION
--- or WITNESS, or BASE and STEP.
+-- or WITNESS, or BASE and STEP, behind CERT where that comes after OTHER.
 abbrev pub form_of : Action → Form
 form_of actions.Clauses = on_step 1 At 0 false
 form_of actions.Window = on_step 1 At 0 true
@@ -61,6 +62,7 @@ form_of actions.RefutedTo = on_step 1 UpTo 1 false
 form_of actions.WitnessTo = on_step 1 UpTo 1 false
 form_of actions.Safe = on_step 1 UpTo 2 true
 form_of actions.AlwaysEqual = on_step 2 UpTo 2 true
+form_of actions.EqualBy = on_step 2 By 3 false
 
 -- the form of windows
 abbrev pub window_of : Bool → Window
@@ -86,6 +88,7 @@ command_of actions.WitnessTo k distinct optimize = commands.File (on_file.Witnes
 command_of actions.Safe k distinct optimize = commands.Safe k (window_of distinct) optimize
 command_of actions.AlwaysEqual k distinct optimize =
     commands.Pair (on_pair.AlwaysEqual k (window_of distinct) optimize)
+command_of actions.EqualBy k distinct optimize = commands.EqualBy optimize
 
 -- the words give the limit, and then the command, with its files and what is given beside them
 pub record IsCall (words : List (List ℕ)) (limit : ℕ) (c : Command) (paths further : List (List ℕ))
@@ -126,6 +129,7 @@ abbrev pub paths_of : Command → ℕ
 paths_of (commands.File c) = 1
 paths_of (commands.Pair c) = 2
 paths_of (commands.Safe k form optimize) = 1
+paths_of (commands.EqualBy optimize) = 2
 
 -- how many are given beside these
 abbrev pub beside_of : Command → ℕ
@@ -136,4 +140,5 @@ beside_of (commands.Pair (on_pair.Certified optimize)) = 2
 beside_of (commands.Pair (on_pair.Obligations optimize)) = 0
 beside_of (commands.Pair (on_pair.AlwaysEqual k form optimize)) = 2
 beside_of (commands.Safe k form optimize) = 2
+beside_of (commands.EqualBy optimize) = 3
 beside_of c = 1

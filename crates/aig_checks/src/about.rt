@@ -7,7 +7,7 @@ use crate::tool::CheckError;
 use aig_answers::AnswerError;
 use aig_bounded::BoundedError;
 use aig_bounded_answers::BoundedAnswerError;
-use aig_certificates::CertificateError;
+use aig_certificates::{CertificateError, MiterError};
 use aig_command_line::Measure;
 use aig_edits::PairError;
 use aig_encode::EncodeError;
@@ -30,10 +30,12 @@ pub(crate) enum Subject {
     File,
     /// CERT or OTHER.
     Other,
-    /// PROOF, SOLUTION, WITNESS or BASE.
+    /// PROOF, SOLUTION, WITNESS or BASE, or CERT after the word `by`.
     Given,
-    /// STEP.
+    /// STEP, or BASE behind CERT.
     Step,
+    /// STEP behind CERT and BASE.
+    Third,
 }
 
 /// How the place is found where reading stopped.
@@ -247,6 +249,35 @@ fn about_equality(error: EqualityError) -> About
     }
 }
 
+/// What an error of the certificate of a miter is about, which is read after two files.
+fn about_certificate_of(error: PairError) -> About
+    ensures { result ≡ specs.about_certificate_of error }
+{
+    match error {
+        PairError::Read(error) => about_read(Subject::File, error),
+        PairError::Other(error) => about_read(Subject::Given, error),
+        PairError::Misfit(_) => whole(Subject::Given),
+        PairError::TooLarge => whole(Subject::File),
+        PairError::Memory | PairError::Write => NOTHING,
+    }
+}
+
+/// What an error of two files with a certificate of their miter is about.
+fn about_miter(error: MiterError) -> About
+    ensures { result ≡ specs.about_miter error }
+{
+    match error {
+        MiterError::Pair(error) => about_pair(error),
+        MiterError::Certificate(CertificateError::Pair(error)) => about_certificate_of(error),
+        MiterError::Certificate(CertificateError::Query(error)) => {
+            about_answer(Subject::Step, error)
+        }
+        MiterError::Certificate(CertificateError::Window(error)) => {
+            about_answer(Subject::Third, error)
+        }
+    }
+}
+
 /// What an error of the program is about.
 pub(crate) fn about_error(error: CheckError) -> About
     ensures { result ≡ specs.about_error error }
@@ -263,5 +294,6 @@ pub(crate) fn about_error(error: CheckError) -> About
         CheckError::Safe(error) => about_safety(error),
         CheckError::Equality(error) => about_equality(error),
         CheckError::Lasso(fault) => about_lasso(fault),
+        CheckError::Miter(error) => about_miter(error),
     }
 }

@@ -13,6 +13,7 @@ ghost use Rattle.aig_checks.specs.Words.{beside_of, paths_of, step_of};
 
 use crate::bounded::{print_bounded, print_refuted_to, print_witness_to};
 use crate::command::{Call, Command, FileCommand, PairCommand, call_of};
+use crate::compared::print_equal_by;
 use crate::equality::print_always_equal;
 use crate::pairs::{print_certified, print_equal, print_obligations};
 use crate::run::print_run;
@@ -31,7 +32,8 @@ pub const USAGE: &str =
     inductive FILE K PROOF [distinct] [raw], witness FILE K SOLUTION [raw], run FILE WITNESS, \
     certified FILE CERT BASE STEP [raw], equal FILE OTHER K PROOF [raw], obligations FILE CERT [raw], \
     bounded FILE K [raw], refuted FILE to K PROOF [raw], witness FILE to K SOLUTION [raw], \
-    safe FILE to K BASE STEP [distinct] [raw], equal FILE OTHER to K BASE STEP [distinct] [raw]";
+    safe FILE to K BASE STEP [distinct] [raw], equal FILE OTHER to K BASE STEP [distinct] [raw], \
+    equal FILE OTHER by CERT BASE STEP [raw]";
 
 /// Its version.
 pub const VERSION: &str = "aigcheck 0.1.0";
@@ -317,6 +319,42 @@ fn run_safe<F: Opens, W: Sink>(
     )
 }
 
+/// Checks that the certificate at a path, with the proofs at two more, shows that the machines of the files at two paths are equal.
+fn run_equal_by<F: Opens, W: Sink>(
+    alloc: Global,
+    limit: usize,
+    files: &F,
+    optimize: bool,
+    path: &str,
+    beside: &str,
+    certificate: &str,
+    base: &str,
+    step: &str,
+    w: &mut W,
+) -> Result<(), CheckError>
+    requires { IsLimit limit }
+    ensures { Acts (F.opens files.now) F.File.left F.File.failed W.held W.failed limit
+        (Command.EqualBy optimize) (path.now ∷ beside.now ∷ [])
+        (certificate.now ∷ base.now ∷ step.now ∷ []) w.old result w.new }
+{
+    let mut file = files.open(path)?;
+    let mut other = files.open(beside)?;
+    let mut certificate = files.open(certificate)?;
+    let mut base = files.open(base)?;
+    let mut step = files.open(step)?;
+    print_equal_by(
+        alloc,
+        limit,
+        optimize,
+        &mut file,
+        &mut other,
+        &mut certificate,
+        &mut base,
+        &mut step,
+        w,
+    )
+}
+
 /// Runs the command that words give on the files at its paths.
 fn run<F: Opens, W: Sink>(
     alloc: Global,
@@ -342,6 +380,23 @@ fn run<F: Opens, W: Sink>(
         Command::Safe { k, form, optimize } => {
             let (base, step) = (call.further[0].as_str(), call.further[1].as_str());
             run_safe(alloc, limit, files, k, form, optimize, path, base, step, w)
+        }
+        Command::EqualBy { optimize } => {
+            let beside = call.paths[1].as_str();
+            let certificate = call.further[0].as_str();
+            let (base, step) = (call.further[1].as_str(), call.further[2].as_str());
+            run_equal_by(
+                alloc,
+                limit,
+                files,
+                optimize,
+                path,
+                beside,
+                certificate,
+                base,
+                step,
+                w,
+            )
         }
     }
 }

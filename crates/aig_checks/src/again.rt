@@ -10,6 +10,7 @@ ghost use Rattle.aig_checks.specs.declared.about.Subject.TheVariants as subjects
 
 use crate::about::Subject;
 use crate::acting::{run_given, run_proved};
+use crate::again_compared::{place_of_compared_base, place_of_compared_step};
 use crate::again_safe::{place_of_safe_base, place_of_safe_step};
 use crate::command::{Call, Command, FileCommand, PairCommand};
 use crate::pairs::print_equal;
@@ -17,7 +18,7 @@ use crate::tool::CheckError;
 use aig_answers::AnswerError;
 use aig_base::Source;
 use aig_bounded_answers::BoundedAnswerError;
-use aig_certificates::CertificateError;
+use aig_certificates::{CertificateError, MiterError};
 use aig_command_line::{Counted, Discarded, Measure, Origin, Place, Reopens};
 use aig_equality::EqualityError;
 use aig_refutation::RefutationError;
@@ -121,6 +122,10 @@ pub(crate) fn is_same(first: CheckError, second: CheckError) -> bool
             CheckError::Equality(EqualityError::Miter(first)),
             CheckError::Equality(EqualityError::Miter(second)),
         ) => is_same_safety(first, second),
+        (
+            CheckError::Miter(MiterError::Certificate(first)),
+            CheckError::Miter(MiterError::Certificate(second)),
+        ) => is_same_certificate(first, second),
         _ => false,
     }
 }
@@ -521,6 +526,54 @@ fn place_in_second<F: Reopens>(
                 measure,
             )
         }
+        (Command::EqualBy { optimize }, [certificate, base, step]) => {
+            place_of_compared_base(
+                alloc,
+                call.limit,
+                files,
+                optimize,
+                call.paths,
+                certificate.as_str(),
+                base.as_str(),
+                step.as_str(),
+                error,
+                measure,
+            )
+        }
+        _ => Place::Whole,
+    }
+}
+
+/// The place where a command refuses so the third that is given beside its files.
+fn place_in_third<F: Reopens>(
+    alloc: Global,
+    files: &F,
+    call: &Call<'_>,
+    error: CheckError,
+    measure: Measure,
+) -> Place
+    requires limit { IsLimit call.now.limit }
+    requires paths { length call.now.paths.now ≡ paths_of call.now.command }
+    ensures { IfSome (word_of subjects.Third (map string_bytes call.now.paths.now)
+        (map string_bytes call.now.further.now)) (λ path. IsRunPlace (F.opens files.now) F.File.left
+        call.now.limit call.now.command (map string_bytes call.now.paths.now) path error measure
+        result) }
+{
+    match (call.command, call.further) {
+        (Command::EqualBy { optimize }, [certificate, base, step]) => {
+            place_of_compared_step(
+                alloc,
+                call.limit,
+                files,
+                optimize,
+                call.paths,
+                certificate.as_str(),
+                base.as_str(),
+                step.as_str(),
+                error,
+                measure,
+            )
+        }
         _ => Place::Whole,
     }
 }
@@ -546,6 +599,7 @@ pub(crate) fn place_by_run<F: Reopens>(
     match subject {
         Subject::Given => place_in_first(alloc, files, call, error, measure),
         Subject::Step => place_in_second(alloc, files, call, error, measure),
+        Subject::Third => place_in_third(alloc, files, call, error, measure),
         _ => Place::Whole,
     }
 }

@@ -122,6 +122,11 @@ pub enum Command {
         /// Whether exclusive ors and choices have clauses of their own.
         optimize: bool,
     },
+    /// Check that a certificate of the miter shows that the machines of FILE and OTHER are equal at every step.
+    EqualBy {
+        /// Whether exclusive ors and choices have clauses of their own.
+        optimize: bool,
+    },
 }
 
 /// A command without K and its settings.
@@ -155,6 +160,8 @@ pub enum Action {
     Safe,
     /// `equal FILE OTHER to K BASE STEP [distinct] [raw]`.
     AlwaysEqual,
+    /// `equal FILE OTHER by CERT BASE STEP [raw]`.
+    EqualBy,
 }
 
 /// The form of a command on so many files and a step.
@@ -203,7 +210,7 @@ impl HasForm for Action {
             Action::RefutedTo => "refuted",
             Action::WitnessTo => "witness",
             Action::Safe => "safe",
-            Action::AlwaysEqual => "equal",
+            Action::AlwaysEqual | Action::EqualBy => "equal",
         }
     }
 
@@ -217,6 +224,7 @@ impl HasForm for Action {
             Action::Safe => on_step(1, Step::UpTo, 2, true),
             Action::Equal => on_step(2, Step::At, 1, false),
             Action::AlwaysEqual => on_step(2, Step::UpTo, 2, true),
+            Action::EqualBy => on_step(2, Step::By, 3, false),
             Action::Run => Form {
                 paths: 1,
                 step: Step::Absent,
@@ -243,7 +251,7 @@ fn window_of(distinct: bool) -> Window
 
 impl Action {
     /// Each of them.
-    const ALL: [Action; 14] = [
+    const ALL: [Action; 15] = [
         Action::Clauses,
         Action::Window,
         Action::Refuted,
@@ -258,6 +266,7 @@ impl Action {
         Action::WitnessTo,
         Action::Safe,
         Action::AlwaysEqual,
+        Action::EqualBy,
     ];
 
     /// The command, with K and the settings.
@@ -280,6 +289,7 @@ impl Action {
             Action::WitnessTo => Command::File(FileCommand::WitnessTo { k, optimize }),
             Action::Safe => Command::Safe { k, form, optimize },
             Action::AlwaysEqual => Command::Pair(PairCommand::AlwaysEqual { k, form, optimize }),
+            Action::EqualBy => Command::EqualBy { optimize },
         }
     }
 }
@@ -293,7 +303,7 @@ pub struct Call<'a> {
     pub command: Command,
     /// FILE, and CERT or OTHER, where the command wants one.
     pub paths: &'a [String],
-    /// PROOF, SOLUTION or WITNESS, or BASE and STEP, where the command wants them.
+    /// PROOF, SOLUTION or WITNESS, or BASE and STEP, behind CERT after the word `by`, where the command wants them.
     pub further: &'a [String],
 }
 
@@ -324,7 +334,7 @@ pub fn call_of(words: &[String]) -> Option<Call<'_>>
 /// The words `--limit` and N may come first. The word after the command's name is FILE. The next is WITNESS of `run`, CERT of `certified`
 /// and `obligations`, and OTHER of `equal`. Then comes K, where the command has one, after the word `to` where it is on the steps up to K,
 /// and the words after that are PROOF of `refuted`, `inductive` and `equal`, SOLUTION of `witness`, and BASE and STEP of `certified`, `safe`
-/// and `equal` with `to`. It takes no memory.
+/// and `equal` with `to`. Of `equal` with the word `by` it is CERT, BASE and STEP that come after that. It takes no memory.
 pub fn parse(words: &[String]) -> Option<Command>
     ensures exact { (c : Command) → (result ≡ Some c) ↔ Give (map string_bytes words.now) c }
     ensures small { IfSome result (λ c. step_of c < 2 ^ 32) }

@@ -57,6 +57,7 @@ fn path_of<'a, F: Reopens>(files: &F, call: &Call<'a>, subject: Subject) -> Opti
         Subject::Other => path_at(call.paths, 1),
         Subject::Given => path_at(call.further, 0),
         Subject::Step => path_at(call.further, 1),
+        Subject::Third => path_at(call.further, 2),
     }
 }
 

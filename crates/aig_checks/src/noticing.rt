@@ -26,6 +26,7 @@ fn regard_of(command: Command) -> Regard
         leaves_out: leaves_out(command),
         compares: match command {
             Command::Pair(PairCommand::Equal { .. } | PairCommand::AlwaysEqual { .. }) => true,
+            Command::EqualBy { .. } => true,
             _ => false,
         },
     }

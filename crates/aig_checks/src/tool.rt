@@ -20,7 +20,7 @@ use aig_answers::{
 };
 use aig_base::{DagCnf, LitVvec, MemoryError, Sink, Source, StreamFault};
 use aig_bounded_answers::BoundedAnswerError;
-use aig_certificates::CertificateError;
+use aig_certificates::{CertificateError, MiterError};
 use aig_circuit::CircuitView;
 use aig_cnf::{NeededGates, find_needed};
 use aig_command_line::HasStatus;
@@ -75,6 +75,9 @@ pub enum CheckError {
     /// The witness shows no fair lasso.
     #[error("{0}")]
     Lasso(LassoFault),
+    /// A certificate doesn't show that two files' machines are equal at every step.
+    #[error("{0}")]
+    Miter(MiterError),
 }
 
 impl HasStatus for CheckError {
@@ -152,6 +155,14 @@ impl From<EqualityError> for CheckError {
 
     fn from(error: EqualityError) -> CheckError {
         CheckError::Equality(error)
+    }
+}
+
+impl From<MiterError> for CheckError {
+    ghost from_gives = { λ e r. r ≡ errors.Miter e };
+
+    fn from(error: MiterError) -> CheckError {
+        CheckError::Miter(error)
     }
 }
 

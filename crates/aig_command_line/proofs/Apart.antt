@@ -6,9 +6,9 @@ use Rattle.aig_base.proofs.Words.{get_or_read}
 use Rattle.aig_format.specs.Text.{IsNumber}
 use Rattle.aig_command_line.specs.declared.arguments.Form.{Form}
 use Rattle.aig_command_line.specs.declared.arguments.Step.{Step}
-use Rattle.aig_command_line.specs.declared.arguments.Step.TheVariants.{At, UpTo}
+use Rattle.aig_command_line.specs.declared.arguments.Step.TheVariants.{At, By, UpTo}
 use Rattle.aig_command_line.specs.Arguments.{AreStep, Arguments, Gives}
-use Rattle.aig_command_line.proofs.Giving.{after_paths, one_given, to_no_number}
+use Rattle.aig_command_line.proofs.Giving.{after_paths, by_no_number, one_given, to_no_number}
 
 same_first : (a b : List ℕ) (l m : List (List ℕ)) → a ∷ l ≡ b ∷ m → a ≡ b
 same_first a b l m is = cc
@@ -48,10 +48,15 @@ other name x (y ∷ ys) apart a (suc k, low, is) =
 
 -- ---- commands that no words give both
 
--- one names a step by K, and the other by the word `to` and K
+-- one names a step by K, by the word `to` and K, or none by the word `by`, and the other by another
+-- of these
 abbrev pub steps_differ : Step → Step → Bool
 steps_differ At UpTo = true
 steps_differ UpTo At = true
+steps_differ At By = true
+steps_differ By At = true
+steps_differ UpTo By = true
+steps_differ By UpTo = true
 steps_differ s t = false
 
 -- their names differ, or what names a step after as many paths, by a test that computes
@@ -69,7 +74,7 @@ abbrev pub are_apart : {A : Type 0} → (A → List ℕ) → (A → Form) → Li
 are_apart name form [] = true
 are_apart name form (x ∷ xs) = cond (exclude_all name form x xs) (are_apart name form xs) false
 
--- a number isn't the word `to`
+-- a number is neither the word `to` nor `by`, and these aren't one
 steps_apart : (s t : Step) (k m : ℕ) (a b rest more : List (List ℕ)) → IsTrue (steps_differ s t)
     → AreStep s k a → AreStep t m b
     → ¬ (a ++ rest ≡ b ++ more)
@@ -79,6 +84,18 @@ steps_apart At UpTo k m a b rest more differ h i same =
 steps_apart UpTo At k m a b rest more differ h i same =
     let words : codes "to" ∷ h.0 ∷ rest ≡ i.0 ∷ more = sym (ap (λ l. l ++ rest) h.1) ∙ same ∙ ap (λ l. l ++ more) i.1 in
     to_no_number m (subst (IsNumber m) (sym (same_first (codes "to") i.0 (h.0 ∷ rest) more words)) i.2)
+steps_apart At By k m a b rest more differ h i same =
+    let words : h.0 ∷ rest ≡ codes "by" ∷ more = sym (ap (λ l. l ++ rest) h.1) ∙ same ∙ ap (λ l. l ++ more) i.1 in
+    by_no_number k (subst (IsNumber k) (same_first h.0 (codes "by") rest more words) h.2)
+steps_apart By At k m a b rest more differ h i same =
+    let words : codes "by" ∷ rest ≡ i.0 ∷ more = sym (ap (λ l. l ++ rest) h.1) ∙ same ∙ ap (λ l. l ++ more) i.1 in
+    by_no_number m (subst (IsNumber m) (sym (same_first (codes "by") i.0 rest more words)) i.2)
+steps_apart UpTo By k m a b rest more differ h i same =
+    let words : codes "to" ∷ h.0 ∷ rest ≡ codes "by" ∷ more = sym (ap (λ l. l ++ rest) h.1) ∙ same ∙ ap (λ l. l ++ more) i.1 in
+    other_text (codes "to") (codes "by") refl (same_first (codes "to") (codes "by") (h.0 ∷ rest) more words)
+steps_apart By UpTo k m a b rest more differ h i same =
+    let words : codes "by" ∷ rest ≡ codes "to" ∷ i.0 ∷ more = sym (ap (λ l. l ++ rest) h.1) ∙ same ∙ ap (λ l. l ++ more) i.1 in
+    other_text (codes "by") (codes "to") refl (same_first (codes "by") (codes "to") rest (i.0 ∷ more) words)
 steps_apart s t k m a b rest more differ h i same = cc
 
 module _ {A : Type 0} (name : A → List ℕ) (form : A → Form) (words : List (List ℕ)) where

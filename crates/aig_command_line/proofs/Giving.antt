@@ -6,7 +6,7 @@ use Rattle.std.proofs.lemmas.List.{length-map, map-append, take-append-drop}
 use Rattle.aig_format.specs.Text.{IsNumber, value_of}
 use Rattle.aig_command_line.specs.declared.arguments.Form.{Form}
 use Rattle.aig_command_line.specs.declared.arguments.Step.{Step}
-use Rattle.aig_command_line.specs.declared.arguments.Step.TheVariants.{Absent, At, UpTo}
+use Rattle.aig_command_line.specs.declared.arguments.Step.TheVariants.{Absent, At, UpTo, By}
 use Rattle.aig_command_line.specs.Arguments.{AreStep, Arguments, Gives, setting_words}
 use Rattle.aig_command_line.specs.Settings.{AreSettings}
 
@@ -64,6 +64,7 @@ step_length : (form : Step) (k m : ℕ) (a b : List (List ℕ)) → AreStep form
 step_length Absent k m a b h i = ap length h.1 ∙ sym (ap length i.1)
 step_length At k m a b h i = ap length h.1 ∙ sym (ap length i.1)
 step_length UpTo k m a b h i = ap length h.1 ∙ sym (ap length i.1)
+step_length By k m a b h i = ap length h.1 ∙ sym (ap length i.1)
 
 same_step : (form : Step) (k m : ℕ) (words : List (List ℕ)) → AreStep form k words
     → AreStep form m words
@@ -77,6 +78,7 @@ same_step UpTo k m words h i =
     let words_are = sym h.1 ∙ i.1 in
     let same : h.0 ≡ i.0 = cc in
     sym h.2.value ∙ ap value_of same ∙ i.2.value
+same_step By k m words h i = h.0 ∙ sym i.0
 
 -- a number that names a step
 pub number_at : (form : Step) (k : ℕ) (words : List (List ℕ)) (word : List ℕ) (after : List (List ℕ)) → form ≡ At → IsNumber k word → words ≡ word ∷ after
@@ -84,6 +86,7 @@ pub number_at : (form : Step) (k : ℕ) (words : List (List ℕ)) (word : List �
 number_at Absent k words word after is number are = cc
 number_at At k words word after is number are = (word ∷ [], (word, refl, number), are)
 number_at UpTo k words word after is number are = cc
+number_at By k words word after is number are = cc
 
 -- and one after the word `to`
 pub number_up_to : (form : Step) (k : ℕ) (words : List (List ℕ)) (word : List ℕ) (rest after : List (List ℕ)) → form ≡ UpTo → words ≡ codes "to" ∷ rest → IsNumber k word → rest ≡ word ∷ after
@@ -92,6 +95,15 @@ number_up_to Absent k words word rest after is to number are = cc
 number_up_to At k words word rest after is to number are = cc
 number_up_to UpTo k words word rest after is to number are =
     (codes "to" ∷ word ∷ [], (word, refl, number), to ∙ ap (λ l. codes "to" ∷ l) are)
+number_up_to By k words word rest after is to number are = cc
+
+-- the word `by` names none
+pub none_by : (form : Step) (words after : List (List ℕ)) → form ≡ By → words ≡ codes "by" ∷ after
+    → (names : List (List ℕ)) × AreStep form 0 names × (words ≡ names ++ after)
+none_by Absent words after is are = cc
+none_by At words after is are = cc
+none_by UpTo words after is are = cc
+none_by By words after is are = (codes "by" ∷ [], (refl, refl), are)
 
 -- a word that is no number
 pub no_number : (words : List (List ℕ)) (first : List ℕ) (after : List (List ℕ))
@@ -105,6 +117,10 @@ no_number words first after are none k word rest number same =
 -- the word `to` is none
 pub to_no_number : (k : ℕ) → ¬ IsNumber k (codes "to")
 to_no_number k number = omega (arith, number.each.0.1)
+
+-- nor is the word `by`
+pub by_no_number : (k : ℕ) → ¬ IsNumber k (codes "by")
+by_no_number k number = omega (arith, number.each.0.1)
 
 -- ---- parts of words that give arguments
 

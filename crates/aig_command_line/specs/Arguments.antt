@@ -5,7 +5,7 @@ use Rattle.aig_format.specs.Text.{IsNumber}
 use Rattle.aig_command_line.specs.declared.arguments.Form.{Form}
 use Rattle.aig_command_line.specs.declared.arguments.Given.{Given}
 use Rattle.aig_command_line.specs.declared.arguments.Step.{Step}
-use Rattle.aig_command_line.specs.declared.arguments.Step.TheVariants.{Absent, At, UpTo}
+use Rattle.aig_command_line.specs.declared.arguments.Step.TheVariants.{Absent, At, UpTo, By}
 
 -- what the words after a command's name give
 pub record Arguments : Type 0 where
@@ -25,11 +25,12 @@ word_if true word = word ∷ []
 word_if false word = []
 
 -- the words of step K: none, K, or the word `to` and K, which has one or more digits and a value of
--- at most 2^32 - 1
+-- at most 2^32 - 1; or the word `by`, and no step
 abbrev pub AreStep : Step → ℕ → List (List ℕ) → Type 0
 AreStep Absent k words = (k ≡ 0) × (words ≡ [])
 AreStep At k words = (word : List ℕ) × (words ≡ word ∷ []) × IsNumber k word
 AreStep UpTo k words = (word : List ℕ) × (words ≡ codes "to" ∷ word ∷ []) × IsNumber k word
+AreStep By k words = (k ≡ 0) × (words ≡ codes "by" ∷ [])
 
 -- the words of the settings
 abbrev pub setting_words : Bool → Bool → List (List ℕ)

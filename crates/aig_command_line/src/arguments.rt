@@ -16,6 +16,8 @@ pub enum Step {
     At,
     /// The word `to`, and then K.
     UpTo,
+    /// The word `by`, which names none.
+    By,
 }
 
 /// What a command takes after its name, in this order.
@@ -149,6 +151,7 @@ fn step_first(form: Step, words: &[String]) -> Option<(usize, &[String])>
         Step::Absent => Some((0, words)),
         Step::At => number_first(words),
         Step::UpTo => number_first(after_word(words, "to")?),
+        Step::By => Some((0, after_word(words, "by")?)),
     }
 }
 

@@ -22,7 +22,7 @@ use Rattle.aig_edits.specs.Parts.{AreListsOfBoth, CanPair, IsJoinOf, counted_cir
 inputs-of : (f : File) → length (circuit_of f).inputs ≡ length f.inputs
 inputs-of f = length-map f.inputs (λ (e : ℕ). node_of_variable f (e / 2))
 
-counted-of : (f : File) → counted_circuit (circuit_of f) ≡ counted f
+pub counted-of : (f : File) → counted_circuit (circuit_of f) ≡ counted f
 counted-of f =
     rw (
       length-map f.inputs (λ (e : ℕ). node_of_variable f (e / 2)),
@@ -31,7 +31,7 @@ counted-of f =
       length-map f.properties.bads (edge_of f),
     ) refl
 
-fits_back : (pairing : Pairing) (f g : File) → CanPair pairing (circuit_of f) (circuit_of g)
+pub fits_back : (pairing : Pairing) (f g : File) → CanPair pairing (circuit_of f) (circuit_of g)
     → DoFit pairing f g
 fits_back Miter f g can = record {
   inputs = sym (inputs-of f) ∙ can.inputs ∙ inputs-of g;

@@ -1,6 +1,7 @@
 pub mod Reading
 pub mod MergedFiles
 pub mod JointFiles
+mod Standing
 pub mod Misfits
 pub mod Printed
 pub mod Edited

@@ -107,6 +107,12 @@ IsOwn (errors.Read e) = e ≢ read.Open
 IsOwn (errors.Other e) = e ≢ read.Open
 IsOwn e = Unit {0}
 
+-- no path is opened, and no first file is read
+abbrev pub IsOfBeside : PairError → Type 0
+IsOfBeside (errors.Read e) = ⊥
+IsOfBeside errors.Write = ⊥
+IsOfBeside e = IsOwn e
+
 -- why there is no joint circuit of two files
 abbrev pub IsRefusalOf : Pairing → File → File → PairError → Type 0
 IsRefusalOf pairing f g (errors.Misfit m) = IsMisfit pairing (counted f) (counted g) m

@@ -1,5 +1,6 @@
 pub mod Pairs
 pub mod Joints
+pub mod Circuits
 pub mod Parts
 pub mod Edits
 pub mod EditParts

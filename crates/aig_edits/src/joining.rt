@@ -5,7 +5,8 @@ ghost use Rattle.aig_circuit.specs.Circuit.{IsCircuit};
 ghost use Rattle.aig_circuit.specs.View.{lists_circuit};
 ghost use Rattle.aig_edits.specs.Pairs.{ReadsPair};
 ghost use Rattle.aig_edits.specs.Joints.{IsOwn, Joins, first_verdict, second_verdict};
-ghost use Rattle.aig_edits.specs.Parts.{IsJoinOf, IsPaired};
+ghost use Rattle.aig_edits.specs.Circuits.{IsJoinOf};
+ghost use Rattle.aig_edits.specs.Parts.{IsPaired};
 ghost use Rattle.aig_edits.specs.declared.pairing.Pairing.TheVariants.{Certificate, Merge, Miter};
 
 use crate::error::PairError;

@@ -1,6 +1,7 @@
 //! What is made of AIGER files and printed as AIGER text again: from the bytes of the files to those of the text.
 #![tactic(auto)]
 
+mod beside;
 mod edit;
 mod edit_error;
 mod edit_printing;
@@ -19,6 +20,7 @@ mod reducing;
 mod reduction;
 mod rounding;
 
+pub use beside::read_beside;
 pub use edit::Edit;
 pub use edit_error::EditError;
 pub use edit_printing::{print_edit, write_edit};

@@ -1,5 +1,5 @@
 use Rattle.aig_base.proofs.Words.{ap, sym, ◌∙◌, string_bytes}
-use Rattle.aig_checks.proofs.Calling.{one_name, two_names}
+use Rattle.aig_checks.proofs.Calling.{one_name, three_names, two_names}
 use Rattle.aig_checks.proofs.acting.run.Goals as goal
 
 pub returns-in-File : goal.returns-in-File
@@ -27,3 +27,21 @@ returns-in-Safe g c =
     let base = c.as_str-base.ensures.value ∙ ap string_bytes (sym first.is) in
     let step = c.as_str-step.ensures.value ∙ ap string_bytes (sym second.is) in
     rw (names, further, c.in-Safe.is, sym path, sym base, sym step) c.run_safe.ensures
+
+pub returns-in-EqualBy : goal.returns-in-EqualBy
+returns-in-EqualBy g c =
+    let other = c.index-call-1-in-EqualBy in
+    let first = c.index-call-0-in-EqualBy in
+    let second = c.index-call-1-in-EqualBy-2 in
+    let third = c.index-call-2 in
+    let names = two_names c.args.call.now.paths.now c.index-call-0.result other.result
+    (rw c.in-EqualBy.is at c.requires.paths) c.index-call-0.is other.is in
+    let further = three_names c.args.call.now.further.now first.result second.result third.result
+    (rw c.in-EqualBy.is at c.requires.further) first.is second.is third.is in
+    let path = c.as_str-path.ensures.value ∙ ap string_bytes (sym c.index-call-0.is) in
+    let beside = c.as_str-beside-in-EqualBy.ensures.value ∙ ap string_bytes (sym other.is) in
+    let certificate = c.as_str-certificate.ensures.value ∙ ap string_bytes (sym first.is) in
+    let base = c.as_str-base-in-EqualBy.ensures.value ∙ ap string_bytes (sym second.is) in
+    let step = c.as_str-step-in-EqualBy.ensures.value ∙ ap string_bytes (sym third.is) in
+    rw (names, further, c.in-EqualBy.is, sym path, sym beside, sym certificate, sym base, sym step)
+    c.run_equal_by.ensures
