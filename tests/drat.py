@@ -2,7 +2,7 @@
 """Compares which DRAT proofs with RAT steps are taken with a checker of its own: drat.py [PROOFS [SEED]]
 
 Writes PROOFS (300) DRAT proofs for the clauses of rat.py that have no solution: what rat.py writes, without numbers and hints, and blocked
-clauses beside. So clauses are deleted and added again, spare variables get definitions, and a proof of cadical stands behind. Each is
+clauses beside. So clauses are deleted and added again, spare variables and new ones get definitions, and a proof of cadical stands behind. Each is
 checked as text and in the binary form. Each is mangled, too: another literal comes first, lines are left out, doubled or swapped, clauses
 are deleted before. `aigcheck refuted` takes a proof exactly where the checker here does, which follows the definition step by step: it goes
 over all clauses until nothing more is true. The one of proofs.py says the same.

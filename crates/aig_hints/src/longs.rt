@@ -39,6 +39,13 @@ impl Longs {
         })
     }
 
+    /// Makes room for further literals, so that there are so many.
+    pub(crate) fn grow(&mut self, count: usize) -> Result<(), MemoryError> {
+        self.watches.grow(count)?;
+        self.stale.resize(count, 0)?;
+        Ok(())
+    }
+
     /// Lets a clause watch its first two literals.
     pub(crate) fn add(&mut self, clauses: &Clauses, place: u32) -> Result<(), MemoryError> {
         let first = clauses.lit(place, 0);

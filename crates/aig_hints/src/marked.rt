@@ -22,6 +22,12 @@ impl Marked {
         })
     }
 
+    /// Makes room for further literals, so that there are so many.
+    pub(crate) fn grow(&mut self, count: usize) -> Result<(), MemoryError> {
+        self.is.resize(count, false)?;
+        Ok(())
+    }
+
     /// Takes all literals out.
     pub(crate) fn clear(&mut self) {
         for lit in &self.lits {

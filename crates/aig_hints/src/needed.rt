@@ -29,6 +29,12 @@ impl Needed {
         })
     }
 
+    /// Makes room for further literals, so that there are so many.
+    pub(crate) fn grow(&mut self, count: usize) -> Result<(), MemoryError> {
+        self.words.resize(count / BITS + 1, 0)?;
+        Ok(())
+    }
+
     /// Says that literals will be added to an empty set that stand from `first` on, of `count` true
     /// ones.
     pub(crate) fn start(&mut self, first: usize, count: usize) {

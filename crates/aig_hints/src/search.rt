@@ -83,6 +83,30 @@ impl Search {
         })
     }
 
+    /// Makes room for further variables, so that there are so many.
+    fn grow(&mut self, variables: usize) -> Result<(), MemoryError> {
+        let literals = variables.saturating_mul(2);
+        self.shorts.grow(literals)?;
+        self.recent.grow(literals)?;
+        self.rest.grow(literals)?;
+        self.trail.grow(variables)?;
+        self.marked.grow(literals)?;
+        self.needed.grow(variables)?;
+        self.units.resize(variables, 0)?;
+        Ok(())
+    }
+
+    /// Makes room for the variables of a clause.
+    fn fit(&mut self, clause: &[Lit]) -> Result<(), MemoryError> {
+        for lit in clause {
+            let variables = usize::from(lit.var()) + 1;
+            if variables > self.units.len() {
+                self.grow(variables)?;
+            }
+        }
+        Ok(())
+    }
+
     /// Says which clause has this literal alone.
     fn set_unit(&mut self, lit: Lit, number: u32) {
         let i = usize::from(lit.var());
@@ -91,9 +115,10 @@ impl Search {
         }
     }
 
-    /// Adds a clause of this number, which is not 0. Literals that follow from it are to be taken
-    /// by `next_unit`.
+    /// Adds a clause of this number, which is not 0. Its variables may be new. Literals that follow
+    /// from it are to be taken by `next_unit`.
     pub fn add(&mut self, number: u32, clause: &[Lit]) -> Result<(), MemoryError> {
+        self.fit(clause)?;
         self.marked.set(clause)?;
         let place = self.clauses.push(number, self.marked.lits())?;
         self.index.add(&mut self.clauses, place)?;
@@ -417,6 +442,7 @@ impl Search {
     /// Removes a clause of these literals, if there is one, and returns its number. A clause of one
     /// literal stays, and so do all once they are in conflict.
     pub fn remove(&mut self, clause: &[Lit]) -> Result<Option<u32>, MemoryError> {
+        self.fit(clause)?;
         self.marked.set(clause)?;
         if self.marked.lits().len() < 2 || self.conflict.is_some() {
             return Ok(None);

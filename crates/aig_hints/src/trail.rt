@@ -49,6 +49,15 @@ impl Trail {
         })
     }
 
+    /// Makes room for further variables, so that there are so many.
+    pub(crate) fn grow(&mut self, variables: usize) -> Result<(), MemoryError> {
+        self.weights.resize(variables.saturating_mul(2), OPEN)?;
+        self.orders.resize(variables, 0)?;
+        self.lits.resize(variables, Lit::from(0))?;
+        self.reasons.resize(variables, 0)?;
+        Ok(())
+    }
+
     /// How many literals are true.
     pub(crate) fn len(&self) -> usize {
         self.len

@@ -25,15 +25,21 @@ pub(crate) struct Watches<O> {
 impl<O: Copy> Watches<O> {
     /// No clauses, for so many literals.
     pub(crate) fn new(alloc: Global, count: usize) -> Result<Watches<O>, MemoryError> {
-        let mut lists = Vec::with_capacity(alloc, count)?;
-        for _ in 0..count {
-            lists.push(Vec::new(alloc))?;
-        }
-        Ok(Watches {
+        let mut made = Watches {
             alloc,
-            lists,
+            lists: Vec::with_capacity(alloc, count)?,
             taken: 0,
-        })
+        };
+        made.grow(count)?;
+        Ok(made)
+    }
+
+    /// Makes room for further literals, so that there are so many.
+    pub(crate) fn grow(&mut self, count: usize) -> Result<(), MemoryError> {
+        for _ in self.lists.len()..count {
+            self.lists.push(Vec::new(self.alloc))?;
+        }
+        Ok(())
     }
 
     /// How many literals have lists.

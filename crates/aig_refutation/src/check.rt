@@ -579,7 +579,8 @@ fn check_clauses<R: Source>(
 ///
 /// The proof is read through a buffer of 16,384 bytes, up to the empty clause, and nothing is
 /// trusted of it. The memory is that of the clauses that are not deleted, a few times over, and
-/// four bytes for each number, and eight for each variable up to the largest that occurs.
+/// four bytes for each number. For each variable up to the largest that occurs there are eight
+/// bytes, and some 200 of a DRAT proof.
 pub fn check_refutation<R: Source>(
     alloc: Global,
     cnf: &DagCnf,
