@@ -1,6 +1,6 @@
 -- Words give one command.
-use Rattle.aig_base.proofs.Words.{◌≡◌, ℕ, List, [], ◌∷◌, refl, sym, ap, subst, ◌∙◌, arith}
-use Rattle.std.specs.Prelude.{All, Contains, Err, Ok, Result, codes}
+use Rattle.aig_base.proofs.Words.{◌≡◌, ◌↔◌, ℕ, ◌<◌, ◌≤◌, Option, Some, None, List, [], ◌∷◌, length, get_or, refl, sym, ap, subst, ◌∙◌, arith}
+use Rattle.std.specs.Prelude.{All, Contains, Err, IfNone, IfSome, Ok, Result, codes}
 use Rattle.aig_command_line.specs.declared.about.Question.{Question}
 use Rattle.aig_command_line.specs.declared.about.Question.TheVariants.{Usage, Version}
 use Rattle.aig_command_line.specs.About.{word_of}
@@ -10,7 +10,7 @@ use Rattle.aig_command_line.specs.declared.arguments.Step.TheVariants.{At}
 use Rattle.aig_command_line.specs.Ending.{ended}
 use Rattle.aig_command_line.specs.Limits.{IsLimited}
 use Rattle.aig_command_line.proofs.Apart as apart
-use Rattle.aig_format.specs.Text.{value_of}
+use Rattle.aig_format.specs.Text.{IsNumber, value_of}
 use Rattle.aig_command_line.proofs.Limits.{asked_alone, one_limit}
 use Rattle.aig_edit_commands.specs.declared.command.Action.{Action}
 use Rattle.aig_edit_commands.specs.declared.command.Action.TheVariants as actions
@@ -18,7 +18,7 @@ use Rattle.aig_edit_commands.specs.declared.command.Command.{Command}
 use Rattle.aig_edit_commands.specs.declared.command.TheConstants.Action.{ALL}
 use Rattle.aig_edit_commands.specs.declared.command.Command.TheVariants as commands
 use Rattle.aig_edit_commands.specs.declared.command.FileCommand.TheVariants as files
-use Rattle.aig_edit_commands.specs.Words.{IsCall, IsCommandOf, form_of, name_of, paths_of}
+use Rattle.aig_edit_commands.specs.Words.{IsCall, IsCommandOf, form_of, name_of}
 
 -- each command is in the list
 among : (a : Action) → Contains ALL a
@@ -53,6 +53,28 @@ one_number : (n m : ℕ) (words : List (List ℕ)) → AreStep At n words → Ar
 one_number n m words g h =
     let same : g.0 ≡ h.0 = same_word g.0 h.0 (sym g.1 ∙ h.1) in
     sym g.2.value ∙ ap value_of same ∙ h.2.value
+
+-- a list of one item
+pub one_item : {A : Type 0} (xs : List A) (x : A) → 1 ≤ length xs → length xs < 2 → x ≡ get_or xs 0 x
+    → xs ≡ x ∷ []
+one_item [] x some few is = absurd (omega (arith, some))
+one_item (y ∷ []) x some few is = ap (λ z. z ∷ []) (sym is)
+one_item (y ∷ z ∷ zs) x some few is = absurd (omega (arith, few))
+
+-- the number of one word
+module _ (word : List ℕ) (words : List (List ℕ)) (are : words ≡ word ∷ []) where
+  pub some_number : (o : Option ℕ) → ((k : ℕ) → (o ≡ Some k) ↔ IsNumber k word)
+      → IfSome o (λ n. AreStep At n words)
+  some_number (Some n) exact = (word, are, (exact n).0 refl)
+  some_number None exact = tt
+
+  pub no_number : (o : Option ℕ) → ((k : ℕ) → (o ≡ Some k) ↔ IsNumber k word)
+      → IfNone o ((n : ℕ) → ¬ AreStep At n words)
+  no_number (Some n) exact = tt
+  no_number None exact = λ n g.
+      let same = same_word g.0 word (sym g.1 ∙ are) in
+      let some = (exact n).1 (subst (IsNumber n) same g.2) in
+      cc
 
 -- a command with its words is one
 one_command : (a : Action) (k : ℕ) (further : List (List ℕ)) (c d : Command)
@@ -94,27 +116,6 @@ further_none words rest limit a x limited gives none other c paths g =
     let same = apart.one_fits name_of form_of ALL refl among rest g.action a g.arguments x (rw words_are.1 at g.gives) gives in
     none c (subst (λ (y : Arguments). IsCommandOf a y.step y.further c) same.1
     (subst (λ b. IsCommandOf b g.arguments.step g.arguments.further c) same.0 g.command))
-
--- a command is run on as many files as its form has paths
-pub as_many : (a : Action) (k : ℕ) (further : List (List ℕ)) (c : Command)
-    → IsCommandOf a k further c → (form_of a).paths ≡ paths_of c
-as_many actions.Rounds k further c is = rw is.2 refl
-as_many actions.Refine k further c is = rw is refl
-as_many actions.Reencode k further c is = rw is refl
-as_many actions.Unroll k further c is = rw is refl
-as_many actions.Move k further c is = rw is refl
-as_many actions.Compress k further c is = rw is refl
-as_many actions.Bads k further c is = rw is refl
-as_many actions.Property k further c is = rw is refl
-as_many actions.Possible k further c is = rw is refl
-as_many actions.Reduce k further c is = rw is refl
-as_many actions.Cone k further c is = rw is refl
-as_many actions.Question k further c is = rw is refl
-as_many actions.Live k further c is = rw is refl
-as_many actions.Info k further c is = rw is refl
-as_many actions.Miter k further c is = rw is refl
-as_many actions.Join k further c is = rw is refl
-as_many actions.Merge k further c is = rw is refl
 
 -- a question is no command
 pub no_command : (words : List (List ℕ)) (q : Question) (limit : ℕ) (c : Command)
