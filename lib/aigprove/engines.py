@@ -9,7 +9,6 @@ import shutil
 import threading
 
 from aigprove import aiger, witness
-from aigprove.plain import Plain
 from aigprove.programs import Fault, Folder, Sealed, ending
 from aigprove.questions import Question
 
@@ -188,23 +187,19 @@ class Abc:
 
     def run(self):
         self.race.progress(self.name)
-        found, invariant = self.answers(self.race.plain)
-        if found:
-            self.hand_in_run(found)
-        elif invariant:
-            self.hand_in(self.race.plain, invariant, self.race.source)
-
-    def answers(self, plain):
-        """What the command leaves of a plain machine: a counterexample and an invariant, where there are any."""
+        self.plain = self.race.plain
         command = COMMANDS[self.name].format(steps=0 if self.race.bound is None else self.race.bound + 1)
         with Folder(self.race.above) as folder:
             with folder.make("machine.aig") as out:
-                out.write(plain.binary())
+                out.write(self.plain.binary())
             status = folder.run(self.race.programs, [self.program, "-q", f"read_aiger machine.aig; {command}; write_cex -n run"])
             found, invariant = (self.read(folder, name) for name in ["run", "inv.pla"])
         if status != 0:
             raise Fault(f"ABC {ending(status)}")
-        return found, invariant
+        if found:
+            self.hand_in_run(found)
+        elif invariant:
+            self.hand_in_invariant(invariant)
 
     def read(self, folder, name):
         """The text of a file that ABC left, if it did."""
@@ -214,44 +209,24 @@ class Abc:
             return None
 
     def hand_in_run(self, found):
-        told = self.race.reached(*self.race.plain.run(found))
+        told = self.race.reached(*self.plain.run(found))
         if told is None:
             raise Fault("its counterexample reaches no bad state")
         self.race.hand_in_run(told.text().encode())
 
-    def hand_in(self, plain, invariant, source):
-        """Hands in what an invariant of the plain machine of a file shows."""
-        made = plain.certificate(invariant)
+    def hand_in_invariant(self, invariant):
+        made = self.plain.certificate(invariant)
         if made is None:
             raise Fault("its invariant isn't one of the machine")
-        Certificate(self.race, Sealed(made), source).run()
-
-
-class Rounds(Abc):
-    """ABC's pdr on files whose bad states are 1, 2, 4 and so on rounds of a justice property (k-liveness), up to one that reaches none: then
-    there is no fair run. Where a file reaches one, that says nothing."""
-
-    def __init__(self, race):
-        super().__init__("pdr", race)
-
-    def run(self):
-        for count in (1 << i for i in itertools.count()):
-            self.race.progress("rounds", count)
-            source = self.race.source.rounds(count)
-            plain = Plain(self.race.judge.circuit(source.asked, "FILE"))
-            found, invariant = self.answers(plain)
-            if not found:
-                if invariant:
-                    self.hand_in(plain, invariant, source)
-                return
+        Certificate(self.race, Sealed(made)).run()
 
 
 class Certificate(Asking):
-    """A certificate, sealed, of the file that is asked about, or of another that is made of it."""
+    """A certificate, sealed."""
 
-    def __init__(self, race, certificate, source=None):
+    def __init__(self, race, certificate):
         super().__init__(race)
-        self.certificate, self.source = certificate, source or race.source
+        self.certificate = certificate
 
     def run(self):
         """Has the certificate checked, by proofs about the file beside it, and hands it in."""
@@ -261,7 +236,7 @@ class Certificate(Asking):
             proofs = list(both.map(lambda command: self.solver.refute(Question(command, 0), joint), ["query", "window"]))
         claim = self.source.certified(self.certificate, *proofs)
         self.judge.check(claim)
-        self.race.certificate(claim, self.source)
+        self.race.certificate(claim)
 
 
 class Run:

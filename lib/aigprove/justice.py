@@ -41,7 +41,6 @@ class Justice(Asked):
 
     # What stands before lines of aigcheck, and by which command of aigedit the file is made.
     prefix, of_step, command = "live: ", "live: ", "live"
-    has_rounds = True
 
     def __init__(self, whole, number, is_alone=True):
         self.given, self.path, self.number, self.circuit, self.is_alone = whole.given, whole.path, number, whole.circuit, is_alone
@@ -53,10 +52,6 @@ class Justice(Asked):
     @functools.cached_property
     def asked(self):
         return self.given.judge.made(self.command, self.given.file, self.number)
-
-    def rounds(self, count):
-        """The file that counts so many rounds of it."""
-        return Rounds(self, count)
 
     def warnings(self):
         """A line of what the file has that nothing is asked about."""
@@ -136,20 +131,6 @@ class Justice(Asked):
         if not folder:
             self.given.keep(evidence)
         evidence.makes(self.name, self.asked, self.command, folder + self.given.name, str(self.number))
-
-
-class Rounds(Asked):
-    """The file whose bad states are so many rounds of a justice property. Where it reaches none, the property has no fair run."""
-
-    def __init__(self, justice, count):
-        self.justice, self.count, self.prefix = justice, count, f"{count} {'round' if count == 1 else 'rounds'}: "
-        self.name = f"justice-{justice.number}-rounds-{count}.aag"
-        self.asked = justice.given.judge.made("rounds", justice.given.file, justice.number, count)
-
-    def keep(self, evidence, folder=""):
-        """Keeps the file and the words that make it, of a file that is kept too, or that stands in a folder."""
-        name = folder + self.justice.given.name
-        evidence.makes(self.name, self.asked, "rounds", name, str(self.justice.number), str(self.count))
 
 
 def named(circuit, left):

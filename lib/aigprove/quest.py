@@ -73,11 +73,6 @@ class Quest(Race):
         if self.each.kept:
             self.kept().shows(claim)
 
-    def print_made(self, claim, source):
-        if self.each.kept and source is not self.source:
-            source.keep(self.kept(), ABOVE)
-        return self.print_safe(claim, source.prefix)
-
     def print_step(self, k, claim, prefix):
         status = super().print_step(k, claim, prefix)
         for answer in self.answers:

@@ -7,7 +7,7 @@ import threading
 import time
 
 from aigprove import aiger, files, met, plain, witness
-from aigprove.engines import COMMANDS, Abc, Bounded, Certificate, Missing, Rounds, Run, Steps, Windows
+from aigprove.engines import COMMANDS, Abc, Bounded, Certificate, Missing, Run, Steps, Windows
 from aigprove.evidence import Evidence
 from aigprove.minimal import minimal, simulated
 from aigprove.programs import Fault, Sealed, Stopped, reason, say, tell
@@ -110,9 +110,8 @@ class Race:
         self.windowed = k + 1
         self.hand_in(lambda: self.print_induction(window, claim))
 
-    def certificate(self, claim, source):
-        """Takes a claim by a certificate of the file that is asked about, or of another that is made of it."""
-        self.hand_in(lambda: self.print_made(claim, source))
+    def certificate(self, claim):
+        self.hand_in(lambda: self.print_safe(claim))
 
     def hand_in(self, answer):
         """Takes an answer of the engine whose thread this is."""
@@ -177,16 +176,10 @@ class Race:
         self.print_claim(window, self.source.prefix)
         return self.print_safe(claim)
 
-    def print_made(self, claim, source):
-        """Prints a claim about the file that is asked about, or about another that is made of it, which is kept first."""
-        if self.evidence and source is not self.source:
-            source.keep(self.evidence)
-        return self.print_safe(claim, source.prefix)
-
-    def print_safe(self, claim, prefix=None):
+    def print_safe(self, claim):
         """Prints a claim that no step has what is asked about; or one about a file that was made of others, and what follows of these."""
         safe = self.source.safe
-        self.print_claim(claim, "" if claim.line == safe else self.source.prefix if prefix is None else prefix, claim.line == safe)
+        self.print_claim(claim, "" if claim.line == safe else self.source.prefix, claim.line == safe)
         if claim.line != safe:
             self.print_line(safe, True)
             if self.evidence:
@@ -257,10 +250,9 @@ class Race:
             given["certificate"] = lambda: Certificate(self, words.certificate)
         if words.run:
             given["run"] = lambda: Run(self, words.run)
-        own = {"steps": Steps, "bounded": Bounded, "windows": Windows, "registers": Registers, "rounds": Rounds}
+        own = {"steps": Steps, "bounded": Bounded, "windows": Windows, "registers": Registers}
         own.update((name, functools.partial(Abc, name)) for name in COMMANDS)
-        names = [*words.engines, *["rounds"] * ("pdr" in words.engines and self.source.has_rounds)]
-        return given | {name: functools.partial(own[name], self) for name in names}
+        return given | {name: functools.partial(own[name], self) for name in words.engines}
 
     def start(self, name, make):
         """Starts an engine; whether it was."""
