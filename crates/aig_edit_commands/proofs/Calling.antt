@@ -55,8 +55,8 @@ one_number n m words g h =
     sym g.2.value ∙ ap value_of same ∙ h.2.value
 
 -- a list of one item
-pub one_item : {A : Type 0} (xs : List A) (x : A) → 1 ≤ length xs → length xs < 2 → x ≡ get_or xs 0 x
-    → xs ≡ x ∷ []
+pub one_item : {A : Type 0} (xs : List A) (x : A) → 1 ≤ length xs → length xs < 2
+    → x ≡ get_or xs 0 x → xs ≡ x ∷ []
 one_item [] x some few is = absurd (omega (arith, some))
 one_item (y ∷ []) x some few is = ap (λ z. z ∷ []) (sym is)
 one_item (y ∷ z ∷ zs) x some few is = absurd (omega (arith, few))
@@ -113,7 +113,8 @@ pub further_none : (words rest : List (List ℕ)) (limit : ℕ) (a : Action) (x 
     → (other : ℕ) (c : Command) (paths : List (List ℕ)) → ¬ IsCall words other c paths
 further_none words rest limit a x limited gives none other c paths g =
     let words_are = one_limit words other limit g.rest rest g.limited limited in
-    let same = apart.one_fits name_of form_of ALL refl among rest g.action a g.arguments x (rw words_are.1 at g.gives) gives in
+    let same = apart.one_fits name_of form_of ALL refl among rest g.action a g.arguments x
+    (rw words_are.1 at g.gives) gives in
     none c (subst (λ (y : Arguments). IsCommandOf a y.step y.further c) same.1
     (subst (λ b. IsCommandOf b g.arguments.step g.arguments.further c) same.0 g.command))
 
