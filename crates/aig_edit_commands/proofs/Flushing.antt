@@ -49,6 +49,8 @@ module _ {W : Type 0} (held : W → Option (List ℕ)) (write_failed : W → Boo
       (m, asks, appends_kept (held w) (held made) (held flat) _ grows keeps, sound)
   print_flushed (files.Live j) f u sound (m, is, grows, was) =
       (m, is, appends_kept (held w) (held made) (held flat) _ grows keeps, sound)
+  print_flushed (files.Rounds j count) f u sound (m, is, grows, was) =
+      (m, is, appends_kept (held w) (held made) (held flat) _ grows keeps, sound)
   print_flushed files.Info f u sound (text, is, grows, was) =
       (text, is, appends_kept (held w) (held made) (held flat) text grows keeps, sound)
 
@@ -60,4 +62,5 @@ module _ {W : Type 0} (held : W → Option (List ℕ)) (write_failed : W → Boo
   print_unflushed files.Reduction f u lost (m, is, grows, was) = (m, is, stops _ grows lost)
   print_unflushed (files.Question k) f u lost (m, asks, grows, was) = (m, asks, stops _ grows lost)
   print_unflushed (files.Live j) f u lost (m, is, grows, was) = (m, is, stops _ grows lost)
+  print_unflushed (files.Rounds j count) f u lost (m, is, grows, was) = (m, is, stops _ grows lost)
   print_unflushed files.Info f u lost (text, is, grows, was) = (text, is, stops text grows lost)

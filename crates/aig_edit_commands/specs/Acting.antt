@@ -28,6 +28,7 @@ use Rattle.aig_edits.specs.Parts.{AreListsOfBoth}
 use Rattle.aig_edits.specs.Lives.{PrintsLive}
 use Rattle.aig_edits.specs.Questions.{PrintsQuestion}
 use Rattle.aig_edits.specs.Reductions.{PrintsReduction}
+use Rattle.aig_edits.specs.Rounds.{PrintsRounds}
 use Rattle.aig_format.specs.File.{File}
 use Rattle.aig_reader.specs.declared.error.ReadError.{ReadError}
 use Rattle.aig_reader.specs.declared.error.ReadError.TheVariants as read
@@ -135,6 +136,7 @@ Prints held failed limit (files.Edit edit) w made = PrintsEdit held failed edit 
 Prints held failed limit files.Reduction w made = PrintsReduction held failed w made
 Prints held failed limit (files.Question k) w made = PrintsQuestion held failed k limit w made
 Prints held failed limit (files.Live j) w made = PrintsLive held failed j w made
+Prints held failed limit (files.Rounds j count) w made = PrintsRounds held failed j count w made
 Prints held failed limit files.Info w made = PrintsInfo held failed w made
 
 -- the place of an error: where reading the file stopped, or the file as a whole

@@ -3,7 +3,7 @@
 use Rattle.std.specs.Prelude.{◌≡◌, ℕ, List, codes}
 use Rattle.aig_command_line.specs.declared.arguments.Form.{Form}
 use Rattle.aig_command_line.specs.declared.arguments.Step.TheVariants.{At}
-use Rattle.aig_command_line.specs.Arguments.{Arguments, Gives, of_paths}
+use Rattle.aig_command_line.specs.Arguments.{AreStep, Arguments, Gives, of_paths}
 use Rattle.aig_command_line.specs.Limits.{IsLimited}
 use Rattle.aig_edits.specs.declared.edit.Edit.{Edit}
 use Rattle.aig_edits.specs.declared.edit.Edit.TheVariants as edits
@@ -28,18 +28,20 @@ name_of actions.Reduce = codes "reduce"
 name_of actions.Cone = codes "cone"
 name_of actions.Question = codes "question"
 name_of actions.Live = codes "live"
+name_of actions.Rounds = codes "rounds"
 name_of actions.Info = codes "info"
 name_of actions.Miter = codes "miter"
 name_of actions.Join = codes "join"
 name_of actions.Merge = codes "merge"
 
--- what comes after it: FILE; FILE and a number; two paths
+-- what comes after it: FILE; FILE and a number; FILE and two; two paths
 abbrev pub form_of : Action → Form
 form_of actions.Unroll = record (of_paths 1) { step = At }
 form_of actions.Property = record (of_paths 1) { step = At }
 form_of actions.Cone = record (of_paths 1) { step = At }
 form_of actions.Question = record (of_paths 1) { step = At }
 form_of actions.Live = record (of_paths 1) { step = At }
+form_of actions.Rounds = record (of_paths 1) { step = At; further = 1 }
 form_of actions.Miter = of_paths 2
 form_of actions.Join = of_paths 2
 form_of actions.Merge = of_paths 2
@@ -63,10 +65,17 @@ command_of actions.Reduce k = commands.File files.Reduction
 command_of actions.Cone k = edit_by (edits.Cone k)
 command_of actions.Question k = commands.File (files.Question k)
 command_of actions.Live k = commands.File (files.Live k)
+command_of actions.Rounds k = commands.File (files.Rounds k 0)
 command_of actions.Info k = commands.File files.Info
 command_of actions.Miter k = commands.Pair pairings.Miter
 command_of actions.Join k = commands.Pair pairings.Certificate
 command_of actions.Merge k = commands.Pair pairings.Merge
+
+-- the command, with its numbers: of `rounds` the second is the further word, and no other takes one
+abbrev pub IsCommandOf : Action → ℕ → List (List ℕ) → Command → Type 0
+IsCommandOf actions.Rounds k further c =
+    (count : ℕ) × AreStep At count further × (c ≡ commands.File (files.Rounds k count))
+IsCommandOf action k further c = c ≡ command_of action k
 
 -- how many files it is run on
 abbrev pub paths_of : Command → ℕ
@@ -81,5 +90,5 @@ pub record IsCall (words : List (List ℕ)) (limit : ℕ) (c : Command) (paths :
     pub action : Action
     pub arguments : Arguments
     pub gives : Gives (name_of action) (form_of action) rest arguments
-    pub command : c ≡ command_of action arguments.step
+    pub command : IsCommandOf action arguments.step arguments.further c
     pub on : paths ≡ arguments.paths

@@ -30,7 +30,7 @@ use aig_command_line::{
 };
 use aig_edits::{
     EditError, PairError, Pairing, write_edit, write_info, write_joint, write_live, write_question,
-    write_reduction,
+    write_reduction, write_rounds,
 };
 use aig_format_laws::files_are_circuits;
 use aig_reader::ReadError;
@@ -40,8 +40,8 @@ use thiserror::Error;
 /// How the program is used.
 pub const USAGE: &str =
     "usage: aigedit [--limit N] refine FILE, reencode FILE, unroll FILE K, move FILE, compress FILE, bads FILE, \
-    property FILE N, possible FILE, reduce FILE, cone FILE N, question FILE K, live FILE J, info FILE, miter FILE OTHER, \
-    join FILE CERT, merge FILE OTHER";
+    property FILE N, possible FILE, reduce FILE, cone FILE N, question FILE K, live FILE J, rounds FILE J N, info FILE, \
+    miter FILE OTHER, join FILE CERT, merge FILE OTHER";
 
 /// Its version.
 pub const VERSION: &str = "aigedit 0.1.0";
@@ -109,6 +109,7 @@ fn write_made<W: Sink>(
         FileCommand::Reduction => write_reduction(alloc, &CircuitView::new(&lists), w),
         FileCommand::Question(k) => write_question(alloc, *k, &CircuitView::new(&lists), limit, w),
         FileCommand::Live(j) => write_live(alloc, *j, &CircuitView::new(&lists), w),
+        FileCommand::Rounds(j, n) => write_rounds(alloc, *j, *n, &CircuitView::new(&lists), w),
         FileCommand::Info => write_info(alloc, &CircuitView::new(&lists), w),
     }
 }

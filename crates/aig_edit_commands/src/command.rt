@@ -2,10 +2,12 @@
 
 ghost use Rattle.std.specs.Prelude.{◌≡◌, List, ℕ, IfNone, IfSome, length, map, string_bytes};
 ghost use Rattle.aig_command_line.specs.Limits.{IsLimit};
-ghost use Rattle.aig_edit_commands.specs.Words.{IsCall, command_of, edit_by, form_of, name_of, paths_of};
+ghost use Rattle.aig_command_line.specs.Arguments.{AreStep};
+ghost use Rattle.aig_command_line.specs.declared.arguments.Step.TheVariants.{At};
+ghost use Rattle.aig_edit_commands.specs.Words.{IsCall, IsCommandOf, command_of, edit_by, form_of, name_of, paths_of};
 ghost use Rattle.aig_edit_commands.specs.declared.command.Command.{Command};
 
-use aig_command_line::{Form, HasForm, Step, find, limited};
+use aig_command_line::{Form, HasForm, Step, find, limited, steps};
 use aig_edits::{Edit, Pairing};
 
 /// What the program is asked to do with one file.
@@ -19,6 +21,8 @@ pub enum FileCommand {
     Question(usize),
     /// Print the file whose bad states are the fair lassos of this justice property.
     Live(usize),
+    /// Print the file whose bad states are rounds of this justice property, so many of them.
+    Rounds(usize, usize),
     /// Print its counts.
     Info,
 }
@@ -59,6 +63,8 @@ pub enum Action {
     Question,
     /// `live FILE J`: print the file whose bad states are the fair lassos of justice property J of a file.
     Live,
+    /// `rounds FILE J N`: print the file whose bad states are N rounds of justice property J of a file.
+    Rounds,
     /// `info FILE`: print the counts of a file.
     Info,
     /// `miter FILE OTHER`: print the miter of two files.
@@ -74,6 +80,15 @@ const NUMBERED: Form = Form {
     paths: 1,
     step: Step::At,
     further: 0,
+    distinct: false,
+    raw: false,
+};
+
+/// The form of a command on FILE and two numbers, of which the second is a further word.
+const COUNTED: Form = Form {
+    paths: 1,
+    step: Step::At,
+    further: 1,
     distinct: false,
     raw: false,
 };
@@ -97,6 +112,7 @@ impl HasForm for Action {
             Action::Cone => "cone",
             Action::Question => "question",
             Action::Live => "live",
+            Action::Rounds => "rounds",
             Action::Info => "info",
             Action::Miter => "miter",
             Action::Join => "join",
@@ -108,6 +124,7 @@ impl HasForm for Action {
         match self {
             Action::Unroll | Action::Property | Action::Cone | Action::Question | Action::Live =>
                 NUMBERED,
+            Action::Rounds => COUNTED,
             Action::Miter | Action::Join | Action::Merge => Form::of_paths(2),
             _ => Form::of_paths(1),
         }
@@ -116,7 +133,7 @@ impl HasForm for Action {
 
 impl Action {
     /// Each of them.
-    const ALL: [Action; 16] = [
+    const ALL: [Action; 17] = [
         Action::Refine,
         Action::Reencode,
         Action::Unroll,
@@ -129,14 +146,15 @@ impl Action {
         Action::Cone,
         Action::Question,
         Action::Live,
+        Action::Rounds,
         Action::Info,
         Action::Miter,
         Action::Join,
         Action::Merge,
     ];
 
-    /// The command, with its number.
-    fn command(self, k: usize) -> Command
+    /// The command with its number, where it takes no further word.
+    fn numbered(self, k: usize) -> Command
         ensures { result ≡ command_of self k }
     {
         match self {
@@ -152,11 +170,35 @@ impl Action {
             Action::Cone => edit_by(Edit::Cone(k)),
             Action::Question => Command::File(FileCommand::Question(k)),
             Action::Live => Command::File(FileCommand::Live(k)),
+            Action::Rounds => Command::File(FileCommand::Rounds(k, 0)),
             Action::Info => Command::File(FileCommand::Info),
             Action::Miter => Command::Pair(Pairing::Miter),
             Action::Join => Command::Pair(Pairing::Certificate),
             Action::Merge => Command::Pair(Pairing::Merge),
         }
+    }
+
+    /// The command, with its number and further words, or none where these are no number that it takes.
+    fn command(self, k: usize, further: &[String]) -> Option<Command>
+        ensures some { IfSome result (IsCommandOf self k (map string_bytes further.now)) }
+        ensures none { IfNone result ((c : Command)
+            → ¬ IsCommandOf self k (map string_bytes further.now) c) }
+    {
+        match self {
+            Action::Rounds => Some(Command::File(FileCommand::Rounds(k, counted(further)?))),
+            _ => Some(self.numbered(k)),
+        }
+    }
+}
+
+/// The number that one word gives, where it is the only one.
+fn counted(words: &[String]) -> Option<usize>
+    ensures some { IfSome result (λ n. AreStep At n (map string_bytes words.now)) }
+    ensures none { IfNone result ((n : ℕ) → ¬ AreStep At n (map string_bytes words.now)) }
+{
+    match words {
+        [word] => steps(word.as_str()),
+        _ => None,
     }
 }
 
@@ -190,9 +232,10 @@ pub fn call_of(words: &[String]) -> Option<Call<'_>>
 {
     let (limit, rest) = limited(words)?;
     let (action, given) = find(&Action::ALL, rest)?;
+    let command = action.command(given.step, given.further)?;
     Some(Call {
         limit,
-        command: action.command(given.step),
+        command,
         paths: given.paths,
     })
 }

@@ -16,3 +16,7 @@ returns-in-Question-clause-prints g c = λ f bound fits is. rw c.in-Question.is
 pub returns-in-Live-clause-prints : goal.returns-in-Live-clause-prints
 returns-in-Live-clause-prints g c = λ f bound fits is. rw c.in-Live.is
     (c.write_live.ensures.prints f bound fits (c.new-in-Live.ensures ∙ is))
+
+pub returns-in-Rounds-clause-prints : goal.returns-in-Rounds-clause-prints
+returns-in-Rounds-clause-prints g c = λ f bound fits is. rw c.in-Rounds.is
+    (c.write_rounds.ensures.prints f bound fits (c.new-in-Rounds.ensures ∙ is))

@@ -1,5 +1,5 @@
 use Rattle.std.proofs.Common.{refl}
-use Rattle.aig_edit_commands.proofs.Calling.{fits_none}
+use Rattle.aig_edit_commands.proofs.Calling.{fits_none, further_none}
 use Rattle.aig_edit_commands.proofs.command.call_of.Goals as goal
 
 pub returns-in_err-limit-clause-none : goal.returns-in_err-limit-clause-none
@@ -12,6 +12,12 @@ returns-in_err-action-clause-none c =
     rw c.from_residual-in_err-action.ensures
     (fits_none _ _ c.in_ok-limit.limit c.in_ok-limit.ensures.some c.in_err-action.ensures.none)
 
+pub returns-in_err-command-clause-none : goal.returns-in_err-command-clause-none
+returns-in_err-command-clause-none c =
+    rw c.from_residual-in_err-command.ensures
+    (further_none _ _ c.in_ok-limit.limit c.in_ok-action.action _ c.in_ok-limit.ensures.some
+    c.in_ok-action.ensures.some c.in_err-command.ensures.none)
+
 pub returns-clause-some : goal.returns-clause-some
 returns-clause-some c = record {
   rest = _;
@@ -19,6 +25,6 @@ returns-clause-some c = record {
   action = c.in_ok-action.action;
   arguments = _;
   gives = c.in_ok-action.ensures.some;
-  command = c.command.ensures;
+  command = c.in_ok-command.ensures.some;
   on = refl;
 }
