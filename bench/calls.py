@@ -72,7 +72,7 @@ def main():
     words.add_argument("--kind", default="random")
     words.add_argument("files", type=pathlib.Path, nargs="*")
     given = words.parse_args()
-    os.environ.setdefault("LIBAIG", str(TOP / "crates" / "aig_c" / "out" / "libaig.so"))
+    os.environ.setdefault("LIBAIG", str(TOP / "crates" / "aig_calls" / "out" / "libaig.so"))
     sys.path.insert(0, str(TOP / "lib" / "python"))
     import aig
 

@@ -124,8 +124,8 @@ enum aig_status {
   AIG_SOLUTION_NO_BAD = 88,        /* No bad state property is true at the last step. */
 
   /* Added to a status of a call on two files: what is refused so. Without any it is the first file, or memory. */
-  AIG_OTHER = 256,  /* The second file. */
-  AIG_QUERY = 512,  /* The query of the circuit of the two, or its proof. */
+  AIG_OTHER = 256,   /* The second file. */
+  AIG_QUERY = 512,   /* The query of the circuit of the two, or its proof. */
   AIG_WINDOW = 1024 /* The window of the circuit of the two, or its proof. */
 };
 

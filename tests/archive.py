@@ -1,9 +1,9 @@
 #!/usr/bin/env python3
 """Builds the library for C from what a run of the gate proved: archive.py [FOLDER]
 
-Puts libaig.a and libaig.so into crates/aig_c/out, if they aren't there of this text, and into the folder. `aig_c` is proved and
+Puts libaig.a and libaig.so into crates/aig_calls/out, if they aren't there of this text, and into the folder. `aig_calls` is proved and
 compiled over the libraries that `rt` built of the crates below it, as they are: so a run of `rt ci` has to come before, or `rt lib` in
-crates/aig_c. Nothing below is proved again. What C's heap takes is linked in, and both files have the names of include/aig.h alone.
+crates/aig_calls. Nothing below is proved again. What C's heap takes is linked in, and both files have the names of include/aig.h alone.
 
 Needs a C compiler ($CC, cc) and binutils.
 """
@@ -19,7 +19,7 @@ import sys
 import kit
 from harness import TOP, new_folder
 
-CRATE = TOP / "crates" / "aig_c"
+CRATE = TOP / "crates" / "aig_calls"
 HEADER = TOP / "include" / "aig.h"
 BUILT = ["libaig.a", "libaig.so"]
 
@@ -39,16 +39,16 @@ def compile_crate(crate, to):
     if stale := kit.stale(crate):
         sys.exit(f"archive: run rt ci first: {stale[0]} isn't built as it is now, of {len(stale)}")
     if crate.compile(["--jobs", "1"], str(to)):
-        sys.exit("archive: aig_c didn't build")
+        sys.exit("archive: aig_calls didn't build")
 
 
 def build(crate, folder):
     """Puts both libraries into the folder."""
     compiler = shlex.split(os.environ.get("CC") or "cc")
     with new_folder() as made:
-        compile_crate(crate, made / "libaig_c.a")
+        compile_crate(crate, made / "libaig_calls.a")
         (made / "names").write_text("\n".join(names()) + "\n", encoding="utf-8")
-        whole = ["--whole-archive", made / "libaig_c.a", "--no-whole-archive", kit.tools() / "c" / "liblibc_c.a"]
+        whole = ["--whole-archive", made / "libaig_calls.a", "--no-whole-archive", kit.tools() / "c" / "liblibc_c.a"]
         run("ld", "-r", "-o", made / "all.o", *whole)
         run("objcopy", f"--keep-global-symbols={made / 'names'}", made / "all.o", made / "aig.o")
         run("ar", "rcsD", made / "libaig.a", made / "aig.o")

@@ -3,7 +3,7 @@
 
 The rows were worked by hand (answers.py), and so were those of clients/rows.tsv, of the calls that no program makes. From C each answer is
 asked for with no room, with as much as it takes and with one item less, and nothing else may be written; and each request for memory of
-each call is refused in turn, as memory.py does it to the programs. The header, the exports and what the clients declare are held
+each call is refused in turn, as memory.py does it to the programs. The header, the exports and what lib/clients.py makes are held
 together, with the words of each status (clients/statuses.tsv), and the names that libaig.so has for others.
 
 C and Python are run everywhere; with --tools C++ and Rust too, where there are g++ and cadical's header, and rustc.
@@ -33,41 +33,25 @@ NUMBERED = [
     (rb"\bup to step \d+\n", b"up to the step\n"),
     (rb"\bdo not fit: \d+ and \d+ [a-z ]+\n", b"do not fit\n"),
 ]
-# The commands of the programs that have a call.
-CALLED = "text strash cnf query clauses window refuted inductive witness run certified equal miter join merge obligations bounded".split()
-# The edits among them, with the names of their calls.
-EDITS = {name: name for name in "refine reencode unroll possible cone reduce question info".split()}
-EDITS |= {"move": "move_constraints", "compress": "compress_bads", "bads": "outputs_as_bads", "property": "property_alone"}
-# Those that take the setting of clauses.
+# The calls of the programs' commands, where these have other names: behind ` to` those for all steps up to one.
+CALLS = {name: name for name in "text strash cnf query clauses window witness bounded miter join merge obligations".split()}
+CALLS |= {name: name for name in "refine reencode unroll possible cone reduce question info".split()}
+CALLS |= {"move": "move_constraints", "compress": "compress_bads", "bads": "outputs_as_bads", "property": "property_alone"}
+CALLS |= {name: f"check_{name}" for name in "refuted inductive run certified equal".split()}
+CALLS |= {"refuted to": "check_refuted_to", "witness to": "witness_to"}
+CALLS |= {"numbers": "query_numbers", "binary": "binary"}
+# Those that return nothing, whose line is the program's.
+SILENT = "refuted inductive certified equal".split()
+# The settings that they take: of clauses, and of windows.
 SET = "cnf query clauses numbers window bounded refuted inductive witness certified equal obligations".split()
+DISTINCT = ["window", "inductive"]
 # The statuses that say what another one is about.
 ADDED = ["OTHER", "QUERY", "WINDOW"]
 # The words of a command that name no file.
 WORDS = ["raw", "distinct", "to"]
-# The calls of Python that aren't named as their commands, by the latter; and what those show that return nothing.
-OF_PYTHON = EDITS | {"run": "check_run", "numbers": "query_numbers", "witness to": "witness_to"}
-SHOWN = {
-    "refuted": "no bad state at step {}\n",
-    "refuted to": "no bad state up to step {}\n",
-    "inductive": "no bad state at any step, if none up to step {}\n",
-    "equal": "equal at step {}\n",
-    "certified": "no bad state at any step\n",
-}
-OF_PYTHON |= {command: f"check_{command.replace(' ', '_')}" for command in SHOWN}
 # The types of C that parameters have, by those of Rust; a slice is followed by its length, and is a pointer to its caller.
 C_TYPES = {"&mut usize": "size_t*", "usize": "size_t", "u64": "uint64_t", "u32": "uint32_t", "bool": "bool"}
 SLICES = {"&[u8]": "const uint8_t*", "&mut [u8]": "uint8_t*", "&mut [i32]": "int32_t*"}
-POINTERS = {"*const u8": "const uint8_t*", "*mut u8": "uint8_t*", "*mut i32": "int32_t*", "*mut usize": "size_t*"}
-# And those of Python, in which a uint64_t is a size_t and nothing is const.
-PYTHON_TYPES = {
-    ctypes.c_char_p: "uint8_t*",
-    ctypes.POINTER(ctypes.c_uint8): "uint8_t*",
-    ctypes.POINTER(ctypes.c_int32): "int32_t*",
-    ctypes.POINTER(ctypes.c_size_t): "size_t*",
-    ctypes.c_size_t: "size_t",
-    ctypes.c_uint32: "uint32_t",
-    ctypes.c_bool: "bool",
-}
 # The statuses of a section or of a kind are told by the first of these.
 FIRST = {"PROOF": "PROOF_CLAUSES", "WITNESS": "WITNESS_STATUS", "SHOW": "SHOW_LATCHES", "SOLUTION": "SOLUTION_UNSATISFIABLE"}
 SECTIONS = ["INPUTS", "LATCHES", "OUTPUTS", "BADS", "CONSTRAINTS", "JUSTICE", "FAIRNESS", "GATES"]
@@ -81,26 +65,30 @@ def table_rows():
     """Rows of the programs' tables that have a call: not those of wrong words, and not those of paths that can't be read. Those of clauses
     are rows of `numbers` too: the comments that the map says are those that the program prints."""
     for table, form in answers.TABLES.items():
+        path = TESTS / table
         # The call takes witnesses of bad states alone.
         if table == "witnesses/lassos.tsv":
             continue
-        path = TESTS / table
         for row in harness.rows(path):
             words, given, printed = map(repeated, row[:3])
-            program, *words = shlex.split(form.format(words))
-            known = [(path.parent / word).is_file() or word in ("GIVEN", *WORDS) or word.isdigit() for word in words[1:]]
-            # The call `equal` is about one step.
-            if words[:1] == ["equal"] and "to" in words:
-                continue
-            if printed != "usage" and all(known) and len(words) > 1 and words[0] in [*CALLED, *EDITS]:
-                for command in ["clauses", "numbers"] if words[0] == "clauses" else words[:1]:
-                    yield path.parent, program, [command, *words[1:]], spelled(given), printed
+            program, command, *words = [*shlex.split(form.format(words)), ""]
+            words = words[:-1]
+            known = [(path.parent / word).is_file() or word in ("GIVEN", *WORDS) or word.isdigit() for word in words]
+            if printed != "usage" and all(known) and words and name_of(command, words) in CALLS:
+                for name in ["clauses", "numbers"] if command == "clauses" else [command]:
+                    yield path.parent, program, [name, *words], spelled(given), printed
 
 
-def told(program, printed):
+def name_of(command, words):
+    """The name of a command and of its form, as CALLS has it."""
+    return command + " to" * ("to" in words)
+
+
+def told(program, words, printed):
     """What a row's words give through a call: the status, the output and what is said, without what a status can't tell and what a program
     tells beside its answer."""
     status, out, said = answers.wanted_of(program, spelled(printed))
+    out = b"" if words[0] in SILENT else out
     said = harness.alone(said)
     for numbered, plain in NUMBERED:
         said = re.sub(numbered, plain, said)
@@ -151,16 +139,18 @@ class Clients:
         """What a client gives for each row of the programs' tables, with the row."""
         for place, program, words, given, printed in table_rows():
             (self.folder / "GIVEN").write_bytes(given)
-            placed = [str(self.folder / word) if word == "GIVEN" else word for word in words]
-            ended = harness.run([*client, *[program] * named, *placed], cwd=place)
-            yield f"{program} {' '.join(words)}: {given[:300]}", program, printed, ended
+            placed = [str(self.folder / word) if word == "GIVEN" else word for word in words[1:]]
+            ended = harness.run([*client, *[program] * named, CALLS[name_of(words[0], words)], *placed], cwd=place)
+            yield f"{program} {' '.join(words)}: {given[:300]}", program, told(program, words, printed), ended
 
     def check_c(self):
         calls = self.build_c("calls")
-        for what, program, printed, given in self.run_rows(calls):
-            self.tally.wants(f"C: {what}", told(program, printed), given)
-        for words, printed in self.rows:
-            self.tally.wants(f"C: {words}", told("calls", printed), harness.run([calls, "calls", *words.split()], cwd=self.folder))
+        for what, _, wanted, given in self.run_rows(calls):
+            self.tally.wants(f"C: {what}", wanted, given)
+        for line, printed in self.rows:
+            words = line.split()
+            given = harness.run([calls, "calls", CALLS[name_of(words[0], words)], *words[1:]], cwd=self.folder)
+            self.tally.wants(f"C: {line}", told("calls", words, printed), given)
 
     def check_memory(self):
         """Refuses each request for memory of each call."""
@@ -174,20 +164,19 @@ class Clients:
         self.tally.check(all(int(count) > 0 for count in made.values()), f"each call takes memory: {made}")
 
     def check_header(self):
-        """Holds the header, the exports, the names of libaig.so and what Rust declares together."""
+        """Holds the header, the exports, the names of libaig.so and what is made of the header together."""
         in_c = declared(r"^uint32_t (\w+)\(([^)]*)\);", source("include", "aig.h"))
-        self.types = {name: [re.sub(r"\s*\w+$", "", it).replace(" *", "*") for it in found] for name, found in in_c.items()}
+        types = {name: [re.sub(r"\s*\w+$", "", it).replace(" *", "*") for it in found] for name, found in in_c.items()}
         names = {name: [re.findall(r"\w+", it)[-1] for it in found] for name, found in in_c.items()}
-        exports = declared(r'^pub extern "C" fn (\w+)\(([^)]*)\) -> u32', source("crates", "aig_c", "src", "lib.rt"))
+        text = "".join(path.read_text(encoding="utf-8") for path in sorted((TOP / "crates" / "aig_calls" / "src").glob("*.rt")))
+        exports = declared(r'^pub extern "C" fn (\w+)\(([^)]*)\) -> u32', text)
         pairs = {name: [pair for it in found[1:] for pair in exported(it)] for name, found in exports.items()}
-        for i, what, wanted in [(1, "types", self.types), (0, "names", names)]:
+        for i, what, wanted in [(1, "types", types), (0, "names", names)]:
             given = {name: [pair[i] for pair in found] for name, found in pairs.items()}
             self.tally.wants(f"the header's {what} and the exports'", given, wanted)
         shared = harness.output(["nm", "-D", "--defined-only", str(self.folder / "libaig.so")])
         self.tally.wants("the names of libaig.so", sorted(in_c), sorted(line.split()[-1] for line in shared.splitlines()))
-        in_rust = declared(r"pub fn (\w+)\(([^)]*)\) -> u32;", source("lib", "rust", "src", "calls.rs"))
-        types = {name: [(POINTERS | C_TYPES)[it.split(": ")[1]] for it in found] for name, found in in_rust.items()}
-        self.tally.wants("what Rust declares", self.types, types)
+        self.tally.wants("what is made of the header", (0, b"", b""), harness.run([TOP / "lib" / "clients.py", "--check"]))
 
     def check_statuses(self):
         """Holds the header's statuses and the library's together."""
@@ -215,12 +204,11 @@ class Clients:
         aig = importlib.import_module("aig")
         self.check_words(aig)
         for place, program, words, given, printed in table_rows():
-            self.tally.wants(f"Python: {program} {' '.join(words)}", told(program, printed), by_python(aig, place, program, words, given))
-        for words, printed in self.rows:
-            self.tally.wants(f"Python: {words}", told("calls", printed), by_python(aig, self.folder, "calls", words.split(), b""))
-        wanted = {name: [it.removeprefix("const ").replace("uint64_t", "size_t") for it in found] for name, found in self.types.items()}
-        declared_here = {name: [PYTHON_TYPES[kind] for kind in takes] for name, takes in aig._TAKES.items()}
-        self.tally.wants("what Python declares", wanted, declared_here)
+            wanted = told(program, words, printed)
+            self.tally.wants(f"Python: {program} {' '.join(words)}", wanted, by_python(aig, place, program, words, given))
+        for line, printed in self.rows:
+            words = line.split()
+            self.tally.wants(f"Python: {line}", told("calls", words, printed), by_python(aig, self.folder, "calls", words, b""))
 
     def check_page(self):
         """Installs the library, and runs the programs of docs/CALLING.md as a user does."""
@@ -248,8 +236,7 @@ class Clients:
         subprocess.run([*words, "--crate-type", "rlib", "--crate-name", "aig", TOP / "lib/rust/src/lib.rs", "-o", rlib], check=True)
         linked = ["--extern", f"aig={rlib}", "-L", f"native={self.folder}", "-l", "static=aig"]
         subprocess.run([*words, *linked, CLIENTS / "rows.rs", "-o", rows], check=True)
-        for what, program, printed, given in self.run_rows(rows, named=False):
-            status, out, said = told(program, printed)
+        for what, program, (status, out, said), given in self.run_rows(rows, named=False):
             self.tally.wants(f"Rust: {what}", (status, out, said.replace(program.encode() + b":", b"rows:", 1)), given)
 
     def check_cpp(self):
@@ -283,14 +270,14 @@ def text_of(clauses):
 def by_python(aig, place, program, words, given):
     """How a command ends through the Python module, as its program would. Its calls take what the words name in the same order."""
     command, file, *rest = words
-    settings = {"optimize": "raw" not in rest} if command in SET else {}
-    if command in ("window", "inductive"):
+    name = name_of(command, words)
+    settings = {"optimize": "raw" not in rest} if name in SET or name in ("refuted to", "witness to") else {}
+    if name in DISTINCT:
         settings["distinct"] = "distinct" in rest
     read = lambda path: given if path == "GIVEN" else (place / path).read_bytes()
     taken = [read(file), *(int(word) if word.isdigit() else read(word) for word in rest if word not in WORDS)]
-    command += " to" * ("to" in rest)
     try:
-        out = getattr(aig, OF_PYTHON.get(command, command))(*taken, **settings)
+        out = getattr(aig, CALLS[name])(*taken, **settings)
     except aig.Settled as refusal:
         return 20, b"", f"{program}: {refusal}\n".encode()
     except aig.Refused as refusal:
@@ -299,9 +286,7 @@ def by_python(aig, place, program, words, given):
         out = text_of(out).encode()
     elif command == "run":
         out = b"b%d at step %d\n" % out
-    elif out is None:
-        out = SHOWN[command].format(*(word for word in taken if isinstance(word, int))).encode()
-    return 0, out, b""
+    return 0, out or b"", b""
 
 
 def main():

@@ -1,7 +1,7 @@
 #!/usr/bin/env python3
 """What is promised, and which definitions that rests on: promises.py [--list | --mark]
 
-A promise is a clause of a public contract: of a function that the root of a crate below exports, of a method or trait of a type
+A promise is a clause of a public contract: of a function that the root of a crate below exports, or a module to C, of a method or trait of a type
 that is exported or that such a function names, and what contracts see of a value of that type. A law is an exported function
 without parameters and result; those of all crates count but of one that serves proofs alone. Each word of a clause is followed
 by the `use` lines to the definition in specs/, and on through the words of that.
@@ -27,7 +27,7 @@ CALLS = [
     ("with checked answers, witnesses and DIMACS", [
         *("aig_answers", "aig_bounded", "aig_bounded_answers", "aig_safety", "aig_equality", "aig_edits", "aig_certificates", "aig_refutation"),
         *("aig_witness", "aig_fair", "aig_solutions", "aig_dimacs")]),
-    ("from C", ["aig_calls", "aig_c"]),
+    ("from C", ["aig_calls"]),
 ]
 LAWS = "with the laws"
 # The crates that pass on what their promises rest on, each but for what those before it do.
@@ -46,6 +46,7 @@ USE = re.compile(r"^[ ]*(?:pub )?(?:ghost )?use Rattle\.([\w.]+?)(?:\.\{([^}]*)\
 DEFINES = re.compile(r"^(?:pub )?(?:abbrev|unfoldable|record|data)(?: pub)? (\S+)")
 IMPORT = re.compile(r"\b(pub )?use ([\w:]+?)::(?:\{([^}]*)\}|(\w+));")
 FUNCTION = re.compile(r"^pub (?:extern\s+)?fn (\w+)", re.M)
+EXPORTED = re.compile(r"^pub extern\s+fn (\w+)", re.M)
 
 
 def files_below(folder, *endings):
@@ -183,7 +184,8 @@ class Code:
         """The names that a crate's root exports, each with the crate that has it."""
         text = plain(next(path for path in (folder / "lib.rt", folder / "main.rt") if path.exists()))
         passed_on = [(owner if owner in self.crates else crate, name) for owner, name, is_passed_on in used(text) if is_passed_on]
-        return passed_on + [(crate, name) for name in FUNCTION.findall(text)]
+        in_modules = [name for path in files_below(folder, ".rt") if path.name != "lib.rt" for name in EXPORTED.findall(plain(path))]
+        return passed_on + [(crate, name) for name in FUNCTION.findall(text) + in_modules]
 
     def add(self, crate, text):
         """Takes what a file of code has."""

@@ -17,45 +17,15 @@ import os
 import pathlib
 from typing import NamedTuple
 
-__all__ = [
-    "Clauses", "Refused", "Settled", "Shown", "binary", "bounded", "check_certified", "check_equal", "check_inductive", "check_refuted",
-    "check_refuted_to", "check_run", "clauses", "cnf", "compress_bads", "cone", "info", "join", "merge", "miter", "move_constraints",
-    "obligations", "outputs_as_bads", "possible", "property_alone", "query", "query_numbers", "question", "reduce", "reencode", "refine",
-    "strash", "text", "unroll", "window", "witness", "witness_to",
-]
+__all__ = "Clauses Refused Settled Shown check_run query_numbers".split()
 
 DONE, SMALL, MEMORY, SETTLED = 0, 1, 2, 32
 
 _here = pathlib.Path(__file__).resolve().parent
 _library = ctypes.CDLL(os.environ.get("LIBAIG", str(_here.parent / "libaig.so")))
 _size, _bool, _step = ctypes.c_size_t, ctypes.c_bool, ctypes.c_uint64
-_BYTES = [ctypes.c_char_p, _size]
-_STEP = [_step, _bool]
-_OUT = [ctypes.POINTER(ctypes.c_uint8), _size, ctypes.POINTER(_size)]
-_NUMBERS_OUT = [ctypes.POINTER(ctypes.c_int32), _size, *[ctypes.POINTER(_size)] * 3]
-
-# What each call of `aig.h` takes.
-_PLAIN = "text binary strash refine reencode move_constraints compress_bads outputs_as_bads possible reduce info"
-_TAKES = {
-    **{f"aig_{_name}": [*_BYTES, *_OUT] for _name in _PLAIN.split()},
-    **{f"aig_{_name}": [*_BYTES, _step, *_OUT] for _name in ("unroll", "question")},
-    **{f"aig_{_name}": [*_BYTES, *_STEP, *_OUT] for _name in ("cnf", "query", "clauses", "bounded")},
-    **{f"aig_{_name}": [*_BYTES, *_BYTES, *_OUT] for _name in ("miter", "join", "merge")},
-    **{f"aig_{_name}": [*_BYTES, *_STEP, *_BYTES] for _name in ("check_refuted", "check_refuted_to")},
-    **{f"aig_{_name}": [*_BYTES, *_STEP, *_BYTES, *_OUT] for _name in ("witness", "witness_to")},
-    **{f"aig_{_name}": [*_BYTES, _size, *_OUT] for _name in ("property_alone", "cone")},
-    "aig_query_numbers": [*_BYTES, *_STEP, *_NUMBERS_OUT],
-    "aig_window": [*_BYTES, _step, _bool, _bool, *_OUT],
-    "aig_check_inductive": [*_BYTES, _step, _bool, _bool, *_BYTES],
-    "aig_check_certified": [*_BYTES, *_BYTES, _bool, *_BYTES, *_BYTES],
-    "aig_check_equal": [*_BYTES, *_BYTES, *_STEP, *_BYTES],
-    "aig_check_run": [*_BYTES, *_BYTES, ctypes.POINTER(_size), ctypes.POINTER(_size)],
-    "aig_obligations": [*_BYTES, *_BYTES, _bool, *_OUT],
-    "aig_message": [ctypes.c_uint32, *_OUT],
-}
-for _name, _takes in _TAKES.items():
-    _call = getattr(_library, _name)
-    _call.argtypes, _call.restype = _takes, ctypes.c_uint32
+_TEXT, _U8, _I32 = ctypes.c_char_p, ctypes.POINTER(ctypes.c_uint8), ctypes.POINTER(ctypes.c_int32)
+_SIZES = ctypes.POINTER(_size)
 
 # How much room an answer is given at least.
 _ROOM = 1 << 16
@@ -89,6 +59,13 @@ class Shown(NamedTuple):
 
     bad: int
     step: int
+
+
+def _declare(takes: dict[str, list]) -> None:
+    """Says what each call of `aig.h` takes."""
+    for name, kinds in takes.items():
+        call = getattr(_library, name)
+        call.argtypes, call.restype = kinds, ctypes.c_uint32
 
 
 def _given(data: bytes) -> tuple[bytes, int]:
@@ -158,6 +135,72 @@ def _hold(name: str, *words) -> None:
         raise _refusal(status)
 
 
+def query_numbers(file: bytes, k: int, *, optimize: bool = True) -> Clauses:
+    """The clauses of a file's query for step `k` as numbers, and their map. A file without bad state properties is refused."""
+    whole = bytes(file)
+    words = [*_given(whole), _steps(k), optimize]
+    out, count, variables, clauses_len = _answer("aig_query_numbers", *words, kind=ctypes.c_int32, more=2)
+    numbers, places = out[:clauses_len], out[clauses_len:count]
+    inputs, latches = _counts(whole)
+    steps = [places[t * inputs : (t + 1) * inputs] for t in range(k + 1)]
+    rest = places[(k + 1) * inputs :]
+    return Clauses(variables, numbers, steps, rest[:latches], rest[latches:])
+
+
+def check_run(file: bytes, witness: bytes) -> Shown:
+    """Which bad state a witness shows, and at which step."""
+    bad, step = _size(), _size()
+    _hold("aig_check_run", *_given(file), *_given(witness), ctypes.byref(bad), ctypes.byref(step))
+    return Shown(bad.value, step.value)
+
+
+# ---- made: written by lib/clients.py from include/aig.h
+
+# What each call takes.
+_declare({
+    "aig_message": [ctypes.c_uint32, _U8, _size, _SIZES],
+    "aig_text": [_TEXT, _size, _U8, _size, _SIZES],
+    "aig_binary": [_TEXT, _size, _U8, _size, _SIZES],
+    "aig_strash": [_TEXT, _size, _U8, _size, _SIZES],
+    "aig_refine": [_TEXT, _size, _U8, _size, _SIZES],
+    "aig_reencode": [_TEXT, _size, _U8, _size, _SIZES],
+    "aig_unroll": [_TEXT, _size, _step, _U8, _size, _SIZES],
+    "aig_move_constraints": [_TEXT, _size, _U8, _size, _SIZES],
+    "aig_compress_bads": [_TEXT, _size, _U8, _size, _SIZES],
+    "aig_outputs_as_bads": [_TEXT, _size, _U8, _size, _SIZES],
+    "aig_property_alone": [_TEXT, _size, _size, _U8, _size, _SIZES],
+    "aig_possible": [_TEXT, _size, _U8, _size, _SIZES],
+    "aig_cone": [_TEXT, _size, _size, _U8, _size, _SIZES],
+    "aig_reduce": [_TEXT, _size, _U8, _size, _SIZES],
+    "aig_question": [_TEXT, _size, _step, _U8, _size, _SIZES],
+    "aig_info": [_TEXT, _size, _U8, _size, _SIZES],
+    "aig_cnf": [_TEXT, _size, _step, _bool, _U8, _size, _SIZES],
+    "aig_query": [_TEXT, _size, _step, _bool, _U8, _size, _SIZES],
+    "aig_query_numbers": [_TEXT, _size, _step, _bool, _I32, _size, _SIZES, _SIZES, _SIZES],
+    "aig_clauses": [_TEXT, _size, _step, _bool, _U8, _size, _SIZES],
+    "aig_bounded": [_TEXT, _size, _step, _bool, _U8, _size, _SIZES],
+    "aig_window": [_TEXT, _size, _step, _bool, _bool, _U8, _size, _SIZES],
+    "aig_check_refuted": [_TEXT, _size, _step, _bool, _TEXT, _size],
+    "aig_check_refuted_to": [_TEXT, _size, _step, _bool, _TEXT, _size],
+    "aig_check_inductive": [_TEXT, _size, _step, _bool, _bool, _TEXT, _size],
+    "aig_check_certified": [_TEXT, _size, _TEXT, _size, _bool, _TEXT, _size, _TEXT, _size],
+    "aig_check_equal": [_TEXT, _size, _TEXT, _size, _step, _bool, _TEXT, _size],
+    "aig_witness": [_TEXT, _size, _step, _bool, _TEXT, _size, _U8, _size, _SIZES],
+    "aig_witness_to": [_TEXT, _size, _step, _bool, _TEXT, _size, _U8, _size, _SIZES],
+    "aig_check_run": [_TEXT, _size, _TEXT, _size, _SIZES, _SIZES],
+    "aig_miter": [_TEXT, _size, _TEXT, _size, _U8, _size, _SIZES],
+    "aig_join": [_TEXT, _size, _TEXT, _size, _U8, _size, _SIZES],
+    "aig_merge": [_TEXT, _size, _TEXT, _size, _U8, _size, _SIZES],
+    "aig_obligations": [_TEXT, _size, _TEXT, _size, _bool, _U8, _size, _SIZES],
+})
+
+__all__ += """
+    text binary strash refine reencode unroll move_constraints compress_bads outputs_as_bads property_alone possible cone reduce
+    question info cnf query clauses bounded window check_refuted check_refuted_to check_inductive check_certified check_equal witness
+    witness_to miter join merge obligations
+""".split()
+
+
 def text(file: bytes) -> bytes:
     """The text form of a file's circuit."""
     return _bytes("aig_text", *_given(file))
@@ -174,7 +217,7 @@ def strash(file: bytes) -> bytes:
 
 
 def refine(file: bytes) -> bytes:
-    """The text form of a file's circuit, cut to what its properties and latches reach."""
+    """The text form of a file's circuit, cut to its cone of influence: what neither a property nor a latch reads is gone. Latches stay."""
     return _bytes("aig_refine", *_given(file))
 
 
@@ -184,14 +227,15 @@ def reencode(file: bytes) -> bytes:
 
 
 def unroll(file: bytes, k: int) -> bytes:
-    """The text form of a file's circuit with `k` further steps."""
+    """The text form of a file's circuit with `k` further steps: its bad state properties are those of the steps 0 to `k`, and its
+    constraints, too. So a bad state is lost whose run can't go on to step `k` under the constraints: `question` asks for it.
+    """
     return _bytes("aig_unroll", *_given(file), _steps(k))
 
 
 def move_constraints(file: bytes) -> bytes:
-    """The text form of a file's circuit without constraints: its bad state property holds only while each has held so far.
-
-    A file with constraints and more than one bad state property is refused.
+    """The text form of a file's circuit without constraints: its bad state property and its first output hold only while every constraint
+    has held so far. A file with constraints and more than one bad state property is refused: `compress_bads` makes them one.
     """
     return _bytes("aig_move_constraints", *_given(file))
 
@@ -202,7 +246,9 @@ def compress_bads(file: bytes) -> bytes:
 
 
 def outputs_as_bads(file: bytes) -> bytes:
-    """The text form of a file's circuit with its outputs as its bad state properties. A file that has some is refused."""
+    """The text form of a file's circuit with its outputs as its bad state properties, and no outputs: files from before AIGER 1.9 have no
+    others. A file with bad state properties is refused.
+    """
     return _bytes("aig_outputs_as_bads", *_given(file))
 
 
@@ -212,12 +258,16 @@ def property_alone(file: bytes, n: int) -> bytes:
 
 
 def possible(file: bytes) -> bytes:
-    """The text form of a file's circuit that is bad wherever a run has come: true is its only bad state property."""
+    """The text form of a file's circuit with true as its only bad state property: a bad state is reached at step K exactly where there is
+    a run of K + 1 steps that meets every constraint at each of them.
+    """
     return _bytes("aig_possible", *_given(file))
 
 
 def cone(file: bytes, n: int) -> bytes:
-    """The text form of what output `n` of a file, its constraints and its latches read."""
+    """The text form of the cone of a file's output `n`, from 0 on: what it, the constraints and the latches read, with that output and
+    the constraints as the only properties.
+    """
     return _bytes("aig_cone", *_given(file), _number(n))
 
 
@@ -227,12 +277,16 @@ def reduce(file: bytes) -> bytes:
 
 
 def question(file: bytes, k: int) -> bytes:
-    """The text form of a circuit whose output can be true exactly where a bad state is reached at a step from 0 to `k`."""
+    """The text form of one question: a circuit without latches, whose one output can be true exactly where a bad state of a file's
+    machine is reached at a step from 0 to `k`. A file without bad state properties is refused.
+    """
     return _bytes("aig_question", *_given(file), _steps(k))
 
 
 def info(file: bytes) -> bytes:
-    """The counts of a file's circuit, a line each."""
+    """The counts of a file's circuit, a line each: inputs, latches, outputs, gates, bads, constraints, justice, fairness and levels,
+    which is the greatest number of gates on a path.
+    """
     return _bytes("aig_info", *_given(file))
 
 
@@ -242,95 +296,105 @@ def cnf(file: bytes, k: int, *, optimize: bool = True) -> bytes:
 
 
 def query(file: bytes, k: int, *, optimize: bool = True) -> bytes:
-    """The clauses, in DIMACS form, that ask for a run of a file's machine to a bad state at step `k`."""
+    """The clauses, in DIMACS form, that ask for a run of a file's machine from an initial state to a bad state at step `k`: its query. A
+    file without bad state properties has one that can't be satisfied.
+    """
     return _bytes("aig_query", *_given(file), _steps(k), optimize)
 
 
-def query_numbers(file: bytes, k: int, *, optimize: bool = True) -> Clauses:
-    """The clauses of a file's query for step `k` as numbers, and their map. A file without bad state properties is refused."""
-    whole = bytes(file)
-    words = [*_given(whole), _steps(k), optimize]
-    out, count, variables, clauses_len = _answer("aig_query_numbers", *words, kind=ctypes.c_int32, more=2)
-    numbers, places = out[:clauses_len], out[clauses_len:count]
-    inputs, latches = _counts(whole)
-    steps = [places[t * inputs : (t + 1) * inputs] for t in range(k + 1)]
-    rest = places[(k + 1) * inputs :]
-    return Clauses(variables, numbers, steps, rest[:latches], rest[latches:])
-
-
 def clauses(file: bytes, k: int, *, optimize: bool = True) -> bytes:
-    """The clauses of a file's query for step `k`, in DIMACS form, after comments that say which literals stand for what."""
+    """The clauses of the query, in DIMACS form, and before them comments that say which literals stand for the inputs at each step, the
+    latches at step 0 and the bad state properties at step `k`. A file without bad state properties is refused.
+    """
     return _bytes("aig_clauses", *_given(file), _steps(k), optimize)
 
 
 def bounded(file: bytes, k: int, *, optimize: bool = True) -> bytes:
-    """The clauses, in DIMACS form, of a file's `question`, after comments that say what its inputs are. Raises `Settled` only where no bad
-    state is reached up to step `k`."""
+    """The clauses, in DIMACS form, of `question`, and that its output is true; before them comments that say which input or latch each
+    input of the question is, at which step, and its variable. Raises `Settled` only where no bad state is reached up to step `k`: then
+    there are no clauses to solve.
+    """
     return _bytes("aig_bounded", *_given(file), _steps(k), optimize)
 
 
 def window(file: bytes, k: int, *, distinct: bool = False, optimize: bool = True) -> bytes:
-    """The clauses, in DIMACS form, that ask for `k` + 2 steps with a bad state first at their end; if distinct, with no state twice."""
+    """The clauses, in DIMACS form, that ask for a window of a file's machine: `k` + 2 steps from any state with a bad state first at
+    their end; where `distinct`, on which no state comes twice.
+    """
     return _bytes("aig_window", *_given(file), _steps(k), distinct, optimize)
 
 
-def witness(file: bytes, k: int, solution: bytes, *, optimize: bool = True) -> bytes:
-    """The witness, checked, that a solver's answer to a file's query for step `k` says."""
-    return _bytes("aig_witness", *_given(file), _steps(k), optimize, *_given(solution))
-
-
-def witness_to(file: bytes, k: int, solution: bytes, *, optimize: bool = True) -> bytes:
-    """The witness, checked, of the first step with a bad state, that a solver's answer to `bounded` says."""
-    return _bytes("aig_witness_to", *_given(file), _steps(k), optimize, *_given(solution))
-
-
-def miter(file: bytes, other: bytes) -> bytes:
-    """The text form of two files' miter, which is bad where their outputs or bad state properties differ."""
-    return _bytes("aig_miter", *_given(file), *_given(other))
-
-
-def join(file: bytes, certificate: bytes) -> bytes:
-    """The text form of a file's circuit beside its certificate."""
-    return _bytes("aig_join", *_given(file), *_given(certificate))
-
-
-def merge(file: bytes, other: bytes) -> bytes:
-    """The text form of two files side by side."""
-    return _bytes("aig_merge", *_given(file), *_given(other))
-
-
-def obligations(file: bytes, certificate: bytes, *, optimize: bool = True) -> bytes:
-    """The clauses, in DIMACS form, that both proofs of `check_certified` are of, after the lines `c base` and `c step`."""
-    return _bytes("aig_obligations", *_given(file), *_given(certificate), optimize)
-
-
 def check_refuted(file: bytes, k: int, proof: bytes, *, optimize: bool = True) -> None:
-    """Returns only where no run of a file's machine reaches a bad state at step `k`, by a proof for `query`."""
+    """Returns only where no run of a file's machine, from an initial state and under the constraints at each step, reaches a bad state at
+    step `k`. `proof` is of the clauses of `query`.
+    """
     _hold("aig_check_refuted", *_given(file), _steps(k), optimize, *_given(proof))
 
 
 def check_refuted_to(file: bytes, k: int, proof: bytes, *, optimize: bool = True) -> None:
-    """Returns only where no bad state is reached at a step from 0 to `k`, by a proof for `bounded`."""
+    """Returns only where no such run reaches a bad state at a step from 0 to `k`. `proof` is of the clauses of `bounded`; where these are
+    settled it isn't read.
+    """
     _hold("aig_check_refuted_to", *_given(file), _steps(k), optimize, *_given(proof))
 
 
 def check_inductive(file: bytes, k: int, proof: bytes, *, distinct: bool = False, optimize: bool = True) -> None:
-    """Returns only where no bad state is ever reached, if none is at the steps 0 to `k`, by a proof for `window`."""
+    """Returns only where no such run ever reaches a bad state, if none does at the steps 0 to `k`. `proof` is of the clauses of `window`.
+    """
     _hold("aig_check_inductive", *_given(file), _steps(k), distinct, optimize, *_given(proof))
 
 
 def check_certified(file: bytes, certificate: bytes, base: bytes, step: bytes, *, optimize: bool = True) -> None:
-    """Returns only where no bad state is ever reached, as the certificate shows, by proofs for `query` and `window` of `join`'s text."""
+    """Returns only where no such run ever reaches a bad state, as `certificate` shows: a witness circuit of the hardware model checking
+    competition: a file that begins with the first one's inputs and latches, in the same order, whatever their names, with resets that
+    are constants or open, and that is bad, or breaks its constraints, wherever its invariant fails. `base` is a proof of the clauses
+    of `query` for step 0, and `step` of those of `window` for k = 0 without `distinct`, both of the text that `join` gives.
+    """
     _hold("aig_check_certified", *_given(file), *_given(certificate), optimize, *_given(base), *_given(step))
 
 
 def check_equal(file: bytes, other: bytes, k: int, proof: bytes, *, optimize: bool = True) -> None:
-    """Returns only where two files' machines are equal at step `k`, by a proof for `query` of `miter`'s text."""
+    """Returns only where the machines of two files have the same outputs and bad state properties at step `k`, on all runs of both from
+    initial states, with the same inputs, that meet the constraints of both at each step. Where there are no such runs it says nothing;
+    constraints, justice and fairness aren't compared. `proof` is of the clauses of `query` of the text that `miter` gives.
+    """
     _hold("aig_check_equal", *_given(file), *_given(other), _steps(k), optimize, *_given(proof))
 
 
-def check_run(file: bytes, witness: bytes) -> Shown:
-    """Which bad state a witness shows, and at which step."""
-    bad, step = _size(), _size()
-    _hold("aig_check_run", *_given(file), *_given(witness), ctypes.byref(bad), ctypes.byref(step))
-    return Shown(bad.value, step.value)
+def witness(file: bytes, k: int, solution: bytes, *, optimize: bool = True) -> bytes:
+    """The witness, in the format of AIGER 1.9, that a solver's answer to the query says. It was checked: nothing of the answer is
+    trusted. A status from 70 on says why there is none.
+    """
+    return _bytes("aig_witness", *_given(file), _steps(k), optimize, *_given(solution))
+
+
+def witness_to(file: bytes, k: int, solution: bytes, *, optimize: bool = True) -> bytes:
+    """A witness of a bad state at a step up to `k`, of a solver's answer to the clauses of `bounded`. It was checked, too. A status from
+    80 on says why there is none.
+    """
+    return _bytes("aig_witness_to", *_given(file), _steps(k), optimize, *_given(solution))
+
+
+def miter(file: bytes, other: bytes) -> bytes:
+    """The text form of the miter of two files with as many inputs, outputs and bad state properties: a circuit over the inputs of both,
+    and under the constraints of both, which is bad where their outputs or bad state properties differ.
+    """
+    return _bytes("aig_miter", *_given(file), *_given(other))
+
+
+def join(file: bytes, certificate: bytes) -> bytes:
+    """The text form of a file's circuit beside its certificate, of which both proofs of `check_certified` are."""
+    return _bytes("aig_join", *_given(file), *_given(certificate))
+
+
+def merge(file: bytes, other: bytes) -> bytes:
+    """The text form of two files side by side: each list of the first, and then that of the second. The constraints of both are in force.
+    """
+    return _bytes("aig_merge", *_given(file), *_given(other))
+
+
+def obligations(file: bytes, certificate: bytes, *, optimize: bool = True) -> bytes:
+    """The clauses, in DIMACS form, that the proofs of `check_certified` are of: after the line `c base` those of `base`, and after the
+    line `c step` those of `step`.
+    """
+    return _bytes("aig_obligations", *_given(file), *_given(certificate), optimize)

@@ -1,27 +1,12 @@
-/* The programs aigtool, aigedit and aigcheck again, over the calls of aig.h: calls PROGRAM WORD ..
+/* The programs aigtool, aigedit and aigcheck again, over the calls of aig.h: calls PROGRAM CALL WORD ..
  *
- * Prints what the program prints of the same words, says the same on standard error, and ends with the same status. Each call is made
- * three times: with no room, with as much room as it then says it takes, and with one item less.
+ * Prints what the program prints of the same words, but for what a check prints that holds, says the same on standard error, and ends with
+ * the same status. Each call that gives bytes is made three times: with no room, with as much room as it then says it takes, and with one item less.
  */
-#include "aig.h"
+#include "made.h"
 #include <stdio.h>
 #include <stdlib.h>
 #include <string.h>
-
-struct bytes {
-  uint8_t *at;
-  size_t len;
-};
-
-/* What a command is run on. */
-struct words {
-  struct bytes file, given, further;
-  uint64_t k;
-  bool optimize, distinct, to;
-};
-
-/* A call that gives an answer, with its words. */
-typedef uint32_t call(const struct words *, uint8_t *out, size_t out_len, size_t *needed);
 
 static const char *program;
 
@@ -69,83 +54,6 @@ static _Noreturn void refuse(uint32_t status) {
   end(status == AIG_SETTLED ? 20 : 1, text);
 }
 
-/* The calls that give an answer. */
-static uint32_t text(const struct words *w, uint8_t *out, size_t len, size_t *needed) {
-  return aig_text(w->file.at, w->file.len, out, len, needed);
-}
-static uint32_t binary(const struct words *w, uint8_t *out, size_t len, size_t *needed) {
-  return aig_binary(w->file.at, w->file.len, out, len, needed);
-}
-static uint32_t strash(const struct words *w, uint8_t *out, size_t len, size_t *needed) {
-  return aig_strash(w->file.at, w->file.len, out, len, needed);
-}
-static uint32_t refine(const struct words *w, uint8_t *out, size_t len, size_t *needed) {
-  return aig_refine(w->file.at, w->file.len, out, len, needed);
-}
-static uint32_t reencode(const struct words *w, uint8_t *out, size_t len, size_t *needed) {
-  return aig_reencode(w->file.at, w->file.len, out, len, needed);
-}
-static uint32_t unroll(const struct words *w, uint8_t *out, size_t len, size_t *needed) {
-  return aig_unroll(w->file.at, w->file.len, w->k, out, len, needed);
-}
-static uint32_t move(const struct words *w, uint8_t *out, size_t len, size_t *needed) {
-  return aig_move_constraints(w->file.at, w->file.len, out, len, needed);
-}
-static uint32_t compress(const struct words *w, uint8_t *out, size_t len, size_t *needed) {
-  return aig_compress_bads(w->file.at, w->file.len, out, len, needed);
-}
-static uint32_t bads(const struct words *w, uint8_t *out, size_t len, size_t *needed) {
-  return aig_outputs_as_bads(w->file.at, w->file.len, out, len, needed);
-}
-static uint32_t property(const struct words *w, uint8_t *out, size_t len, size_t *needed) {
-  return aig_property_alone(w->file.at, w->file.len, w->k, out, len, needed);
-}
-static uint32_t possible(const struct words *w, uint8_t *out, size_t len, size_t *needed) {
-  return aig_possible(w->file.at, w->file.len, out, len, needed);
-}
-static uint32_t cone(const struct words *w, uint8_t *out, size_t len, size_t *needed) {
-  return aig_cone(w->file.at, w->file.len, w->k, out, len, needed);
-}
-static uint32_t reduce(const struct words *w, uint8_t *out, size_t len, size_t *needed) {
-  return aig_reduce(w->file.at, w->file.len, out, len, needed);
-}
-static uint32_t question(const struct words *w, uint8_t *out, size_t len, size_t *needed) {
-  return aig_question(w->file.at, w->file.len, w->k, out, len, needed);
-}
-static uint32_t info(const struct words *w, uint8_t *out, size_t len, size_t *needed) {
-  return aig_info(w->file.at, w->file.len, out, len, needed);
-}
-static uint32_t cnf(const struct words *w, uint8_t *out, size_t len, size_t *needed) {
-  return aig_cnf(w->file.at, w->file.len, w->k, w->optimize, out, len, needed);
-}
-static uint32_t query(const struct words *w, uint8_t *out, size_t len, size_t *needed) {
-  return aig_query(w->file.at, w->file.len, w->k, w->optimize, out, len, needed);
-}
-static uint32_t clauses(const struct words *w, uint8_t *out, size_t len, size_t *needed) {
-  return aig_clauses(w->file.at, w->file.len, w->k, w->optimize, out, len, needed);
-}
-static uint32_t bounded(const struct words *w, uint8_t *out, size_t len, size_t *needed) {
-  return aig_bounded(w->file.at, w->file.len, w->k, w->optimize, out, len, needed);
-}
-static uint32_t window(const struct words *w, uint8_t *out, size_t len, size_t *needed) {
-  return aig_window(w->file.at, w->file.len, w->k, w->distinct, w->optimize, out, len, needed);
-}
-static uint32_t witness(const struct words *w, uint8_t *out, size_t len, size_t *needed) {
-  return (w->to ? aig_witness_to : aig_witness)(w->file.at, w->file.len, w->k, w->optimize, w->given.at, w->given.len, out, len, needed);
-}
-static uint32_t miter(const struct words *w, uint8_t *out, size_t len, size_t *needed) {
-  return aig_miter(w->file.at, w->file.len, w->given.at, w->given.len, out, len, needed);
-}
-static uint32_t join(const struct words *w, uint8_t *out, size_t len, size_t *needed) {
-  return aig_join(w->file.at, w->file.len, w->given.at, w->given.len, out, len, needed);
-}
-static uint32_t merge(const struct words *w, uint8_t *out, size_t len, size_t *needed) {
-  return aig_merge(w->file.at, w->file.len, w->given.at, w->given.len, out, len, needed);
-}
-static uint32_t obligations(const struct words *w, uint8_t *out, size_t len, size_t *needed) {
-  return aig_obligations(w->file.at, w->file.len, w->given.at, w->given.len, w->optimize, out, len, needed);
-}
-
 /* Whether each byte is the one that was put there. */
 static bool is_kept(const uint8_t *out, size_t len) {
   for (size_t i = 0; i < len; i++)
@@ -154,7 +62,7 @@ static bool is_kept(const uint8_t *out, size_t len) {
 }
 
 /* Makes the call with this much room, and checks what it leaves. */
-static uint32_t try(call *makes, const struct words *w, size_t room, size_t *needed, uint8_t **answer) {
+static uint32_t try(answers *makes, const struct words *w, size_t room, size_t *needed, uint8_t **answer) {
   const size_t more = 8;
   uint8_t *out = room_for(room + more);
   memset(out, 0xa5, room + more);
@@ -170,7 +78,7 @@ static uint32_t try(call *makes, const struct words *w, size_t room, size_t *nee
 }
 
 /* Prints an answer, or ends. */
-static void print(call *makes, const struct words *w) {
+static void print(answers *makes, const struct words *w) {
   size_t needed = 0, again = 0;
   uint8_t *none, *answer, *less;
   uint32_t status = try(makes, w, 0, &needed, &none);
@@ -197,14 +105,14 @@ static const int32_t *print_map(const int32_t *at, char letter, size_t count, ui
 static void print_numbers(const struct words *w) {
   size_t needed = 0, variables = 0, clauses_len = 0, count = 0, inputs = 0, latches = 0, bads = 0;
   int32_t none[1] = {7}, *out;
-  uint32_t status = aig_query_numbers(w->file.at, w->file.len, w->k, w->optimize, none, 0, &needed, &variables, &clauses_len);
+  uint32_t status = aig_query_numbers(w->files[0].at, w->files[0].len, w->k, w->optimize, none, 0, &needed, &variables, &clauses_len);
   if (status > AIG_SMALL) {
     if (needed || variables || clauses_len || none[0] != 7) wrong("memory was written with no answer");
     refuse(status);
   }
   out = room_for(needed * sizeof *out);
-  hold(aig_query_numbers(w->file.at, w->file.len, w->k, w->optimize, out, needed, &needed, &variables, &clauses_len));
-  if (sscanf((const char *)w->file.at, "%*s %*u %zu %zu %*u %*u %zu", &inputs, &latches, &bads) != 3) wrong("a header line");
+  hold(aig_query_numbers(w->files[0].at, w->files[0].len, w->k, w->optimize, out, needed, &needed, &variables, &clauses_len));
+  if (sscanf((const char *)w->files[0].at, "%*s %*u %zu %zu %*u %*u %zu", &inputs, &latches, &bads) != 3) wrong("a header line");
   const int32_t *at = out + clauses_len;
   for (uint64_t t = 0; t <= w->k; t++) at = print_map(at, 'i', inputs, t);
   at = print_map(at, 'l', latches, 0);
@@ -217,44 +125,11 @@ static void print_numbers(const struct words *w) {
 /* Prints which bad state a witness shows. */
 static void print_run(const struct words *w) {
   size_t bad = 0xa5a5, step = 0xa5a5;
-  uint32_t status = aig_check_run(w->file.at, w->file.len, w->given.at, w->given.len, &bad, &step);
+  uint32_t status = aig_check_run(w->files[0].at, w->files[0].len, w->files[1].at, w->files[1].len, &bad, &step);
   if (status != AIG_DONE && (bad != 0xa5a5 || step != 0xa5a5)) wrong("numbers were written with no answer");
   hold(status);
   printf("b%zu at step %zu\n", bad, step);
 }
-
-/* Checks a proof, and prints what holds. */
-static void print_refuted(const struct words *w) {
-  hold((w->to ? aig_check_refuted_to : aig_check_refuted)(w->file.at, w->file.len, w->k, w->optimize, w->given.at, w->given.len));
-  printf("no bad state %s step %llu\n", w->to ? "up to" : "at", (unsigned long long)w->k);
-}
-static void print_inductive(const struct words *w) {
-  hold(aig_check_inductive(w->file.at, w->file.len, w->k, w->distinct, w->optimize, w->given.at, w->given.len));
-  printf("no bad state at any step, if none up to step %llu\n", (unsigned long long)w->k);
-}
-
-/* Checks what no program does. */
-static void print_equal(const struct words *w) {
-  hold(aig_check_equal(w->file.at, w->file.len, w->given.at, w->given.len, w->k, w->optimize, w->further.at, w->further.len));
-  printf("equal at step %llu\n", (unsigned long long)w->k);
-}
-static void print_certified(const struct words *w, struct bytes step) {
-  hold(aig_check_certified(w->file.at, w->file.len, w->given.at, w->given.len, w->optimize, w->further.at, w->further.len, step.at,
-                           step.len));
-  printf("no bad state at any step\n");
-}
-
-static const struct {
-  const char *name;
-  call *makes;
-  int paths;
-} ANSWERS[] = {
-  {"text", text, 1}, {"binary", binary, 1}, {"strash", strash, 1}, {"refine", refine, 1}, {"reencode", reencode, 1},
-  {"unroll", unroll, 1}, {"move", move, 1}, {"compress", compress, 1}, {"bads", bads, 1}, {"property", property, 1},
-  {"possible", possible, 1}, {"cone", cone, 1}, {"reduce", reduce, 1}, {"question", question, 1}, {"info", info, 1}, {"cnf", cnf, 1},
-  {"query", query, 1}, {"clauses", clauses, 1}, {"bounded", bounded, 1}, {"window", window, 1}, {"witness", witness, 2}, {"miter", miter, 2},
-  {"join", join, 2}, {"merge", merge, 2}, {"obligations", obligations, 2},
-};
 
 int main(int argc, char **argv) {
   if (argc < 4) return 2;
@@ -270,23 +145,17 @@ int main(int argc, char **argv) {
       w.optimize = false;
     else if (!strcmp(argv[i], "distinct"))
       w.distinct = true;
-    else if (!strcmp(argv[i], "to"))
-      w.to = true;
     else if (!*end && i > 3)
       w.k = k;
-    else if (count < 4)
+    else if (strcmp(argv[i], "to") && count < 4)
       paths[count++] = argv[i];
   }
-  struct bytes step = {NULL, 0};
-  struct bytes *read[] = {&w.file, &w.given, &w.further, &step};
-  for (int i = 0; i < count; i++) *read[i] = read_file(paths[i]);
+  for (int i = 0; i < count; i++) w.files[i] = read_file(paths[i]);
   for (size_t i = 0; i < sizeof ANSWERS / sizeof *ANSWERS; i++)
-    if (!strcmp(command, ANSWERS[i].name) && count >= ANSWERS[i].paths) return print(ANSWERS[i].makes, &w), 0;
-  if (!strcmp(command, "numbers")) return print_numbers(&w), 0;
-  if (!strcmp(command, "run") && count == 2) return print_run(&w), 0;
-  if (!strcmp(command, "refuted") && count == 2) return print_refuted(&w), 0;
-  if (!strcmp(command, "inductive") && count == 2) return print_inductive(&w), 0;
-  if (!strcmp(command, "equal") && count == 3) return print_equal(&w), 0;
-  if (!strcmp(command, "certified") && count == 4) return print_certified(&w, step), 0;
+    if (!strcmp(command, ANSWERS[i].name) && count == ANSWERS[i].files) return print(ANSWERS[i].call, &w), 0;
+  for (size_t i = 0; i < sizeof CHECKS / sizeof *CHECKS; i++)
+    if (!strcmp(command, CHECKS[i].name) && count == CHECKS[i].files) return hold(CHECKS[i].call(&w)), 0;
+  if (!strcmp(command, "query_numbers")) return print_numbers(&w), 0;
+  if (!strcmp(command, "check_run") && count == 2) return print_run(&w), 0;
   return 2;
 }

@@ -1,4 +1,6 @@
-//! Rows of the tables through the Rust crate: rows COMMAND WORD .., with the words of the programs.
+//! Rows of the tables through the Rust crate: rows CALL WORD .., with the words of the programs.
+
+mod made;
 
 use std::io::Write;
 use std::process::ExitCode;
@@ -19,52 +21,19 @@ fn text_of(clauses: &aig::Clauses) -> String {
 fn main() -> ExitCode {
     let words: Vec<String> = std::env::args().skip(1).collect();
     let has = |name: &str| words.iter().any(|word| word == name);
-    let (optimize, distinct, to) = (!has("raw"), has("distinct"), has("to"));
     let step = words.iter().skip(2).find_map(|word| word.parse().ok()).unwrap_or(0);
     let is_path = |word: &&String| word.parse::<u64>().is_err() && !["raw", "distinct", "to"].contains(&word.as_str());
-    let files: Vec<Vec<u8>> = words.iter().skip(1).filter(is_path).map(|path| std::fs::read(path).expect("a file")).collect();
-    let file = files[0].as_slice();
-    let beside = |at: usize| files.get(at).map_or(&[][..], Vec::as_slice);
-    let given = beside(1);
+    let read: Vec<Vec<u8>> = words.iter().skip(1).filter(is_path).map(|path| std::fs::read(path).expect("a file")).collect();
+    let files: Vec<&[u8]> = read.iter().map(Vec::as_slice).collect();
+    let optimize = !has("raw");
     let line = |text: String| text.into_bytes();
     let answer = match words[0].as_str() {
-        "text" => aig::text(file),
-        "strash" => aig::strash(file),
-        "binary" => aig::binary(file).and_then(|binary| aig::text(&binary)),
-        "refine" => aig::refine(file),
-        "reencode" => aig::reencode(file),
-        "unroll" => aig::unroll(file, step),
-        "move" => aig::move_constraints(file),
-        "compress" => aig::compress_bads(file),
-        "bads" => aig::outputs_as_bads(file),
-        "property" => aig::property_alone(file, step as usize),
-        "possible" => aig::possible(file),
-        "cone" => aig::cone(file, step as usize),
-        "reduce" => aig::reduce(file),
-        "question" => aig::question(file, step),
-        "info" => aig::info(file),
-        "cnf" => aig::cnf(file, step, optimize),
-        "query" => aig::query(file, step, optimize),
-        "clauses" => aig::clauses(file, step, optimize),
-        "numbers" => aig::query_numbers(file, step, optimize).map(|clauses| line(text_of(&clauses))),
-        "bounded" => aig::bounded(file, step, optimize),
-        "window" => aig::window(file, step, distinct, optimize),
-        "witness" if to => aig::witness_to(file, step, optimize, given),
-        "witness" => aig::witness(file, step, optimize, given),
-        "miter" => aig::miter(file, given),
-        "join" => aig::join(file, given),
-        "merge" => aig::merge(file, given),
-        "obligations" => aig::obligations(file, given, optimize),
-        "run" => aig::check_run(file, given).map(|shown| line(format!("b{} at step {}\n", shown.bad, shown.step))),
-        "refuted" if to => aig::check_refuted_to(file, step, optimize, given)
-            .map(|()| line(format!("no bad state up to step {step}\n"))),
-        "refuted" => aig::check_refuted(file, step, optimize, given).map(|()| line(format!("no bad state at step {step}\n"))),
-        "inductive" => aig::check_inductive(file, step, distinct, optimize, given)
-            .map(|()| line(format!("no bad state at any step, if none up to step {step}\n"))),
-        "certified" => aig::check_certified(file, given, optimize, beside(2), beside(3))
-            .map(|()| line("no bad state at any step\n".to_string())),
-        "equal" => aig::check_equal(file, given, step, optimize, beside(2)).map(|()| line(format!("equal at step {step}\n"))),
-        _ => return ExitCode::from(2),
+        "query_numbers" => aig::query_numbers(files[0], step, optimize).map(|clauses| line(text_of(&clauses))),
+        "check_run" => aig::check_run(files[0], files[1]).map(|shown| line(format!("b{} at step {}\n", shown.bad, shown.step))),
+        call => match made::answer(call, &files, step, has("distinct"), optimize) {
+            Some(answer) => answer,
+            None => return ExitCode::from(2),
+        },
     };
     match answer {
         Ok(bytes) => {

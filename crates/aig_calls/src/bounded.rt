@@ -60,10 +60,10 @@ fn witness_text(
     }
 }
 
-/// Gives the clauses, in DIMACS form, that ask for a bad state of a file's machine at a step up to `k`, and before them comments
-/// that say which input or latch each input of the question is, at which step, and its variable. Where the question is settled,
-/// no bad state is reached, and nothing is given.
-pub fn print_bounded(
+/// The clauses, in DIMACS form, that ask for a bad state of a file's machine at a step up to `k`, and before them comments that say
+/// what each input of the question is. Where the question is settled no bad state is reached, and nothing is given.
+#[unsafe(no_mangle)]
+pub extern "C" fn aig_bounded(
     alloc: Global,
     file: &[u8],
     k: u64,
@@ -81,9 +81,10 @@ pub fn print_bounded(
     }
 }
 
-/// Gives the witness that a solver's answer to the clauses of `print_bounded` says, up to the first step with a bad state. It was
-/// checked: nothing of the answer is trusted, and a status of an answer that is refused says why.
-pub fn print_witness_to(
+/// The witness that a solver's answer to the clauses of a file's question up to step `k` says, up to the first step with a bad state.
+/// It was checked: nothing of the answer is trusted, and a status of an answer that is refused says why.
+#[unsafe(no_mangle)]
+pub extern "C" fn aig_witness_to(
     alloc: Global,
     file: &[u8],
     k: u64,
@@ -122,9 +123,16 @@ fn refute_to(alloc: Global, file: &[u8], k: usize, optimize: bool, proof: &[u8])
     }
 }
 
-/// Checks a proof, in LRAT or DRAT, that the clauses of `print_bounded` can't be satisfied: then no run of a file's machine reaches
-/// a bad state up to step `k`. A question that is settled needs no proof, and none is read.
-pub fn check_refuted_to(alloc: Global, file: &[u8], k: u64, optimize: bool, proof: &[u8]) -> u32
+/// Checks a proof, in LRAT or DRAT, that the clauses of a file's question up to step `k` can't be satisfied: then no run of its
+/// machine reaches a bad state at a step from 0 to `k`. A question that is settled needs no proof.
+#[unsafe(no_mangle)]
+pub extern "C" fn aig_check_refuted_to(
+    alloc: Global,
+    file: &[u8],
+    k: u64,
+    optimize: bool,
+    proof: &[u8],
+) -> u32
     ensures checks { Checks bounded_verdict LIMIT (λ f. IsSafeTo f k) (AtStep k IsOfBoundedProof)
         file.now result }
     ensures shown { TellsProofOf (ShowsBounded k optimize proof.now) LIMIT file.now result }

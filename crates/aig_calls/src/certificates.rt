@@ -16,7 +16,8 @@ use std::alloc::Global;
 
 /// Checks that a certificate, a witness circuit, shows that no bad state of a file's machine is ever reached: by proofs, in LRAT or
 /// DRAT, of the joint circuit's query for step 0 and of its plain window of two steps.
-pub fn check_certified(
+#[unsafe(no_mangle)]
+pub extern "C" fn aig_check_certified(
     alloc: Global,
     file: &[u8],
     certificate: &[u8],
@@ -84,7 +85,8 @@ fn refute_miter(
 
 /// Checks a proof, in LRAT or DRAT, that the query of two files' miter for step `k` can't be satisfied: then their machines are
 /// equal at that step.
-pub fn check_equal(
+#[unsafe(no_mangle)]
+pub extern "C" fn aig_check_equal(
     alloc: Global,
     file: &[u8],
     other: &[u8],

@@ -79,9 +79,10 @@ fn witness_text(
     }
 }
 
-/// Gives the clauses, in DIMACS form, that ask for a run of a file's machine to a bad state at step `k`, and before them comments
-/// that say which literals stand for its inputs, latches and bad state properties.
-pub fn print_clauses(
+/// The clauses of the query of a file for step `k`, in DIMACS form, and before them comments that say which literals stand for its
+/// inputs, latches and bad state properties.
+#[unsafe(no_mangle)]
+pub extern "C" fn aig_clauses(
     alloc: Global,
     file: &[u8],
     k: u64,
@@ -98,9 +99,10 @@ pub fn print_clauses(
     }
 }
 
-/// Gives the clauses, in DIMACS form, that ask for a window of `k + 2` steps of a file's machine with a bad state first at its
-/// end; where `distinct`, for one on which no state comes twice.
-pub fn print_window(
+/// The clauses, in DIMACS form, that ask for a window of `k + 2` steps of a file's machine with a bad state first at its end; where
+/// `distinct`, for one on which no state comes twice.
+#[unsafe(no_mangle)]
+pub extern "C" fn aig_window(
     alloc: Global,
     file: &[u8],
     k: u64,
@@ -122,9 +124,10 @@ pub fn print_window(
     }
 }
 
-/// Gives the witness that a solver's answer to the query of a file for step `k` says. It was checked: nothing of the answer is
-/// trusted, and a status of an answer that is refused says why.
-pub fn print_witness(
+/// The witness that a solver's answer to the query of a file for step `k` says. It was checked: nothing of the answer is trusted, and
+/// a status of an answer that is refused says why.
+#[unsafe(no_mangle)]
+pub extern "C" fn aig_witness(
     alloc: Global,
     file: &[u8],
     k: u64,

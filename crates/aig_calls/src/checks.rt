@@ -34,7 +34,14 @@ fn refute_step(alloc: Global, file: &[u8], k: usize, optimize: bool, proof: &[u8
 
 /// Checks a proof, in LRAT or DRAT, that the clauses of a file's query for step `k` can't be satisfied: then no run of its machine
 /// reaches a bad state at that step.
-pub fn check_refuted(alloc: Global, file: &[u8], k: u64, optimize: bool, proof: &[u8]) -> u32
+#[unsafe(no_mangle)]
+pub extern "C" fn aig_check_refuted(
+    alloc: Global,
+    file: &[u8],
+    k: u64,
+    optimize: bool,
+    proof: &[u8],
+) -> u32
     ensures checks { Checks (asked_verdict LIMIT k) LIMIT (λ f. IsSafeAt f k) (AtStep k IsOfProof)
         file.now result }
     ensures shown { TellsProofOf (ShowsStep k optimize proof.now) LIMIT file.now result }
@@ -70,7 +77,8 @@ fn refute_window(
 
 /// Checks a proof, in LRAT or DRAT, that the clauses of a window of `k + 2` steps of a file's machine can't be satisfied: then no
 /// bad state is ever reached, if none is up to step `k`.
-pub fn check_inductive(
+#[unsafe(no_mangle)]
+pub extern "C" fn aig_check_inductive(
     alloc: Global,
     file: &[u8],
     k: u64,
@@ -91,7 +99,8 @@ pub fn check_inductive(
 
 /// Checks that a witness shows a bad state of a file's machine, and says which bad state property that is and at which step.
 /// Else both numbers are as they were, and a status of a witness that is refused says why.
-pub fn check_run(
+#[unsafe(no_mangle)]
+pub extern "C" fn aig_check_run(
     alloc: Global,
     file: &[u8],
     witness: &[u8],

@@ -70,21 +70,132 @@ fn info_text(alloc: Global, file: &[u8]) -> Result<Vec<u8>, u32>
 }
 
 /// Gives the text form of the circuit that an edit makes of a file's circuit.
-pub fn print_edit(
-    alloc: Global,
-    edit: &Edit,
-    file: &[u8],
-    out: &mut [u8],
-    needed: &mut usize,
-) -> u32
+fn print_edit(alloc: Global, edit: &Edit, file: &[u8], out: &mut [u8], needed: &mut usize) -> u32
     ensures { GivesEdit edit.now LIMIT IsOfEdit file.now result out.old out.new needed.old
         needed.new }
 {
     put(edit_text(alloc, edit, file), out, needed)
 }
 
-/// Gives the text form of a file's circuit with `k` further steps.
-pub fn print_unrolled(alloc: Global, file: &[u8], k: u64, out: &mut [u8], needed: &mut usize) -> u32
+/// The text form of a file's circuit, cut to its cone of influence.
+#[unsafe(no_mangle)]
+pub extern "C" fn aig_refine(alloc: Global, file: &[u8], out: &mut [u8], needed: &mut usize) -> u32
+    ensures { GivesEdit edits.Refine LIMIT IsOfEdit file.now result out.old out.new needed.old
+        needed.new }
+{
+    print_edit(alloc, &Edit::Refine, file, out, needed)
+}
+
+/// The text form of a file's circuit in the numbering of the binary form.
+#[unsafe(no_mangle)]
+pub extern "C" fn aig_reencode(
+    alloc: Global,
+    file: &[u8],
+    out: &mut [u8],
+    needed: &mut usize,
+) -> u32
+    ensures { GivesEdit edits.Reencode LIMIT IsOfEdit file.now result out.old out.new needed.old
+        needed.new }
+{
+    print_edit(alloc, &Edit::Reencode, file, out, needed)
+}
+
+/// The text form of a file's circuit with its constraints joined to its bad literal and the first output. A file with constraints
+/// and more than one bad literal is refused.
+#[unsafe(no_mangle)]
+pub extern "C" fn aig_move_constraints(
+    alloc: Global,
+    file: &[u8],
+    out: &mut [u8],
+    needed: &mut usize,
+) -> u32
+    ensures { GivesEdit edits.Move LIMIT IsOfEdit file.now result out.old out.new needed.old
+        needed.new }
+{
+    print_edit(alloc, &Edit::Move, file, out, needed)
+}
+
+/// The text form of a file's circuit with its bad literals as one.
+#[unsafe(no_mangle)]
+pub extern "C" fn aig_compress_bads(
+    alloc: Global,
+    file: &[u8],
+    out: &mut [u8],
+    needed: &mut usize,
+) -> u32
+    ensures { GivesEdit edits.Compress LIMIT IsOfEdit file.now result out.old out.new needed.old
+        needed.new }
+{
+    print_edit(alloc, &Edit::Compress, file, out, needed)
+}
+
+/// The text form of a file's circuit with its outputs as its bad literals. A file with bad literals is refused.
+#[unsafe(no_mangle)]
+pub extern "C" fn aig_outputs_as_bads(
+    alloc: Global,
+    file: &[u8],
+    out: &mut [u8],
+    needed: &mut usize,
+) -> u32
+    ensures { GivesEdit edits.Bads LIMIT IsOfEdit file.now result out.old out.new needed.old
+        needed.new }
+{
+    print_edit(alloc, &Edit::Bads, file, out, needed)
+}
+
+/// The text form of a file's circuit with its bad literal `n`, from 0 on, as the only one.
+#[unsafe(no_mangle)]
+pub extern "C" fn aig_property_alone(
+    alloc: Global,
+    file: &[u8],
+    n: usize,
+    out: &mut [u8],
+    needed: &mut usize,
+) -> u32
+    ensures { GivesEdit (edits.Property n) LIMIT IsOfEdit file.now result out.old out.new needed.old
+        needed.new }
+{
+    print_edit(alloc, &Edit::Property(n), file, out, needed)
+}
+
+/// The text form of a file's circuit with true as its only bad literal.
+#[unsafe(no_mangle)]
+pub extern "C" fn aig_possible(
+    alloc: Global,
+    file: &[u8],
+    out: &mut [u8],
+    needed: &mut usize,
+) -> u32
+    ensures { GivesEdit edits.Possible LIMIT IsOfEdit file.now result out.old out.new needed.old
+        needed.new }
+{
+    print_edit(alloc, &Edit::Possible, file, out, needed)
+}
+
+/// The text form of the cone of a file's output `n`, from 0 on.
+#[unsafe(no_mangle)]
+pub extern "C" fn aig_cone(
+    alloc: Global,
+    file: &[u8],
+    n: usize,
+    out: &mut [u8],
+    needed: &mut usize,
+) -> u32
+    ensures { GivesEdit (edits.Cone n) LIMIT IsOfEdit file.now result out.old out.new needed.old
+        needed.new }
+{
+    print_edit(alloc, &Edit::Cone(n), file, out, needed)
+}
+
+/// The text form of a file's circuit with `k` further steps.
+#[unsafe(no_mangle)]
+pub extern "C" fn aig_unroll(
+    alloc: Global,
+    file: &[u8],
+    k: u64,
+    out: &mut [u8],
+    needed: &mut usize,
+) -> u32
     ensures { GivesEdit (edits.Unroll k) LIMIT (AtStep k IsOfEdit) file.now result out.old out.new
         needed.old needed.new }
 {
@@ -94,16 +205,24 @@ pub fn print_unrolled(alloc: Global, file: &[u8], k: u64, out: &mut [u8], needed
     }
 }
 
-/// Gives the text form of what of a file's circuit its query needs.
-pub fn print_reduction(alloc: Global, file: &[u8], out: &mut [u8], needed: &mut usize) -> u32
+/// The text form of what of a file's circuit its query needs.
+#[unsafe(no_mangle)]
+pub extern "C" fn aig_reduce(alloc: Global, file: &[u8], out: &mut [u8], needed: &mut usize) -> u32
     ensures { Gives (λ _. Accepted) LIMIT IsReductionText IsOfText file.now result out.old out.new
         needed.old needed.new }
 {
     put(reduction_text(alloc, file), out, needed)
 }
 
-/// Gives the text form of the question whether a bad state of a file's machine is reached up to step `k`.
-pub fn print_question(alloc: Global, file: &[u8], k: u64, out: &mut [u8], needed: &mut usize) -> u32
+/// The text form of the question whether a bad state of a file's machine is reached up to step `k`.
+#[unsafe(no_mangle)]
+pub extern "C" fn aig_question(
+    alloc: Global,
+    file: &[u8],
+    k: u64,
+    out: &mut [u8],
+    needed: &mut usize,
+) -> u32
     ensures gives { Gives bounded_verdict LIMIT (IsQuestionText k LIMIT) (AtStep k IsOfQuestion)
         file.now result out.old out.new needed.old needed.new }
     ensures large { TellsOfSize k LIMIT file.now result }
@@ -114,8 +233,9 @@ pub fn print_question(alloc: Global, file: &[u8], k: u64, out: &mut [u8], needed
     }
 }
 
-/// Gives the counts of a file's circuit, a line each.
-pub fn print_info(alloc: Global, file: &[u8], out: &mut [u8], needed: &mut usize) -> u32
+/// The counts of a file's circuit, a line each.
+#[unsafe(no_mangle)]
+pub extern "C" fn aig_info(alloc: Global, file: &[u8], out: &mut [u8], needed: &mut usize) -> u32
     ensures { Gives (λ _. Accepted) LIMIT IsInfo IsOfText file.now result out.old out.new needed.old
         needed.new }
 {

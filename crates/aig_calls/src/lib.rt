@@ -1,6 +1,7 @@
-//! The calls that `aig_c` offers to C: bytes in, bytes or numbers and a status out.
+//! The library for C: exports in modules. `include/aig.h` says to C what each takes and gives.
 //!
-//! No call keeps anything, and none has a `requires`. A status is a number, so that C can be told it; `status` says which.
+//! No call keeps anything, and none has a `requires`: whatever C passes is answered, as long as each slice is a pointer and the length
+//! of what it points to. A status is a number, so that C can be told it; `status` says which.
 #![tactic(auto)]
 
 mod bounded;
@@ -16,13 +17,3 @@ mod pairs;
 mod printing;
 mod status;
 mod steps;
-
-pub use bounded::{check_refuted_to, print_bounded, print_witness_to};
-pub use certificates::{check_certified, check_equal};
-pub use checked_printing::{print_clauses, print_window, print_witness};
-pub use checks::{check_inductive, check_refuted, check_run};
-pub use edits::{print_edit, print_info, print_question, print_reduction, print_unrolled};
-pub use meaning::message;
-pub use numbers::query_numbers;
-pub use pairs::{print_obligations, print_pair};
-pub use printing::{print_binary, print_cnf, print_query, print_strash, print_text};

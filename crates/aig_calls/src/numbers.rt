@@ -135,10 +135,11 @@ fn give_list(
     }
 }
 
-/// Gives the clauses that ask for a run of a file's machine to a bad state at step `k`, as DIMACS numbers with a 0 after each
-/// clause, and says how many variables they have and how many numbers they are. The further numbers are the literals that stand
-/// for its inputs at the steps 0 to `k`, for its latches at step 0, and for its bad state properties at step `k`.
-pub fn query_numbers(
+/// The clauses of the query of a file for step `k`, as DIMACS numbers with a 0 after each clause, how many variables they have and
+/// how many numbers they are; and behind them the literals that stand for the inputs at the steps 0 to `k`, the latches at step 0
+/// and the bad state properties at step `k`.
+#[unsafe(no_mangle)]
+pub extern "C" fn aig_query_numbers(
     alloc: Global,
     file: &[u8],
     k: u64,

@@ -3,7 +3,7 @@
 ghost use Rattle.std.specs.Prelude.{IfErr};
 ghost use Rattle.aig_certificates.specs.Certificates.{joint_verdict};
 ghost use Rattle.aig_checks.specs.Pairs.{IsObligationsText};
-ghost use Rattle.aig_edits.specs.declared.pairing.Pairing.TheVariants.{Certificate};
+ghost use Rattle.aig_edits.specs.declared.pairing.Pairing.TheVariants.{Certificate, Merge, Miter};
 ghost use Rattle.aig_calls.specs.Calls.{GivesPair, IsJointText, Joins, TellsJoint};
 ghost use Rattle.aig_calls.specs.Parts.{MakesOfPair};
 ghost use Rattle.aig_calls.specs.Statuses.{IsOfObligations, IsOfPair, said_of_query, said_of_window};
@@ -30,7 +30,7 @@ fn joint_text(alloc: Global, pairing: Pairing, file: &[u8], other: &[u8]) -> Res
 
 /// Gives the text form of the circuit of two files: their miter, the first one beside its certificate, or both side
 /// by side.
-pub fn print_pair(
+fn print_pair(
     alloc: Global,
     pairing: Pairing,
     file: &[u8],
@@ -41,6 +41,49 @@ pub fn print_pair(
     ensures { Joins pairing LIMIT file.now other.now result out.old out.new needed.old needed.new }
 {
     put(joint_text(alloc, pairing, file, other), out, needed)
+}
+
+/// The text form of two files' miter, which is bad where their outputs or bad state properties differ.
+#[unsafe(no_mangle)]
+pub extern "C" fn aig_miter(
+    alloc: Global,
+    file: &[u8],
+    other: &[u8],
+    out: &mut [u8],
+    needed: &mut usize,
+) -> u32
+    ensures { Joins Miter LIMIT file.now other.now result out.old out.new needed.old needed.new }
+{
+    print_pair(alloc, Pairing::Miter, file, other, out, needed)
+}
+
+/// The text form of a file's circuit beside its certificate.
+#[unsafe(no_mangle)]
+pub extern "C" fn aig_join(
+    alloc: Global,
+    file: &[u8],
+    certificate: &[u8],
+    out: &mut [u8],
+    needed: &mut usize,
+) -> u32
+    ensures { Joins Certificate LIMIT file.now certificate.now result out.old out.new needed.old
+        needed.new }
+{
+    print_pair(alloc, Pairing::Certificate, file, certificate, out, needed)
+}
+
+/// The text form of two files side by side.
+#[unsafe(no_mangle)]
+pub extern "C" fn aig_merge(
+    alloc: Global,
+    file: &[u8],
+    other: &[u8],
+    out: &mut [u8],
+    needed: &mut usize,
+) -> u32
+    ensures { Joins Merge LIMIT file.now other.now result out.old out.new needed.old needed.new }
+{
+    print_pair(alloc, Pairing::Merge, file, other, out, needed)
 }
 
 /// The clauses that the proofs of a certificate are of.
@@ -67,9 +110,10 @@ fn obligations_text(
     }
 }
 
-/// Gives the clauses, in DIMACS form, that the proofs of `check_certified` are of: after the line `c base` those of the joint
-/// circuit's query for step 0, and after the line `c step` those of its window.
-pub fn print_obligations(
+/// The clauses, in DIMACS form, that the proofs of `aig_check_certified` are of: after the line `c base` those of the joint circuit's
+/// query for step 0, and after the line `c step` those of its window.
+#[unsafe(no_mangle)]
+pub extern "C" fn aig_obligations(
     alloc: Global,
     file: &[u8],
     certificate: &[u8],

@@ -35,32 +35,36 @@ fn print(alloc: Global, c: Command, file: &[u8], out: &mut [u8], needed: &mut us
     put(text(alloc, c, file), out, needed)
 }
 
-/// Gives the text form of a file's circuit.
-pub fn print_text(alloc: Global, file: &[u8], out: &mut [u8], needed: &mut usize) -> u32
+/// The text form of a file's circuit.
+#[unsafe(no_mangle)]
+pub extern "C" fn aig_text(alloc: Global, file: &[u8], out: &mut [u8], needed: &mut usize) -> u32
     ensures { Gives (file_verdict None LIMIT) LIMIT (Answers commands.Text) IsOfText file.now
         result out.old out.new needed.old needed.new }
 {
     print(alloc, Command::Text, file, out, needed)
 }
 
-/// Gives the binary form of a file's circuit.
-pub fn print_binary(alloc: Global, file: &[u8], out: &mut [u8], needed: &mut usize) -> u32
+/// The binary form of a file's circuit.
+#[unsafe(no_mangle)]
+pub extern "C" fn aig_binary(alloc: Global, file: &[u8], out: &mut [u8], needed: &mut usize) -> u32
     ensures { Gives (file_verdict None LIMIT) LIMIT (Answers commands.Binary) IsOfText file.now
         result out.old out.new needed.old needed.new }
 {
     print(alloc, Command::Binary, file, out, needed)
 }
 
-/// Gives the text form of a file's circuit after structural hashing.
-pub fn print_strash(alloc: Global, file: &[u8], out: &mut [u8], needed: &mut usize) -> u32
+/// The text form of a file's circuit after structural hashing.
+#[unsafe(no_mangle)]
+pub extern "C" fn aig_strash(alloc: Global, file: &[u8], out: &mut [u8], needed: &mut usize) -> u32
     ensures { Gives (file_verdict None LIMIT) LIMIT (Answers commands.Strash) IsOfText file.now
         result out.old out.new needed.old needed.new }
 {
     print(alloc, Command::Strash, file, out, needed)
 }
 
-/// Gives the clauses, in DIMACS form, of a file's circuit that is unrolled by `k` steps.
-pub fn print_cnf(
+/// The clauses, in DIMACS form, of a file's circuit that is unrolled by `k` steps.
+#[unsafe(no_mangle)]
+pub extern "C" fn aig_cnf(
     alloc: Global,
     file: &[u8],
     k: u64,
@@ -77,8 +81,10 @@ pub fn print_cnf(
     }
 }
 
-/// Gives the clauses, in DIMACS form, that ask for a run of a file's machine to a bad state at step `k`.
-pub fn print_query(
+/// The clauses, in DIMACS form, that ask for a run of a file's machine to a bad state at step `k`. A file without bad state
+/// properties has the query that can't be satisfied.
+#[unsafe(no_mangle)]
+pub extern "C" fn aig_query(
     alloc: Global,
     file: &[u8],
     k: u64,

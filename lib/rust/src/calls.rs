@@ -1,6 +1,7 @@
-//! The calls as `aig.h` declares them.
+//! The calls as `aig.h` declares them: written by lib/clients.py from include/aig.h.
 
 unsafe extern "C" {
+    pub fn aig_message(status: u32, out: *mut u8, out_len: usize, needed: *mut usize) -> u32;
     pub fn aig_text(file: *const u8, file_len: usize, out: *mut u8, out_len: usize, needed: *mut usize) -> u32;
     pub fn aig_binary(file: *const u8, file_len: usize, out: *mut u8, out_len: usize, needed: *mut usize) -> u32;
     pub fn aig_strash(file: *const u8, file_len: usize, out: *mut u8, out_len: usize, needed: *mut usize) -> u32;
@@ -16,24 +17,8 @@ unsafe extern "C" {
     pub fn aig_reduce(file: *const u8, file_len: usize, out: *mut u8, out_len: usize, needed: *mut usize) -> u32;
     pub fn aig_question(file: *const u8, file_len: usize, k: u64, out: *mut u8, out_len: usize, needed: *mut usize) -> u32;
     pub fn aig_info(file: *const u8, file_len: usize, out: *mut u8, out_len: usize, needed: *mut usize) -> u32;
-    pub fn aig_cnf(
-        file: *const u8,
-        file_len: usize,
-        k: u64,
-        optimize: bool,
-        out: *mut u8,
-        out_len: usize,
-        needed: *mut usize,
-    ) -> u32;
-    pub fn aig_query(
-        file: *const u8,
-        file_len: usize,
-        k: u64,
-        optimize: bool,
-        out: *mut u8,
-        out_len: usize,
-        needed: *mut usize,
-    ) -> u32;
+    pub fn aig_cnf(file: *const u8, file_len: usize, k: u64, optimize: bool, out: *mut u8, out_len: usize, needed: *mut usize) -> u32;
+    pub fn aig_query(file: *const u8, file_len: usize, k: u64, optimize: bool, out: *mut u8, out_len: usize, needed: *mut usize) -> u32;
     pub fn aig_query_numbers(
         file: *const u8,
         file_len: usize,
@@ -45,24 +30,8 @@ unsafe extern "C" {
         variables: *mut usize,
         clauses_len: *mut usize,
     ) -> u32;
-    pub fn aig_clauses(
-        file: *const u8,
-        file_len: usize,
-        k: u64,
-        optimize: bool,
-        out: *mut u8,
-        out_len: usize,
-        needed: *mut usize,
-    ) -> u32;
-    pub fn aig_bounded(
-        file: *const u8,
-        file_len: usize,
-        k: u64,
-        optimize: bool,
-        out: *mut u8,
-        out_len: usize,
-        needed: *mut usize,
-    ) -> u32;
+    pub fn aig_clauses(file: *const u8, file_len: usize, k: u64, optimize: bool, out: *mut u8, out_len: usize, needed: *mut usize) -> u32;
+    pub fn aig_bounded(file: *const u8, file_len: usize, k: u64, optimize: bool, out: *mut u8, out_len: usize, needed: *mut usize) -> u32;
     pub fn aig_window(
         file: *const u8,
         file_len: usize,
@@ -172,5 +141,4 @@ unsafe extern "C" {
         out_len: usize,
         needed: *mut usize,
     ) -> u32;
-    pub fn aig_message(status: u32, out: *mut u8, out_len: usize, needed: *mut usize) -> u32;
 }

@@ -1,0 +1,11 @@
+use Rattle.aig_commands.specs.declared.tool.TheConstants.{LIMIT}
+use Rattle.aig_reader.specs.Verdicts.{Accepted}
+use Rattle.aig_calls.specs.Calls.{IsReductionText}
+use Rattle.aig_calls.specs.Statuses.{IsOfText}
+use Rattle.aig_calls.proofs.Giving.{gives}
+use Rattle.aig_calls.proofs.edits.aig_reduce.Goals as goal
+
+pub returns : goal.returns
+returns c =
+    gives (λ _. Accepted) LIMIT c.args.file.now IsReductionText IsOfText c.reduction_text.result _ _
+    _ _ _ c.reduction_text.ensures c.put.ensures

@@ -1,0 +1,185 @@
+#!/usr/bin/env python3
+"""Writes the clients of the library for C from include/aig.h: clients.py [--check]
+
+The header's declarations and their comments are the table of the calls. Of it are made lib/rust/src/calls.rs and made.rs, what stands in
+lib/python/aig.py behind its line `# ---- made`, and tests/clients/made.h and made.rs, by which rows are run through each call that
+gives bytes or checks something. Calls with further results, and what they return, are written by hand. --check writes nothing, and
+fails where a file isn't what would be written.
+"""
+import pathlib
+import re
+import sys
+import textwrap
+
+TOP = pathlib.Path(__file__).resolve().parent.parent
+DECLARED = re.compile(r"^/\* ((?:(?!\*/).)*?) \*/\nuint32_t (\w+)\(([^)]*)\);", re.MULTILINE | re.DOTALL)
+WRITTEN = "written by lib/clients.py from include/aig.h"
+# How wide lines of code and of comments are, as elsewhere.
+WIDTH = 138
+OUT = [("uint8_t*", "out"), ("size_t", "out_len"), ("size_t*", "needed")]
+RUST = {"const uint8_t*": "*const u8", "uint8_t*": "*mut u8", "int32_t*": "*mut i32", "size_t*": "*mut usize"}
+RUST |= {"size_t": "usize", "uint64_t": "u64", "uint32_t": "u32", "bool": "bool"}
+PYTHON = {"uint8_t*": "_U8", "int32_t*": "_I32", "size_t*": "_SIZES", "const uint8_t*": "_TEXT"}
+PYTHON |= {"size_t": "_size", "uint64_t": "_step", "uint32_t": "ctypes.c_uint32", "bool": "_bool"}
+
+
+# What a call is made on in C, and the calls that give bytes and that check something.
+WORDS = """#include "aig.h"
+
+struct bytes {
+  uint8_t *at;
+  size_t len;
+};
+struct words {
+  struct bytes files[4];
+  uint64_t k;
+  bool optimize, distinct;
+};
+typedef uint32_t answers(const struct words *, uint8_t *out, size_t out_len, size_t *needed);
+typedef uint32_t checks(const struct words *);
+
+"""
+
+
+class Call:
+    """A call of the header: its comment, its name, its parameters, and what a client gives it."""
+
+    def __init__(self, doc, name, given):
+        self.doc, self.full, self.name = re.sub(r"\s+\*? ?", " ", doc), name, name.removeprefix("aig_")
+        words = [re.fullmatch(r"(.*?)\s*(\w+)", re.sub(r"\s+", " ", it.strip())).groups() for it in given.split(",")]
+        self.parameters = [(kind.replace(" *", "*"), word) for kind, word in words]
+        self.gives = self.parameters[-3:] == OUT
+        taken = self.parameters[: -3 if self.gives else None]
+        # Each slice is one word, and its length none.
+        self.taken = [(kind, word) for i, (kind, word) in enumerate(taken) if not (i and taken[i - 1][0].endswith("8_t*"))]
+        # The rest is written by hand.
+        self.is_plain = self.name != "message" and not any(kind in ("size_t*", "int32_t*") for kind, _ in self.taken)
+
+    def says(self, settled, names):
+        """The comment, as it is of another language."""
+        text = self.doc.replace("AIG_DONE only where", names).replace("AIG_SETTLED", settled)
+        return re.sub(r"`aig_(\w+)`", r"`\1`", text)
+
+
+def calls():
+    return [Call(*found) for found in DECLARED.findall((TOP / "include" / "aig.h").read_text(encoding="utf-8"))]
+
+
+def laid_out(before, words, after, indent=""):
+    """A list of words on one line, or where that is too long on a line each."""
+    line = f"{indent}{before}{', '.join(words)}{after}"
+    if len(line) <= WIDTH:
+        return line
+    return "\n".join([f"{indent}{before}", *(f"{indent}    {word}," for word in words), f"{indent}{after}"])
+
+
+def comment(text, start, less=0):
+    return "\n".join(textwrap.wrap(text, WIDTH - less, initial_indent=start, subsequent_indent=start))
+
+
+# ---- Rust
+
+def rust_declaration(call):
+    return laid_out(f"pub fn {call.full}(", [f"{word}: {RUST[kind]}" for kind, word in call.parameters], ") -> u32;", "    ")
+
+
+def rust_call(call):
+    takes = ", ".join(f"{word}: {'&[u8]' if kind.endswith('*') else RUST[kind]}" for kind, word in call.taken)
+    given = [f"{word}.as_ptr(), {word}.len()" if kind.endswith("*") else word for kind, word in call.taken]
+    result, words = ("Vec<u8>", [*given, "out", "len", "needed"]) if call.gives else ("()", given)
+    made = f"calls::{call.full}({', '.join(words)})"
+    body = f"given(ROOM, |out, len, needed| unsafe {{ {made} }})" if call.gives else f"held(unsafe {{ {made} }})"
+    if len(body) + 4 > WIDTH:
+        body = f"{body[: body.index('{ ') + 1]}\n        {made}\n    {body[body.rindex(' }') + 1 :]}"
+    doc = comment(call.says("`Status::SETTLED`", "Done only where"), "/// ")
+    return f"{doc}\npub fn {call.name}({takes}) -> Result<{result}> {{\n    {body}\n}}\n"
+
+
+def rust_files(found):
+    declared = "\n".join(map(rust_declaration, found))
+    yield "lib/rust/src/calls.rs", f"//! The calls as `aig.h` declares them: {WRITTEN}.\n\nunsafe extern \"C\" {{\n{declared}\n}}\n"
+    head = f"//! Safe functions, each over its call: {WRITTEN}.\n\nuse crate::{{ROOM, Result, calls, given, held}};\n\n"
+    safe = "// SAFETY: each pointer and length is of a slice that is borrowed for the call, and what is written is apart from it.\n\n"
+    yield "lib/rust/src/made.rs", head + safe + "\n".join(rust_call(call) for call in found if call.is_plain)
+    rows = [f'        "{call.name}" => {rust_row(call)},' for call in found if call.is_plain]
+    text = f"//! Each call on the words of a row: {WRITTEN}.\n\n"
+    text += "/// What a call gives, if it is one; one that checks something gives nothing.\n"
+    text += "pub fn answer(call: &str, files: &[&[u8]], k: u64, distinct: bool, optimize: bool) -> Option<aig::Result<Vec<u8>>> {\n"
+    text += "    Some(match call {\n" + "\n".join(rows) + "\n        _ => return None,\n    })\n}\n"
+    yield "tests/clients/made.rs", text
+
+
+def word_of(call, file, number, setting):
+    """The words of a row for each that the call takes: its files in order, its number, and its settings."""
+    at = iter(range(len(call.taken)))
+    for kind, word in call.taken:
+        yield file(next(at)) if kind.endswith("*") else number(kind) if word in ("k", "n") else setting(word)
+
+
+def rust_row(call):
+    number = lambda kind: "k" if kind == "uint64_t" else "k as usize"
+    words = ", ".join(word_of(call, "files[{}]".format, number, lambda word: "distinct" if word == "distinct" else "optimize"))
+    return f"aig::{call.name}({words})" + ("" if call.gives else ".map(|()| Vec::new())")
+
+
+# ---- Python
+
+def python_call(call):
+    plain = [f"{word}: {'bytes' if kind.endswith('*') else 'int'}" for kind, word in call.taken if kind != "bool"]
+    settings = [f"{word}: bool = {word != 'distinct'}" for kind, word in call.taken if kind == "bool"]
+    takes = ", ".join([*plain, *(["*", *settings] if settings else [])])
+    given = {"const uint8_t*": "*_given({})", "uint64_t": "_steps({})", "size_t": "_number({})", "bool": "{}"}
+    words = ", ".join([f'"{call.full}"', *(given[kind].format(word) for kind, word in call.taken)])
+    does, result = ("return _bytes", "bytes") if call.gives else ("_hold", "None")
+    doc = comment(call.says("Raises `Settled`", "Returns only where"), "    ", 3)
+    doc = f'    """{doc[4:]}"""' if len(doc) < WIDTH - 3 and "\n" not in doc else f'    """{doc[4:]}\n    """'
+    return f"def {call.name}({takes}) -> {result}:\n{doc}\n    {does}({words})\n"
+
+
+def python_files(found):
+    path = "lib/python/aig.py"
+    head = (TOP / path).read_text(encoding="utf-8").split("# ---- made")[0]
+    takes = "\n".join(f'    "{call.full}": [{", ".join(PYTHON[kind] for kind, _ in call.parameters)}],' for call in found)
+    names = textwrap.fill(" ".join(call.name for call in found if call.is_plain), WIDTH - 4, initial_indent="    ", subsequent_indent="    ")
+    text = f"# ---- made: {WRITTEN}\n\n# What each call takes.\n_declare({{\n{takes}\n}})\n\n__all__ += \"\"\"\n{names}\n\"\"\".split()\n"
+    yield path, head + text + "".join("\n\n" + python_call(call) for call in found if call.is_plain)
+
+
+# ---- C
+
+def c_row(call):
+    words = [*word_of(call, lambda i: f"w->files[{i}].at, w->files[{i}].len", lambda kind: "w->k",
+                      lambda word: "w->distinct" if word == "distinct" else "w->optimize")]
+    takes = "const struct words *w" + (", uint8_t *out, size_t len, size_t *needed" if call.gives else "")
+    made = ", ".join([*words, *(["out", "len", "needed"] if call.gives else [])])
+    return f"static uint32_t {call.name}_of({takes}) {{\n  return {call.full}({made});\n}}\n"
+
+
+def c_table(name, kind, found):
+    rows = "\n".join(f'  {{"{call.name}", {call.name}_of, {sum(it[0].endswith("*") for it in call.taken)}}},' for call in found)
+    return f"static const struct {{\n  const char *name;\n  {kind}\n  int files;\n}} {name}[] = {{\n{rows}\n}};\n"
+
+
+def c_files(found):
+    plain = [call for call in found if call.is_plain]
+    answers, checks = [call for call in plain if call.gives], [call for call in plain if not call.gives]
+    text = f"/* Each call on words as a row has them: {WRITTEN}. */\n{WORDS}" + "".join(map(c_row, plain))
+    text += c_table("ANSWERS", "answers *call;", answers) + c_table("CHECKS", "checks *call;", checks)
+    yield "tests/clients/made.h", text
+
+
+def main():
+    found, wrong = calls(), []
+    for path, text in [*rust_files(found), *python_files(found), *c_files(found)]:
+        file = TOP / path
+        if not file.is_file() or file.read_text(encoding="utf-8") != text:
+            wrong.append(path)
+            if "--check" not in sys.argv:
+                file.write_text(text, encoding="utf-8")
+    for path in wrong:
+        print(f"{'not current' if '--check' in sys.argv else 'written'}: {path}")
+    return int("--check" in sys.argv and bool(wrong))
+
+
+if __name__ == "__main__":
+    sys.exit(main())
