@@ -12,5 +12,5 @@ mod joint;
 
 pub use asking::{Obligations, obligations_of};
 pub use certified::check_certified;
-pub use equal::check_equal;
+pub use equal::{check_equal, check_step_of};
 pub use error::CertificateError;

@@ -11,3 +11,4 @@ pub mod Depths
 mod Sets
 mod Written
 mod LiveFiles
+pub mod Again
