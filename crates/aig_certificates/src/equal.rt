@@ -41,27 +41,38 @@ fn ask_joint(
     ask_query(alloc, &asked, optimize)
 }
 
-/// Checks a proof for the query of a joint circuit for step `k`.
-fn check_joint<P: Source>(
+/// Checks a proof, in the LRAT or the DRAT format, that the query of a circuit for step `k` can't be satisfied, as `check_equal`
+/// does with that of a miter: then no run of the circuit from an initial state, on which every constraint holds, reaches a bad edge at
+/// that step. The circuit is dropped before the proof is read.
+///
+/// # Errors
+///
+/// - `Encode`: the circuit has more nodes than the limit, or may have with its further steps, or memory ran out. The proof isn't read.
+/// - `NoBads`: the circuit has no bad edge. The proof isn't read.
+/// - `Refutation`: the proof is refused.
+pub fn check_step_of<P: Source>(
     alloc: Global,
-    joint: CircuitLists,
+    circuit: CircuitLists,
     limit: usize,
     k: usize,
     optimize: bool,
     proof: &mut P,
 ) -> Result<(), AnswerError>
     requires few { limit ≤ 2 ^ 31 }
-    requires circuit { IsCircuit (lists_circuit joint) }
-    ensures safe { OnOk result (IsCircuitSafeAt (lists_circuit joint) k) }
+    requires circuit { IsCircuit (lists_circuit circuit) }
+    // No run from an initial state meets every constraint at the steps 0 to k and some bad edge at step k.
+    ensures safe { OnOk result (IsCircuitSafeAt (lists_circuit circuit) k) }
     ensures own { IfErr result IsOfStep }
-    ensures tells { TellsOfQuery limit k optimize (P.left proof.old) (lists_circuit joint) result }
+    // The verdict on the circuit, and of one that is taken what the text of the proof shows of the query's clauses.
+    ensures tells { TellsOfQuery limit k optimize (P.left proof.old) (lists_circuit circuit) result }
     ensures unread { verdict_by verdict_of result ≢ Accepted → proof.new ≡ proof.old }
+    // Stream only where a read failed in this call.
     ensures stream { IsErrOf result (AnswerError.Refutation RefutationError.Stream)
         → IsTrue (P.failed proof.new) }
 {
     refuted_circuit_queries_have_no_witness();
     circuit_clauses_are_one();
-    let made = ask_joint(alloc, joint, limit, k, optimize)?;
+    let made = ask_joint(alloc, circuit, limit, k, optimize)?;
     refute(alloc, &made.clauses, &made.further, proof)
 }
 
@@ -81,7 +92,7 @@ fn check_query<P: Source>(
     ensures stream { IsErrOf result (errors.Query (answers.Refutation RefutationError.Stream))
         → IsTrue (P.failed proof.new) }
 {
-    match check_joint(alloc, joint, limit, k, optimize, proof) {
+    match check_step_of(alloc, joint, limit, k, optimize, proof) {
         Ok(()) => Ok(()),
         Err(error) => Err(CertificateError::Query(error)),
     }

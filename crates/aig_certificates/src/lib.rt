@@ -16,5 +16,5 @@ pub use asking::{Obligations, obligations_of};
 pub use certified::check_certified;
 pub use compare_error::MiterError;
 pub use compared::check_equal_by;
-pub use equal::check_equal;
+pub use equal::{check_equal, check_step_of};
 pub use error::CertificateError;

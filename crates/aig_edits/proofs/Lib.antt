@@ -13,3 +13,4 @@ mod Sets
 mod Written
 mod LiveFiles
 mod RoundsFiles
+pub mod Again

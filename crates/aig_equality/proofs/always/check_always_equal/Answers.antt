@@ -3,7 +3,8 @@ use Rattle.aig_circuit.specs.View.{lists_circuit}
 use Rattle.aig_edits.proofs.Reading.{reads_on}
 use Rattle.aig_equality.specs.declared.error.EqualityError.TheVariants as errors
 use Rattle.aig_equality.specs.Equality.{AlwaysEquals, IsOwn, first_verdict, second_verdict}
-use Rattle.aig_equality.proofs.Mitered.{closed, equal_where, starts}
+use Rattle.aig_edits.proofs.Again.{again_closed, again_starts}
+use Rattle.aig_equality.proofs.Mitered.{equal_where}
 use Rattle.aig_equality.proofs.always.check_always_equal.Goals as goal
 
 pub returns-in_err-miter-clause-reads : goal.returns-in_err-miter-clause-reads
@@ -21,12 +22,12 @@ returns-in_err-miter-clause-reads g c =
 pub check_safe_of-requires-clause-closed : goal.check_safe_of-requires-clause-closed
 check_safe_of-requires-clause-closed g c =
     let read = c.in_ok-miter.ensures.reads.answer refl refl in
-    closed read.file read.means.file (lists_circuit c.in_ok-miter.miter) read.means.means
+    again_closed (lists_circuit c.in_ok-miter.miter) read.means.means.again
 
 pub check_safe_of-requires-clause-starts : goal.check_safe_of-requires-clause-starts
 check_safe_of-requires-clause-starts g c =
     let read = c.in_ok-miter.ensures.reads.answer refl refl in
-    starts read.file read.means.file (lists_circuit c.in_ok-miter.miter) read.means.means
+    again_starts (lists_circuit c.in_ok-miter.miter) read.means.means.again
 
 pub returns-in_err-check_safe_of-clause-reads : goal.returns-in_err-check_safe_of-clause-reads
 returns-in_err-check_safe_of-clause-reads g c =
