@@ -64,7 +64,8 @@ pub fn check_step_of<P: Source>(
     ensures safe { OnOk result (IsCircuitSafeAt (lists_circuit circuit) k) }
     ensures own { IfErr result IsOfStep }
     // The verdict on the circuit, and of one that is taken what the text of the proof shows of the query's clauses.
-    ensures tells { TellsOfQuery limit k optimize (P.left proof.old) (lists_circuit circuit) result }
+    ensures tells { TellsOfQuery limit k optimize (P.left proof.old) (lists_circuit circuit)
+        result }
     ensures unread { verdict_by verdict_of result ≢ Accepted → proof.new ≡ proof.old }
     // Stream only where a read failed in this call.
     ensures stream { IsErrOf result (AnswerError.Refutation RefutationError.Stream)
