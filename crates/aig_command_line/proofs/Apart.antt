@@ -80,30 +80,30 @@ steps_apart : (s t : Step) (k m : ℕ) (a b rest more : List (List ℕ)) → IsT
     → ¬ (a ++ rest ≡ b ++ more)
 steps_apart At UpTo k m a b rest more differ h i same =
     let words : h.0 ∷ rest ≡ codes "to" ∷ i.0 ∷ more = sym (ap (λ l. l ++ rest) h.1) ∙ same
-        ∙ ap (λ l. l ++ more) i.1 in
+    ∙ ap (λ l. l ++ more) i.1 in
     to_no_number k (subst (IsNumber k) (same_first h.0 (codes "to") rest (i.0 ∷ more) words) h.2)
 steps_apart UpTo At k m a b rest more differ h i same =
     let words : codes "to" ∷ h.0 ∷ rest ≡ i.0 ∷ more = sym (ap (λ l. l ++ rest) h.1) ∙ same
-        ∙ ap (λ l. l ++ more) i.1 in
+    ∙ ap (λ l. l ++ more) i.1 in
     to_no_number m (subst (IsNumber m) (sym (same_first (codes "to") i.0 (h.0 ∷ rest) more words)) i.2)
 steps_apart At By k m a b rest more differ h i same =
     let words : h.0 ∷ rest ≡ codes "by" ∷ more = sym (ap (λ l. l ++ rest) h.1) ∙ same
-        ∙ ap (λ l. l ++ more) i.1 in
+    ∙ ap (λ l. l ++ more) i.1 in
     by_no_number k (subst (IsNumber k) (same_first h.0 (codes "by") rest more words) h.2)
 steps_apart By At k m a b rest more differ h i same =
     let words : codes "by" ∷ rest ≡ i.0 ∷ more = sym (ap (λ l. l ++ rest) h.1) ∙ same
-        ∙ ap (λ l. l ++ more) i.1 in
+    ∙ ap (λ l. l ++ more) i.1 in
     by_no_number m (subst (IsNumber m) (sym (same_first (codes "by") i.0 rest more words)) i.2)
 steps_apart UpTo By k m a b rest more differ h i same =
     let words : codes "to" ∷ h.0 ∷ rest ≡ codes "by" ∷ more = sym (ap (λ l. l ++ rest) h.1) ∙ same
-        ∙ ap (λ l. l ++ more) i.1 in
+    ∙ ap (λ l. l ++ more) i.1 in
     other_text (codes "to") (codes "by") refl
-        (same_first (codes "to") (codes "by") (h.0 ∷ rest) more words)
+    (same_first (codes "to") (codes "by") (h.0 ∷ rest) more words)
 steps_apart By UpTo k m a b rest more differ h i same =
     let words : codes "by" ∷ rest ≡ codes "to" ∷ i.0 ∷ more = sym (ap (λ l. l ++ rest) h.1) ∙ same
-        ∙ ap (λ l. l ++ more) i.1 in
+    ∙ ap (λ l. l ++ more) i.1 in
     other_text (codes "by") (codes "to") refl
-        (same_first (codes "by") (codes "to") rest (i.0 ∷ more) words)
+    (same_first (codes "by") (codes "to") rest (i.0 ∷ more) words)
 steps_apart s t k m a b rest more differ h i same = cc
 
 module _ {A : Type 0} (name : A → List ℕ) (form : A → Form) (words : List (List ℕ)) where

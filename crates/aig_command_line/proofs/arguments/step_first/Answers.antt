@@ -17,5 +17,5 @@ pub returns-in_ok-after_word-in-By-clause-some : goal.returns-in_ok-after_word-i
 returns-in_ok-after_word-in-By-clause-some c =
     let by = c.in_ok-after_word-in-By in
     none_by c.args.form (map string_bytes c.args.words.now)
-        (map string_bytes by.field-0.now) c.in-By.is
+    (map string_bytes by.field-0.now) c.in-By.is
     by.ensures.some

@@ -28,7 +28,7 @@ live-requires-clause-edges c =
     let P = IsInRange circuit.nodes in
     let at = slice_get_within sets c.args.j own c.requires.there in
     let in_own : All P own = subst (All P)
-        (get_or_from_slice_get sets c.args.j own own c.requires.there)
+    (get_or_from_slice_get sets c.args.j own own c.requires.there)
     (c.requires.circuit.properties.justice c.args.j own at) in
     let is : c.deref.result.now ≡ own ++ fair = c.deref.ensures.value ∙ c.in_ok-edges.ensures
     ∙ ap (λ (es : List AigEdge). own ++ es) c.fairness-2.ensures.value in
