@@ -22,7 +22,7 @@ from harness import PROVE, TESTS, TOOL, numbers, output
 from random_machines import random_machine
 
 SECONDS = 60
-DESIGNS = ["count_wrap", "crc", "credit_flow", "fifo_ptr", "gray", "johnson", "lockstep", "lru", "msi", "peterson", "rr4", "two_phase"]
+DESIGNS = ["count_wrap", "gray", "johnson", "msi", "peterson", "two_phase"]
 SAFE = "no bad state at any step"
 NO_CERTIFICATE = "aigprove: no certificate: the answer is about runs on which no state comes twice"
 
