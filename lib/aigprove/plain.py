@@ -143,7 +143,8 @@ def excluded_by(pla, places):
     names, excluded = None, []
     for words in filter(None, map(str.split, pla.splitlines())):
         if words[0] == ".ilb":
-            names = words[1:]
+            # A name may have spaces.
+            names = list(places) if words[1:] == " ".join(places).split() else words[1:]
         elif words[0][0] in "01-":
             if names is None or len(words[0]) != len(names):
                 return None
