@@ -51,7 +51,7 @@ def contract_of(calls, specs, item):
     """The docstring and the clauses of a call or law, and the words that these cite, as links."""
     parts = calls.get(item, ())
     yield from (text for part in parts for text in docstrings_of(part))
-    yield from (f"{part.name or item}: {', '.join(part.ensures)}" for part in parts)
+    yield from (f"{part.name or item} of {part.crate}: {', '.join(part.ensures)}" for part in parts)
     words = {specs.constructors.get(word, word) for part in parts for cited in part.ensures.values() for word in cited}
     for word in sorted(words & specs.lines.keys(), key=lambda word: (word.name.lower(), word)):
         yield f"[`{word.name}`]({os.path.relpath(specs.paths[word[:2]], PAGE.parent)})"
