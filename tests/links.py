@@ -5,8 +5,9 @@ Each relative link has to lead to a file or folder of the repository, and its an
 GitHub. A name in the text of a link to a file of code or definitions has to stand in that file. A word of a code span has to lead
 to a file or folder where it is a path from the top, from crates/, or from specs/, src/ or proofs/ of a crate; so has the name of a
 file of code alone, in a crate that the line names. A part in capitals, or with a star, stands for
-any name, and what follows it isn't looked at. Each block of the kind `rust` has to
-stand, line by line, in a file of crates/ or examples/.
+any name, and what follows it isn't looked at. A code span that is a name in parts, as those of crates, functions and types, has to be
+the name of a crate or stand in a file of code. Each block of the kind `rust` has to stand, line by line, in a file of crates/ or
+examples/.
 """
 import collections
 import re
@@ -18,9 +19,13 @@ BLOCK = re.compile(r"^```(\w*)[^\n]*\n(.*?)^```$", re.DOTALL | re.MULTILINE)
 SPAN = re.compile(r"`([^`]+)`")
 FILE = re.compile(r"[\w-]+\.(rt|antt|py|sh|md|tsv|steps)")
 ANY = re.compile(r"[A-Z][A-Z_]+(?:\.\w+)?|.*\*.*")
+NAME = re.compile(r"[A-Za-z]\w*(?:::\w+)*")
+IN_PARTS = re.compile(r"[a-z]+_[a-z\d_]+|AIG_\w+|[A-Z][a-z]+[A-Z]\w*")
 OF_CRATES = ("specs", "src", "proofs", "must-fail")
 LINK = re.compile(r"\[([^\]]*)\]\(([^)\s]*)\)")
 CODE = (".rt", ".antt")
+# What has the names of code spans.
+SOURCES = (".rt", ".antt", ".py", ".h", ".v", ".tsv")
 # Files that a reader makes.
 EXAMPLES = ("check.sh",)
 
@@ -58,10 +63,12 @@ class Files:
     def __init__(self):
         self.crates = {path.name: path for path in TOP.glob("crates/*") if path.is_dir()}
         self.top = {path.name for path in TOP.iterdir() if path.is_dir() and path.name != ".git"}
-        self.named = collections.defaultdict(list)
-        for folder in ["crates", "tests", "docs", "bench", "examples", "lib"]:
+        self.named, self.words = collections.defaultdict(list), set(self.crates)
+        for folder in ["crates", "tests", "docs", "bench", "examples", "lib", "include"]:
             for path in (TOP / folder).rglob("*"):
                 self.named[path.name].append(path)
+                if path.suffix in SOURCES and "out" not in path.parts:
+                    self.words |= set(re.findall(r"\w+", path.read_text()))
 
     def leads(self, parts, crates):
         """Whether a path leads to a file or folder; of one within a crate, in one of these crates, or in any where there is none."""
@@ -76,6 +83,13 @@ class Files:
         is_code = FILE.fullmatch(name)[1] in ("rt", "antt")
         places = self.named.get(name, ())
         return any(not is_code or not crates or any(place.is_relative_to(crate) for crate in crates) for place in places)
+
+    def name_faults(self, text):
+        """The names in code spans that no source has; of crates those that are no crate."""
+        for span in filter(NAME.fullmatch, SPAN.findall(BLOCK.sub("", text))):
+            for name in filter(IN_PARTS.fullmatch, span.split("::")):
+                if name not in self.words:
+                    yield f"no source has this name: {span}"
 
     def faults(self, text):
         """The paths and names of files in code spans that lead nowhere."""
@@ -105,7 +119,7 @@ def main():
     for page in pages:
         text = page.read_text()
         links += len(LINK.findall(text))
-        faults = [*link_faults(page, text), *files.faults(text), *rust_faults(text, sources)]
+        faults = [*link_faults(page, text), *files.faults(text), *files.name_faults(text), *rust_faults(text, sources)]
         wrong += [f"{page.relative_to(TOP)}: {fault}" for fault in faults]
     print("\n".join([*wrong, f"{len(pages)} pages, {links} links, {len(wrong)} faults"]))
     sys.exit(1 if wrong else 0)

@@ -2,9 +2,10 @@
 """Holds docs/PROMISES.md against the contracts: theorems.py [--write | --list NAME]
 
 Each call that is exported and each law has to stand in a row, and each name of a row has to be one of them. tests/theorems.tsv has
-the clauses that their rows tell: a call with another clause fails, until its row tells that one too and --write has written it. A
-definition that the page quotes has to stand so in the file that the link before it leads to. --list prints the docstring of a call or
-law, its clauses, and the words of specs/ that these cite, each with a link to its file.
+the clauses that their rows tell: a call with another clause fails, until its row tells that one too and --write has written it.
+tests/rows.tsv has the words of code of their rows: one that stands in no row of the call any more, nor outside the tables, fails, until
+--write has written it. A definition that the page quotes has to stand so in the file that the link before it leads to. --list prints
+the docstring of a call or law, its crate and clauses, and the words of specs/ that these cite, each with a link to its file.
 """
 import collections
 import os
@@ -15,7 +16,9 @@ import promises
 
 PAGE = promises.TOP / "docs" / "PROMISES.md"
 CLAUSES = promises.TOP / "tests" / "theorems.tsv"
+ROWS = promises.TOP / "tests" / "rows.tsv"
 NAMED = re.compile(r"`([^`]+)`")
+BLOCK = re.compile(r"^```.*?^```$", re.DOTALL | re.MULTILINE)
 QUOTED = re.compile(r"\]\(([^)\s]+\.antt)\)[^\n]*\n\n?```antt\n(.*?)```", re.DOTALL)
 
 
@@ -57,15 +60,29 @@ def contract_of(calls, specs, item):
         yield f"[`{word.name}`]({os.path.relpath(specs.paths[word[:2]], PAGE.parent)})"
 
 
-def row_names(text, calls):
-    """The names of the rows: those of a row that ends with `of` and a crate are that crate's."""
+def rows_of(text, calls):
+    """The names of the rows, each with the words of code of what is told: the names of a row that ends with `of` and a crate are that
+    crate's."""
+    told = collections.defaultdict(set)
     for line in text.split("\n"):
         cells = [cell.strip() for cell in line.split("|")[1:-1]]
         names = NAMED.findall(cells[0]) if len(cells) == 2 else []
         if names and re.search(r"` of `\w+`$", cells[0]):
             crate = names.pop()
             names = [own if (own := f"{crate}::{name}") in calls else name for name in names]
-        yield from names
+        for name in names:
+            told[name] |= set(NAMED.findall(cells[1]))
+    return told
+
+
+def lost_words(text, words):
+    """The words of code that the row of a call told, and that stand in its row no more, nor outside the tables."""
+    outside = set(NAMED.findall(re.sub(r"^\|.*\n", "", BLOCK.sub("", text), flags=re.MULTILINE)))
+    for line in ROWS.read_text().splitlines():
+        key, *known = line.split("\t")
+        for word in known:
+            if key in words and word not in words[key] | outside:
+                yield f"its row told `{word}`; tell it, or --write: {key}"
 
 
 def quotation_faults(text):
@@ -87,14 +104,16 @@ def main():
     if option == "--list":
         print("\n".join(contract_of(calls, specs, *names)))
         return
-    told = set(row_names(text, calls))
+    told = rows_of(text, calls)
+    words = {f"{crate} {item}": told.get(item, set()) | told.get(own, set()) for crate, item, own in needed}
     clauses = {f"{crate} {item}": f"{crate} {item}\t{' '.join(clause for part in calls[own] for clause in part.ensures)}"
         for crate, item, own in needed}
     if option == "--write":
         CLAUSES.write_text("".join(f"{clauses[key]}\n" for key in sorted(clauses)))
+        ROWS.write_text("".join("\t".join([key, *sorted(words[key])]) + "\n" for key in sorted(words)))
     known = {line.partition("\t")[0]: line for line in CLAUSES.read_text().splitlines()}
-    wrong = [*quotation_faults(text), *(f"no call or law: {name}" for name in told if name not in calls)]
-    wrong += [f"no row: {item} of {crate}" for crate, item, own in needed if not {item, own} & told]
+    wrong = [*quotation_faults(text), *lost_words(text, words), *(f"no call or law: {name}" for name in told if name not in calls)]
+    wrong += [f"no row: {item} of {crate}" for crate, item, own in needed if not {item, own} & told.keys()]
     for key in sorted(known.keys() | clauses):
         if known.get(key) != clauses.get(key):
             wrong.append(f"tell it in its row, then --write: {clauses.get(key) or f'{key}, which is gone'}")
