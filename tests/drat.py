@@ -72,9 +72,11 @@ class Steps:
     def counts_of(self, formula):
         """Whether they are taken, and how many of them follow, or have the RAT property alone."""
         live, counts = Live(formula.clauses), collections.Counter()
-        for deletes, clause in self.steps:
+        for before, (deletes, clause) in enumerate(self.steps):
             if live.is_in_conflict([]):
                 break
+            if not formula.may_name(clause, before):
+                return False, counts
             if deletes:
                 live.delete(clause)
                 continue

@@ -4,9 +4,10 @@
 Writes PROOFS (500) LRAT proofs for random clauses that have no solution, with steps by resolution asymmetry: clauses are deleted and
 added again, blocked ones are added, spare variables and new ones get definitions, and what cadical proves of all these clauses stands
 behind. Pigeonholes of 3 to 12 holes are refuted by extended resolution (Cook, 1976), whose variables are new. `aigcheck refuted` takes
-each. Each is mangled four times, too: hints for a clause are left out, or one of them, another literal comes first, a clause that they are
-for is deleted before, a number is skipped, a new variable goes up to the last number that may be named, or past it. aigcheck takes what
-comes of it exactly where the checker of proofs.py does, which was written from the form's description and knows nothing of the library.
+each. Each is mangled four times, too: hints for a clause are left out, or one of them, or some come behind its number once more, another
+literal comes first, a clause that they are for is deleted before, a number is skipped, a new variable goes up to the last number that may
+be named, or past it. aigcheck takes what comes of it exactly where the checker of proofs.py does, which was written from the form's
+description and knows nothing of the library.
 
 It ends with the first that differs, and else prints one line. It is no part of tests/run."""
 import concurrent.futures
@@ -295,13 +296,18 @@ def spoilt(rng, lines):
     steps = [line for line in lines if line[1] not in ["d", "0"]]
     line = rng.choice([line for line in steps if places_in(line)] or steps)
     places, end = places_in(line), line.index("0", 1)
-    change = rng.choice(["pivot", "number", "hint", *["group", "candidate", "hint"] * bool(places)])
+    change = rng.choice(["pivot", "number", "hint", *["group", "candidate", "hint", "again"] * bool(places)])
     if change == "pivot":
         line[1:end] = rng.sample(line[1:end], end - 1)
     elif change == "number":
         line[0] = str(int(line[0]) + 1)
     elif change == "hint":
         del line[rng.randrange(end + 1, max(end + 2, len(line) - 1))]
+    elif change == "again":
+        at = rng.choice(places)
+        until = next((place for place in places if place > at), len(line) - 1)
+        cut = rng.randint(at + 1, until)
+        line[at:] = [*line[at:cut], *line[until:-1], line[at], *line[cut:until], "0"]
     else:
         at = rng.choice(places)
         if change == "candidate":

@@ -130,8 +130,9 @@ pub fn write_live<W: Sink>(
 }
 
 /// Reads a file in the AIGER format, and writes the text form of its live circuit to `w`: its bad state is reached at a step
-/// exactly where justice property `j`, from 0 on, has a fair lasso that ends there (liveness to safety). It doesn't flush `w`.
-/// Requires `1 <= limit <= 2^31`.
+/// exactly where justice property `j`, from 0 on, has a fair lasso that ends there (liveness to safety). Names stay, and what is
+/// added has its own: the input `save`, and the latches `saved`, `saved X` for each latch named X, and `seen 0` and so on for the
+/// edges of the property and of fairness. It doesn't flush `w`. Requires `1 <= limit <= 2^31`.
 ///
 /// # Errors
 ///

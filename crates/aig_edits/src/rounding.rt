@@ -109,7 +109,8 @@ pub fn write_rounds<W: Sink>(
 
 /// Reads a file in the AIGER format, and writes the text form of a circuit that counts `count` rounds of its justice property `j`,
 /// from 0 on, to `w` (k-liveness): in a round each literal of the property and of fairness is true, and its bad state is reached at
-/// a step exactly where so many rounds ended by then. Where that is never, the property has no fair run. It doesn't flush `w`.
+/// a step exactly where so many rounds ended by then. Where that is never, the property has no fair run. Names stay, and what is
+/// added has its own: the latches `met 0` and so on for the edges, and `round 1` and so on for the rounds. It doesn't flush `w`.
 /// Requires `1 <= limit <= 2^31`.
 ///
 /// # Errors

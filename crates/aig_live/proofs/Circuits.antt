@@ -1,12 +1,15 @@
 -- The live circuit is the old one with an input and latches more.
-use Rattle.aig_base.proofs.Words.{◌≡◌, ℕ, ◌+◌, suc, List, [], ◌∷◌, ◌++◌, length, sym, ap, ◌∙◌, arith, All, All-append, All-cons, append_assoc, length-append}
+use Rattle.aig_base.proofs.Words.{◌≡◌, ℕ, ◌+◌, suc, Option, List, [], ◌∷◌, ◌++◌, length, sym, ap, ◌∙◌, arith, All, All-append, All-cons, append_assoc, length-append}
+use Rattle.std.specs.Prelude.{codes}
 use Rattle.aig_circuit.specs.declared.edge.AigEdge.{AigEdge}
 use Rattle.aig_circuit.specs.declared.node.AigLatch.{AigLatch}
 use Rattle.aig_circuit.specs.Properties.{no_properties}
 use Rattle.aig_circuit.proofs.Words.{Circuit, IsCircuit, IsClosed, IsInRange, HasConstantInit}
 use Rattle.aig_live.specs.Extended.{IsExtended, row_from}
 use Rattle.aig_live.specs.Live.{IsLiveOf, false_latch, false_latches}
+use Rattle.aig_live.specs.Names.{copy_names, live_names, numbered, with_row}
 use Rattle.aig_live.proofs.Extended as extended
+use Rattle.aig_live.proofs.Rows.{copies-long, numbered-long}
 
 -- latches in a row
 false_latches-both : (leaf : ℕ) (es fs : List AigEdge)
@@ -66,9 +69,19 @@ module _ (edges : List AigEdge) (c new : Circuit) (live : IsLiveOf edges c new) 
       bads = live.bad ∷ [];
       constraints = c.properties.constraints;
     };
+    names = with_row c.names (length c.nodes) (live_names c (length edges));
   }
 
-  pub live_extended : IsExtended 1 (live.active ∷ live.starts ++ live.seen) live.bad c new
+  pub names_long : length (live_names c (length edges)) ≡ 2 + length c.latchs + length edges
+  names_long = omega (
+    arith,
+    length-append (copy_names c) (numbered (codes "seen ") 0 (length edges)),
+    copies-long c,
+    numbered-long (codes "seen ") 0 (length edges),
+  )
+
+  pub live_extended : IsExtended 1 (live.active ∷ live.starts ++ live.seen) live.bad
+      (live_names c (length edges)) c new
   live_extended = record {
     nodes = live.nodes;
     leaves = λ n low high. live.leaves n low (omega (arith, high, nexts_long));
@@ -76,21 +89,25 @@ module _ (edges : List AigEdge) (c new : Circuit) (live : IsLiveOf edges c new) 
     gates = λ n low high. live.gates n (omega (arith, low, nexts_long)) high;
     nexts_there = nexts_there;
     bad_there = live.bad_there;
+    named = omega (arith, names_long, nexts_long);
     rest = live.rest ∙ ap (λ ins. with_lists ins new.latchs) live.inputs
         ∙ ap (with_lists (c.inputs ++ row_from (length c.nodes) 1)) latchs_are;
   }
 
 module _ (edges : List AigEdge) (c new : Circuit) (is : IsCircuit c)
     (live : IsLiveOf edges c new) where
+  abbrev texts : List (Option (List ℕ))
+  texts = live_names c (length edges)
+
   pub IsCircuit-live : IsCircuit new
-  IsCircuit-live = extended.IsCircuit-extended 1 (live.active ∷ live.starts ++ live.seen) live.bad c
-      new is (live_extended edges c new live)
+  IsCircuit-live = extended.IsCircuit-extended 1 (live.active ∷ live.starts ++ live.seen) live.bad
+      texts c new is (live_extended edges c new live)
 
   pub IsClosed-live : IsClosed c → IsClosed new
-  IsClosed-live = extended.IsClosed-extended 1 (live.active ∷ live.starts ++ live.seen) live.bad c
-      new is (live_extended edges c new live)
+  IsClosed-live = extended.IsClosed-extended 1 (live.active ∷ live.starts ++ live.seen) live.bad
+      texts c new is (live_extended edges c new live)
 
   -- the added latches start with a constant
   pub constant_starts : All HasConstantInit c.latchs → All HasConstantInit new.latchs
-  constant_starts = extended.constant_starts 1 (live.active ∷ live.starts ++ live.seen) live.bad c
-      new is (live_extended edges c new live)
+  constant_starts = extended.constant_starts 1 (live.active ∷ live.starts ++ live.seen) live.bad
+      texts c new is (live_extended edges c new live)

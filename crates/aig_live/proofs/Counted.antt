@@ -1,10 +1,10 @@
 -- The edges of a circuit that counts rounds, from what makes them.
-use Rattle.aig_base.proofs.Words.{◌≡◌, ◌⊎◌, ℕ, zero, suc, ◌+◌, ◌-◌, ◌*◌, ◌<◌, ◌≤◌, ◌&&◌, ◌||◌, Bool, true, false, cond, eqb, ne_eqb, not, Some, List, [], ◌∷◌, ◌++◌, length, get_or, refl, sym, ap, subst, ◌∙◌, inl, inr, arith, All, All-append, cases_lt, get_or-append-add, get_or_append_left, get_or_default, length-append, list_all}
+use Rattle.aig_base.proofs.Words.{◌≡◌, ◌⊎◌, ℕ, zero, suc, ◌+◌, ◌-◌, ◌<◌, ◌≤◌, ◌&&◌, ◌||◌, Bool, true, false, cond, eqb, ne_eqb, not, List, [], ◌∷◌, ◌++◌, length, get_or, refl, sym, ap, subst, ◌∙◌, inl, inr, arith, All, All-append, cases_lt, get_or-append-add, get_or_append_left, length-append}
 use Rattle.std.proofs.Common.{Global, Vec}
 use Rattle.aig_circuit.specs.declared.edge.AigEdge.{AigEdge}
 use Rattle.aig_circuit.specs.declared.node.AigNode.{AigNode}
-use Rattle.aig_circuit.specs.declared.node.AigNodeType.TheVariants.{And, False}
-use Rattle.aig_circuit.proofs.Words.{AddsGates, AreNodes, GivesEdge, Grows, IsInRange, IsLeaf, JoinsByAnd, kind_at, edge_to, edge_value, inverse}
+use Rattle.aig_circuit.specs.declared.node.AigNodeType.TheVariants.{False}
+use Rattle.aig_circuit.proofs.Words.{AddsGates, AreNodes, GivesEdge, Grows, IsInRange, IsLeaf, JoinsByAnd, edge_to, edge_value, inverse}
 use Rattle.aig_circuit.proofs.Building.{AddsGates-then, Grows-itself, Grows-kept, Grows-longer, Grows-then, edge_value-Grows}
 use Rattle.aig_circuit.proofs.Joining.{edge_value-inverse}
 use Rattle.aig_circuit.proofs.Trees.{kind_at-within, node_value-leaf}
@@ -12,7 +12,7 @@ use Rattle.aig_circuit.specs.Build.{FoldsOrAddsAll}
 use Rattle.aig_lasso.specs.Rounds.{all_below}
 use Rattle.aig_live.specs.Counting.{AreBefores, AreCounted, edge_before, kept_of}
 use Rattle.aig_live.specs.Making.{AddsLeaves, GivesEach, seen_of, value_at}
-use Rattle.aig_live.specs.Rounds.{ended_before, ended_by, ends_now, is_met, value_of}
+use Rattle.aig_live.specs.Rounds.{ended_before, ended_by, ends_now, is_met}
 use Rattle.aig_live.proofs.Added.{false_is}
 use Rattle.aig_live.proofs.Assembled.{GivesEach-there, there_grown}
 use Rattle.aig_live.proofs.Counts.{list_all-below}

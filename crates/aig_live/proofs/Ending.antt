@@ -1,18 +1,22 @@
 -- A bad state of the circuit that counts rounds shows that so many end, and the other way round.
-use Rattle.aig_base.proofs.Words.{◌≡◌, ◌⊎◌, ℕ, zero, suc, ◌+◌, ◌-◌, ◌<◌, ◌≤◌, ◌&&◌, ◌||◌, Bool, true, false, cond, leb, ltb, not, IsTrue, List, length, get_or, refl, sym, ap, subst, ◌∙◌, inl, inr, arith, add-one, cases_lt, le-leb, leb-true, lt-ltb, ltb-false, le-ltb, lt-leb}
+use Rattle.aig_base.proofs.Words.{◌≡◌, ◌⊎◌, ℕ, zero, suc, ◌+◌, ◌-◌, ◌<◌, ◌≤◌, ◌&&◌, ◌||◌, Bool, false, cond, leb, ltb, not, IsTrue, Option, List, length, get_or, refl, sym, ap, subst, ◌∙◌, inl, inr, arith, add-one, cases_lt, le-leb, leb-true, lt-ltb, le-ltb, lt-leb}
 use Rattle.aig_circuit.specs.declared.edge.AigEdge.{AigEdge}
 use Rattle.aig_circuit.proofs.Words.{Circuit, IsCircuit, IsLeaf, edge_to, edge_value}
 use Rattle.aig_circuit.proofs.Trees.{kind_at-within}
 use Rattle.aig_circuit.specs.declared.node.AigNodeType.TheVariants.{Leaf}
 use Rattle.aig_join.proofs.Grown.{value-agrees}
 use Rattle.aig_runs.specs.CircuitQueries.{HasCircuitWitness, IsCircuitWitness}
-use Rattle.aig_lasso.specs.Rounds.{all_below, ends, now_of, rounds}
-use Rattle.aig_live.specs.Rounds.{HasRounds, IsRoundsOf, IsRoundsRun, ended_before, ended_by, ends_now, is_met, value_of}
+use Rattle.aig_lasso.specs.Rounds.{ends, now_of, rounds}
+use Rattle.aig_live.specs.Names.{rounds_names}
+use Rattle.aig_live.specs.Rounds.{IsRoundsOf, IsRoundsRun, ended_before, ended_by, ends_now, is_met, value_of}
 use Rattle.aig_live.proofs.Counts.{all_below-same, carried, ended_more, now_is}
 use Rattle.aig_live.proofs.Running.{cut_allowed, cut_bad, cut_next, cut_start, extended_witness}
 
 module _ (edges : List AigEdge) (count : ℕ) (c new : Circuit) (is : IsCircuit c)
     (live : IsRoundsOf edges count c new) where
+  abbrev texts : List (Option (List ℕ))
+  texts = rounds_names (length edges) count
+
   -- ---- one step, whose leaves have what was carried and counted
 
   module _ (v : ℕ → ℕ → Bool) (t : ℕ) (y : ℕ → Bool)
@@ -80,7 +84,7 @@ module _ (edges : List AigEdge) (count : ℕ) (c new : Circuit) (is : IsCircuit 
 
     abbrev next_of : (t j : ℕ) (e : AigEdge) → t < k → j < length live.nexts
         → z (t + 1) (length c.nodes + 0 + j) ≡ edge_value new.nodes (z t) (get_or live.nexts j e)
-    next_of = cut_next 0 live.nexts live.bad c new is live.extended k z witness
+    next_of = cut_next 0 live.nexts live.bad texts c new is live.extended k z witness
 
     leaves_are : (t : ℕ) → t ≤ k
         → ((i : ℕ) → i < length edges → z t (length c.nodes + i) ≡ carried (length edges) v t i)
@@ -90,13 +94,13 @@ module _ (edges : List AigEdge) (count : ℕ) (c new : Circuit) (is : IsCircuit 
       λ i low.
           let place : length c.nodes + 0 + i ≡ length c.nodes + i = omega arith in
           subst (λ n. z 0 n ≡ false) place
-          (cut_start 0 live.nexts live.bad c new is live.extended k z witness i (omega
+          (cut_start 0 live.nexts live.bad texts c new is live.extended k z witness i (omega
           (arith, low, long))),
       λ r low.
           let place : length c.nodes + 0 + (length edges + r)
           ≡ length c.nodes + length edges + r = omega arith in
           subst (λ n. z 0 n ≡ false) place
-          (cut_start 0 live.nexts live.bad c new is live.extended k z witness (length edges + r)
+          (cut_start 0 live.nexts live.bad texts c new is live.extended k z witness (length edges + r)
           (omega (arith, low, long)))
           ∙ sym (lt-leb (suc r) 0 (omega arith)),
     )
@@ -135,10 +139,10 @@ module _ (edges : List AigEdge) (count : ℕ) (c new : Circuit) (is : IsCircuit 
     run_of =
         let are = leaves_are k (omega arith) in
         record {
-          allowed = cut_allowed 0 live.nexts live.bad c new is live.extended k z witness;
+          allowed = cut_allowed 0 live.nexts live.bad texts c new is live.extended k z witness;
           ended = leb-true count (rounds (length edges) v (suc k))
               (sym (bad_is v k (z k) (own k) are.0 are.1)
-              ∙ cut_bad 0 live.nexts live.bad c new is live.extended k z witness);
+              ∙ cut_bad 0 live.nexts live.bad texts c new is live.extended k z witness);
         }
 
   -- ---- of a run in which so many rounds end
@@ -246,6 +250,6 @@ module _ (edges : List AigEdge) (count : ℕ) (c new : Circuit) (is : IsCircuit 
     pub witness_of_run : HasCircuitWitness new k
     witness_of_run = (
       z,
-      extended_witness 0 live.nexts live.bad c new is live.extended k z x run.allowed same next
+      extended_witness 0 live.nexts live.bad texts c new is live.extended k z x run.allowed same next
           start holds,
     )

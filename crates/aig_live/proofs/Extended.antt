@@ -1,5 +1,5 @@
 -- A circuit with inputs and latches more is one, with no free leaf where the old one had none.
-use Rattle.aig_base.proofs.Words.{◌≡◌, ◌≢◌, ◌⊎◌, ℕ, zero, suc, ◌+◌, ◌-◌, ◌<◌, ◌≤◌, Some, IsTrue, List, [], ◌∷◌, ◌++◌, length, get_or, refl, sym, ap, subst, ◌∙◌, inl, inr, arith, All, AllPairs, Contains, contains_key, All-append, All-cons, All-nil, All-contains, All-weaker, Contains-get_or, Contains-append_cases, Contains-append_left, Contains-append_right, cases_lt, length-append, map-append}
+use Rattle.aig_base.proofs.Words.{◌≡◌, ◌≢◌, ◌⊎◌, ℕ, zero, suc, ◌+◌, ◌-◌, ◌<◌, ◌≤◌, Option, Some, None, IsTrue, List, [], ◌∷◌, ◌++◌, length, get_or, refl, sym, ap, subst, ◌∙◌, inl, inr, arith, All, AllPairs, Contains, contains_key, false≢true, get, is_some, All-append, All-cons, All-nil, All-contains, All-weaker, Contains-get_or, Contains-append_cases, Contains-append_left, Contains-append_right, cases_lt, map-append}
 use Rattle.aig_circuit.specs.declared.edge.AigEdge.{AigEdge}
 use Rattle.aig_circuit.specs.declared.node.AigLatch.{AigLatch}
 use Rattle.aig_circuit.specs.declared.node.AigNodeType.TheVariants.{And, Leaf}
@@ -9,7 +9,9 @@ use Rattle.aig_circuit.proofs.Circuits.{AllPairs-append, init_grown, latch_leave
 use Rattle.aig_circuit.proofs.Trees.{kind_at-within}
 use Rattle.aig_live.specs.Live.{false_latches}
 use Rattle.aig_live.specs.Extended.{IsExtended, row_from}
+use Rattle.aig_live.specs.Names.{with_row}
 use Rattle.aig_live.proofs.Added.{false_latches-at, false_latches-long}
+use Rattle.aig_live.proofs.Rows.{get-with_row, get-with_row_other, none_past}
 
 -- ---- numbers in a row
 
@@ -60,8 +62,28 @@ distinct_past xs n count pairs low =
     AllPairs-append (λ a b. a ≢ b) xs (row_from n count) pairs (row_distinct n count)
     (λ k d h i e l same. omega (arith, low k d h, row_low n count i e l, same))
 
-module _ (inputs : ℕ) (nexts : List AigEdge) (bad : AigEdge) (c new : Circuit) (is : IsCircuit c)
-    (ext : IsExtended inputs nexts bad c new) where
+module _ (inputs : ℕ) (nexts : List AigEdge) (bad : AigEdge) (texts : List (Option (List ℕ)))
+    (c new : Circuit) (is : IsCircuit c) (ext : IsExtended inputs nexts bad texts c new) where
+  pub names_are : new.names ≡ with_row c.names (length c.nodes) texts
+  names_are = ap (λ (m : Circuit). m.names) ext.rest
+
+  -- an old node keeps its name
+  pub old_named : (m : ℕ) → m < length c.nodes → get new.names m ≡ get c.names m
+  old_named m low = ap (λ ns. get ns m) names_are
+      ∙ get-with_row_other c.names (length c.nodes) texts m (λ k h e. omega (arith, low, e))
+
+  -- a leaf that is added has its own
+  pub added_named : (k : ℕ) (d : Option (List ℕ)) → k < length texts
+      → get new.names (length c.nodes + k) ≡ get_or texts k d
+  added_named k d h = ap (λ ns. get ns (length c.nodes + k)) names_are
+      ∙ get-with_row c.names (length c.nodes) texts (none_past c is) k d h
+
+  -- and no other node has one
+  pub past_named : (m : ℕ) → length c.nodes + length texts ≤ m → get new.names m ≡ None
+  past_named m high = ap (λ ns. get ns m) names_are
+      ∙ get-with_row_other c.names (length c.nodes) texts m (λ k h e. omega (arith, high, h, e))
+      ∙ none_past c is m (omega (arith, high))
+
   pub inputs_are : new.inputs ≡ c.inputs ++ row_from (length c.nodes) inputs
   inputs_are = ap (λ (m : Circuit). m.inputs) ext.rest
 
@@ -147,6 +169,12 @@ module _ (inputs : ℕ) (nexts : List AigEdge) (bad : AigEdge) (c new : Circuit)
             (length nexts)) m (row_low (length c.nodes + inputs) (length nexts)) past,
       )
 
+  new_named : (m : ℕ) → IsTrue (contains_key new.names m)
+      → (m < length c.nodes + length texts) ⊎ (length c.nodes + length texts ≤ m)
+      → m < length new.nodes
+  new_named m has (inl low) = omega (arith, low, ext.named, ext.longer)
+  new_named m has (inr high) = absurd (false≢true (sym (ap is_some (past_named m high)) ∙ has))
+
   pub IsCircuit-extended : IsCircuit new
   IsCircuit-extended = record {
     nodes = ext.nodes.sound;
@@ -184,10 +212,7 @@ module _ (inputs : ℕ) (nexts : List AigEdge) (bad : AigEdge) (c new : Circuit)
           justice = All-nil (All (IsInRange new.nodes));
           fairness = All-nil (IsInRange new.nodes);
         });
-    named = λ m h.
-        let old = is.named m (subst (λ ns. IsTrue (contains_key ns m)) (ap (λ (d : Circuit).
-        d.names) ext.rest) h) in
-        omega (arith, old, longer);
+    named = λ m h. new_named m h (cases_lt m (length c.nodes + length texts));
   }
 
   -- ---- leaves

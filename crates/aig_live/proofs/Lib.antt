@@ -6,6 +6,7 @@ pub mod Assembled
 pub mod Lived
 pub mod Circuits
 pub mod Extended
+pub mod Rows
 pub mod Running
 pub mod Counts
 pub mod Ending

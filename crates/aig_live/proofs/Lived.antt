@@ -1,9 +1,10 @@
 -- The live circuit, from its parts.
-use Rattle.aig_base.proofs.Words.{◌≡◌, List, [], ◌∷◌, ◌++◌}
+use Rattle.aig_base.proofs.Words.{◌≡◌, List, [], ◌∷◌, ◌++◌, length}
 use Rattle.aig_circuit.specs.declared.edge.AigEdge.{AigEdge}
 use Rattle.aig_circuit.proofs.Words.{Circuit, no_properties}
 use Rattle.aig_live.specs.declared.making.Parts.{Parts}
 use Rattle.aig_live.specs.Assembled.{AreParts}
+use Rattle.aig_live.specs.Names.{live_names, with_row}
 use Rattle.aig_live.specs.Live.{IsLiveOf, copy_leaf, false_latches, save_leaf, saved_leaf, seen_leaf}
 
 pub IsLiveOf-made : (edges : List AigEdge) (c new : Circuit) (p : Parts)
@@ -20,6 +21,7 @@ pub IsLiveOf-made : (edges : List AigEdge) (c new : Circuit) (p : Parts)
         bads = p.bad ∷ [];
         constraints = c.properties.constraints;
       };
+      names = with_row c.names (length c.nodes) (live_names c (length edges));
     }
     → IsLiveOf edges c new
 IsLiveOf-made edges c new p are inputs latchs rest = record {

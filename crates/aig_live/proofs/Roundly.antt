@@ -1,12 +1,24 @@
 -- The circuit that counts rounds, from its parts.
-use Rattle.aig_base.proofs.Words.{◌≡◌, ℕ, ◌+◌, List, [], ◌∷◌, ◌++◌, length, sym, ap, ◌∙◌, arith, append-nil}
+use Rattle.aig_base.proofs.Words.{◌≡◌, ℕ, ◌+◌, List, [], ◌∷◌, ◌++◌, length, sym, ap, ◌∙◌, arith, append-nil, length-append}
+use Rattle.std.specs.Prelude.{codes}
 use Rattle.aig_circuit.specs.declared.edge.AigEdge.{AigEdge}
 use Rattle.aig_circuit.specs.declared.node.AigLatch.{AigLatch}
 use Rattle.aig_circuit.proofs.Words.{Circuit, no_properties}
 use Rattle.aig_live.specs.declared.counting.Counted.{Counted}
 use Rattle.aig_live.specs.Counting.{AreCounted}
 use Rattle.aig_live.specs.Live.{false_latches}
+use Rattle.aig_live.specs.Names.{numbered, rounds_names, with_row}
 use Rattle.aig_live.specs.Rounds.{IsRoundsOf}
+use Rattle.aig_live.proofs.Rows.{numbered-long}
+
+names_long : (edges : List AigEdge) (count : ℕ)
+    → length (rounds_names (length edges) count) ≡ length edges + count
+names_long edges count = omega (
+  arith,
+  length-append (numbered (codes "met ") 0 (length edges)) (numbered (codes "round ") 1 count),
+  numbered-long (codes "met ") 0 (length edges),
+  numbered-long (codes "round ") 1 count,
+)
 
 pub IsRoundsOf-made : (edges : List AigEdge) (count : ℕ) (c new : Circuit) (p : Counted)
     → AreCounted c.nodes new.nodes edges count p
@@ -19,6 +31,7 @@ pub IsRoundsOf-made : (edges : List AigEdge) (count : ℕ) (c new : Circuit) (p 
         bads = p.bad ∷ [];
         constraints = c.properties.constraints;
       };
+      names = with_row c.names (length c.nodes) (rounds_names (length edges) count);
     }
     → IsRoundsOf edges count c new
 IsRoundsOf-made edges count c new p are latchs rest =
@@ -30,6 +43,7 @@ IsRoundsOf-made edges count c new p are latchs rest =
         bads = p.bad ∷ [];
         constraints = c.properties.constraints;
       };
+      names = with_row c.names (length c.nodes) (rounds_names (length edges) count);
     } in
     let here : length c.nodes ≡ length c.nodes + 0 = omega arith in
     record {
@@ -42,6 +56,7 @@ IsRoundsOf-made edges count c new p are latchs rest =
         gates = λ n low high. are.gates n (omega (arith, low, are.nexts_count)) high;
         nexts_there = are.nexts_there;
         bad_there = are.bad_there;
+        named = omega (arith, names_long edges count, are.nexts_count);
         rest = rest
             ∙ ap (with_lists c.inputs) (latchs ∙ ap (λ n. c.latchs ++ false_latches n p.nexts.items)
             here)

@@ -1,5 +1,5 @@
 -- Runs of a circuit with inputs and latches more.
-use Rattle.aig_base.proofs.Words.{◌≡◌, ◌⊎◌, ℕ, ◌+◌, ◌<◌, ◌≤◌, ◌||◌, Bool, true, false, IsTrue, List, [], ◌∷◌, ◌++◌, length, get_or, sym, ap, subst, ◌∙◌, inl, inr, arith, All, All-append, list_any, or_cases, false≢true}
+use Rattle.aig_base.proofs.Words.{◌≡◌, ◌⊎◌, ℕ, ◌+◌, ◌<◌, ◌||◌, Bool, true, false, IsTrue, Option, List, [], ◌∷◌, ◌++◌, length, get_or, sym, ap, subst, ◌∙◌, inl, inr, All, All-append, list_any, or_cases, false≢true}
 use Rattle.aig_circuit.specs.declared.edge.AigEdge.{AigEdge}
 use Rattle.aig_circuit.specs.declared.node.AigLatch.{AigLatch}
 use Rattle.aig_circuit.proofs.Words.{Circuit, IsCircuit, IsLeaf, edge_value}
@@ -12,8 +12,8 @@ use Rattle.aig_live.specs.Extended.{IsExtended}
 use Rattle.aig_live.proofs.Added.{Begins, Follows, begin, begins_at, follow, follows_at}
 use Rattle.aig_live.proofs.Extended.{latchs_are}
 
-module _ (inputs : ℕ) (nexts : List AigEdge) (bad : AigEdge) (c new : Circuit) (is : IsCircuit c)
-    (ext : IsExtended inputs nexts bad c new) (k : ℕ) (z : ℕ → ℕ → Bool) where
+module _ (inputs : ℕ) (nexts : List AigEdge) (bad : AigEdge) (texts : List (Option (List ℕ)))
+    (c new : Circuit) (is : IsCircuit c) (ext : IsExtended inputs nexts bad texts c new) (k : ℕ) (z : ℕ → ℕ → Bool) where
   bads_are : new.properties.bads ≡ bad ∷ []
   bads_are = ap (λ (m : Circuit). m.properties.bads) ext.rest
 
@@ -30,12 +30,12 @@ module _ (inputs : ℕ) (nexts : List AigEdge) (bad : AigEdge) (c new : Circuit)
         → All (Follows new.nodes ext.nodes.sound (z t) (z (t + 1)))
         (c.latchs ++ false_latches (length c.nodes + inputs) nexts)
     follows t h = subst (All (Follows new.nodes ext.nodes.sound (z t) (z (t + 1))))
-        (latchs_are inputs nexts bad c new is ext) (witness.is_run t h)
+        (latchs_are inputs nexts bad texts c new is ext) (witness.is_run t h)
 
     begins : All (Begins new.nodes ext.nodes.sound (z 0))
         (c.latchs ++ false_latches (length c.nodes + inputs) nexts)
     begins = subst (All (Begins new.nodes ext.nodes.sound (z 0)))
-        (latchs_are inputs nexts bad c new is ext) witness.start
+        (latchs_are inputs nexts bad texts c new is ext) witness.start
 
     -- the old leaves have a run of the old circuit
     pub cut_allowed : IsAllowedRun c k z
@@ -91,7 +91,7 @@ module _ (inputs : ℕ) (nexts : List AigEdge) (bad : AigEdge) (c new : Circuit)
     pub extended_witness : IsCircuitWitness new k z
     extended_witness = record {
       is_run = λ t h. subst (All (Follows new.nodes ext.nodes.sound (z t) (z (t + 1))))
-          (sym (latchs_are inputs nexts bad c new is ext))
+          (sym (latchs_are inputs nexts bad texts c new is ext))
           (All-append (Follows new.nodes ext.nodes.sound (z t) (z (t + 1))) c.latchs
           (false_latches (length c.nodes + inputs) nexts)
           ((runs-grown c is new.nodes ext.nodes c.properties k z).1
@@ -99,7 +99,7 @@ module _ (inputs : ℕ) (nexts : List AigEdge) (bad : AigEdge) (c new : Circuit)
           (follow new.nodes ext.nodes.sound (length c.nodes + inputs) nexts (z t) (z (t + 1))
           (λ j e low. next t j e h low)));
       start = subst (All (Begins new.nodes ext.nodes.sound (z 0)))
-          (sym (latchs_are inputs nexts bad c new is ext))
+          (sym (latchs_are inputs nexts bad texts c new is ext))
           (All-append (Begins new.nodes ext.nodes.sound (z 0)) c.latchs
           (false_latches (length c.nodes + inputs) nexts)
           ((starts-grown c is new.nodes ext.nodes c.properties (z 0)).1

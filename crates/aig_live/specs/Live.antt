@@ -10,6 +10,7 @@ use Rattle.aig_circuit.specs.Node.{kind_at}
 use Rattle.aig_circuit.specs.Edge.{edge_to}
 use Rattle.aig_circuit.specs.Properties.{no_properties}
 use Rattle.aig_circuit.specs.Tree.{edge_value}
+use Rattle.aig_live.specs.Names.{live_names, with_row}
 
 -- a latch that is false at the start
 abbrev pub false_latch : ℕ → AigEdge → AigLatch
@@ -45,6 +46,7 @@ is_active_in c x = x (saved_leaf c) || x (save_leaf c)
 
 -- The circuit with one input and 1 + (latches) + (edges) latches more, and one bad edge: a state is
 -- or was saved, the next state is the saved one, and each of the edges was true since then or is.
+-- Old names stay, and what is added has its own.
 pub record IsLiveOf (edges : List AigEdge) (c new : Circuit) : Type 0 where
   pub nodes : Grows c.nodes new.nodes
   -- 2 + (latches) + (edges) leaves come after the old nodes, and then gates
@@ -93,4 +95,5 @@ pub record IsLiveOf (edges : List AigEdge) (c new : Circuit) : Type 0 where
               bads = bad ∷ [];
               constraints = c.properties.constraints;
             };
+        names = with_row c.names (length c.nodes) (live_names c (length edges));
       }

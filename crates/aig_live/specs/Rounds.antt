@@ -9,6 +9,7 @@ use Rattle.aig_circuit.specs.Tree.{edge_value}
 use Rattle.aig_change.specs.Runs.{IsAllowedRun}
 use Rattle.aig_lasso.specs.Rounds.{all_below, rounds}
 use Rattle.aig_live.specs.Extended.{IsExtended}
+use Rattle.aig_live.specs.Names.{rounds_names}
 
 -- the value of edge i of a list
 abbrev pub value_of : List AigNode → List AigEdge → (ℕ → Bool) → ℕ → Bool
@@ -41,11 +42,11 @@ rounds_size c edges count = length c.nodes + 5 * edges + 3 * count
 
 -- The circuit with (edges) + (rounds) latches more, and one bad edge: so many rounds ended, the
 -- last of them with this step or before. A round ends with the step by which each edge was true in
--- it.
+-- it. Old names stay, and what is added has its own.
 pub record IsRoundsOf (edges : List AigEdge) (count : ℕ) (c new : Circuit) : Type 0 where
   pub nexts : List AigEdge
   pub bad : AigEdge
-  pub extended : IsExtended 0 nexts bad c new
+  pub extended : IsExtended 0 nexts bad (rounds_names (length edges) count) c new
   pub few : length new.nodes ≤ rounds_size c (length edges) count
   pub nexts_count : length nexts ≡ length edges + count
   -- a latch for each edge: it was true in this round

@@ -6,12 +6,13 @@ ghost use Rattle.aig_circuit.specs.View.{lists_circuit};
 ghost use Rattle.aig_live.specs.Live.{IsLiveOf};
 
 use crate::making::{make_parts, push_latches};
+use crate::naming::put_live_names;
 use aig_base::MemoryError;
 use aig_circuit::{AigEdge, CircuitLists, CircuitView};
 
 /// Returns the circuit with a bad state that is reached at a step exactly where a fair lasso of the edges ends there: one input
 /// more, which saves the state, and latches that say whether one was saved, have it, and say which edges were true since
-/// then. Constraints and names stay; other properties are dropped. The one error is refused memory.
+/// then. These leaves have names. Constraints and old names stay; other properties are dropped. The one error is refused memory.
 pub fn live(circuit: &CircuitView<'_>, edges: &[AigEdge]) -> Result<CircuitLists, MemoryError>
     requires edges { All (IsInRange circuit.now.nodes) edges.now }
     requires room { length circuit.now.nodes + 2 + length circuit.now.latchs + length edges.now
@@ -32,5 +33,6 @@ pub fn live(circuit: &CircuitView<'_>, edges: &[AigEdge]) -> Result<CircuitLists
     lists.properties.bads.push(parts.bad)?;
     lists.properties.justice.clear();
     lists.properties.fairness.clear();
+    put_live_names(&mut lists.names, circuit, edges.len())?;
     Ok(lists)
 }

@@ -1,21 +1,24 @@
 //! The engine that counts rounds, and its laws.
 
-ghost use Rattle.std.specs.Prelude.{◌↔◌, ◌+◌, ◌<◌, ◌^◌, ℕ, IfOk, All, Bool, List, length};
+ghost use Rattle.std.specs.Prelude.{◌≡◌, ◌↔◌, ◌+◌, ◌<◌, ◌^◌, ℕ, IfOk, All, Bool, List, Option, length, slice_index_or};
+ghost use Rattle.std.specs.FinMap.{get};
 ghost use Rattle.aig_circuit.specs.declared.edge.AigEdge.{AigEdge};
 ghost use Rattle.aig_circuit.specs.Circuit.{Circuit, IsCircuit, IsClosed, IsInRange};
 ghost use Rattle.aig_circuit.specs.Edges.{HasConstantInit};
 ghost use Rattle.aig_circuit.specs.View.{lists_circuit};
+ghost use Rattle.aig_live.specs.Names.{rounds_names};
 ghost use Rattle.aig_live.specs.Rounds.{HasRounds, IsRoundsOf, IsRoundsRun};
 ghost use Rattle.aig_runs.specs.CircuitQueries.{HasCircuitWitness, IsCircuitWitness};
 
 use crate::counting::count_rounds;
 use crate::making::push_latches;
+use crate::naming::put_rounds_names;
 use aig_base::MemoryError;
 use aig_circuit::{AigEdge, CircuitLists, CircuitView};
 
 /// Returns the circuit with a bad state that is reached at a step exactly where so many rounds ended by then: in each of them every
 /// edge was true. A latch more for each edge says that it was true in this round, and one for each round that so many ended.
-/// Constraints and names stay; other properties are dropped. The one error is refused memory.
+/// These leaves have names. Constraints and old names stay; other properties are dropped. The one error is refused memory.
 pub fn rounds(
     circuit: &CircuitView<'_>,
     edges: &[AigEdge],
@@ -35,6 +38,7 @@ pub fn rounds(
     lists.properties.bads.push(counted.bad)?;
     lists.properties.justice.clear();
     lists.properties.fairness.clear();
+    put_rounds_names(alloc, &mut lists.names, n, edges.len(), count)?;
     Ok(lists)
 }
 
@@ -57,4 +61,14 @@ pub fn rounds_circuits_are_circuits()
     ensures starts { (edges : List AigEdge) (count : ℕ) (c new : Circuit) → IsCircuit c
         → IsRoundsOf edges count c new
         → All HasConstantInit c.latchs → All HasConstantInit new.latchs }
+{}
+
+/// Law: in the circuit that counts rounds of a circuit each old node keeps its name, and each leaf that is added has its own.
+pub fn rounds_circuits_keep_names()
+    ensures old { (edges : List AigEdge) (count : ℕ) (c new : Circuit) (n : ℕ) → IsCircuit c
+        → IsRoundsOf edges count c new → n < length c.nodes → get new.names n ≡ get c.names n }
+    ensures added { (edges : List AigEdge) (count : ℕ) (c new : Circuit) (k : ℕ)
+        (d : Option (List ℕ)) → IsCircuit c → IsRoundsOf edges count c new
+        → k < length edges + count → get new.names (length c.nodes + k)
+        ≡ slice_index_or (rounds_names (length edges) count) k d }
 {}

@@ -1,6 +1,5 @@
 -- Rounds of a file's machine and of its circuit are one, and a fair run ends as many as one wants.
-use Rattle.aig_base.proofs.Words.{◌≡◌, ◌↔◌, ℕ, zero, suc, ◌+◌, ◌-◌, ◌<◌, ◌≤◌, ◌&&◌, ◌||◌, Bool, true, false, cond, not, IsTrue, List, [], ◌∷◌, length, map, get_or, refl, sym, ap, subst, ◌∙◌, arith, AllByRecursion, All, All-from_recursion, get_or-map, length-map}
-use Rattle.aig_circuit.specs.declared.edge.AigEdge.{AigEdge}
+use Rattle.aig_base.proofs.Words.{◌≡◌, ◌↔◌, ℕ, zero, suc, ◌<◌, ◌≤◌, ◌&&◌, ◌||◌, Bool, true, false, cond, not, List, [], ◌∷◌, length, map, get_or, refl, sym, ap, subst, ◌∙◌, arith, AllByRecursion, All-from_recursion, get_or-map, length-map}
 use Rattle.aig_circuit.proofs.Words.{Circuit, edge_to, edge_value}
 use Rattle.aig_format.proofs.Words.{circuit_of, edge_of, File, Fits, value_of_literal, IsKnown}
 use Rattle.aig_format.proofs.Circuits.{IsCircuit-of_file}
@@ -12,7 +11,7 @@ use Rattle.aig_live.specs.Rounds.{IsRoundsOf, IsRoundsRun, value_of}
 use Rattle.aig_live.proofs.Counts.{all_below-same}
 use Rattle.aig_live.proofs.Ending.{run_of, witness_of_run}
 use Rattle.aig_runs.specs.CircuitQueries.{HasCircuitWitness}
-use Rattle.aig_live_laws.specs.Fair.{AreAskedBy, HasFairRun, IsFairRun, IsMetAgain}
+use Rattle.aig_live_laws.specs.Fair.{AreAskedBy, HasFairRun, IsMetAgain}
 use Rattle.aig_live_laws.specs.Rounds.{HasMachineRounds, IsMachineRounds}
 use Rattle.aig_live_laws.proofs.Files.{allowed_back, allowed_forth, asked_known}
 use Rattle.aig_live_laws.proofs.Justice.{asked_same}

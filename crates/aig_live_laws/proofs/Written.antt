@@ -1,6 +1,6 @@
 -- The text of a circuit with latches more as a file.
-use Rattle.aig_base.proofs.Words.{◌≡◌, ◌≢◌, ◌↔◌, ℕ, ◌+◌, ◌^◌, ◌<◌, ◌≤◌, AllPairs, All-contains, All-from_recursion, Decides-eqb, IsDistinct-from_AllPairs, is_member-Decides, length-le_from_distinct_below, length-map, IsTrue, Option, Some, None, List, [], ◌∷◌, ◌++◌, length, map, get_or, refl, sym, ap, subst, arith, All, All-append, All-cons, All-nil, get, contains_key, FinMap, nat_cmp, Contains}
-use Rattle.std.specs.Prelude.{IsSomeAnd, is_some}
+use Rattle.aig_base.proofs.Words.{◌≡◌, ◌≢◌, ◌⊎◌, ◌↔◌, ℕ, ◌+◌, ◌-◌, ◌^◌, ◌<◌, ◌≤◌, AllPairs, All-contains, All-from_recursion, Decides-eqb, IsDistinct-from_AllPairs, is_member-Decides, length-le_from_distinct_below, length-map, IfSome, IsUtf8, Option, Some, None, List, ◌∷◌, ◌++◌, length, map, get_or, sym, ap, subst, inl, inr, arith, cases_lt, All, All-append, All-nil, get, Contains}
+use Rattle.std.specs.Prelude.{IsSomeAnd}
 use Rattle.aig_circuit.specs.declared.edge.AigEdge.{AigEdge}
 use Rattle.aig_circuit.specs.declared.node.AigLatch.{AigLatch}
 use Rattle.aig_circuit.specs.declared.node.AigNode.{AigNode}
@@ -19,56 +19,91 @@ use Rattle.aig_edit_laws.specs.Shown.{HasWitness}
 use Rattle.aig_runs.specs.CircuitQueries.{HasCircuitWitness}
 use Rattle.aig_live.specs.Extended.{IsExtended, row_from}
 use Rattle.aig_live.specs.Live.{IsLiveOf, live_size}
+use Rattle.aig_live.specs.Names.{live_names, rounds_names}
 use Rattle.aig_live.specs.Rounds.{IsRoundsOf, rounds_size}
 use Rattle.aig_live.proofs.Circuits.{live_extended}
-use Rattle.aig_live.proofs.Extended.{IsCircuit-extended, IsClosed-extended, constant_starts, inputs_are, leaves_are, row_low}
+use Rattle.aig_live.proofs.Extended.{IsCircuit-extended, IsClosed-extended, added_named, constant_starts, inputs_are, leaves_are, old_named, past_named, row_low}
 use Rattle.aig_live_laws.specs.Fair.{AreAskedBy, HasFairLasso, HasFairRun}
 use Rattle.aig_live_laws.specs.Rounds.{HasMachineRounds}
 use Rattle.aig_live_laws.proofs.Rounds.{bads_are_rounds, no_rounds}
 use Rattle.aig_live_laws.proofs.Justice.{bads_are_lassos}
+use Rattle.aig_live_laws.proofs.Naming.{IsName, live_names_are, rounds_names_are}
 
--- a node past those of the circuit has no name
-no_name : (c : Circuit) → IsCircuit c → (m : ℕ) → length c.nodes ≤ m → ¬ HasLineFeed c.names m
-no_name c is m high = by (get c.names m) refl
-  where
-    by : (o : Option (List ℕ)) → get c.names m ≡ o → ¬ IsSomeAnd o (λ name. Contains name 10)
-    by None e = λ h. absurd h
-    by (Some name) e = λ h. omega (arith, high, is.named m (there e))
-      where
-        there : get c.names m ≡ Some name → IsTrue (contains_key c.names m)
-        there e = ap is_some e
+module _ (inputs : ℕ) (nexts : List AigEdge) (bad : AigEdge) (texts : List (Option (List ℕ)))
+    (c new : Circuit) (is : IsCircuit c) (ext : IsExtended inputs nexts bad texts c new)
+    (w : IsWritable c) (good : All (λ o. IfSome o IsName) texts) where
+  -- the node's name has no line feed
+  abbrev IsPlain : ℕ → Type 0
+  IsPlain m = ¬ HasLineFeed new.names m
 
-module _ (inputs : ℕ) (nexts : List AigEdge) (bad : AigEdge) (c new : Circuit) (is : IsCircuit c)
-    (ext : IsExtended inputs nexts bad c new) where
-  row_unnamed : (n count : ℕ) → length c.nodes ≤ n
-      → All (λ m. ¬ HasLineFeed c.names m) (row_from n count)
-  row_unnamed n count high k d h =
+  old_plain : (ns : List ℕ) → All (λ m. m < length c.nodes) ns
+      → All (λ m. ¬ HasLineFeed c.names m) ns → All IsPlain ns
+  old_plain ns low all k d h = subst (λ o. ¬ IsSomeAnd o (λ name. Contains name 10))
+      (sym (old_named inputs nexts bad texts c new is ext (get_or ns k d) (low k d h))) (all k d h)
+
+  -- a name that is added, if there is one
+  added_name : (m : ℕ) → length c.nodes ≤ m → IfSome (get new.names m) IsName
+  added_name m high = by (cases_lt m (length c.nodes + length texts))
+    where
+      by : (m < length c.nodes + length texts) ⊎ (length c.nodes + length texts ≤ m)
+          → IfSome (get new.names m) IsName
+      by (inl low) =
+          let k = m - length c.nodes in
+          let same : length c.nodes + k ≡ m = omega (arith, high) in
+          let within : k < length texts = omega (arith, high, low) in
+          subst (λ n. IfSome (get new.names n) IsName) same
+          (subst (λ o. IfSome o IsName)
+          (sym (added_named inputs nexts bad texts c new is ext k None within))
+          (good k None within))
+      by (inr past) = subst (λ o. IfSome o IsName)
+          (sym (past_named inputs nexts bad texts c new is ext m past)) tt
+
+  row_plain : (n count : ℕ) → length c.nodes ≤ n → All IsPlain (row_from n count)
+  row_plain n count high k d h =
+      let m = get_or (row_from n count) k d in
       let low = row_low n count k d h in
-      no_name c is (get_or (row_from n count) k d) (omega (arith, high, low))
+      by (get new.names m) (added_name m (omega (arith, high, low)))
+    where
+      by : (o : Option (List ℕ)) → IfSome o IsName → ¬ IsSomeAnd o (λ name. Contains name 10)
+      by (Some name) named = named.1
+      by None named = λ h. h
 
-  IsWritable-extended : IsWritable c → FitsFormat new → IsWritable new
-  IsWritable-extended w small = record {
-    closed = IsClosed-extended inputs nexts bad c new is ext w.closed;
-    start = constant_starts inputs nexts bad c new is ext w.start;
-    names = subst (λ (ns : FinMap nat_cmp (List ℕ)). All (λ m. ¬ HasLineFeed ns m)
-        (new.inputs ++ latch_leaves new.latchs)) (sym (ap (λ (d : Circuit). d.names) ext.rest))
-        (subst (λ (ins : List ℕ). All (λ m. ¬ HasLineFeed c.names m)
-        (ins ++ latch_leaves new.latchs)) (sym (inputs_are inputs nexts bad c new is ext))
-        (subst (λ (ls : List ℕ). All (λ m. ¬ HasLineFeed c.names m)
-        ((c.inputs ++ row_from (length c.nodes) inputs) ++ ls))
-        (sym (leaves_are inputs nexts bad c new is ext))
-        (All-append (λ m. ¬ HasLineFeed c.names m)
-        (c.inputs ++ row_from (length c.nodes) inputs)
+  IsWritable-extended : FitsFormat new → IsWritable new
+  IsWritable-extended small = record {
+    closed = IsClosed-extended inputs nexts bad texts c new is ext w.closed;
+    start = constant_starts inputs nexts bad texts c new is ext w.start;
+    names = subst (λ (ins : List ℕ). All IsPlain (ins ++ latch_leaves new.latchs))
+        (sym (inputs_are inputs nexts bad texts c new is ext))
+        (subst (λ (ls : List ℕ). All IsPlain ((c.inputs ++ row_from (length c.nodes) inputs) ++ ls))
+        (sym (leaves_are inputs nexts bad texts c new is ext))
+        (All-append IsPlain (c.inputs ++ row_from (length c.nodes) inputs)
         (latch_leaves c.latchs ++ row_from (length c.nodes + inputs) (length nexts))
-        (All-append (λ m. ¬ HasLineFeed c.names m) c.inputs (row_from (length c.nodes) inputs)
-        (All-first (λ m. ¬ HasLineFeed c.names m) c.inputs (latch_leaves c.latchs) w.names)
-        (row_unnamed (length c.nodes) inputs (omega arith)))
-        (All-append (λ m. ¬ HasLineFeed c.names m) (latch_leaves c.latchs)
+        (All-append IsPlain c.inputs (row_from (length c.nodes) inputs)
+        (old_plain c.inputs
+        (λ k d h. kind_at-within c.nodes (get_or c.inputs k d) Leaf (is.inputs k d h))
+        (All-first (λ m. ¬ HasLineFeed c.names m) c.inputs (latch_leaves c.latchs) w.names))
+        (row_plain (length c.nodes) inputs (omega arith)))
+        (All-append IsPlain (latch_leaves c.latchs)
         (row_from (length c.nodes + inputs) (length nexts))
-        (All-second (λ m. ¬ HasLineFeed c.names m) c.inputs (latch_leaves c.latchs) w.names)
-        (row_unnamed (length c.nodes + inputs) (length nexts) (omega arith))))));
+        (old_plain (latch_leaves c.latchs)
+        (λ k d h. kind_at-within c.nodes (get_or (latch_leaves c.latchs) k d) Leaf
+        (latch_leaves-leaves c is k d h))
+        (All-second (λ m. ¬ HasLineFeed c.names m) c.inputs (latch_leaves c.latchs) w.names))
+        (row_plain (length c.nodes + inputs) (length nexts) (omega arith)))));
     small = small;
   }
+
+  AreTexts-extended : AreTexts c.names → AreTexts new.names
+  AreTexts-extended old m = by (cases_lt m (length c.nodes))
+    where
+      text : (o : Option (List ℕ)) → IfSome o IsName → IfSome o IsUtf8
+      text (Some name) named = named.0
+      text None named = tt
+
+      by : (m < length c.nodes) ⊎ (length c.nodes ≤ m) → IfSome (get new.names m) IsUtf8
+      by (inl low) = subst (λ o. IfSome o IsUtf8)
+          (sym (old_named inputs nexts bad texts c new is ext m low)) (old m)
+      by (inr high) = text (get new.names m) (added_name m high)
 
 -- distinct leaves are at most as many as there are nodes
 few_leaves : (nodes : List AigNode) (ns : List ℕ) → All (IsLeaf nodes) ns
@@ -81,11 +116,12 @@ few_leaves nodes ns leaves distinct =
     ((is_member-Decides Decides-eqb ns q).0 member)))
 
 -- a circuit with latches more that its size alone could keep from a written form fits
-FitsFormat-extended : (inputs : ℕ) (nexts : List AigEdge) (bad : AigEdge) (c new : Circuit)
-    → IsCircuit c → IsWritable c → IsExtended inputs nexts bad c new
+FitsFormat-extended : (inputs : ℕ) (nexts : List AigEdge) (bad : AigEdge)
+    (texts : List (Option (List ℕ))) (c new : Circuit)
+    → IsCircuit c → IsWritable c → IsExtended inputs nexts bad texts c new
     → length new.nodes ≤ 2 ^ 31 → FitsFormat new
-FitsFormat-extended inputs nexts bad c new is w ext nodes =
-    let made = IsCircuit-extended inputs nexts bad c new is ext in
+FitsFormat-extended inputs nexts bad texts c new is w ext nodes =
+    let made = IsCircuit-extended inputs nexts bad texts c new is ext in
     let ins = few_leaves new.nodes new.inputs made.inputs made.inputs_distinct in
     let latchs = few_leaves new.nodes (latch_leaves new.latchs)
     (latch_leaves-leaves new made) made.latchs_distinct in
@@ -130,26 +166,30 @@ pub FitsFormat-live : (edges : List AigEdge) (c new : Circuit) → IsCircuit c �
     → IsLiveOf edges c new
     → live_size c (length edges) ≤ 2 ^ 31 → FitsFormat new
 FitsFormat-live edges c new is w live small =
-    FitsFormat-extended 1 (live.active ∷ live.starts ++ live.seen) live.bad c new is w
+    FitsFormat-extended 1 (live.active ∷ live.starts ++ live.seen) live.bad
+    (live_names c (length edges)) c new is w
     (live_extended edges c new live) (omega (arith, live.few, small))
 
 pub FitsFormat-rounds : (edges : List AigEdge) (count : ℕ) (c new : Circuit) → IsCircuit c
     → IsWritable c → IsRoundsOf edges count c new
     → rounds_size c (length edges) count ≤ 2 ^ 31 → FitsFormat new
 FitsFormat-rounds edges count c new is w live small =
-    FitsFormat-extended 0 live.nexts live.bad c new is w live.extended
+    FitsFormat-extended 0 live.nexts live.bad (rounds_names (length edges) count) c new is w
+    live.extended
     (omega (arith, live.few, small))
 
 -- the text of a circuit with latches more is a file
-read_again : (f : File) (limit inputs : ℕ) (nexts : List AigEdge) (bad : AigEdge) (new : Circuit)
-    → Fits f limit → IsWritable (circuit_of f) → IsExtended inputs nexts bad (circuit_of f) new
+read_again : (f : File) (limit inputs : ℕ) (nexts : List AigEdge) (bad : AigEdge)
+    (texts : List (Option (List ℕ))) (new : Circuit)
+    → Fits f limit → IsWritable (circuit_of f)
+    → IsExtended inputs nexts bad texts (circuit_of f) new → All (λ o. IfSome o IsName) texts
     → FitsFormat new → IsReadAgain new (file_of Text new)
-read_again f limit inputs nexts bad new fits writable ext small =
+read_again f limit inputs nexts bad texts new fits writable ext good small =
     let is = IsCircuit-of_file f limit fits in
-    let texts : AreTexts new.names = subst AreTexts (sym (ap (λ (c : Circuit). c.names) ext.rest))
-    (names_are_texts f limit fits) in
-    is_read_again Text new (IsCircuit-extended inputs nexts bad (circuit_of f) new is ext)
-    (IsWritable-extended inputs nexts bad (circuit_of f) new is ext writable small) texts tt
+    is_read_again Text new (IsCircuit-extended inputs nexts bad texts (circuit_of f) new is ext)
+    (IsWritable-extended inputs nexts bad texts (circuit_of f) new is ext writable good small)
+    (AreTexts-extended inputs nexts bad texts (circuit_of f) new is ext writable good
+    (names_are_texts f limit fits)) tt
 
 pub written-live : ((m : Circuit) (h : File) (k : ℕ) → IsReadAgain m h
     → HasCircuitWitness m k ↔ HasWitness h k)
@@ -160,8 +200,11 @@ pub written-live : ((m : Circuit) (h : File) (k : ℕ) → IsReadAgain m h
     × ((k : ℕ) → HasWitness (file_of Text new) k ↔ HasFairLasso f j k)
 written-live written f limit j literals new fits writable asked live small =
     let edges = map (edge_of f) literals in
-    let again = read_again f limit 1 (live.active ∷ live.starts ++ live.seen) live.bad new fits
-    writable (live_extended edges (circuit_of f) new live) small in (
+    let count = length edges in
+    let few : count ≤ 2 ^ 64 = omega (arith, live.longer, small.nodes) in
+    let again = read_again f limit 1 (live.active ∷ live.starts ++ live.seen) live.bad
+    (live_names (circuit_of f) count) new fits writable (live_extended edges (circuit_of f) new live)
+    (live_names_are (circuit_of f) count writable (names_are_texts f limit fits) few) small in (
       again,
       λ k.
           let same = written new (file_of Text new) k again in
@@ -178,7 +221,11 @@ pub written-rounds : ((m : Circuit) (h : File) (k : ℕ) → IsReadAgain m h
     × ((k : ℕ) → HasWitness (file_of Text new) k ↔ HasMachineRounds f j count k)
     × (((k : ℕ) → ¬ HasWitness (file_of Text new) k) → ¬ HasFairRun f j)
 written-rounds written f limit j count literals new fits writable asked live small =
-    let again = read_again f limit 0 live.nexts live.bad new fits writable live.extended small in (
+    let edges = length (map (edge_of f) literals) in
+    let few : edges + count < 2 ^ 64 = omega
+    (arith, live.extended.longer, live.nexts_count, small.nodes) in
+    let again = read_again f limit 0 live.nexts live.bad (rounds_names edges count) new fits
+    writable live.extended (rounds_names_are edges count few) small in (
       again,
       λ k.
           let same = written new (file_of Text new) k again in

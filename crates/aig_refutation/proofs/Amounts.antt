@@ -8,7 +8,7 @@ use Rattle.aig_refutation.specs.Steps.{are_same, without_one}
 use Rattle.aig_refutation.proofs.Numbering.{lookup_without}
 use Rattle.aig_refutation.proofs.Sameness.{are_same-equiv}
 
-abbrev one : Bool → ℕ
+abbrev pub one : Bool → ℕ
 one b = cond b 1 0
 
 -- ---- numbers that pass a test
@@ -52,6 +52,12 @@ amount_some f (suc end) h = by (f end) refl (amount_some f end)
 
 -- ---- clauses that are there
 
+same_copy : (clause dropped other : List Lit) → are_same dropped other ≡ true
+    → are_same clause dropped ≡ are_same clause other
+same_copy clause dropped other e =
+    are_same-equiv.symm clause dropped ∙ are_same-equiv.congr dropped other clause e
+    ∙ are_same-equiv.symm other clause
+
 -- one is dropped
 pub copies_without : (clause dropped : List Lit) (clauses : List (List Lit))
     → copies clause (without_one dropped clauses)
@@ -60,11 +66,6 @@ copies_without clause dropped [] = omega arith
 copies_without clause dropped (other ∷ clauses) =
     by (are_same dropped other) refl (copies_without clause dropped clauses)
   where
-    same_one : are_same dropped other ≡ true → are_same clause dropped ≡ are_same clause other
-    same_one e =
-        are_same-equiv.symm clause dropped ∙ are_same-equiv.congr dropped other clause e
-        ∙ are_same-equiv.symm other clause
-
     never : (p q : Bool) → are_same clause dropped ≡ p → are_same clause other ≡ q
         → are_same dropped other ≡ false → one p + one q ≤ 1
     never true true f g e =
@@ -81,10 +82,26 @@ copies_without clause dropped (other ∷ clauses) =
         ≤ copies clause clauses - one (are_same clause dropped)
         → copies clause (cond b clauses (other ∷ without_one dropped clauses))
         ≤ copies clause (other ∷ clauses) - one (are_same clause dropped)
-    by true e later = let same = ap one (same_one e) in omega (arith, same)
+    by true e later = let same = ap one (same_copy clause dropped other e) in omega (arith, same)
     by false e later =
         let some = never (are_same clause dropped) (are_same clause other) refl refl e in
         omega (arith, later, some)
+
+-- and no other
+pub copies_left : (clause dropped : List Lit) (clauses : List (List Lit))
+    → copies clause clauses - one (are_same clause dropped)
+    ≤ copies clause (without_one dropped clauses)
+copies_left clause dropped [] = omega arith
+copies_left clause dropped (other ∷ clauses) =
+    by (are_same dropped other) refl (copies_left clause dropped clauses)
+  where
+    by : (b : Bool) → are_same dropped other ≡ b
+        → copies clause clauses - one (are_same clause dropped)
+        ≤ copies clause (without_one dropped clauses)
+        → copies clause (other ∷ clauses) - one (are_same clause dropped)
+        ≤ copies clause (cond b clauses (other ∷ without_one dropped clauses))
+    by true e later = let same = ap one (same_copy clause dropped other e) in omega (arith, same)
+    by false e later = omega (arith, later)
 
 -- one is there
 pub copies_some : (clauses : List (List Lit)) (n : ℕ) (clause : List Lit)

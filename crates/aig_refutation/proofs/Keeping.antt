@@ -8,7 +8,7 @@ use Rattle.aig_refutation.specs.declared.step.Step as held
 use Rattle.aig_refutation.specs.Ahead.{AddsAhead, IsAhead, LearnsAhead, StaysAhead, TakesPlain, copies}
 use Rattle.aig_refutation.specs.Checking.{Live, all_live, clause_at, deleted, numbered_clause, with_clause, with_next, without_clause}
 use Rattle.aig_refutation.specs.Reading.{plain_by}
-use Rattle.aig_refutation.specs.Steps.{Drops, Follows, Learns, are_same, is_empty, without_one}
+use Rattle.aig_refutation.specs.Steps.{Drops, Follows, Learns, are_same, dropped, is_empty, is_unit, without_one}
 use Rattle.aig_refutation.specs.Tables.{Holds, HoldsFormula, Moves, SaysSame, Table, clause_in, entry_at}
 use Rattle.aig_refutation.specs.Words.{Tells}
 use Rattle.aig_refutation.proofs.Adding.{deleted_one}
@@ -171,8 +171,20 @@ module _ (clauses : List (List Lit)) (s : held.Step) (new : Table)
       subst (λ (b : Bool). TakesPlain clauses (cond b (Drops s.clause.items)
       (Learns s.clause.items)) new r) (sym is) learns
 
-  pub takes_dropped : s.deletes ≡ true → StaysAhead (without_one s.clause.items clauses) new r
+  takes_drops : s.deletes ≡ true → StaysAhead (dropped s.clause.items clauses) new r
       → TakesPlain clauses (plain_by s) new r
-  takes_dropped is stays =
+  takes_drops is stays =
       subst (λ (b : Bool). TakesPlain clauses (cond b (Drops s.clause.items)
       (Learns s.clause.items)) new r) (sym is) stays
+
+  pub takes_dropped : s.deletes ≡ true → is_unit s.clause.items ≡ false
+      → StaysAhead (without_one s.clause.items clauses) new r → TakesPlain clauses (plain_by s) new r
+  takes_dropped is long stays =
+      takes_drops is (subst (λ (b : Bool). StaysAhead (cond b clauses
+      (without_one s.clause.items clauses)) new r) (sym long) stays)
+
+  pub takes_unit : s.deletes ≡ true → is_unit s.clause.items ≡ true → StaysAhead clauses new r
+      → TakesPlain clauses (plain_by s) new r
+  takes_unit is unit stays =
+      takes_drops is (subst (λ (b : Bool). StaysAhead (cond b clauses
+      (without_one s.clause.items clauses)) new r) (sym unit) stays)

@@ -1,5 +1,5 @@
 -- What steps leave can all be true where what was there before can.
-use Rattle.aig_base.proofs.Words.{◌≡◌, ◌⊎◌, ℕ, ◌||◌, Bool, true, false, inl, inr, Option, Some, None, Result, Ok, Err, IfOk, OnOk, List, [], ◌∷◌, refl, sym, ap, subst, ◌∙◌, false≢true, is_some, list_all, or_cases, slice_get}
+use Rattle.aig_base.proofs.Words.{◌≡◌, ◌⊎◌, ℕ, ◌||◌, Bool, true, false, inl, inr, Option, Some, None, Result, Ok, Err, List, [], ◌∷◌, refl, sym, ap, subst, ◌∙◌, false≢true, is_some, list_all, or_cases, slice_get}
 use Rattle.aig_base.specs.declared.logic.literal.Lit.{Lit}
 use Rattle.aig_base.specs.Clauses.{is_true_clause, literal_value}
 use Rattle.aig_refutation.specs.declared.error.RefutationError.{RefutationError}

@@ -6,6 +6,7 @@ mod RatSteps
 mod RatExamples
 mod Taken
 mod Apart
+mod HintGroups
 mod Stamps
 mod Literals
 mod Following
@@ -31,6 +32,7 @@ mod Closing
 mod Sameness
 mod Amounts
 mod Unfollowed
+mod Dropping
 mod Keeping
 mod Kept
 mod Plainly

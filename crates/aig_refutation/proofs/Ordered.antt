@@ -1,7 +1,6 @@
 -- Steps that refute clauses are taken, where their numbers are in order.
-use Rattle.aig_base.proofs.Words.{◌≡◌, ℕ, ◌+◌, ◌<◌, ◌==◌, nat_lt, Bool, true, false, ◌&&◌, ◌||◌, not, cond, List, [], ◌∷◌, length, Option, Some, None, Result, Ok, Err, refl, sym, ap, ◌∙◌, arith, nat_tests, eqb-true, ne_eqb, AllByRecursion, All, recursion_from_All, and_from, and_parts, fold, fun_ext, list_all, list_any, lookup, false≢true}
+use Rattle.aig_base.proofs.Words.{◌≡◌, ℕ, ◌+◌, ◌<◌, ◌==◌, Bool, true, false, ◌&&◌, ◌||◌, not, cond, List, [], ◌∷◌, length, Option, Some, None, Result, Ok, Err, refl, sym, ap, ◌∙◌, arith, eqb-true, ne_eqb, and_from, and_parts, fold, fun_ext, list_all, list_any, lookup, false≢true}
 use Rattle.aig_base.specs.declared.logic.literal.Lit.{Lit}
-use Rattle.aig_base.specs.Clauses.{variable_of}
 use Rattle.aig_refutation.specs.declared.error.RefutationError.{RefutationError}
 use Rattle.aig_refutation.specs.declared.error.RefutationError.TheVariants as errors
 use Rattle.aig_refutation.specs.Checking.{Live, added, all_live, clause_at, deleted, is_named, outcome, stands, taken, with_clause, with_next, without_clause}

@@ -12,7 +12,7 @@ use Rattle.aig_refutation.specs.Checking.{IsRefusal, are_in}
 use Rattle.aig_refutation.specs.Concluding.{ConcludesPlain, ShowsPlain, TakesLine, plain_left}
 use Rattle.aig_refutation.specs.Proofs.{Line, Numbered, Plain, Script, is_comment, is_none, line_in, plain_of, script_if, then_plain, widened}
 use Rattle.aig_refutation.specs.Reading.{GivesStep, next_said, plain_by, said_by, said_line, step_by}
-use Rattle.aig_refutation.specs.Steps.{Drops, Follows, Learns, PlainStep, Refute, Stand, Step, adds_empty, are_same, is_empty, without_one}
+use Rattle.aig_refutation.specs.Steps.{Drops, Follows, Learns, PlainStep, Refute, Stand, Step, adds_empty, are_same, dropped, is_empty, is_unit, without_one}
 use Rattle.aig_refutation.specs.Tables.{Table}
 use Rattle.aig_refutation.specs.Text.{lines_of}
 use Rattle.aig_refutation.specs.Words.{Leaves, Place, Says, Tells, lines_at, lines_past}
@@ -75,7 +75,7 @@ pub line_passes : (now : List (List Lit)) (t : Table) (line : Line)
     → (next : List (List Lit)) × IsAhead next t × GoesBy now line next
 line_passes now t (Numbered step) h = absurd h
 line_passes now t (Plain (Drops clause)) h =
-    (without_one clause now, h, λ rest. record { stand = λ s. s; fault = refl; empty = refl })
+    (dropped clause now, h, λ rest. record { stand = λ s. s; fault = refl; empty = refl })
 line_passes now t (Plain (Learns clause)) h = (
   clause ∷ now,
   h.0,
@@ -327,18 +327,26 @@ refutation_taken clauses steps fault e (inr none) refutes =
 
 -- and clauses that they refute can't be satisfied
 module _ (v : ℕ → Bool) where
-  dropped_true : (dropped : List Lit) (clauses : List (List Lit)) → are_true v clauses ≡ true
-      → are_true v (without_one dropped clauses) ≡ true
-  dropped_true dropped [] are = refl
-  dropped_true dropped (clause ∷ clauses) are =
+  dropped_true : (out : List Lit) (clauses : List (List Lit)) → are_true v clauses ≡ true
+      → are_true v (without_one out clauses) ≡ true
+  dropped_true out [] are = refl
+  dropped_true out (clause ∷ clauses) are =
       let parts = and_parts (is_true_clause v clause) (are_true v clauses) are in
-      by (are_same dropped clause) parts.0 parts.1 (dropped_true dropped clauses parts.1)
+      by (are_same out clause) parts.0 parts.1 (dropped_true out clauses parts.1)
     where
       by : (b : Bool) → is_true_clause v clause ≡ true → are_true v clauses ≡ true
-          → are_true v (without_one dropped clauses) ≡ true
-          → are_true v (cond b clauses (clause ∷ without_one dropped clauses)) ≡ true
+          → are_true v (without_one out clauses) ≡ true
+          → are_true v (cond b clauses (clause ∷ without_one out clauses)) ≡ true
       by true here rest later = rest
       by false here rest later = and_from (is_true_clause v clause) _ here later
+
+  left_true : (clause : List Lit) (clauses : List (List Lit)) → are_true v clauses ≡ true
+      → are_true v (dropped clause clauses) ≡ true
+  left_true clause clauses are = by (is_unit clause)
+    where
+      by : (b : Bool) → are_true v (cond b clauses (without_one clause clauses)) ≡ true
+      by true = are
+      by false = dropped_true clause clauses are
 
   follows_true : (clauses : List (List Lit)) (clause : List Lit) → are_true v clauses ≡ true
       → Follows clauses clause → is_true_clause v clause ≡ true
@@ -349,7 +357,7 @@ module _ (v : ℕ → Bool) where
       → Stand clauses steps → list_any adds_empty steps ≡ true → ⊥
   none_true [] clauses are stand has = false≢true has
   none_true (Drops clause ∷ steps) clauses are stand has =
-      none_true steps (without_one clause clauses) (dropped_true clause clauses are) stand has
+      none_true steps (dropped clause clauses) (left_true clause clauses are) stand has
   none_true (Learns clause ∷ steps) clauses are stand has =
       let here = follows_true clauses clause are stand.0 in
       by stand.1 (or_cases (is_empty clause) (list_any adds_empty steps) has) here

@@ -10,7 +10,7 @@ use Rattle.aig_refutation.specs.Checking.{IsInConflict, IsOutcome, IsRefusal, Sh
 use Rattle.aig_refutation.specs.Forms.{plain_steps_in, steps_in}
 use Rattle.aig_refutation.specs.Proofs.{Script}
 use Rattle.aig_refutation.specs.Propagation.{also, is_lit, is_tautology, propagates, reading_if, reading_of, when_false, with_literal, with_open}
-use Rattle.aig_refutation.specs.Steps.{Follows, PlainStep, Drops, Learns, Refute, Stand, adds_empty, are_same, is_empty, without_one}
+use Rattle.aig_refutation.specs.Steps.{Follows, PlainStep, Drops, Learns, Refute, Stand, adds_empty, are_same, dropped, is_empty, is_unit, without_one}
 use Rattle.aig_refutation.specs.Tables.{SaysSame}
 use Rattle.aig_refutation.specs.Written.{as_read}
 use Rattle.aig_refutation.proofs.HintedRup.{conflicts_same, same_reading}
@@ -115,6 +115,13 @@ alike_dropped clause (a ∷ old) (b ∷ new) h = by (alike_dropped clause old ne
     by later true false e f = absurd (false≢true (sym f ∙ said_are_same clause a b h.0 e))
     by later false true e f = absurd (false≢true (sym e ∙ said_are_same clause b a (λ holds. sym (h.0 holds)) f))
 
+alike_left : (clause : List Lit) (old new : List (List Lit)) → AreAlike old new → AreAlike (dropped clause old) (dropped clause new)
+alike_left clause old new h = by (is_unit clause)
+  where
+    by : (b : Bool) → AreAlike (cond b old (without_one clause old)) (cond b new (without_one clause new))
+    by true = h
+    by false = alike_dropped clause old new h
+
 -- ---- steps
 
 follows_turned : (old new : List (List Lit)) → AreAlike old new → (clause : List Lit) → Follows old clause → Follows new (turned clause)
@@ -135,7 +142,7 @@ read_turned (lit ∷ lits) = refl
 
 stand_turned : (steps : List PlainStep) (old new : List (List Lit)) → AreAlike old new → Stand old steps → Stand new (map as_read steps)
 stand_turned [] old new h stand = tt
-stand_turned (Drops clause ∷ steps) old new h stand = stand_turned steps (without_one clause old) (without_one clause new) (alike_dropped clause old new h) stand
+stand_turned (Drops clause ∷ steps) old new h stand = stand_turned steps (dropped clause old) (dropped clause new) (alike_left clause old new h) stand
 stand_turned (Learns clause ∷ steps) old new h stand =
     subst (λ (s : PlainStep). Stand new (s ∷ map as_read steps)) (sym (read_turned clause)) (
       follows_turned old new h clause stand.0,

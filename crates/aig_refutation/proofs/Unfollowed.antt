@@ -25,7 +25,7 @@ AreFalse holds But clause =
     (lit : Lit) → has clause lit ≡ true → (holds (inverse_lit lit) ≡ true) ⊎ But lit
 
 -- a reading says a conflict, or that one
-abbrev SaysBut : (Lit → Type 0) → Reading → Type 0
+abbrev pub SaysBut : (Lit → Type 0) → Reading → Type 0
 SaysBut But Conflict = Unit {0}
 SaysBut But (Implied lit) = But lit
 SaysBut But Open = ⊥
@@ -96,9 +96,8 @@ module _ (But : Lit → Type 0) where
 -- ---- fewer literals are true
 
 module _ (some holds : Lit → Bool) (among : AreAmong some holds) (own other : List Lit)
-    (within : (lit : Lit) → has own lit ≡ true → has other lit ≡ true)
-    (settled : IsSettled holds (reading_of holds own)) where
-  fewer : (But : Lit → Type 0) → ((a b : Lit) → But a → But b → a ≡ b)
+    (within : (lit : Lit) → has own lit ≡ true → has other lit ≡ true) where
+  pub fewer : (But : Lit → Type 0) → ((a b : Lit) → But a → But b → a ≡ b)
       → SaysBut But (reading_of some other) → SaysBut But (reading_of holds own)
   fewer But one says =
       let each = (reading_false But some Conflict other says).1 in
@@ -107,8 +106,8 @@ module _ (some holds : Lit → Bool) (among : AreAmong some holds) (own other : 
         | inr is ↦ inr is
       ])
 
-  settled_too : IsSettled holds (reading_of some other)
-  settled_too = by (reading_of some other) refl
+  settled_too : IsSettled holds (reading_of holds own) → IsSettled holds (reading_of some other)
+  settled_too settled = by (reading_of some other) refl
     where
       conflict : (r : Reading) → SaysBut (λ lit. ⊥) r → IsSettled holds r → ⊥
       conflict Conflict says is = is

@@ -1,5 +1,5 @@
 -- How many variables steps may name, one after another.
-use Rattle.aig_base.proofs.Words.{ℕ, ◌+◌, ◌^◌, ◌<◌, ◌≤◌, min, List, [], ◌∷◌, arith, All, AllByRecursion}
+use Rattle.aig_base.proofs.Words.{ℕ, ◌+◌, ◌^◌, ◌<◌, ◌≤◌, min, List, [], ◌∷◌, arith, AllByRecursion}
 use Rattle.aig_base.specs.declared.logic.literal.Lit.{Lit}
 use Rattle.aig_refutation.specs.Proofs.{allowed, widened}
 use Rattle.aig_refutation.specs.Steps.{PlainStep, Drops, Learns}

@@ -1,5 +1,5 @@
 -- Texts of DRAT files as they are written, and the steps that are read of them.
-use Rattle.aig_base.proofs.Words.{◌≡◌, ℕ, zero, suc, ◌≤◌, if◌then◌else◌, ◌+◌, ◌^◌, ◌<◌, ◌==◌, Bool, true, false, ◌&&◌, ◌||◌, List, [], ◌∷◌, ◌++◌, map, take, None, refl, sym, ap, subst, ◌∙◌, append_assoc, append-nil, arith, codes, decimal, flat_map, list_any, nat_tests, AllByRecursion, All, recursion_from_All}
+use Rattle.aig_base.proofs.Words.{◌≡◌, ℕ, zero, suc, ◌≤◌, if◌then◌else◌, ◌+◌, ◌^◌, ◌<◌, ◌==◌, Bool, true, false, ◌&&◌, ◌||◌, List, [], ◌∷◌, ◌++◌, map, take, None, refl, sym, ap, subst, ◌∙◌, append_assoc, append-nil, arith, codes, decimal, flat_map, list_any, nat_tests, AllByRecursion, recursion_from_All}
 use Rattle.aig_base.specs.declared.logic.literal.Lit.{Lit}
 use Rattle.aig_base.specs.Clauses.{is_positive, variable_of}
 use Rattle.aig_format.specs.Parse.{is_digit}

@@ -1,5 +1,5 @@
 -- Texts of LRAT files as they are written, and the steps that are read of them.
-use Rattle.aig_base.proofs.Words.{◌≤◌, ◌≡◌, ℕ, ◌^◌, ◌<◌, Bool, true, false, List, [], ◌∷◌, ◌++◌, map, Some, Ok, Err, inl, inr, ◌⊎◌, IfSome, option_map, refl, sym, ap, subst, ◌∙◌, append_assoc, append-nil, codes, flat_map, AllByRecursion, All, recursion_from_All}
+use Rattle.aig_base.proofs.Words.{◌≤◌, ◌≡◌, ℕ, ◌^◌, ◌<◌, Bool, true, false, List, [], ◌∷◌, ◌++◌, map, Some, Ok, Err, inl, inr, ◌⊎◌, IfSome, option_map, refl, sym, ap, subst, ◌∙◌, append_assoc, append-nil, codes, flat_map, All, recursion_from_All}
 use Rattle.aig_base.specs.declared.logic.literal.Lit.{Lit}
 use Rattle.aig_base.specs.Clauses.{variable_of}
 use Rattle.aig_format.specs.Parse.{is_digit}

@@ -5,7 +5,7 @@ use Rattle.aig_base.specs.declared.logic.literal.Lit.{Lit}
 use Rattle.aig_refutation.specs.declared.error.RefutationError.{RefutationError}
 use Rattle.aig_refutation.specs.declared.error.RefutationError.TheVariants as errors
 use Rattle.aig_refutation.specs.Checking.{Live, clause_at, is_used}
-use Rattle.aig_refutation.specs.Steps.{Drops, Follows, Learns, PlainStep, are_same, is_empty, without_one}
+use Rattle.aig_refutation.specs.Steps.{Drops, Follows, Learns, PlainStep, are_same, dropped, is_empty}
 use Rattle.aig_refutation.specs.Tables.{Holds, Table}
 use Rattle.aig_refutation.specs.Words.{Tells}
 
@@ -67,4 +67,4 @@ LearnsAhead clauses clause new (Err e) =
 -- the same of a step
 abbrev pub TakesPlain : List (List Lit) → PlainStep → Table → Result Bool RefutationError → Type 0
 TakesPlain clauses (Learns clause) new result = LearnsAhead clauses clause new result
-TakesPlain clauses (Drops clause) new result = StaysAhead (without_one clause clauses) new result
+TakesPlain clauses (Drops clause) new result = StaysAhead (dropped clause clauses) new result

@@ -9,8 +9,3 @@ use Rattle.aig_base.specs.Clauses.{are_true, is_true_clause}
 abbrev pub Implies : List (List Lit) → List Lit → Type 0
 Implies clauses clause =
     (v : ℕ → Bool) → IsTrue (are_true v clauses) → IsTrue (is_true_clause v clause)
-
--- and so each of these
-abbrev pub ImpliesAll : List (List Lit) → List (List Lit) → Type 0
-ImpliesAll clauses others =
-    (v : ℕ → Bool) → IsTrue (are_true v clauses) → IsTrue (are_true v others)

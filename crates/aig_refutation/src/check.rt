@@ -20,6 +20,7 @@ ghost use Rattle.aig_refutation.specs.Words.{place};
 use crate::binary::read_step;
 use crate::bound::{allowed, widened};
 use crate::checker::Checker;
+use crate::compare::is_unit;
 use crate::error::RefutationError;
 use crate::form::{TELLING, is_binary};
 use crate::step::Step;
@@ -271,7 +272,7 @@ fn add_searched(
 }
 
 /// Takes a step that has no numbers, and says whether the empty clause was added. To delete a clause
-/// that isn't there does nothing.
+/// that isn't there, or has one literal alone, does nothing.
 fn take_searched(
     checker: &mut Checker,
     search: &mut Search,
@@ -287,6 +288,9 @@ fn take_searched(
 {
     if !step.deletes {
         return add_searched(checker, search, pivot, step);
+    }
+    if is_unit(&step.clause) {
+        return Ok(false);
     }
     if let Some(number) = search.remove(&step.clause)? {
         checker.delete_same(number, &step.clause)?;
@@ -500,7 +504,7 @@ fn check_proof<R: Source>(
     variables: usize,
 ) -> Result<(), RefutationError>
     requires { variables ≤ 2 ^ 31 }
-    ensures refuted { HoldsFormula checker.old.table → checker.old.variables ≡ variables
+    ensures refuted { HoldsFormula checker.old.table
         → OnOk result (¬ IsSatisfiable checker.old.table.clauses) }
     ensures stream { IsErrOf result RefutationError.Stream → R.failed r.new ≡ true }
     ensures shown { (clauses : List (List Lit)) → step.old.is_numbered ≡ false
@@ -528,7 +532,7 @@ fn check_clauses<R: Source>(
     step: &mut Step,
 ) -> Result<(), RefutationError>
     requires { checker.old.table.clauses ≡ [] }
-    ensures refuted { IsFormula checker.old → checker.old.variables ≡ length cnf.now
+    ensures refuted { IsFormula checker.old
         → OnOk result (¬ IsSatisfiable (clauses_in cnf.now ++ further.now)) }
     ensures stream { IsErrOf result RefutationError.Stream → R.failed r.new ≡ true }
     ensures shown { IsFormula checker.old → checker.old.variables ≡ length cnf.now
@@ -594,8 +598,9 @@ pub fn check_refutation<R: Source>(
     // Memory and the stream aside: Variable where a literal has no variable, else Ok where the
     // clauses are in conflict at once. Of another LRAT proof whose bytes are known Ok exactly where
     // its steps refute the clauses, and else the error that its text has. Such a DRAT proof, text or
-    // binary, is refused only as Step, where not all its steps follow, or as what is wrong with its
-    // bytes after steps none of which adds the empty clause. Of one with RAT steps no more is said.
+    // binary, is refused only as Step, where not all its steps follow even from clauses of one literal
+    // that were deleted, or as what is wrong with its bytes after steps none of which adds the empty
+    // clause. Of one with RAT steps no more is said.
     ensures shown { Shows (length cnf.now) (clauses_in cnf.now ++ further.now) (R.left r.old)
         result }
 {

@@ -1,6 +1,6 @@
 //! Clauses that follow from those of a formula.
 
-ghost use Rattle.std.specs.Prelude.{◌≡◌, ◌+◌, ◌<◌, ◌≤◌, ◌*◌, ◌^◌, ◌++◌, ◌∷◌, ◌||◌, [], ℕ, Bool, List, None, Ok, All, IfOk, IsErrOf, IsSome, IsTrue, OnOk, length, max, slice_get, true};
+ghost use Rattle.std.specs.Prelude.{◌≡◌, ◌+◌, ◌<◌, ◌≤◌, ◌*◌, ◌^◌, ◌++◌, ◌∷◌, ◌||◌, [], ℕ, Bool, List, None, Ok, All, IfOk, IsErrOf, IsSome, IsTrue, OnErr, OnOk, length, max, slice_get, true};
 ghost use Rattle.std.specs.List.{Contains, IsDistinct, list_all};
 ghost use Rattle.aig_base.specs.declared.logic.literal.Lit.{Lit};
 ghost use Rattle.aig_base.specs.Clauses.{variable_of};
@@ -72,6 +72,8 @@ fn is_below(clause: &[Lit], variables: usize) -> bool
 fn with_variables(clause: &[Lit], variables: usize) -> usize
     ensures below { All (λ lit. variable_of lit < result) clause.now }
     ensures more { variables ≤ result }
+    ensures least { (bound : ℕ) → variables ≤ bound
+        → All (λ lit. variable_of lit < bound) clause.now → result ≤ bound }
     ensures most { result ≤ max variables (2 ^ 31) }
 {
     let mut most = variables;
@@ -187,11 +189,15 @@ impl Checker {
         self.numbered.add(number, clause)
     }
 
-    /// Makes room for the variables of a clause.
+    /// Makes room for the variables of a clause, and for no others.
     fn fit(&mut self, clause: &[Lit]) -> Result<(), MemoryError>
         ensures same { self.new.table ≡ self.old.table }
         ensures inside { OnOk result
             (All (λ lit. variable_of lit < self.new.variables) clause.now) }
+        ensures more { self.old.variables ≤ self.new.variables }
+        ensures least { (bound : ℕ) → self.old.variables ≤ bound
+            → All (λ lit. variable_of lit < bound) clause.now → self.new.variables ≤ bound }
+        ensures err { OnErr result (self.new ≡ self.old) }
     {
         let variables = with_variables(clause, self.variables);
         if variables > self.variables {

@@ -2,8 +2,8 @@
 
 ghost use Rattle.std.specs.Prelude.{◌≡◌, length};
 ghost use Rattle.std.specs.List.{list_all};
-ghost use Rattle.aig_refutation.specs.Propagation.{FitsMarks, has, marked};
-ghost use Rattle.aig_refutation.specs.Steps.{are_same};
+ghost use Rattle.aig_refutation.specs.Propagation.{FitsMarks, has, is_lit, marked};
+ghost use Rattle.aig_refutation.specs.Steps.{are_same, is_unit};
 
 use crate::marks::Marks;
 use aig_base::Lit;
@@ -47,4 +47,26 @@ pub(crate) fn are_same(marks: &mut Marks, clause: &[Lit], other: &[Lit]) -> bool
     }
     assume_true(marks, clause);
     are_marked(marks, other)
+}
+
+/// Whether all literals of a clause are this one.
+fn are_all(clause: &[Lit], lit: Lit) -> bool
+    ensures { result ≡ list_all (is_lit lit) clause.now }
+{
+    for other in clause {
+        if lit != *other {
+            return false;
+        }
+    }
+    true
+}
+
+/// Whether a clause has one literal alone, however often.
+pub(crate) fn is_unit(clause: &[Lit]) -> bool
+    ensures { result ≡ is_unit clause.now }
+{
+    match clause {
+        [first, rest @ ..] => are_all(rest, *first),
+        [] => false,
+    }
 }

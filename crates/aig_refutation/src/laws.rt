@@ -10,7 +10,7 @@ ghost use Rattle.aig_refutation.specs.Forms.{is_binary, plain_steps_in, steps_in
 ghost use Rattle.aig_refutation.specs.Proofs.{allowed};
 ghost use Rattle.aig_refutation.specs.Propagation.{is_rup};
 ghost use Rattle.aig_refutation.specs.Rat.{is_rat_refutation};
-ghost use Rattle.aig_refutation.specs.Steps.{Drops, Learns, PlainStep, Refute, Step, is_refutation};
+ghost use Rattle.aig_refutation.specs.Steps.{Drops, Learns, PlainStep, Refute, Stand, StandWithout, Step, is_refutation};
 ghost use Rattle.aig_refutation.specs.Taken.{KeepsLive};
 ghost use Rattle.aig_refutation.specs.Written.{AreInOrder, AreWithin, IsNumber, IsPlainStep, IsStep, as_read, binary_text, plain_text, proof_text, step_bytes};
 
@@ -60,6 +60,12 @@ pub fn plain_refutations_are_taken()
     ensures { (variables : ℕ) (clauses : List (List Lit)) (bytes : List ℕ) (e : RefutationError)
         → let script = plain_steps_in variables bytes in
         IsPlainOutcome clauses script (Err e) → Refute clauses script.steps → ⊥ }
+{}
+
+/// Law: steps each clause of which follows where all deletions are obeyed are such steps also where a clause of a literal alone stays.
+pub fn obeyed_deletions_stand()
+    ensures { (clauses : List (List Lit)) (steps : List PlainStep)
+        → StandWithout clauses steps → Stand clauses steps }
 {}
 
 /// Law: the steps of an LRAT file are read from the text that is written of them, also where they name new variables: below 65,536

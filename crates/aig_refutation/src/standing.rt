@@ -5,6 +5,7 @@ ghost use Rattle.std.specs.List.{list_all};
 ghost use Rattle.aig_refutation.specs.Checking.{Live, are_named, clause_at, stands};
 ghost use Rattle.aig_refutation.specs.Propagation.{FitsMarks, has, is_rup, is_tautology};
 ghost use Rattle.aig_refutation.specs.Rat.{hints_for, is_rat, resolvent};
+ghost use Rattle.aig_refutation.specs.Starts.{AreStarts, IsStart, start_in};
 ghost use Rattle.aig_refutation.specs.Tables.{FindsHints, Holds, entry_in, is_apart_if, place_in, places_of};
 ghost use Rattle.aig_refutation.specs.Words.{said_numbers};
 
@@ -12,6 +13,7 @@ use crate::list::push;
 use crate::marks::Marks;
 use crate::numbered::Numbered;
 use crate::propagation::{is_rup, is_tautology};
+use crate::starts::{find_starts, push_hints_for, start_at};
 use crate::words::Number;
 use aig_base::{Lit, LitVvec, MemoryError};
 use aig_hints::Search;
@@ -77,22 +79,6 @@ pub(crate) fn has(clause: &[Lit], lit: Lit) -> bool
     false
 }
 
-/// Appends the hints for the clause of a number.
-fn push_hints_for(groups: &[Number], number: u32, hints: &mut Vec<u32>) -> Result<(), MemoryError>
-    ensures { OnOk result (hints.new.items
-        ≡ hints.old.items ++ hints_for number false (said_numbers groups.now)) }
-{
-    let mut is_here = false;
-    for hint in groups {
-        if !hint.positive {
-            is_here = hint.value == number;
-        } else if is_here {
-            push(hints, hint.value)?;
-        }
-    }
-    Ok(())
-}
-
 /// Makes a list of a literal and those of a clause.
 pub(crate) fn lead(pivot: Lit, clause: &[Lit], led: &mut Vec<Lit>) -> Result<(), MemoryError>
     ensures { OnOk result (led.new.items ≡ pivot ∷ clause.now) }
@@ -126,6 +112,8 @@ pub(crate) struct Resolvent {
     hints: Vec<u32>,
     /// Their places.
     places: Vec<usize>,
+    /// For each place where the hints for its clause begin, among those of a step.
+    starts: Vec<usize>,
 }
 
 impl Resolvent {
@@ -135,6 +123,7 @@ impl Resolvent {
             clause: Vec::new(alloc),
             hints: Vec::new(alloc),
             places: Vec::new(alloc),
+            starts: Vec::new(alloc),
         }
     }
 
@@ -142,6 +131,7 @@ impl Resolvent {
     fn resolve(&mut self, clause: &[Lit], pivot: Lit, other: &[Lit]) -> Result<(), MemoryError>
         ensures clause { OnOk result (self.new.clause.items
             ≡ resolvent pivot clause.now other.now) }
+        ensures starts { self.new.starts ≡ self.old.starts }
     {
         let inverse = !pivot;
         self.clause.clear();
@@ -154,23 +144,27 @@ impl Resolvent {
         Ok(())
     }
 
-    /// Finds the hints for the clause of a number, behind those for all clauses, and says whether
-    /// they all name a clause.
+    /// Finds the hints for the clause of a number, which is at a place, behind those for all clauses,
+    /// and says whether they all name a clause.
     fn find(
         &mut self,
         numbered: &Numbered,
         hints: &[u32],
         groups: &[Number],
         number: u32,
+        place: usize,
     ) -> Result<bool, MemoryError>
         ensures clause { self.new.clause ≡ self.old.clause }
-        ensures found { FindsHints numbered.now
+        ensures starts { self.new.starts ≡ self.old.starts }
+        ensures found { IsStart groups.now groups.now number (start_in self.old.starts.items place)
+            → FindsHints numbered.now
             (hints.now ++ hints_for number false (said_numbers groups.now))
             self.new.places.items result }
     {
         self.hints.clear();
         self.hints.extend_from_slice(hints)?;
-        push_hints_for(groups, number, &mut self.hints)?;
+        let start = start_at(&self.starts, place);
+        push_hints_for(groups, number, start, &mut self.hints)?;
         find_hints(numbered, &self.hints, &mut self.places)
     }
 
@@ -190,8 +184,10 @@ impl Resolvent {
         requires clause { FitsMarks marks.old clause.now }
         requires place { place < length numbered.now.clauses }
         ensures length { length marks.new ≡ length marks.old }
+        ensures starts { self.new.starts ≡ self.old.starts }
         ensures apart { (live : Live) → Holds numbered.now live
             → are_named live hints.now (said_numbers groups.now) ≡ true
+            → AreStarts numbered.now groups.now groups.now self.old.starts.items
             → IfOk result (λ is. is ≡ is_apart_if (clause_at live) pivot clause.now hints.now
             (said_numbers groups.now) (entry_in numbered.now place)) }
     {
@@ -203,7 +199,7 @@ impl Resolvent {
             return Ok(true);
         }
         self.resolve(clause, pivot, other)?;
-        if !self.find(numbered, hints, groups, number)? {
+        if !self.find(numbered, hints, groups, number, place)? {
             return Ok(false);
         }
         Ok(is_implied(numbered.clauses(), marks, &self.clause, &self.places))
@@ -230,6 +226,7 @@ impl Resolvent {
         let [pivot, ..] = clause else {
             return Ok(false);
         };
+        find_starts(numbered, groups, &mut self.starts)?;
         for place in 0..numbered.clauses().len() {
             if !self.is_apart(numbered, marks, clause, *pivot, hints, groups, place)? {
                 return Ok(false);

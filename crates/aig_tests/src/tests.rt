@@ -1,4 +1,4 @@
-//! What steps of tests/scripts can't say: the examples of docstrings, and readers and writers of std that fail.
+//! What steps of tests/scripts can't say: the examples of docstrings, readers and writers of std that fail, and what the callers give.
 
 ghost use Rattle.std.specs.Prelude.{◌≤◌, ◌^◌, IfOk, length};
 
@@ -6,6 +6,7 @@ mod answers;
 mod binary_proofs;
 mod certificates;
 mod examples;
+mod sample;
 mod streams;
 mod taking;
 

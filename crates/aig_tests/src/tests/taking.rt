@@ -1,6 +1,6 @@
 //! Proofs of what another call prints, and programs on files in memory.
 
-use crate::{
+use aig_callers::{
     printed_of_compress, printed_of_refuted, taken_as_equal, taken_at_step, taken_of_certificate,
     taken_of_window, taken_up_to_step,
 };

@@ -8,6 +8,7 @@ use Rattle.aig_circuit.specs.declared.node.AigLatch.{AigLatch}
 use Rattle.aig_circuit.proofs.Words.{AreNodes, Circuit, IsInRange, IsLatch, names_of}
 use Rattle.aig_live.specs.Assembled.{AreParts}
 use Rattle.aig_live.specs.Live.{false_latches}
+use Rattle.aig_live.specs.Names.{live_names, with_row}
 use Rattle.aig_live.proofs.Lived.{IsLiveOf-made}
 use Rattle.aig_live.proofs.engine.live.Goals as goal
 
@@ -56,14 +57,18 @@ returns c =
     c.in_ok-lists.lists.properties.constraints.items
     (map (λ (set : Vec AigEdge Global). set.items) c.clear-3.new.self.items)
     c.clear-4.new.self.items
-    (names_of c.in_ok-lists.lists.names.entries) in
+    (names_of c.put_live_names.new.names.entries) in
     let outputs = c.clear.ensures.items in
     let bads = c.in_ok-push-2.ensures.items
     ∙ ap (λ (es : List AigEdge). es ++ parts.bad ∷ []) c.clear-2.ensures.items in
     let constraints = ap (λ (m : Circuit). m.properties.constraints) same in
     let justice = ap (map (λ (set : Vec AigEdge Global). set.items)) c.clear-3.ensures.items in
     let fairness = c.clear-4.ensures.items in
-    let names = ap (λ (m : Circuit). m.names) same in
+    let names : names_of c.put_live_names.new.names.entries
+    ≡ with_row circuit.names (length circuit.nodes) (live_names circuit (length edges)) =
+    c.in_ok-put_live_names.ensures
+    ∙ ap (λ (m : Circuit). with_row m.names (length circuit.nodes)
+    (live_names circuit (length edges))) same in
     let are : AreParts circuit.nodes c.make_parts.new.nodes.items circuit.latchs edges parts =
     subst (λ (ls : List AigLatch). AreParts circuit.nodes c.make_parts.new.nodes.items ls edges
     parts) c.latchs.ensures.value

@@ -1,13 +1,13 @@
-use Rattle.std.proofs.Common.{◌≡◌, ℕ, ◌+◌, ◌++◌, ◌∷◌, [], List, Vec, Global, length, map, arith, subst, sym, ◌∙◌, ap}
+use Rattle.std.proofs.Common.{◌≡◌, ℕ, ◌++◌, ◌∷◌, [], List, Vec, Global, length, map, arith, subst, sym, ◌∙◌, ap}
 use Rattle.std.specs.FinMap.{FinMap}
 use Rattle.std.specs.Ordering.{nat_cmp}
 use Rattle.aig_base.proofs.Words.{All}
 use Rattle.aig_circuit.specs.declared.edge.AigEdge.{AigEdge}
 use Rattle.aig_circuit.specs.declared.node.AigNode.{AigNode}
-use Rattle.aig_circuit.specs.declared.node.AigLatch.{AigLatch}
 use Rattle.aig_circuit.proofs.Words.{AreNodes, Circuit, IsInRange, names_of}
 use Rattle.aig_live.specs.Counting.{AreCounted}
 use Rattle.aig_live.specs.Live.{false_latches}
+use Rattle.aig_live.specs.Names.{rounds_names, with_row}
 use Rattle.aig_live.proofs.Roundly.{IsRoundsOf-made}
 use Rattle.aig_live.proofs.rounding.rounds.Goals as goal
 
@@ -46,14 +46,18 @@ returns c =
     c.in_ok-lists.lists.properties.constraints.items
     (map (λ (set : Vec AigEdge Global). set.items) c.clear-3.new.self.items)
     c.clear-4.new.self.items
-    (names_of c.in_ok-lists.lists.names.entries) c.in_ok-lists.lists.inputs.items in
+    (names_of c.put_rounds_names.new.names.entries) c.in_ok-lists.lists.inputs.items in
     let outputs = c.clear.ensures.items in
     let bads = c.in_ok-push.ensures.items
     ∙ ap (λ (es : List AigEdge). es ++ counted.bad ∷ []) c.clear-2.ensures.items in
     let constraints = ap (λ (m : Circuit). m.properties.constraints) same in
     let justice = ap (map (λ (set : Vec AigEdge Global). set.items)) c.clear-3.ensures.items in
     let fairness = c.clear-4.ensures.items in
-    let names = ap (λ (m : Circuit). m.names) same in
+    let names : names_of c.put_rounds_names.new.names.entries
+    ≡ with_row circuit.names (length circuit.nodes) (rounds_names (length edges) count) =
+    c.in_ok-put_rounds_names.ensures
+    ∙ ap (λ (m : Circuit). with_row m.names n (rounds_names (length edges) count)) same
+    ∙ ap (λ (m : ℕ). with_row circuit.names m (rounds_names (length edges) count)) is_n in
     let inputs = ap (λ (m : Circuit). m.inputs) same in
     let are : AreCounted circuit.nodes c.count_rounds.new.nodes.items edges count counted =
     subst (λ (ns : List AigNode). AreCounted ns c.count_rounds.new.nodes.items edges count counted)

@@ -1,6 +1,6 @@
-use Rattle.aig_base.proofs.Words.{[], ◌∷◌, ◌∙◌, err_from_is_err_and}
+use Rattle.aig_base.proofs.Words.{[], ◌∷◌, err_from_is_err_and}
 use Rattle.aig_refutation.proofs.Keeping.{adds_stays}
-use Rattle.aig_refutation.proofs.Kept.{kept_itself, kept_on, more_kept}
+use Rattle.aig_refutation.proofs.Kept.{kept_on, more_kept}
 use Rattle.aig_refutation.proofs.check.add_units.Goals as goal
 
 pub returns-in_err-number-clause-ahead : goal.returns-in_err-number-clause-ahead

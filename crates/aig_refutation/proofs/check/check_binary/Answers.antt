@@ -1,4 +1,4 @@
-use Rattle.aig_base.proofs.Words.{OnOk, Bool, true, false, Ok, subst, ◌∙◌, err_from_is_err_and}
+use Rattle.aig_base.proofs.Words.{Bool, true, false, Ok, subst, err_from_is_err_and}
 use Rattle.aig_lexer.specs.Takes.{feed}
 use Rattle.aig_refutation.specs.Kept.{KeepsOrEnds}
 use Rattle.aig_refutation.specs.Taken.{CanHold}

@@ -61,7 +61,7 @@ returns-clause-shown g c formula same fresh =
     (subst (λ (list : List (List Lit)). IsInConflict list → ⊥) list none))
 
 pub returns-then-branch-clause-refuted : goal.returns-then-branch-clause-refuted
-returns-then-branch-clause-refuted g c formula same =
+returns-then-branch-clause-refuted g c formula =
     let checker = c.number_clauses.new.checker in
     let holds = c.in_ok-number_clauses.ensures.holds formula in
     let is : IsInConflict checker.table.clauses = subst (λ (b : Bool). ConcludesConflict
@@ -72,11 +72,8 @@ returns-then-branch-clause-refuted g c formula same =
     (conflict_fails checker.table.clauses is)
 
 pub returns-clause-refuted : goal.returns-clause-refuted
-returns-clause-refuted g c formula same =
-    let checker = c.number_clauses.new.checker in
+returns-clause-refuted g c formula =
     let holds = c.in_ok-number_clauses.ensures.holds formula in
-    let variables : checker.variables ≡ c.num_vars.result =
-    c.in_ok-number_clauses.ensures.variables ∙ same ∙ sym c.num_vars.ensures.count in
     subst (λ (list : List (List Lit)). OnOk c.check_proof.result (¬ IsSatisfiable list))
     c.in_ok-number_clauses.ensures.formula
-    (c.check_proof.ensures.refuted holds.holds variables)
+    (c.check_proof.ensures.refuted holds.holds)

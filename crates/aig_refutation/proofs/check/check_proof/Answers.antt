@@ -63,7 +63,7 @@ returns-clause-shown g c clauses fresh formula list same none =
     (c.check_steps.ensures.plain clauses goes_on fresh ahead))
 
 pub returns-then-is_binary-clause-refuted : goal.returns-then-is_binary-clause-refuted
-returns-then-is_binary-clause-refuted g c formula same =
+returns-then-is_binary-clause-refuted g c formula =
     let clauses = c.args.checker.now.table.clauses in
     ok_on c.check_binary.result (¬ CanHold (all_live clauses)) (¬ IsSatisfiable clauses)
     (λ fails can. fails (formula_holds clauses can))

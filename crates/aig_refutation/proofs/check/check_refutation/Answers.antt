@@ -13,5 +13,4 @@ returns-clause-shown g c =
 pub returns-clause-refuted : goal.returns-clause-refuted
 returns-clause-refuted g c =
     c.check_clauses.ensures.refuted (subst (λ (checker : Checked). IsFormula checker) (sym
-    c.in_ok-checker.ensures) (formula_empty c.num_vars.result)) (ap (λ checker. checker.variables)
-    c.in_ok-checker.ensures ∙ c.num_vars.ensures.count)
+    c.in_ok-checker.ensures) (formula_empty c.num_vars.result))

@@ -1,4 +1,4 @@
-use Rattle.aig_base.proofs.Words.{Bool, true, false, Ok, Err, ℕ, subst, ◌∙◌, err_from_is_err_and}
+use Rattle.aig_base.proofs.Words.{Bool, true, false, Ok, Err, subst, ◌∙◌, err_from_is_err_and}
 use Rattle.aig_refutation.specs.Concluding.{TakesLine, TakesStep}
 use Rattle.aig_refutation.specs.Kept.{KeepsOrEnds}
 use Rattle.aig_refutation.specs.Reading.{GivesStep, said_by}

@@ -1,9 +1,7 @@
-use Rattle.aig_base.proofs.Words.{◌≡◌, ◌||◌, Bool, true, List, Ok, ap, slice_get, sym, subst, ◌∙◌, err_from_is_err_and}
+use Rattle.aig_base.proofs.Words.{◌≡◌, Bool, true, Ok, ap, sym, subst, ◌∙◌, err_from_is_err_and}
 use Rattle.aig_base.specs.declared.MemoryError.{MemoryError}
-use Rattle.aig_base.specs.declared.logic.literal.Lit.{Lit}
 use Rattle.aig_refutation.specs.Ahead.{IsAhead}
 use Rattle.aig_refutation.specs.Checking.{follows}
-use Rattle.aig_refutation.specs.Propagation.{is_rup, is_tautology}
 use Rattle.aig_refutation.specs.Tables.{FindsHints, Holds, Table}
 use Rattle.aig_refutation.proofs.Kept.{follows_keeps, same_follows}
 use Rattle.aig_refutation.proofs.checker.Checker.add_next.Goals as goal

@@ -1,4 +1,4 @@
-use Rattle.std.proofs.Common.{ap, sym, subst, ◌∙◌}
+use Rattle.std.proofs.Common.{ap, sym, subst}
 use Rattle.aig_refutation.specs.Checking.{deleted}
 use Rattle.aig_refutation.specs.Tables.{Holds, Table}
 use Rattle.aig_refutation.proofs.Adding.{moves_freed}

@@ -1,4 +1,4 @@
-use Rattle.aig_base.proofs.Words.{◌≡◌, ◌<◌, ℕ, sym, ap, subst, ◌∙◌, All}
+use Rattle.aig_base.proofs.Words.{◌<◌, ℕ, sym, ap, subst, ◌∙◌, All}
 use Rattle.std.specs.List.{Contains}
 use Rattle.aig_base.specs.Clauses.{variable_of}
 use Rattle.aig_refutation.proofs.Following.{below_either, kept_literals}

@@ -4,6 +4,7 @@ use Rattle.aig_base.specs.declared.logic.literal.Lit.{Lit}
 use Rattle.aig_base.specs.Clauses.{inverse_lit, variable_of}
 use Rattle.aig_refutation.specs.Propagation.{FitsMarks, has, is_rup, is_tautology}
 use Rattle.aig_refutation.specs.Rat.{hints_for, resolvent}
+use Rattle.aig_refutation.specs.Starts.{IsStart, start_in}
 use Rattle.aig_refutation.specs.Tables.{FindsHints, Table}
 use Rattle.aig_refutation.specs.Words.{said_numbers}
 use Rattle.aig_refutation.proofs.Apart.{all_hints_named, found_apart, resolved_literals}
@@ -12,15 +13,20 @@ use Rattle.aig_refutation.proofs.Literals.{clause_there}
 use Rattle.aig_refutation.proofs.standing.Resolvent.is_apart.Goals as goal
 
 pub returns-then-not-branch-clause-apart : goal.returns-then-not-branch-clause-apart
-returns-then-not-branch-clause-apart c live h named =
+returns-then-not-branch-clause-apart c live h named at =
     let t : Table = c.args.numbered.now in
     let hints = c.args.hints.now in
     let groups = said_numbers c.args.groups.now in
     let number = c.in-Some.number in
     let all = hints ++ hints_for number false groups in
+    let same : start_in c.resolve.new.self.starts.items c.args.place
+    ≡ start_in c.args.self.now.starts.items c.args.place =
+    ap (λ v. start_in v.items c.args.place) c.in_ok-resolve.ensures.starts in
+    let begins = subst (IsStart c.args.groups.now c.args.groups.now number) (sym same)
+    (at c.args.place number c.requires.place (sym c.in-Some.ensures)) in
     let finds : FindsHints {E = MemoryError} t all c.find.new.self.places.items (Ok false) =
     subst (λ (b : Bool). FindsHints {E = MemoryError} t all c.find.new.self.places.items (Ok b))
-    c.if-not-branch.true c.in_ok-find.ensures.found in
+    c.if-not-branch.true (c.in_ok-find.ensures.found begins) in
     absurd (false≢true (sym finds ∙ sym (all_named t live h all)
     ∙ all_hints_named live hints groups number named))
 
@@ -41,7 +47,7 @@ is_implied-requires-clause-clause c =
     (resolved_literals P c.args.pivot c.args.clause.now other c.requires.clause fits)
 
 pub returns-clause-apart : goal.returns-clause-apart
-returns-clause-apart c live h named =
+returns-clause-apart c live h named at =
     let t : Table = c.args.numbered.now in
     let clause = c.args.clause.now in
     let pivot = c.args.pivot in
@@ -50,9 +56,14 @@ returns-clause-apart c live h named =
     let number = c.in-Some.number in
     let other = c.clause-other.result.now in
     let all = hints ++ hints_for number false groups in
+    let same : start_in c.resolve.new.self.starts.items c.args.place
+    ≡ start_in c.args.self.now.starts.items c.args.place =
+    ap (λ v. start_in v.items c.args.place) c.in_ok-resolve.ensures.starts in
+    let begins = subst (IsStart c.args.groups.now c.args.groups.now number) (sym same)
+    (at c.args.place number c.requires.place (sym c.in-Some.ensures)) in
     let finds : FindsHints {E = MemoryError} t all c.find.new.self.places.items (Ok true) =
     subst (λ (b : Bool). FindsHints {E = MemoryError} t all c.find.new.self.places.items (Ok b))
-    c.if-not-branch.false c.in_ok-find.ensures.found in
+    c.if-not-branch.false (c.in_ok-find.ensures.found begins) in
     let there : slice_get t.clauses c.args.place ≡ Some other =
     ap (λ (list : List (List Lit)). slice_get list c.args.place) (sym c.clauses.ensures)
     ∙ c.clause-other.ensures in

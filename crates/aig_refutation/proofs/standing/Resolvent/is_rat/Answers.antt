@@ -17,7 +17,8 @@ returns-then-not-branch-clause-rat c live h named =
     ) in
     sym (rat_not c.args.numbered.now live h c.args.clause.now c.args.hints.now
     (said_numbers c.args.groups.now) zero_lit c.in-len1-up.len_at_least place inside
-    (sym (c.in_ok-is_apart.ensures.apart live h named) ∙ c.if-not-branch.true))
+    (sym (c.in_ok-is_apart.ensures.apart live h named (c.loop-place.invariant.starts live h))
+    ∙ c.if-not-branch.true))
 
 pub returns-clause-rat : goal.returns-clause-rat
 returns-clause-rat c live h named =

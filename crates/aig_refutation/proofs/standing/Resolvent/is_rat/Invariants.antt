@@ -1,5 +1,6 @@
 use Rattle.aig_base.proofs.Words.{◌≡◌, ◌<◌, ℕ, true, length}
 use Rattle.aig_refutation.specs.Checking.{Live, are_named, clause_at}
+use Rattle.aig_refutation.specs.Starts.{AreStarts}
 use Rattle.aig_refutation.specs.Tables.{Holds, entry_in, is_apart_if}
 use Rattle.aig_refutation.specs.Words.{said_numbers}
 use Rattle.aig_refutation.proofs.standing.Resolvent.is_rat.Given as goal
@@ -11,4 +12,6 @@ invariant-loop-place l = record {
       → are_named live l.hints (said_numbers l.groups) ≡ true → (i : ℕ) → i < l.place
       → is_apart_if (clause_at live) l.pivot l.clause l.hints (said_numbers l.groups)
       (entry_in l.numbered i) ≡ true;
+  starts : (live : Live) → Holds l.numbered live
+      → AreStarts l.numbered l.groups l.groups l.self.starts.items;
 }

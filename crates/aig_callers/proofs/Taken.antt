@@ -1,0 +1,170 @@
+-- A proof of printed clauses is taken.
+use Rattle.aig_base.proofs.Words.{◌≡◌, ◌≢◌, ℕ, ◌-◌, ◌^◌, inl, inr, Bool, true, IsTrue, List, All, Option, Some, Result, Ok, Err, IfErr, IfSome, refl, sym, ap, subst, ◌∙◌, same_Some, IsAtEnd}
+use Rattle.aig_base.specs.declared.logic.literal.Lit.{Lit}
+use Rattle.aig_dimacs.specs.Reading.{parse_formula}
+use Rattle.aig_format.specs.File.{File}
+use Rattle.aig_format.specs.Fits.{Accepts}
+use Rattle.aig_format.specs.Spells.{Spells}
+use Rattle.aig_reader.specs.Reading.{IsReadAs}
+use Rattle.aig_reader.specs.Verdicts.{Accepted, Crowded, IsOfFile, IsSettled, IsVerdictOn, Judges, NoBads, TooLarge, Verdict, verdict_by}
+use Rattle.aig_reader.specs.Verdicts as reading
+use Rattle.aig_reader.specs.declared.error.ReadError.{ReadError}
+use Rattle.aig_reader.specs.declared.error.ReadError.TheVariants as read
+use Rattle.aig_refutation.specs.Checking.{Shows, all_live, are_all_in, outcome}
+use Rattle.aig_refutation.specs.Forms.{is_binary}
+use Rattle.aig_refutation.specs.Proofs.{allowed}
+use Rattle.aig_refutation.specs.Rat.{is_rat_refutation}
+use Rattle.aig_refutation.specs.Steps.{PlainStep, Refute, Step}
+use Rattle.aig_refutation.specs.Written.{AreInOrder, AreWithin, IsNumber, IsPlainStep, IsStep, binary_text, plain_text, proof_text}
+use Rattle.aig_refutation.specs.declared.error.RefutationError.{RefutationError}
+use Rattle.aig_refutation.specs.declared.error.RefutationError.TheVariants as refutation
+use Rattle.aig_answers.specs.Answers as answering
+use Rattle.aig_answers.specs.declared.error.AnswerError.{AnswerError}
+use Rattle.aig_answers.specs.declared.error.AnswerError.TheVariants as answers
+use Rattle.aig_encode.specs.declared.error.EncodeError.TheVariants as encode
+use Rattle.aig_bounded_answers.specs.Asking as bounding
+use Rattle.aig_bounded_answers.specs.Asking.{IsOfCheck}
+use Rattle.aig_bounded_answers.specs.declared.error.BoundedAnswerError.{BoundedAnswerError}
+use Rattle.aig_bounded_answers.specs.declared.error.BoundedAnswerError.TheVariants as bounded
+use Rattle.aig_callers.specs.Taking.{IsBoundedHindrance, IsHindrance, IsOutside, IsProof, IsProofOf}
+use Rattle.aig_callers.proofs.Asking.{all_taken}
+use Rattle.aig_callers.proofs.Texts.{in_text}
+
+-- what is known of bytes: they spell one file at most
+abbrev pub SpellOne : Type 0
+SpellOne = (f g : File) (bytes : List ℕ) → Spells f bytes → Spells g bytes → f ≡ g
+
+-- what is known of proofs that are written
+pub record Laws : Type 0 where
+  pub ordered : (clauses : List (List Lit)) (steps : List Step) (fault : RefutationError)
+      → AreInOrder (all_live clauses) steps → IsTrue (is_rat_refutation clauses steps)
+      → outcome (all_live clauses) steps fault ≡ Ok tt
+  pub numbered : (variables last : ℕ) (clauses : List (List Lit)) (steps : List Step)
+      (e : RefutationError) → IsNumber last → AreWithin IsStep (allowed variables) steps
+      → are_all_in variables clauses ≡ true
+      → outcome (all_live clauses) steps refutation.Unfinished ≡ Ok tt
+      → Shows variables clauses (Some (proof_text last steps)) (Err e) → IsOutside e
+  pub plain : (variables : ℕ) (clauses : List (List Lit)) (steps : List PlainStep)
+      (e : RefutationError) → AreWithin IsPlainStep (allowed variables) steps
+      → are_all_in variables clauses ≡ true → Refute clauses steps
+      → Shows variables clauses (Some (plain_text steps)) (Err e) → IsOutside e
+  pub binary : (variables : ℕ) (clauses : List (List Lit)) (steps : List PlainStep)
+      (e : RefutationError) → AreWithin IsPlainStep (allowed variables) steps
+      → All (IsPlainStep (2 ^ 31 - 1)) steps → is_binary (binary_text steps) ≡ true
+      → are_all_in variables clauses ≡ true → Refute clauses steps
+      → Shows variables clauses (Some (binary_text steps)) (Err e) → IsOutside e
+
+module _ (laws : Laws) where
+  -- a proof of clauses is refused for memory and the stream alone
+  proof_taken : (variables : ℕ) (clauses : List (List Lit)) (bytes : List ℕ) (e : RefutationError)
+      → are_all_in variables clauses ≡ true → IsProof variables clauses bytes
+      → Shows variables clauses (Some bytes) (Err e) → IsOutside e
+  proof_taken variables clauses bytes e all (inl p) shows =
+      laws.numbered variables p.last clauses p.steps e p.number p.spelled all
+      (laws.ordered clauses p.steps refutation.Unfinished p.order p.refutes)
+      (subst (λ b. Shows variables clauses (Some b) (Err e)) p.text shows)
+  proof_taken variables clauses bytes e all (inr (inl p)) shows =
+      laws.plain variables clauses p.steps e p.spelled all p.refutes
+      (subst (λ b. Shows variables clauses (Some b) (Err e)) p.text shows)
+  proof_taken variables clauses bytes e all (inr (inr p)) shows =
+      laws.binary variables clauses p.steps e p.spelled p.small p.told all p.refutes
+      (subst (λ b. Shows variables clauses (Some b) (Err e)) p.text shows)
+
+  -- so is one of the clauses of a text
+  pub text_taken : (text bytes : List ℕ) (variables : ℕ) (clauses : List (List Lit))
+      (e : RefutationError) → parse_formula text ≡ Some (variables, clauses) → IsProofOf text bytes
+      → Shows variables clauses (Some bytes) (Err e) → IsOutside e
+  text_taken text bytes variables clauses e again p shows =
+      let pair : (variables, clauses) ≡ (p.variables, p.clauses) = same_Some _ _ (sym again
+      ∙ p.reads) in
+      proof_taken p.variables p.clauses bytes e (in_text p.variables p.clauses text p.reads)
+      p.proves
+      (subst (λ (q : ℕ × List (List Lit)). Shows q.0 q.1 (Some bytes) (Err e)) pair shows)
+
+-- ---- the file that the bytes are
+
+module _ (one : SpellOne) (limit : ℕ) (bytes : List ℕ) (f : File) (accepts : Accepts bytes limit f)
+  where
+    -- what is told of a file that was read is told of it
+    pub told_of : {T : Type 0} (Holds : List ℕ → File → Type 0) (Means : File → T → Type 0)
+        (old new : Option (List ℕ)) (value : T) → ((b : List ℕ) (g : File) → Holds b g → Spells g b)
+        → old ≡ Some bytes → IsAtEnd new → IsReadAs Holds Means old new value → Means f value
+    told_of Holds Means old new value spelled is end read =
+        let whole : read.bytes ≡ bytes = all_taken bytes read.bytes old new is read.taken end in
+        let same : read.file ≡ f = one read.file f bytes (subst (λ b. Spells read.file b) whole
+        (spelled read.bytes read.file read.holds)) accepts.0 in
+        subst (λ g. Means g value) same read.means
+
+    -- a verdict on its bytes, with nothing hidden, is its own
+    pub judged : (of : File → Verdict) (old new : Option (List ℕ)) (failed : Bool) (v : Verdict)
+        → old ≡ Some bytes → of f ≡ Accepted → Judges of limit old new failed v → IsSettled v
+        → v ≡ Accepted
+    judged of old new failed v is taken told settled =
+        let on =
+        subst (λ known. IfSome known (λ b. IsVerdictOn of limit b v)) is (told.exact settled)
+        in
+        on.each f accepts ∙ taken
+
+-- ---- errors
+
+-- an error of reading doesn't say that a file is taken
+read_refuses : (e : ReadError) → reading.verdict_of e ≢ Accepted
+read_refuses read.Memory is = cc
+read_refuses read.Stream is = cc
+read_refuses read.TooMany is = cc
+read_refuses e is = cc
+
+-- an answer's error is a hindrance where the file is taken, and so is the proof
+pub hindered : (e : AnswerError) → Unit {0}
+    → (IsSettled (answering.verdict_of e) → answering.verdict_of e ≡ Accepted)
+    → ((r : RefutationError) → e ≡ answers.Refutation r → IsOutside r) → IsHindrance e
+hindered (answers.Encode (encode.Read e)) own settled proof = λ is. read_refuses e (settled is)
+hindered (answers.Encode encode.Memory) own settled proof = λ is. is
+hindered (answers.Encode encode.TooLarge) own settled proof =
+    λ is. let h : TooLarge ≡ Accepted = settled is in absurd cc
+hindered answers.NoBads own settled proof =
+    λ is. let h : NoBads ≡ Accepted = settled is in absurd cc
+hindered answers.TooLarge own settled proof =
+    λ is. let h : Crowded ≡ Accepted = settled is in absurd cc
+hindered (answers.Refutation e) own settled proof = proof e refl
+
+pub bounded_hindered : (e : BoundedAnswerError) → IsOfCheck e
+    → (IsSettled (bounding.verdict_of e) → bounding.verdict_of e ≡ Accepted)
+    → ((r : RefutationError) → e ≡ bounded.Refutation r → IsOutside r) → IsBoundedHindrance e
+bounded_hindered (bounded.Read e) own settled proof = λ is. read_refuses e (settled is)
+bounded_hindered bounded.NoBads own settled proof =
+    λ is. let h : NoBads ≡ Accepted = settled is in absurd cc
+bounded_hindered (bounded.Question e) own settled proof = λ is. is
+bounded_hindered (bounded.Refutation e) own settled proof = proof e refl
+bounded_hindered (bounded.Solution e) own settled proof = absurd own
+
+-- ---- answers
+
+-- The answer about a file that is taken, and about a proof of the clauses of a text: it says
+-- `said` of the file's bytes, and `refutes` makes it of an error of the proof.
+module _ (laws : Laws) (one : SpellOne) (limit : ℕ) (bytes text given : List ℕ) (f : File)
+    (accepts : Accepts bytes limit f) (variables : ℕ) (clauses : List (List Lit))
+    (again : parse_formula text ≡ Some (variables, clauses)) where
+  module _ {E : Type 0} (said : E → Verdict) (refutes : RefutationError → E)
+      (accepted : (r : RefutationError) → said (refutes r) ≡ Accepted) (Own Hindrance : E → Type 0)
+      (hinders : (e : E) → Own e → (IsSettled (said e) → said e ≡ Accepted) → ((r : RefutationError)
+      → e ≡ refutes r → IsOutside r) → Hindrance e) where
+    pub answer_taken : (of : File → Verdict) (Holds : List ℕ → File → Type 0)
+        (Means : File → Result (Unit {0}) E → Type 0) (old new : Option (List ℕ)) (failed : Bool)
+        (answer : Result (Unit {0}) E) → IfErr answer Own → of f ≡ Accepted
+        → ((b : List ℕ) (g : File) → Holds b g → Spells g b)
+        → ((r : RefutationError) → Means f (Err (refutes r))
+        → Shows variables clauses (Some given) (Err r))
+        → old ≡ Some bytes → Judges of limit old new failed (verdict_by said answer)
+        → (verdict_by said answer ≡ Accepted → IsReadAs Holds Means old new answer)
+        → IsProofOf text given → IfErr answer Hindrance
+    answer_taken of Holds Means old new failed (Ok u) own takes spelled shows is told shown p = tt
+    answer_taken of Holds Means old new failed (Err e) own takes spelled shows is told shown p =
+        hinders e own (judged one limit bytes f accepts of old new failed (said e) is takes told)
+        (λ r same.
+        let all : said e ≡ Accepted = ap said same ∙ accepted r in
+        let end : IsAtEnd new = (told.whole (subst IsOfFile (sym all) tt)).1 in
+        let means : Means f (Err e) = told_of one limit bytes f accepts Holds Means old new
+        (Err e) spelled is end (shown all) in
+        text_taken laws text given variables clauses r again p
+        (shows r (subst (λ x. Means f (Err x)) same means)))

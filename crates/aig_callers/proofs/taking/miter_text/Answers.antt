@@ -1,0 +1,14 @@
+use Rattle.aig_base.proofs.Words.{Some, ap, sym, ◌∙◌}
+use Rattle.aig_format.specs.Circuit.{text_of}
+use Rattle.aig_callers.proofs.Answered.{both_read}
+use Rattle.aig_callers.proofs.Text.{all_held}
+use Rattle.aig_callers.proofs.taking.miter_text.Goals as goal
+
+pub returns : goal.returns
+returns c =
+    let read = both_read _ _ _ _ 16777216 _ _ _ _ _ _ _ _ c.args.file.now c.args.other.now tt
+    c.in_ok-print_joint.ensures.reads c.source_of.ensures c.source_of-2.ensures in
+    let told = read.4 in
+    let all = all_held _ _ c.into_inner.result.items (text_of told.0) (c.new-out.ensures.held
+    ∙ ap (λ l. Some l) c.new.ensures.items) (sym c.into_inner.ensures) told.2 in
+    (read.0, read.1, read.2, read.3, (told.0, told.1, all))

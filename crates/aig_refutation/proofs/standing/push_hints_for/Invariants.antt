@@ -1,9 +1,0 @@
-use Rattle.aig_base.proofs.Words.{◌≡◌, ◌++◌, false, drop}
-use Rattle.aig_refutation.specs.Rat.{hints_for}
-use Rattle.aig_refutation.specs.Words.{said_numbers}
-use Rattle.aig_refutation.proofs.standing.push_hints_for.Given as goal
-
-abbrev pub invariant-loop-hint : goal.invariant-loop-hint
-invariant-loop-hint l =
-    l.hints.items ++ hints_for l.number l.is_here (said_numbers (drop l.hint-index l.groups))
-    ≡ l.fn.hints.items ++ hints_for l.number false (said_numbers l.groups)

@@ -1,4 +1,0 @@
-use Rattle.aig_tests.proofs.callers.hashed.Goals as goal
-
-pub returns-clause-leaves : goal.returns-clause-leaves
-returns-clause-leaves c x y = c.leaves_fix_values.ensures c.args.aig.now x y c.strash.ensures.circuit
