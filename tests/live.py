@@ -4,11 +4,13 @@
 For each justice property of FILES (200) random files with justice, fairness and constraints, a search for lassos over all states says
 for which of the first k there is a fair lasso of k + 1 steps: a run that meets the constraints, comes back to a state, and has each
 literal of the property and of fairness true in between. The printed file has to reach its bad state at just these steps, and to have
-the counts that the command says. No step of the search knows how the file is made. The files are small, so that it is over all runs.
+the counts and the names that the command says. No step of the search knows how the file is made. The files are small, so that it is over
+all runs.
 
 Of the first ANSWERS files `aigprove --justice` has to say whether there is any fair lasso, and the lasso that it writes has to be one,
 with the loop that `aigcheck run` finds in it.
 """
+import dataclasses
 import random
 import re
 import sys
@@ -23,6 +25,9 @@ ANSWERS = 20
 FAIR, NONE, EMPTY = 10, 20, 0
 # The loop of a lasso, in a line of aigcheck.
 LOOP = re.compile("from step ([0-9]+) to ([0-9]+)$", re.M)
+# A line of a name, in a text file; and names that signals are given, which are among those that the made files have.
+NAME = re.compile("^([il][0-9]+) (.*)$", re.M)
+NAMES = ["a", "a b", "", "save", "saved", "saved a", "seen 0", "met 0", "round 1"]
 
 
 def random_machine(rng):
@@ -31,6 +36,20 @@ def random_machine(rng):
     most = 2 * (len(machine.inputs) + len(machine.latches) + len(machine.gates)) + 1
     machine.justice = [edited.literals(rng, most, rng.randint(0, 2)) for _ in range(rng.randint(1, 2))]
     return machine
+
+
+def named(machine, rng):
+    """The machine with names of some of its inputs and latches, which may be the same."""
+    places = [f"{letter}{i}" for letter, own in [("i", machine.inputs), ("l", machine.latches)] for i in range(len(own))]
+    return dataclasses.replace(machine, names={place: rng.choice(NAMES) for place in places if rng.random() < 0.7})
+
+
+def live_names(machine, count):
+    """The names that the file made for so many literals has to have."""
+    inputs, latches = len(machine.inputs), len(machine.latches)
+    copies = {f"l{latches + 1 + int(place[1:])}": f"saved {name}" for place, name in machine.names.items() if place[0] == "l"}
+    seen = {f"l{2 * latches + 1 + i}": f"seen {i}" for i in range(count)}
+    return {**machine.names, f"i{inputs}": "save", f"l{latches}": "saved", **copies, **seen}
 
 
 class Steps:
@@ -139,6 +158,7 @@ class Lives:
         lists = [made.inputs, made.latches, made.outputs, made.bads, made.constraints, made.justice, made.fairness]
         self.tally.wants(what, counts, list(map(len, lists)))
         self.tally.check(len(made.gates) - len(machine.gates) <= 1 + 7 * latches + 3 * count, f"too many gates: {what}")
+        self.tally.wants(what, live_names(machine, count), dict(NAME.findall(out.decode())))
         self.tally.wants(what, lassos(machine, asked, LAST), bad_steps(made, LAST))
 
     def check_answer(self, machine, j):
@@ -174,7 +194,7 @@ def main():
     with harness.new_folder() as folder:
         lives = Lives(given.aigedit, folder, tally)
         for place in range(given.files):
-            lives.check(random_machine(rng), place < ANSWERS)
+            lives.check(named(random_machine(rng), rng), place < ANSWERS)
     return tally.end()
 
 

@@ -4,7 +4,7 @@
 For each justice property of FILES (200) random files with justice, fairness and constraints, and for 0 to 3 rounds, a search over all states
 says at which of the first steps so many rounds can have ended: in a run that meets the constraints, a round ends with the step by which
 each literal of the property and of fairness was true in it. The printed file has to reach its bad state at just these steps, and to have
-the counts that the command says. No step of the search knows how the file is made.
+the counts and the names that the command says. No step of the search knows how the file is made.
 
 Where a search for lassos finds a fair one, many rounds have to end at some step, too.
 """
@@ -14,10 +14,17 @@ import sys
 
 import harness
 from aiger import machine_of
-from live import LAST, Steps, bad_steps, has_lasso, random_machine
+from live import LAST, NAME, Steps, bad_steps, has_lasso, named, random_machine
 
 # How many rounds are counted; and how many that a fair lasso has to end.
 COUNTS, MANY = range(4), 5
+
+
+def rounds_names(machine, edges, count):
+    """The names that the file made for so many literals and rounds has to have."""
+    latches = len(machine.latches)
+    met = {f"l{latches + i}": f"met {i}" for i in range(edges)}
+    return {**machine.names, **met, **{f"l{latches + edges + i}": f"round {i + 1}" for i in range(count)}}
 
 
 def after_round(asked, seen, ended, most):
@@ -71,6 +78,7 @@ class Rounds:
         lists = [made.inputs, made.latches, made.outputs, made.bads, made.constraints, made.justice, made.fairness]
         self.tally.wants(what, counts, list(map(len, lists)))
         self.tally.check(len(made.gates) - len(machine.gates) <= 4 * len(asked) + 2 * count, f"too many gates: {what}")
+        self.tally.wants(what, rounds_names(machine, len(asked), count), dict(NAME.findall(out.decode())))
         found = itertools.islice(layers(machine, asked, count), LAST + 1)
         self.tally.wants(what, {step for step, layer in enumerate(found) if has_ended(layer, count)}, bad_steps(made, LAST))
 
@@ -95,7 +103,7 @@ def main():
     with harness.new_folder() as folder:
         rounds = Rounds(given.aigedit, folder, tally)
         for _ in range(given.files):
-            rounds.check(random_machine(rng))
+            rounds.check(named(random_machine(rng), rng))
     return tally.end()
 
 

@@ -100,7 +100,8 @@ module _ (edges : List AigEdge) (count : ℕ) (c new : Circuit) (is : IsCircuit 
           let place : length c.nodes + 0 + (length edges + r)
           ≡ length c.nodes + length edges + r = omega arith in
           subst (λ n. z 0 n ≡ false) place
-          (cut_start 0 live.nexts live.bad texts c new is live.extended k z witness (length edges + r)
+          (cut_start 0 live.nexts live.bad texts c new is live.extended k z witness
+          (length edges + r)
           (omega (arith, low, long)))
           ∙ sym (lt-leb (suc r) 0 (omega arith)),
     )
@@ -250,6 +251,6 @@ module _ (edges : List AigEdge) (count : ℕ) (c new : Circuit) (is : IsCircuit 
     pub witness_of_run : HasCircuitWitness new k
     witness_of_run = (
       z,
-      extended_witness 0 live.nexts live.bad texts c new is live.extended k z x run.allowed same next
-          start holds,
+      extended_witness 0 live.nexts live.bad texts c new is live.extended k z x run.allowed same
+          next start holds,
     )

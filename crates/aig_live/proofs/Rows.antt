@@ -122,4 +122,5 @@ get-with_row names n (o ∷ os) none (suc k) d h =
 
 -- no node past those of a circuit has a name
 pub none_past : (c : Circuit) → IsCircuit c → (m : ℕ) → length c.nodes ≤ m → get c.names m ≡ None
-none_past c is m high = unnamed c.names m (λ has. let low = is.named m has in omega (arith, high, low))
+none_past c is m high = unnamed c.names m
+    (λ has. let low = is.named m has in omega (arith, high, low))

@@ -13,7 +13,8 @@ use Rattle.aig_live.proofs.Added.{Begins, Follows, begin, begins_at, follow, fol
 use Rattle.aig_live.proofs.Extended.{latchs_are}
 
 module _ (inputs : ℕ) (nexts : List AigEdge) (bad : AigEdge) (texts : List (Option (List ℕ)))
-    (c new : Circuit) (is : IsCircuit c) (ext : IsExtended inputs nexts bad texts c new) (k : ℕ) (z : ℕ → ℕ → Bool) where
+    (c new : Circuit) (is : IsCircuit c) (ext : IsExtended inputs nexts bad texts c new)
+    (k : ℕ) (z : ℕ → ℕ → Bool) where
   bads_are : new.properties.bads ≡ bad ∷ []
   bads_are = ap (λ (m : Circuit). m.properties.bads) ext.rest
 

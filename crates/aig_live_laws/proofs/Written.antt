@@ -203,7 +203,8 @@ written-live written f limit j literals new fits writable asked live small =
     let count = length edges in
     let few : count ≤ 2 ^ 64 = omega (arith, live.longer, small.nodes) in
     let again = read_again f limit 1 (live.active ∷ live.starts ++ live.seen) live.bad
-    (live_names (circuit_of f) count) new fits writable (live_extended edges (circuit_of f) new live)
+    (live_names (circuit_of f) count) new fits writable
+    (live_extended edges (circuit_of f) new live)
     (live_names_are (circuit_of f) count writable (names_are_texts f limit fits) few) small in (
       again,
       λ k.

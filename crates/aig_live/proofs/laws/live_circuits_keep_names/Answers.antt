@@ -6,8 +6,8 @@ use Rattle.aig_live.proofs.laws.live_circuits_keep_names.Goals as goal
 
 pub returns-clause-old : goal.returns-clause-old
 returns-clause-old c = λ edges circuit new n is live.
-    old_named 1 (live.active ∷ live.starts ++ live.seen) live.bad (live_names circuit (length edges))
-    circuit new is (live_extended edges circuit new live) n
+    old_named 1 (live.active ∷ live.starts ++ live.seen) live.bad
+    (live_names circuit (length edges)) circuit new is (live_extended edges circuit new live) n
 
 pub returns-clause-added : goal.returns-clause-added
 returns-clause-added c = λ edges circuit new k d is live low.
