@@ -24,8 +24,9 @@
  * text (cadical --lrat --no-binary), or in DRAT, as text or binary. A solver's answer is its lines `s SATISFIABLE` and `v ..`.
  *
  * Bad states are reached on runs that meet every constraint at each step: where there is no such run, none is (`aig_possible` asks for
- * one). Justice and fairness are read and not checked; `aig_cone`, `aig_reduce`, `aig_question`, `aig_miter` and `aig_join` drop them,
- * other calls keep them. Names of inputs and latches are kept, others dropped.
+ * one). Justice and fairness are read, and only `aig_live`, `aig_rounds`, `aig_check_lasso`, `aig_check_no_lasso`,
+ * `aig_check_no_lasso_to` and `aig_check_no_fair_run` look at them; `aig_cone`, `aig_reduce`, `aig_question`, `aig_miter` and `aig_join`
+ * drop them, other calls keep them. Names of inputs and latches are kept, others dropped.
  */
 #ifndef AIG_H
 #define AIG_H
@@ -84,6 +85,7 @@ enum aig_status {
   AIG_LARGE_QUESTION = 35, /* The question has more nodes than the limit while it is made. */
   AIG_MANY_BADS = 36,      /* There are constraints and more than one bad state property. */
   AIG_NO_BAD = 37,         /* There is no bad state property of this number. */
+  AIG_NO_JUSTICE = 38,     /* There is no justice property of this number. */
 
   /* A proof is refused. */
   AIG_PROOF_CLAUSES = 40,    /* A literal of the clauses has no variable. Tests have never met it. */
@@ -99,11 +101,12 @@ enum aig_status {
 
   /* A witness is refused. */
   AIG_WITNESS_STATUS = 60,   /* The first line isn't 1. */
-  AIG_WITNESS_PROPERTY = 61, /* The second line isn't b and the number of a property. */
+  AIG_WITNESS_PROPERTY = 61, /* The second line isn't b, or j for a lasso, and the number of a property. */
   AIG_WITNESS_VALUES = 62,   /* A line of values is malformed, or the last point is missing. */
   AIG_WITNESS_NONE = 63,     /* There are comments alone. */
+  AIG_WITNESS_BAD = 64,      /* It is of a bad state property, and one of a justice property is wanted. */
 
-  /* A witness shows no bad state. */
+  /* A witness shows no bad state, or no run at all. */
   AIG_SHOW_LATCHES = 70,    /* The state has not a value for each latch. */
   AIG_SHOW_INPUTS = 71,     /* A step has not a value for each input. */
   AIG_SHOW_NO_STEP = 72,    /* There is no step. */
@@ -123,10 +126,20 @@ enum aig_status {
   AIG_SOLUTION_UNFINISHED = 87,    /* It ends before its 0. */
   AIG_SOLUTION_NO_BAD = 88,        /* No bad state property is true at the last step. */
 
-  /* Added to a status of a call on two files: what is refused so. Without any it is the first file, or memory. */
+  /* A witness shows a run and no fair lasso. */
+  AIG_LASSO_NO_JUSTICE = 100, /* There is no justice property of this number. */
+  AIG_LASSO_NO_LOOP = 101,    /* No state is known to come again after the last step. */
+  AIG_LASSO_LITERAL = 102,    /* A literal of the justice property is not known to hold in the loop. */
+  AIG_LASSO_FAIRNESS = 103,   /* A fairness literal is not known to hold in the loop. */
+
+  /* Added to a status of a call on two files, or about a live circuit: what is refused so. Without any it is the first file, or memory. */
   AIG_OTHER = 256,   /* The second file. */
-  AIG_QUERY = 512,   /* The query of the circuit of the two, or its proof. */
-  AIG_WINDOW = 1024 /* The window of the circuit of the two, or its proof. */
+  AIG_QUERY = 512,   /* The query of the circuit of the two, or of the live one, or its proof. */
+  AIG_WINDOW = 1024, /* The window of that circuit, or its proof. */
+
+  /* Added to a status of a call with proofs of first steps and of a window. */
+  AIG_BASE = 2048, /* The question of the steps 0 to `k`, or its proof. */
+  AIG_STEP = 4096  /* The proof of the window. */
 };
 
 /* What a status says, in the words of the programs. It fits 128 bytes. There is no 0 at its end. */
@@ -229,6 +242,11 @@ uint32_t aig_check_refuted_to(const uint8_t *file, size_t file_len, uint64_t k, 
 uint32_t aig_check_inductive(const uint8_t *file, size_t file_len, uint64_t k, bool distinct, bool optimize,
                              const uint8_t *proof, size_t proof_len);
 
+/* AIG_DONE only where no such run ever reaches a bad state. `base` is a proof of the clauses of `aig_bounded`, and isn't read where these
+ * are settled; `step` is one of those of `aig_window`; both are for the same `k`, each with its own setting. */
+uint32_t aig_check_safe(const uint8_t *file, size_t file_len, uint64_t k, bool distinct, bool base_optimize, const uint8_t *base,
+                        size_t base_len, bool step_optimize, const uint8_t *step, size_t step_len);
+
 /* AIG_DONE only where no such run ever reaches a bad state, as `certificate` shows: a witness circuit of the hardware model checking
  * competition: a file that begins with the first one's inputs and latches, in the same order, whatever their names, with resets that are
  * constants or open, and that is bad, or breaks its constraints, wherever its invariant fails. `base` is a proof of the clauses of
@@ -241,6 +259,11 @@ uint32_t aig_check_certified(const uint8_t *file, size_t file_len, const uint8_t
  * constraints, justice and fairness aren't compared. `proof` is of the clauses of `aig_query` of the text that `aig_miter` gives. */
 uint32_t aig_check_equal(const uint8_t *file, size_t file_len, const uint8_t *other, size_t other_len, uint64_t k,
                          bool optimize, const uint8_t *proof, size_t proof_len);
+
+/* AIG_DONE only where they have so at every step. `base` and `step` are as in `aig_check_safe`, of the text that `aig_miter` gives. */
+uint32_t aig_check_always_equal(const uint8_t *file, size_t file_len, const uint8_t *other, size_t other_len, uint64_t k,
+                                bool distinct, bool base_optimize, const uint8_t *base, size_t base_len, bool step_optimize,
+                                const uint8_t *step, size_t step_len);
 
 /* The witness, in the format of AIGER 1.9, that a solver's answer to the query says. It was checked: nothing of the answer is
  * trusted. A status from 70 on says why there is none. */
@@ -257,6 +280,38 @@ uint32_t aig_witness_to(const uint8_t *file, size_t file_len, uint64_t k, bool o
  * witness isn't read. */
 uint32_t aig_check_run(const uint8_t *file, size_t file_len, const uint8_t *witness, size_t witness_len, size_t *bad,
                        size_t *step);
+
+/* AIG_DONE only where the witness shows a fair lasso of a file's machine: that each run from an initial state with its values meets
+ * every constraint, that the state before step `*start` comes again after step `*last`, and that in the loop between them each literal
+ * of justice property `*justice` and of fairness is true. All three count from 0 on. A status from 60 on says why that isn't shown. What
+ * follows the first witness isn't read. */
+uint32_t aig_check_lasso(const uint8_t *file, size_t file_len, const uint8_t *witness, size_t witness_len, size_t *justice,
+                         size_t *start, size_t *last);
+
+/* The text form of the live circuit of a file's justice property `j`, from 0 on: its bad state property holds at a step exactly where the
+ * property has a fair lasso that ends there (liveness to safety). So answers about its bad states are about the file's fair runs. */
+uint32_t aig_live(const uint8_t *file, size_t file_len, size_t j, uint8_t *out, size_t out_len, size_t *needed);
+
+/* The text form of a circuit whose bad state property holds at a step exactly where `count` rounds of a file's justice property `j`, from 0
+ * on, have ended by then: in each of them each literal of the property and of fairness is true. Where no bad state of it is ever
+ * reached, the property has no fair run (k-liveness). */
+uint32_t aig_rounds(const uint8_t *file, size_t file_len, size_t j, size_t count, uint8_t *out, size_t out_len, size_t *needed);
+
+/* AIG_DONE only where a file's justice property `j`, from 0 on, has no fair lasso of `k` + 1 steps: no run of so many from an initial
+ * state, under the constraints at each step, ends where one of its steps began, with each literal of the property and of fairness true
+ * from there on. `proof` is of the clauses of `aig_query` of the text that `aig_live` gives. */
+uint32_t aig_check_no_lasso(const uint8_t *file, size_t file_len, size_t j, uint64_t k, bool optimize, const uint8_t *proof,
+                            size_t proof_len);
+
+/* AIG_DONE only where it has none of at most `k` + 1 steps. `proof` is of the clauses of `aig_bounded` of that text; where these are
+ * settled it isn't read. */
+uint32_t aig_check_no_lasso_to(const uint8_t *file, size_t file_len, size_t j, uint64_t k, bool optimize, const uint8_t *proof,
+                               size_t proof_len);
+
+/* AIG_DONE only where it has no fair run: no run without end from an initial state, under the constraints at each step, on which each
+ * literal of the property and of fairness is true again and again. `base` and `step` are as in `aig_check_safe`, of that text. */
+uint32_t aig_check_no_fair_run(const uint8_t *file, size_t file_len, size_t j, uint64_t k, bool distinct, bool base_optimize,
+                               const uint8_t *base, size_t base_len, bool step_optimize, const uint8_t *step, size_t step_len);
 
 /* The text form of the miter of two files with as many inputs, outputs and bad state properties: a circuit over the inputs of both,
  * and under the constraints of both, which is bad where their outputs or bad state properties differ. */

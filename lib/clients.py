@@ -32,7 +32,7 @@ struct bytes {
 };
 struct words {
   struct bytes files[4];
-  uint64_t k;
+  uint64_t numbers[2];
   bool optimize, distinct;
 };
 typedef uint32_t answers(const struct words *, uint8_t *out, size_t out_len, size_t *needed);
@@ -104,20 +104,20 @@ def rust_files(found):
     rows = [f'        "{call.name}" => {rust_row(call)},' for call in found if call.is_plain]
     text = f"//! Each call on the words of a row: {WRITTEN}.\n\n"
     text += "/// What a call gives, if it is one; one that checks something gives nothing.\n"
-    text += "pub fn answer(call: &str, files: &[&[u8]], k: u64, distinct: bool, optimize: bool) -> Option<aig::Result<Vec<u8>>> {\n"
+    text += "pub fn answer(call: &str, files: &[&[u8]], numbers: &[u64], distinct: bool, optimize: bool) -> Option<aig::Result<Vec<u8>>> {\n"
     text += "    Some(match call {\n" + "\n".join(rows) + "\n        _ => return None,\n    })\n}\n"
     yield "tests/clients/made.rs", text
 
 
 def word_of(call, file, number, setting):
-    """The words of a row for each that the call takes: its files in order, its number, and its settings."""
-    at = iter(range(len(call.taken)))
+    """The words of a row for each that the call takes: its files and its numbers in order, and its settings."""
+    files, numbers = (iter(range(len(call.taken))) for _ in range(2))
     for kind, word in call.taken:
-        yield file(next(at)) if kind.endswith("*") else number(kind) if word in ("k", "n") else setting(word)
+        yield file(next(files)) if kind.endswith("*") else setting(word) if kind == "bool" else number(next(numbers), kind)
 
 
 def rust_row(call):
-    number = lambda kind: "k" if kind == "uint64_t" else "k as usize"
+    number = lambda i, kind: f"numbers[{i}]" + " as usize" * (kind == "size_t")
     words = ", ".join(word_of(call, "files[{}]".format, number, lambda word: "distinct" if word == "distinct" else "optimize"))
     return f"aig::{call.name}({words})" + ("" if call.gives else ".map(|()| Vec::new())")
 
@@ -127,13 +127,14 @@ def rust_row(call):
 def python_call(call):
     plain = [f"{word}: {'bytes' if kind.endswith('*') else 'int'}" for kind, word in call.taken if kind != "bool"]
     settings = [f"{word}: bool = {word != 'distinct'}" for kind, word in call.taken if kind == "bool"]
-    takes = ", ".join([*plain, *(["*", *settings] if settings else [])])
+    takes = [*plain, *(["*", *settings] if settings else [])]
     given = {"const uint8_t*": "*_given({})", "uint64_t": "_steps({})", "size_t": "_number({})", "bool": "{}"}
-    words = ", ".join([f'"{call.full}"', *(given[kind].format(word) for kind, word in call.taken)])
+    words = [f'"{call.full}"', *(given[kind].format(word) for kind, word in call.taken)]
     does, result = ("return _bytes", "bytes") if call.gives else ("_hold", "None")
     doc = comment(call.says("Raises `Settled`", "Returns only where"), "    ", 3)
     doc = f'    """{doc[4:]}"""' if len(doc) < WIDTH - 3 and "\n" not in doc else f'    """{doc[4:]}\n    """'
-    return f"def {call.name}({takes}) -> {result}:\n{doc}\n    {does}({words})\n"
+    head = laid_out(f"def {call.name}(", takes, f") -> {result}:")
+    return f"{head}\n{doc}\n{laid_out(f'{does}(', words, ')', '    ')}\n"
 
 
 def python_files(found):
@@ -148,7 +149,7 @@ def python_files(found):
 # ---- C
 
 def c_row(call):
-    words = [*word_of(call, lambda i: f"w->files[{i}].at, w->files[{i}].len", lambda kind: "w->k",
+    words = [*word_of(call, lambda i: f"w->files[{i}].at, w->files[{i}].len", lambda i, _: f"w->numbers[{i}]",
                       lambda word: "w->distinct" if word == "distinct" else "w->optimize")]
     takes = "const struct words *w" + (", uint8_t *out, size_t len, size_t *needed" if call.gives else "")
     made = ", ".join([*words, *(["out", "len", "needed"] if call.gives else [])])

@@ -32,21 +32,26 @@ NUMBERED = [
     (rb"\bhold at step \d+\n", b"hold at a step\n"),
     (rb"\bup to step \d+\n", b"up to the step\n"),
     (rb"\bdo not fit: \d+ and \d+ [a-z ]+\n", b"do not fit\n"),
+    (rb"\bliteral \d+ of the justice", b"a literal of the justice"),
+    (rb"\bfairness literal \d+ is", b"a fairness literal is"),
 ]
 # The calls of the programs' commands, where these have other names: behind ` to` those for all steps up to one.
 CALLS = {name: name for name in "text strash cnf query clauses window witness bounded miter join merge obligations".split()}
-CALLS |= {name: name for name in "refine reencode unroll possible cone reduce question info".split()}
+CALLS |= {name: name for name in "refine reencode unroll possible cone reduce question info live rounds".split()}
 CALLS |= {"move": "move_constraints", "compress": "compress_bads", "bads": "outputs_as_bads", "property": "property_alone"}
-CALLS |= {name: f"check_{name}" for name in "refuted inductive run certified equal".split()}
-CALLS |= {"refuted to": "check_refuted_to", "witness to": "witness_to"}
+CALLS |= {name: f"check_{name}" for name in "refuted inductive run lasso certified equal".split()}
+CALLS |= {"refuted to": "check_refuted_to", "witness to": "witness_to", "safe to": "check_safe", "equal to": "check_always_equal"}
+CALLS |= {"no_lasso": "check_no_lasso", "no_lasso to": "check_no_lasso_to", "no_run": "check_no_fair_run"}
 CALLS |= {"numbers": "query_numbers", "binary": "binary"}
 # Those that return nothing, whose line is the program's.
-SILENT = "refuted inductive certified equal".split()
+SILENT = "refuted inductive certified equal safe no_lasso no_run".split()
 # The settings that they take: of clauses, and of windows.
-SET = "cnf query clauses numbers window bounded refuted inductive witness certified equal obligations".split()
-DISTINCT = ["window", "inductive"]
+SET = "cnf query clauses numbers window bounded refuted inductive witness certified equal obligations no_lasso".split()
+DISTINCT = ["window", "inductive", "safe to", "equal to", "no_run"]
+# Those with a setting for each of two proofs.
+SET_TWICE = ["safe to", "equal to", "no_run"]
 # The statuses that say what another one is about.
-ADDED = ["OTHER", "QUERY", "WINDOW"]
+ADDED = ["OTHER", "QUERY", "WINDOW", "BASE", "STEP"]
 # The words of a command that name no file.
 WORDS = ["raw", "distinct", "to"]
 # The types of C that parameters have, by those of Rust; a slice is followed by its length, and is a pointer to its caller.
@@ -54,6 +59,7 @@ C_TYPES = {"&mut usize": "size_t*", "usize": "size_t", "u64": "uint64_t", "u32":
 SLICES = {"&[u8]": "const uint8_t*", "&mut [u8]": "uint8_t*", "&mut [i32]": "int32_t*"}
 # The statuses of a section or of a kind are told by the first of these.
 FIRST = {"PROOF": "PROOF_CLAUSES", "WITNESS": "WITNESS_STATUS", "SHOW": "SHOW_LATCHES", "SOLUTION": "SOLUTION_UNSATISFIABLE"}
+FIRST["LASSO"] = "LASSO_NO_JUSTICE"
 SECTIONS = ["INPUTS", "LATCHES", "OUTPUTS", "BADS", "CONSTRAINTS", "JUSTICE", "FAIRNESS", "GATES"]
 # The step at which a bad state is first reached, as other tools found (tests/designs/answers.tsv; of the example, README).
 REACHED = {"examples/credits.aag": 2, "tests/designs/alu_bug.aig": 4, "tests/designs/sha4.aig": 4}
@@ -66,13 +72,13 @@ def table_rows():
     are rows of `numbers` too: the comments that the map says are those that the program prints."""
     for table, form in answers.TABLES.items():
         path = TESTS / table
-        # The call takes witnesses of bad states alone.
-        if table == "witnesses/lassos.tsv":
-            continue
         for row in harness.rows(path):
             words, given, printed = map(repeated, row[:3])
             program, command, *words = [*shlex.split(form.format(words)), ""]
             words = words[:-1]
+            # Each kind of property has a call of its own, which refuses the other's witnesses.
+            if table == "witnesses/lassos.tsv":
+                command = "lasso" if "bad state" not in printed else ""
             known = [(path.parent / word).is_file() or word in ("GIVEN", *WORDS) or word.isdigit() for word in words]
             if printed != "usage" and all(known) and words and name_of(command, words) in CALLS:
                 for name in ["clauses", "numbers"] if command == "clauses" else [command]:
@@ -90,6 +96,9 @@ def told(program, words, printed):
     status, out, said = answers.wanted_of(program, spelled(printed))
     out = b"" if words[0] in SILENT else out
     said = harness.alone(said)
+    if name_of(words[0], words) == "equal to":
+        # The status says that it is of the miter's window.
+        said = said.replace(b": no bad state property", b": window: no bad state property")
     for numbered, plain in NUMBERED:
         said = re.sub(numbered, plain, said)
     return status, out, said
@@ -154,10 +163,11 @@ class Clients:
 
     def check_memory(self):
         """Refuses each request for memory of each call."""
-        harness.write_files(self.folder, memory.FILES | {"and.aag": AND})
+        fed = (TESTS / "witnesses" / "fed.aag").read_bytes()
+        harness.write_files(self.folder, memory.FILES | {"and.aag": AND, "fed.aag": fed, "lasso": b"1\nj0\n0\n1\n1\n.\n"})
         refusing = self.build_c("memory", "-Wl,--wrap=malloc,--wrap=realloc,--wrap=free")
         files = "whole.aag waiting.aag conflict hints delayed.aag solution counter.aag witness apart.aag solved and.aag"
-        status, out, said = harness.run([refusing, *files.split()], cwd=self.folder)
+        status, out, said = harness.run([refusing, *files.split(), "fed.aag", "lasso"], cwd=self.folder)
         self.tally.check(status == 0, f"refused memory: status {status}\n{out.decode()}{said.decode()}")
         made = dict(re.findall(r"^(\w+): (\d+) requests", out.decode(), re.M))
         self.tally.wants("calls whose memory is refused", sorted(name.removeprefix("aig_") for name in archive.names()), sorted(made))
@@ -271,7 +281,9 @@ def by_python(aig, place, program, words, given):
     """How a command ends through the Python module, as its program would. Its calls take what the words name in the same order."""
     command, file, *rest = words
     name = name_of(command, words)
-    settings = {"optimize": "raw" not in rest} if name in SET or name in ("refuted to", "witness to") else {}
+    settings = {"optimize": "raw" not in rest} if name in SET or name in ("refuted to", "witness to", "no_lasso to") else {}
+    if name in SET_TWICE:
+        settings = {"base_optimize": "raw" not in rest, "step_optimize": "raw" not in rest}
     if name in DISTINCT:
         settings["distinct"] = "distinct" in rest
     read = lambda path: given if path == "GIVEN" else (place / path).read_bytes()
@@ -286,6 +298,8 @@ def by_python(aig, place, program, words, given):
         out = text_of(out).encode()
     elif command == "run":
         out = b"b%d at step %d\n" % out
+    elif command == "lasso":
+        out = b"j%d in a loop from step %d to %d\n" % out
     return 0, out or b"", b""
 
 

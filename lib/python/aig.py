@@ -17,7 +17,7 @@ import os
 import pathlib
 from typing import NamedTuple
 
-__all__ = "Clauses Refused Settled Shown check_run query_numbers".split()
+__all__ = "Clauses Lasso Refused Settled Shown check_lasso check_run query_numbers".split()
 
 DONE, SMALL, MEMORY, SETTLED = 0, 1, 2, 32
 
@@ -61,6 +61,15 @@ class Shown(NamedTuple):
     step: int
 
 
+class Lasso(NamedTuple):
+    """A fair lasso that a witness shows: the number of the justice property, the step at which its loop starts, and the last step. All are
+    from 0 on."""
+
+    justice: int
+    start: int
+    last: int
+
+
 def _declare(takes: dict[str, list]) -> None:
     """Says what each call of `aig.h` takes."""
     for name, kinds in takes.items():
@@ -82,9 +91,9 @@ def _steps(k: int) -> int:
 
 
 def _number(n: int) -> int:
-    """The number of an output: no file has so many as a call can't be given."""
+    """The number of an output or property, or a count: no file has so many as a call can't be given."""
     if n < 0:
-        raise ValueError("an output has a number from 0 on")
+        raise ValueError("a number is from 0 on")
     return min(n, (1 << 64) - 1)
 
 
@@ -154,6 +163,13 @@ def check_run(file: bytes, witness: bytes) -> Shown:
     return Shown(bad.value, step.value)
 
 
+def check_lasso(file: bytes, witness: bytes) -> Lasso:
+    """Which fair lasso a witness of a justice property shows."""
+    justice, start, last = _size(), _size(), _size()
+    _hold("aig_check_lasso", *_given(file), *_given(witness), *map(ctypes.byref, (justice, start, last)))
+    return Lasso(justice.value, start.value, last.value)
+
+
 # ---- made: written by lib/clients.py from include/aig.h
 
 # What each call takes.
@@ -183,11 +199,19 @@ _declare({
     "aig_check_refuted": [_TEXT, _size, _step, _bool, _TEXT, _size],
     "aig_check_refuted_to": [_TEXT, _size, _step, _bool, _TEXT, _size],
     "aig_check_inductive": [_TEXT, _size, _step, _bool, _bool, _TEXT, _size],
+    "aig_check_safe": [_TEXT, _size, _step, _bool, _bool, _TEXT, _size, _bool, _TEXT, _size],
     "aig_check_certified": [_TEXT, _size, _TEXT, _size, _bool, _TEXT, _size, _TEXT, _size],
     "aig_check_equal": [_TEXT, _size, _TEXT, _size, _step, _bool, _TEXT, _size],
+    "aig_check_always_equal": [_TEXT, _size, _TEXT, _size, _step, _bool, _bool, _TEXT, _size, _bool, _TEXT, _size],
     "aig_witness": [_TEXT, _size, _step, _bool, _TEXT, _size, _U8, _size, _SIZES],
     "aig_witness_to": [_TEXT, _size, _step, _bool, _TEXT, _size, _U8, _size, _SIZES],
     "aig_check_run": [_TEXT, _size, _TEXT, _size, _SIZES, _SIZES],
+    "aig_check_lasso": [_TEXT, _size, _TEXT, _size, _SIZES, _SIZES, _SIZES],
+    "aig_live": [_TEXT, _size, _size, _U8, _size, _SIZES],
+    "aig_rounds": [_TEXT, _size, _size, _size, _U8, _size, _SIZES],
+    "aig_check_no_lasso": [_TEXT, _size, _size, _step, _bool, _TEXT, _size],
+    "aig_check_no_lasso_to": [_TEXT, _size, _size, _step, _bool, _TEXT, _size],
+    "aig_check_no_fair_run": [_TEXT, _size, _size, _step, _bool, _bool, _TEXT, _size, _bool, _TEXT, _size],
     "aig_miter": [_TEXT, _size, _TEXT, _size, _U8, _size, _SIZES],
     "aig_join": [_TEXT, _size, _TEXT, _size, _U8, _size, _SIZES],
     "aig_merge": [_TEXT, _size, _TEXT, _size, _U8, _size, _SIZES],
@@ -196,8 +220,9 @@ _declare({
 
 __all__ += """
     text binary strash refine reencode unroll move_constraints compress_bads outputs_as_bads property_alone possible cone reduce
-    question info cnf query clauses bounded window check_refuted check_refuted_to check_inductive check_certified check_equal witness
-    witness_to miter join merge obligations
+    question info cnf query clauses bounded window check_refuted check_refuted_to check_inductive check_safe check_certified
+    check_equal check_always_equal witness witness_to live rounds check_no_lasso check_no_lasso_to check_no_fair_run miter join merge
+    obligations
 """.split()
 
 
@@ -344,6 +369,22 @@ def check_inductive(file: bytes, k: int, proof: bytes, *, distinct: bool = False
     _hold("aig_check_inductive", *_given(file), _steps(k), distinct, optimize, *_given(proof))
 
 
+def check_safe(
+    file: bytes,
+    k: int,
+    base: bytes,
+    step: bytes,
+    *,
+    distinct: bool = False,
+    base_optimize: bool = True,
+    step_optimize: bool = True,
+) -> None:
+    """Returns only where no such run ever reaches a bad state. `base` is a proof of the clauses of `bounded`, and isn't read where these
+    are settled; `step` is one of those of `window`; both are for the same `k`, each with its own setting.
+    """
+    _hold("aig_check_safe", *_given(file), _steps(k), distinct, base_optimize, *_given(base), step_optimize, *_given(step))
+
+
 def check_certified(file: bytes, certificate: bytes, base: bytes, step: bytes, *, optimize: bool = True) -> None:
     """Returns only where no such run ever reaches a bad state, as `certificate` shows: a witness circuit of the hardware model checking
     competition: a file that begins with the first one's inputs and latches, in the same order, whatever their names, with resets that
@@ -361,6 +402,31 @@ def check_equal(file: bytes, other: bytes, k: int, proof: bytes, *, optimize: bo
     _hold("aig_check_equal", *_given(file), *_given(other), _steps(k), optimize, *_given(proof))
 
 
+def check_always_equal(
+    file: bytes,
+    other: bytes,
+    k: int,
+    base: bytes,
+    step: bytes,
+    *,
+    distinct: bool = False,
+    base_optimize: bool = True,
+    step_optimize: bool = True,
+) -> None:
+    """Returns only where they have so at every step. `base` and `step` are as in `check_safe`, of the text that `miter` gives."""
+    _hold(
+        "aig_check_always_equal",
+        *_given(file),
+        *_given(other),
+        _steps(k),
+        distinct,
+        base_optimize,
+        *_given(base),
+        step_optimize,
+        *_given(step),
+    )
+
+
 def witness(file: bytes, k: int, solution: bytes, *, optimize: bool = True) -> bytes:
     """The witness, in the format of AIGER 1.9, that a solver's answer to the query says. It was checked: nothing of the answer is
     trusted. A status from 70 on says why there is none.
@@ -373,6 +439,63 @@ def witness_to(file: bytes, k: int, solution: bytes, *, optimize: bool = True) -
     80 on says why there is none.
     """
     return _bytes("aig_witness_to", *_given(file), _steps(k), optimize, *_given(solution))
+
+
+def live(file: bytes, j: int) -> bytes:
+    """The text form of the live circuit of a file's justice property `j`, from 0 on: its bad state property holds at a step exactly where
+    the property has a fair lasso that ends there (liveness to safety). So answers about its bad states are about the file's fair runs.
+    """
+    return _bytes("aig_live", *_given(file), _number(j))
+
+
+def rounds(file: bytes, j: int, count: int) -> bytes:
+    """The text form of a circuit whose bad state property holds at a step exactly where `count` rounds of a file's justice property `j`,
+    from 0 on, have ended by then: in each of them each literal of the property and of fairness is true. Where no bad state of it is
+    ever reached, the property has no fair run (k-liveness).
+    """
+    return _bytes("aig_rounds", *_given(file), _number(j), _number(count))
+
+
+def check_no_lasso(file: bytes, j: int, k: int, proof: bytes, *, optimize: bool = True) -> None:
+    """Returns only where a file's justice property `j`, from 0 on, has no fair lasso of `k` + 1 steps: no run of so many from an initial
+    state, under the constraints at each step, ends where one of its steps began, with each literal of the property and of fairness
+    true from there on. `proof` is of the clauses of `query` of the text that `live` gives.
+    """
+    _hold("aig_check_no_lasso", *_given(file), _number(j), _steps(k), optimize, *_given(proof))
+
+
+def check_no_lasso_to(file: bytes, j: int, k: int, proof: bytes, *, optimize: bool = True) -> None:
+    """Returns only where it has none of at most `k` + 1 steps. `proof` is of the clauses of `bounded` of that text; where these are
+    settled it isn't read.
+    """
+    _hold("aig_check_no_lasso_to", *_given(file), _number(j), _steps(k), optimize, *_given(proof))
+
+
+def check_no_fair_run(
+    file: bytes,
+    j: int,
+    k: int,
+    base: bytes,
+    step: bytes,
+    *,
+    distinct: bool = False,
+    base_optimize: bool = True,
+    step_optimize: bool = True,
+) -> None:
+    """Returns only where it has no fair run: no run without end from an initial state, under the constraints at each step, on which each
+    literal of the property and of fairness is true again and again. `base` and `step` are as in `check_safe`, of that text.
+    """
+    _hold(
+        "aig_check_no_fair_run",
+        *_given(file),
+        _number(j),
+        _steps(k),
+        distinct,
+        base_optimize,
+        *_given(base),
+        step_optimize,
+        *_given(step),
+    )
 
 
 def miter(file: bytes, other: bytes) -> bytes:

@@ -105,18 +105,19 @@ static const int32_t *print_map(const int32_t *at, char letter, size_t count, ui
 static void print_numbers(const struct words *w) {
   size_t needed = 0, variables = 0, clauses_len = 0, count = 0, inputs = 0, latches = 0, bads = 0;
   int32_t none[1] = {7}, *out;
-  uint32_t status = aig_query_numbers(w->files[0].at, w->files[0].len, w->k, w->optimize, none, 0, &needed, &variables, &clauses_len);
+  const uint64_t k = w->numbers[0];
+  uint32_t status = aig_query_numbers(w->files[0].at, w->files[0].len, k, w->optimize, none, 0, &needed, &variables, &clauses_len);
   if (status > AIG_SMALL) {
     if (needed || variables || clauses_len || none[0] != 7) wrong("memory was written with no answer");
     refuse(status);
   }
   out = room_for(needed * sizeof *out);
-  hold(aig_query_numbers(w->files[0].at, w->files[0].len, w->k, w->optimize, out, needed, &needed, &variables, &clauses_len));
+  hold(aig_query_numbers(w->files[0].at, w->files[0].len, k, w->optimize, out, needed, &needed, &variables, &clauses_len));
   if (sscanf((const char *)w->files[0].at, "%*s %*u %zu %zu %*u %*u %zu", &inputs, &latches, &bads) != 3) wrong("a header line");
   const int32_t *at = out + clauses_len;
-  for (uint64_t t = 0; t <= w->k; t++) at = print_map(at, 'i', inputs, t);
+  for (uint64_t t = 0; t <= k; t++) at = print_map(at, 'i', inputs, t);
   at = print_map(at, 'l', latches, 0);
-  if (print_map(at, 'b', bads, w->k) != out + needed) wrong("a map of another length");
+  if (print_map(at, 'b', bads, k) != out + needed) wrong("a map of another length");
   for (size_t i = 0; i < clauses_len; i++) count += out[i] == 0;
   printf("p cnf %zu %zu\n", variables, count);
   for (size_t i = 0; i < clauses_len; i++) printf(out[i] ? "%d " : "%d\n", out[i]);
@@ -131,22 +132,31 @@ static void print_run(const struct words *w) {
   printf("b%zu at step %zu\n", bad, step);
 }
 
+/* Prints which fair lasso one shows. */
+static void print_lasso(const struct words *w) {
+  size_t justice = 0xa5a5, start = 0xa5a5, last = 0xa5a5;
+  uint32_t status = aig_check_lasso(w->files[0].at, w->files[0].len, w->files[1].at, w->files[1].len, &justice, &start, &last);
+  if (status != AIG_DONE && (justice != 0xa5a5 || start != 0xa5a5 || last != 0xa5a5)) wrong("numbers were written with no answer");
+  hold(status);
+  printf("j%zu in a loop from step %zu to %zu\n", justice, start, last);
+}
+
 int main(int argc, char **argv) {
   if (argc < 4) return 2;
   program = argv[1];
   const char *command = argv[2];
   struct words w = {.optimize = true};
   const char *paths[4];
-  int count = 0;
+  int count = 0, numbers = 0;
   for (int i = 3; i < argc; i++) {
     char *end;
-    uint64_t k = strtoull(argv[i], &end, 10);
+    uint64_t number = strtoull(argv[i], &end, 10);
     if (!strcmp(argv[i], "raw"))
       w.optimize = false;
     else if (!strcmp(argv[i], "distinct"))
       w.distinct = true;
-    else if (!*end && i > 3)
-      w.k = k;
+    else if (!*end && i > 3 && numbers < 2)
+      w.numbers[numbers++] = number;
     else if (strcmp(argv[i], "to") && count < 4)
       paths[count++] = argv[i];
   }
@@ -157,5 +167,6 @@ int main(int argc, char **argv) {
     if (!strcmp(command, CHECKS[i].name) && count == CHECKS[i].files) return hold(CHECKS[i].call(&w)), 0;
   if (!strcmp(command, "query_numbers")) return print_numbers(&w), 0;
   if (!strcmp(command, "check_run") && count == 2) return print_run(&w), 0;
+  if (!strcmp(command, "check_lasso") && count == 2) return print_lasso(&w), 0;
   return 2;
 }

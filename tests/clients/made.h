@@ -7,7 +7,7 @@ struct bytes {
 };
 struct words {
   struct bytes files[4];
-  uint64_t k;
+  uint64_t numbers[2];
   bool optimize, distinct;
 };
 typedef uint32_t answers(const struct words *, uint8_t *out, size_t out_len, size_t *needed);
@@ -29,7 +29,7 @@ static uint32_t reencode_of(const struct words *w, uint8_t *out, size_t len, siz
   return aig_reencode(w->files[0].at, w->files[0].len, out, len, needed);
 }
 static uint32_t unroll_of(const struct words *w, uint8_t *out, size_t len, size_t *needed) {
-  return aig_unroll(w->files[0].at, w->files[0].len, w->k, out, len, needed);
+  return aig_unroll(w->files[0].at, w->files[0].len, w->numbers[0], out, len, needed);
 }
 static uint32_t move_constraints_of(const struct words *w, uint8_t *out, size_t len, size_t *needed) {
   return aig_move_constraints(w->files[0].at, w->files[0].len, out, len, needed);
@@ -41,58 +41,79 @@ static uint32_t outputs_as_bads_of(const struct words *w, uint8_t *out, size_t l
   return aig_outputs_as_bads(w->files[0].at, w->files[0].len, out, len, needed);
 }
 static uint32_t property_alone_of(const struct words *w, uint8_t *out, size_t len, size_t *needed) {
-  return aig_property_alone(w->files[0].at, w->files[0].len, w->k, out, len, needed);
+  return aig_property_alone(w->files[0].at, w->files[0].len, w->numbers[0], out, len, needed);
 }
 static uint32_t possible_of(const struct words *w, uint8_t *out, size_t len, size_t *needed) {
   return aig_possible(w->files[0].at, w->files[0].len, out, len, needed);
 }
 static uint32_t cone_of(const struct words *w, uint8_t *out, size_t len, size_t *needed) {
-  return aig_cone(w->files[0].at, w->files[0].len, w->k, out, len, needed);
+  return aig_cone(w->files[0].at, w->files[0].len, w->numbers[0], out, len, needed);
 }
 static uint32_t reduce_of(const struct words *w, uint8_t *out, size_t len, size_t *needed) {
   return aig_reduce(w->files[0].at, w->files[0].len, out, len, needed);
 }
 static uint32_t question_of(const struct words *w, uint8_t *out, size_t len, size_t *needed) {
-  return aig_question(w->files[0].at, w->files[0].len, w->k, out, len, needed);
+  return aig_question(w->files[0].at, w->files[0].len, w->numbers[0], out, len, needed);
 }
 static uint32_t info_of(const struct words *w, uint8_t *out, size_t len, size_t *needed) {
   return aig_info(w->files[0].at, w->files[0].len, out, len, needed);
 }
 static uint32_t cnf_of(const struct words *w, uint8_t *out, size_t len, size_t *needed) {
-  return aig_cnf(w->files[0].at, w->files[0].len, w->k, w->optimize, out, len, needed);
+  return aig_cnf(w->files[0].at, w->files[0].len, w->numbers[0], w->optimize, out, len, needed);
 }
 static uint32_t query_of(const struct words *w, uint8_t *out, size_t len, size_t *needed) {
-  return aig_query(w->files[0].at, w->files[0].len, w->k, w->optimize, out, len, needed);
+  return aig_query(w->files[0].at, w->files[0].len, w->numbers[0], w->optimize, out, len, needed);
 }
 static uint32_t clauses_of(const struct words *w, uint8_t *out, size_t len, size_t *needed) {
-  return aig_clauses(w->files[0].at, w->files[0].len, w->k, w->optimize, out, len, needed);
+  return aig_clauses(w->files[0].at, w->files[0].len, w->numbers[0], w->optimize, out, len, needed);
 }
 static uint32_t bounded_of(const struct words *w, uint8_t *out, size_t len, size_t *needed) {
-  return aig_bounded(w->files[0].at, w->files[0].len, w->k, w->optimize, out, len, needed);
+  return aig_bounded(w->files[0].at, w->files[0].len, w->numbers[0], w->optimize, out, len, needed);
 }
 static uint32_t window_of(const struct words *w, uint8_t *out, size_t len, size_t *needed) {
-  return aig_window(w->files[0].at, w->files[0].len, w->k, w->distinct, w->optimize, out, len, needed);
+  return aig_window(w->files[0].at, w->files[0].len, w->numbers[0], w->distinct, w->optimize, out, len, needed);
 }
 static uint32_t check_refuted_of(const struct words *w) {
-  return aig_check_refuted(w->files[0].at, w->files[0].len, w->k, w->optimize, w->files[1].at, w->files[1].len);
+  return aig_check_refuted(w->files[0].at, w->files[0].len, w->numbers[0], w->optimize, w->files[1].at, w->files[1].len);
 }
 static uint32_t check_refuted_to_of(const struct words *w) {
-  return aig_check_refuted_to(w->files[0].at, w->files[0].len, w->k, w->optimize, w->files[1].at, w->files[1].len);
+  return aig_check_refuted_to(w->files[0].at, w->files[0].len, w->numbers[0], w->optimize, w->files[1].at, w->files[1].len);
 }
 static uint32_t check_inductive_of(const struct words *w) {
-  return aig_check_inductive(w->files[0].at, w->files[0].len, w->k, w->distinct, w->optimize, w->files[1].at, w->files[1].len);
+  return aig_check_inductive(w->files[0].at, w->files[0].len, w->numbers[0], w->distinct, w->optimize, w->files[1].at, w->files[1].len);
+}
+static uint32_t check_safe_of(const struct words *w) {
+  return aig_check_safe(w->files[0].at, w->files[0].len, w->numbers[0], w->distinct, w->optimize, w->files[1].at, w->files[1].len, w->optimize, w->files[2].at, w->files[2].len);
 }
 static uint32_t check_certified_of(const struct words *w) {
   return aig_check_certified(w->files[0].at, w->files[0].len, w->files[1].at, w->files[1].len, w->optimize, w->files[2].at, w->files[2].len, w->files[3].at, w->files[3].len);
 }
 static uint32_t check_equal_of(const struct words *w) {
-  return aig_check_equal(w->files[0].at, w->files[0].len, w->files[1].at, w->files[1].len, w->k, w->optimize, w->files[2].at, w->files[2].len);
+  return aig_check_equal(w->files[0].at, w->files[0].len, w->files[1].at, w->files[1].len, w->numbers[0], w->optimize, w->files[2].at, w->files[2].len);
+}
+static uint32_t check_always_equal_of(const struct words *w) {
+  return aig_check_always_equal(w->files[0].at, w->files[0].len, w->files[1].at, w->files[1].len, w->numbers[0], w->distinct, w->optimize, w->files[2].at, w->files[2].len, w->optimize, w->files[3].at, w->files[3].len);
 }
 static uint32_t witness_of(const struct words *w, uint8_t *out, size_t len, size_t *needed) {
-  return aig_witness(w->files[0].at, w->files[0].len, w->k, w->optimize, w->files[1].at, w->files[1].len, out, len, needed);
+  return aig_witness(w->files[0].at, w->files[0].len, w->numbers[0], w->optimize, w->files[1].at, w->files[1].len, out, len, needed);
 }
 static uint32_t witness_to_of(const struct words *w, uint8_t *out, size_t len, size_t *needed) {
-  return aig_witness_to(w->files[0].at, w->files[0].len, w->k, w->optimize, w->files[1].at, w->files[1].len, out, len, needed);
+  return aig_witness_to(w->files[0].at, w->files[0].len, w->numbers[0], w->optimize, w->files[1].at, w->files[1].len, out, len, needed);
+}
+static uint32_t live_of(const struct words *w, uint8_t *out, size_t len, size_t *needed) {
+  return aig_live(w->files[0].at, w->files[0].len, w->numbers[0], out, len, needed);
+}
+static uint32_t rounds_of(const struct words *w, uint8_t *out, size_t len, size_t *needed) {
+  return aig_rounds(w->files[0].at, w->files[0].len, w->numbers[0], w->numbers[1], out, len, needed);
+}
+static uint32_t check_no_lasso_of(const struct words *w) {
+  return aig_check_no_lasso(w->files[0].at, w->files[0].len, w->numbers[0], w->numbers[1], w->optimize, w->files[1].at, w->files[1].len);
+}
+static uint32_t check_no_lasso_to_of(const struct words *w) {
+  return aig_check_no_lasso_to(w->files[0].at, w->files[0].len, w->numbers[0], w->numbers[1], w->optimize, w->files[1].at, w->files[1].len);
+}
+static uint32_t check_no_fair_run_of(const struct words *w) {
+  return aig_check_no_fair_run(w->files[0].at, w->files[0].len, w->numbers[0], w->numbers[1], w->distinct, w->optimize, w->files[1].at, w->files[1].len, w->optimize, w->files[2].at, w->files[2].len);
 }
 static uint32_t miter_of(const struct words *w, uint8_t *out, size_t len, size_t *needed) {
   return aig_miter(w->files[0].at, w->files[0].len, w->files[1].at, w->files[1].len, out, len, needed);
@@ -133,6 +154,8 @@ static const struct {
   {"window", window_of, 1},
   {"witness", witness_of, 2},
   {"witness_to", witness_to_of, 2},
+  {"live", live_of, 1},
+  {"rounds", rounds_of, 1},
   {"miter", miter_of, 2},
   {"join", join_of, 2},
   {"merge", merge_of, 2},
@@ -146,6 +169,11 @@ static const struct {
   {"check_refuted", check_refuted_of, 2},
   {"check_refuted_to", check_refuted_to_of, 2},
   {"check_inductive", check_inductive_of, 2},
+  {"check_safe", check_safe_of, 3},
   {"check_certified", check_certified_of, 4},
   {"check_equal", check_equal_of, 3},
+  {"check_always_equal", check_always_equal_of, 4},
+  {"check_no_lasso", check_no_lasso_of, 2},
+  {"check_no_lasso_to", check_no_lasso_to_of, 2},
+  {"check_no_fair_run", check_no_fair_run_of, 3},
 };

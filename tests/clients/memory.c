@@ -1,4 +1,5 @@
-/* Refuses each request for memory of each call in turn: memory WHOLE WAITING CONFLICT HINTS DELAYED SOLUTION COUNTER WITNESS APART SOLVED AND
+/* Refuses each request for memory of each call in turn: memory WHOLE WAITING CONFLICT HINTS DELAYED SOLUTION COUNTER WITNESS APART SOLVED
+ * AND FED LASSO
  *
  * Built with -Wl,--wrap=malloc,--wrap=realloc,--wrap=free. Each call has to answer AIG_MEMORY then, to leave all that it is given as it
  * was, and to free what it took. Prints each call and how many requests it has.
@@ -33,36 +34,44 @@ void __wrap_free(void *at) {
   __real_free(at);
 }
 
-enum { WHOLE, WAITING, CONFLICT, HINTS, DELAYED, SOLUTION, COUNTER, WITNESS, APART, SOLVED, AND, FILES };
+enum { WHOLE, WAITING, CONFLICT, HINTS, DELAYED, SOLUTION, COUNTER, WITNESS, APART, SOLVED, AND, FED, LASSO, FILES };
 
 static uint8_t read[FILES][1 << 12];
 static size_t lens[FILES];
 static uint8_t out[1 << 16], before[1 << 16];
 static size_t numbers[3];
 
-/* On which files and which step or number a call is made that asks for more memory there than on the first of these. */
+/* On which files and numbers a call is made that asks for more memory there than on the first of these. */
 static const struct {
   const char *name;
   int files[4];
-  uint64_t k;
+  uint64_t numbers[2];
 } ASKED[] = {
-  {"", {WHOLE, WHOLE, CONFLICT, CONFLICT}, 2},
-  {"outputs_as_bads", {AND}, 0},
-  {"property_alone", {WHOLE}, 0},
-  {"cone", {WHOLE}, 0},
-  {"bounded", {COUNTER}, 4},
-  {"check_refuted", {WHOLE, CONFLICT}, 0},
-  {"check_refuted_to", {APART, CONFLICT}, 0},
-  {"check_inductive", {WAITING, HINTS}, 0},
-  {"check_equal", {WAITING, WAITING, CONFLICT}, 0},
-  {"witness", {DELAYED, SOLUTION}, 1},
-  {"witness_to", {DELAYED, SOLVED}, 1},
+  {"", {WHOLE, WHOLE, CONFLICT, CONFLICT}, {2}},
+  {"outputs_as_bads", {AND}, {0}},
+  {"property_alone", {WHOLE}, {0}},
+  {"cone", {WHOLE}, {0}},
+  {"live", {WHOLE}, {0}},
+  {"rounds", {WHOLE}, {0, 2}},
+  {"bounded", {COUNTER}, {4}},
+  {"check_refuted", {WHOLE, CONFLICT}, {0}},
+  {"check_refuted_to", {APART, CONFLICT}, {0}},
+  {"check_inductive", {WAITING, HINTS}, {0}},
+  {"check_safe", {WAITING, CONFLICT, HINTS}, {0}},
+  {"check_no_lasso", {WHOLE, CONFLICT}, {0, 0}},
+  {"check_no_lasso_to", {WHOLE, CONFLICT}, {0, 1}},
+  {"check_no_fair_run", {WHOLE, CONFLICT, CONFLICT}, {0, 0}},
+  {"check_equal", {WAITING, WAITING, CONFLICT}, {0}},
+  {"check_always_equal", {WAITING, WAITING, CONFLICT, CONFLICT}, {0}},
+  {"witness", {DELAYED, SOLUTION}, {1}},
+  {"witness_to", {DELAYED, SOLVED}, {1}},
 };
 
 static struct words words_of(const char *name) {
   size_t at = sizeof ASKED / sizeof *ASKED;
   while (--at && strcmp(name, ASKED[at].name)) continue;
-  struct words w = {.k = ASKED[at].k, .optimize = true, .distinct = true};
+  struct words w = {.optimize = true, .distinct = true};
+  memcpy(w.numbers, ASKED[at].numbers, sizeof w.numbers);
   for (int i = 0; i < 4; i++) w.files[i] = (struct bytes){read[ASKED[at].files[i]], lens[ASKED[at].files[i]]};
   return w;
 }
@@ -73,12 +82,13 @@ static uint32_t query_numbers(void) {
   return aig_query_numbers(GIVEN(WHOLE), 2, true, (int32_t *)(void *)out, sizeof out / 4, &numbers[0], &numbers[1], &numbers[2]);
 }
 static uint32_t check_run(void) { return aig_check_run(GIVEN(COUNTER), GIVEN(WITNESS), &numbers[0], &numbers[1]); }
+static uint32_t check_lasso(void) { return aig_check_lasso(GIVEN(FED), GIVEN(LASSO), &numbers[0], &numbers[1], &numbers[2]); }
 static uint32_t message(void) { return aig_message(AIG_OTHER + AIG_HEADER, out, sizeof out, &numbers[0]); }
 
 static const struct {
   const char *name;
   uint32_t (*call)(void);
-} OTHERS[] = {{"query_numbers", query_numbers}, {"check_run", check_run}, {"message", message}};
+} OTHERS[] = {{"query_numbers", query_numbers}, {"check_run", check_run}, {"check_lasso", check_lasso}, {"message", message}};
 
 enum { GIVES = sizeof ANSWERS / sizeof *ANSWERS, HOLDS = sizeof CHECKS / sizeof *CHECKS, REST = sizeof OTHERS / sizeof *OTHERS };
 

@@ -21,16 +21,19 @@ fn text_of(clauses: &aig::Clauses) -> String {
 fn main() -> ExitCode {
     let words: Vec<String> = std::env::args().skip(1).collect();
     let has = |name: &str| words.iter().any(|word| word == name);
-    let step = words.iter().skip(2).find_map(|word| word.parse().ok()).unwrap_or(0);
+    let mut numbers: Vec<u64> = words.iter().skip(2).filter_map(|word| word.parse().ok()).collect();
+    numbers.resize(2, 0);
     let is_path = |word: &&String| word.parse::<u64>().is_err() && !["raw", "distinct", "to"].contains(&word.as_str());
     let read: Vec<Vec<u8>> = words.iter().skip(1).filter(is_path).map(|path| std::fs::read(path).expect("a file")).collect();
     let files: Vec<&[u8]> = read.iter().map(Vec::as_slice).collect();
     let optimize = !has("raw");
     let line = |text: String| text.into_bytes();
     let answer = match words[0].as_str() {
-        "query_numbers" => aig::query_numbers(files[0], step, optimize).map(|clauses| line(text_of(&clauses))),
+        "query_numbers" => aig::query_numbers(files[0], numbers[0], optimize).map(|clauses| line(text_of(&clauses))),
         "check_run" => aig::check_run(files[0], files[1]).map(|shown| line(format!("b{} at step {}\n", shown.bad, shown.step))),
-        call => match made::answer(call, &files, step, has("distinct"), optimize) {
+        "check_lasso" => aig::check_lasso(files[0], files[1])
+            .map(|shown| line(format!("j{} in a loop from step {} to {}\n", shown.justice, shown.start, shown.last))),
+        call => match made::answer(call, &files, &numbers, has("distinct"), optimize) {
             Some(answer) => answer,
             None => return ExitCode::from(2),
         },

@@ -9,6 +9,11 @@ use Rattle.aig_checks.specs.Running as checking
 use Rattle.aig_checks.specs.declared.tool.CheckError.{CheckError}
 use Rattle.aig_checks.specs.declared.tool.CheckError.TheVariants as checks
 use Rattle.aig_edits.proofs.Misfits.{unfit}
+use Rattle.aig_equality.specs.Equality as equality
+use Rattle.aig_equality.specs.Equality.{AlwaysEquals}
+use Rattle.aig_equality.specs.declared.error.EqualityError.{EqualityError}
+use Rattle.aig_equality.specs.declared.error.EqualityError.TheVariants as always
+use Rattle.aig_runs.specs.declared.window.Window.{Window}
 use Rattle.aig_edits.specs.Joints as joints
 use Rattle.aig_edits.specs.Joints.{DoFit, IsRefusalOf}
 use Rattle.aig_edits.specs.Pairs.{ReadsPair}
@@ -19,7 +24,7 @@ use Rattle.aig_edits.specs.declared.pairing.Pairing.{Pairing}
 use Rattle.aig_edits.specs.declared.pairing.Pairing.TheVariants.{Certificate, Miter}
 use Rattle.aig_format.specs.File.{File}
 use Rattle.aig_reader.specs.Verdicts.{Accepted, Verdict}
-use Rattle.aig_calls.specs.Parts.{IsOfCounts, IsOfCountsBy, IsOfCountsIn}
+use Rattle.aig_calls.specs.Parts.{IsOfCounts, IsOfCountsAlways, IsOfCountsBy, IsOfCountsIn}
 
 pub counts_first : (e : PairError) → IsOfCounts e → joints.first_verdict e ≡ Accepted
 counts_first (pair.Read e) is = absurd is
@@ -71,6 +76,26 @@ module _ (f g : File) where
       counts_unfit Miter e is refused
   equal_unfit limit k optimize proof (certificate.Query e) is refused = absurd is
   equal_unfit limit k optimize proof (certificate.Window e) is refused = absurd is
+
+-- the machines aren't shown to be equal at every step
+pub counts_first_always : (e : EqualityError) → IsOfCountsAlways e
+    → equality.first_verdict e ≡ Accepted
+counts_first_always (always.Pair e) is = counts_first e is
+counts_first_always (always.Miter e) is = refl
+
+pub counts_second_always : (e : EqualityError) → IsOfCountsAlways e
+    → equality.second_verdict e ≡ Accepted
+counts_second_always (always.Pair e) is = counts_second e is
+counts_second_always (always.Miter e) is = refl
+
+module _ {P Q : Type 0} (left : P → Option (List ℕ)) (left_of : Q → Option (List ℕ))
+    (limit k : ℕ) (base_optimize : Bool) (form : Window) (step_optimize : Bool) (p rest : P) (q : Q)
+    (f g : File) where
+  pub always_unfit : (e : EqualityError) → IsOfCountsAlways e
+      → AlwaysEquals left left_of limit k base_optimize form step_optimize p rest q f g (Err e)
+      → ¬ DoFit Miter f g
+  always_unfit (always.Pair e) is refused = counts_unfit f g Miter e is refused
+  always_unfit (always.Miter e) is refused = absurd is
 
 -- the counts that such an error has
 pub misfit_of : (e : PairError) → IsOfCounts e → (m : Misfit) × (e ≡ pair.Misfit m)

@@ -1,6 +1,6 @@
 -- What a call that makes something of one file tells of its bytes.
-use Rattle.aig_base.proofs.Words.{◌≡◌, ◌≢◌, ℕ, ◌<◌, ◌≤◌, ◌^◌, Bool, true, false, List, [], ◌∷◌, length, Option, Some, Result, Ok, Err, Vec, Global, refl, sym, ap, subst, arith, rules, Appends, ne_eqb, or_right}
-use Rattle.std.specs.Prelude.{◌==◌, ◌||◌, if◌then◌else◌, nat_le, nat_lt, IsTrue}
+use Rattle.aig_base.proofs.Words.{◌≡◌, ◌≢◌, ℕ, ◌<◌, ◌≤◌, ◌^◌, Bool, false, List, [], ◌∷◌, length, Option, Some, Result, Ok, Err, Vec, Global, refl, sym, ap, subst, arith, rules, Appends, ne_eqb, or_right}
+use Rattle.std.specs.Prelude.{◌==◌, ◌||◌, if◌then◌else◌, nat_lt, IsTrue}
 use Rattle.std.proofs.Math.Nat.{lt_of_not-le}
 use Rattle.aig_base.specs.declared.std_stream.ToWrite.{ToWrite}
 use Rattle.aig_bounded.specs.Question.{question_size}
@@ -16,7 +16,6 @@ use Rattle.aig_edits.specs.declared.edit_error.EditError.{EditError}
 use Rattle.aig_edits.specs.declared.edit_error.EditError.TheVariants as errors
 use Rattle.aig_encode.proofs.Verdicts.{encoded_verdict-beyond, encoded_verdict-within}
 use Rattle.aig_format.proofs.Words.{circuit_of, text_of, File, Accepts}
-use Rattle.aig_unroll.specs.Places.{unrolled_size}
 use Rattle.aig_reader.specs.Reading.{IsReadAs}
 use Rattle.aig_reader.specs.Verdicts as reading
 use Rattle.aig_reader.specs.Verdicts.{Accepted, IsOfFile, IsSaidOf, IsSettled, Judges, NoBads, TooLarge, Verdict, verdict_by}
@@ -69,28 +68,29 @@ hidden of limit old new failed = record {
 
 -- ---- one file
 
-module _ {R : Type 0} {left : R → Option (List ℕ)} {failed : R → Bool} {limit : ℕ}
-    {Means : File → Result Unit EditError → Type 0} {r rest : R} {result : Result Unit EditError}
-    (told : ReadsFile left failed limit Means editing.edit_verdict IsEditOwn r result rest)
+module _ {R T E : Type 0} {left : R → Option (List ℕ)} {failed : R → Bool} {limit : ℕ}
+    {Means : File → Result T E → Type 0} {said : E → Verdict} {Own : E → Type 0} {r rest : R}
+    {result : Result T E}
+    (told : ReadsFile left failed limit Means said Own r result rest)
     (bytes : List ℕ) (is : left r ≡ Some bytes) where
-  judged : Judges (λ _. Accepted) limit (Some bytes) (left rest) (failed rest)
-      (verdict_by editing.edit_verdict result)
+  pub judged : Judges (λ _. Accepted) limit (Some bytes) (left rest) (failed rest)
+      (verdict_by said result)
   judged = subst
       (λ o. Judges (λ _. Accepted) limit o (left rest) (failed rest)
-      (verdict_by editing.edit_verdict result)) is told.verdict
+      (verdict_by said result)) is told.verdict
 
-  read_as : verdict_by editing.edit_verdict result ≡ Accepted
+  read_as : verdict_by said result ≡ Accepted
       → IsReadAs (λ bs. Accepts bs limit) Means (Some bytes) (left rest) result
   read_as one = subst (λ o. IsReadAs (λ bs. Accepts bs limit) Means o (left rest) result) is
       (told.answer one)
 
-  judged_taken : verdict_by editing.edit_verdict result ≡ Accepted
+  judged_taken : verdict_by said result ≡ Accepted
       → Judges (λ _. Accepted) limit (Some bytes) (left rest) (failed rest) Accepted
   judged_taken one = subst
       (λ v. Judges (λ _. Accepted) limit (Some bytes) (left rest) (failed rest) v) one judged
 
   -- the file was taken, and read to its end
-  pub file_with : verdict_by editing.edit_verdict result ≡ Accepted
+  pub file_with : verdict_by said result ≡ Accepted
       → IsFileWith limit bytes (λ f. Means f result)
   file_with one =
       whole (λ _. Accepted) limit bytes (left rest) (failed rest) (λ bs f. Accepts bs limit f)
@@ -98,7 +98,7 @@ module _ {R : Type 0} {left : R → Option (List ℕ)} {failed : R → Bool} {li
 
   -- this is said of it
   pub said_of : (of : File → Verdict) (v : Verdict) → IsOfFile v
-      → verdict_by editing.edit_verdict result ≡ Accepted
+      → verdict_by said result ≡ Accepted
       → ((f : File) → Means f result → IsSaidOf of f v)
       → Judges of limit (Some bytes) (left rest) (failed rest) v
   said_of of v of_file one means =
@@ -106,7 +106,7 @@ module _ {R : Type 0} {left : R → Option (List ℕ)} {failed : R → Bool} {li
       (judged_taken one) (read_as one) means
 
 -- what is said of a file of which nothing is made
-refused_edit : {R : Type 0} {left : R → Option (List ℕ)} {failed : R → Bool} {limit : ℕ}
+pub refused_edit : {R : Type 0} {left : R → Option (List ℕ)} {failed : R → Bool} {limit : ℕ}
     {Means : File → Result Unit EditError → Type 0} {r rest : R} (of : File → Verdict)
     (e : EditError)
     → ReadsFile left failed limit Means editing.edit_verdict IsEditOwn r (Err e) rest
@@ -126,7 +126,7 @@ refused_edit {left = left} {failed = failed} {limit = limit} {rest = rest} of e 
     said_of told bytes is of (verdict_of_edit e) tt refl (λ f means. said f means tt)
 
 -- the text that is made of it
-edit_made : {R : Type 0} {left : R → Option (List ℕ)} {failed : R → Bool} {limit : ℕ}
+pub edit_made : {R : Type 0} {left : R → Option (List ℕ)} {failed : R → Bool} {limit : ℕ}
     {Means : File → Result Unit EditError → Type 0} {r rest : R} (of : File → Verdict)
     (Text : File → List ℕ → Type 0) (IsOwn : ℕ → Type 0)
     → ReadsFile left failed limit Means editing.edit_verdict IsEditOwn r (Ok tt) rest
@@ -151,13 +151,13 @@ edit_made of Text IsOwn told bytes is old new stopped made meant has_done has_sm
 -- ---- edits
 
 -- a writer to memory: what it holds, and whether it has failed
-abbrev Sink : Type 0
+abbrev pub Sink : Type 0
 Sink = ToWrite (Vec ℕ Global)
 
-abbrev held : Sink → Option (List ℕ)
+abbrev pub held : Sink → Option (List ℕ)
 held sink = Some sink.inner.items
 
-abbrev write_failed : Sink → Bool
+abbrev pub write_failed : Sink → Bool
 write_failed sink = sink.failed
 
 module _ (edit : Edit) (limit : ℕ) (w made : Sink) where
@@ -188,6 +188,7 @@ module _ (edit : Edit) (limit : ℕ) (w made : Sink) where
       → ReadsFile left failed limit Printed editing.edit_verdict IsEditOwn r (Err e) rest
       → (bytes : List ℕ) → left r ≡ Some bytes → IsOfEditing e
   edit_own errors.NoBads told bytes is = (file_with told bytes is refl).2
+  edit_own errors.NoJustice told bytes is = (file_with told bytes is refl).2
   edit_own errors.QuestionTooLarge told bytes is = (file_with told bytes is refl).2
   edit_own e told bytes is = tt
 

@@ -45,7 +45,7 @@ module _ (limit : ℕ) (bytes text : List ℕ) (status : ℕ) where
 
   module _ (rest : Option (List ℕ)) (failed text_failed : Bool) where
     -- the file was taken
-    taken_file : (Fails : File → Type 0)
+    pub taken_file : (Fails : File → Type 0)
         → Judges (λ _. Accepted) limit (Some bytes) rest failed Accepted
         → ((f : File) → Fails f) → IsFileWith limit bytes Fails
     taken_file Fails judges so =

@@ -18,9 +18,9 @@ use Rattle.aig_edits.specs.declared.pairing.Pairing.TheVariants.{Certificate}
 use Rattle.aig_circuit.specs.Circuit.{Circuit}
 use Rattle.aig_edits.specs.Joints.{IsJointOf}
 use Rattle.aig_format.specs.File.{File}
-use Rattle.aig_reader.specs.Verdicts.{Accepted, Crowded, IsSettled, Memory, NoBads, Refused, Short, Stream, TooLarge, TooMany, Verdict}
+use Rattle.aig_reader.specs.Verdicts.{Accepted, Crowded, IsSettled, Memory, NoBads, Refused, Short, Stream, TooLarge, TooMany, Verdict, verdict_by}
 use Rattle.aig_refutation.specs.declared.error.RefutationError.{RefutationError}
-use Rattle.aig_calls.specs.Statuses.{many_steps, said_of_query, said_of_query_proof, said_of_window}
+use Rattle.aig_calls.specs.Statuses.{many_steps, said_of_query, said_of_window}
 use Rattle.aig_calls.specs.Calls.{ShowsQuery, ShowsTwo, TellsJoint, TellsJointProof}
 use Rattle.aig_calls.specs.Parts.{IsErrWith, SaysJoint, SaysObliged, SaysOnly}
 use Rattle.aig_calls.proofs.Pairing.{both_whole}
@@ -51,6 +51,24 @@ settled_said of Short said settled = absurd settled
 settled_said of Memory said settled = absurd settled
 settled_said of Stream said settled = absurd settled
 
+-- what is said of the circuit of two files that are taken
+pub verdict_of_joint : {R S T E : Type 0} {left : R → Option (List ℕ)} {failed : R → Bool}
+    {left_of : S → Option (List ℕ)} {failed_of : S → Bool} {limit : ℕ}
+    {Means : File → File → Result T E → Type 0} {first second : E → Verdict} {Own : E → Type 0}
+    {r rest : R} {s other : S} {result : Result T E} (pairing : Pairing) (of : Circuit → Verdict)
+    (bytes others : List ℕ) (v : Verdict) (said : Option Verdict)
+    → ReadsPair left failed left_of failed_of limit Means first second Own r s result rest other
+    → left r ≡ Some bytes → left_of s ≡ Some others → verdict_by first result ≡ Accepted
+    → verdict_by second result ≡ Accepted
+    → ((f g : File) → Means f g result → IsSettled v
+    → (m : Circuit) × IsJointOf pairing f g m × (v ≡ of m))
+    → SaysOnly said v → TellsJoint pairing of limit bytes others said
+verdict_of_joint pairing of bytes others v None told is also one two joint says = tt
+verdict_of_joint pairing of bytes others v (Some x) told is also one two joint says =
+    let both = both_whole told bytes others is also one two in
+    let whole = joint both.0 both.2.0 both.2.2 says.1 in
+    (both.0, both.1, (both.2.0, both.2.1, (whole.0, whole.1, says.0 ∙ whole.2)))
+
 -- the error is of files that are taken, and their circuit has this one
 abbrev IsOfJoint : {T E : Type 0} → Pairing → (Circuit → Verdict)
     → (File → File → Result T E → Type 0) → (E → Verdict) → (E → Verdict) → E → AnswerError → Type 0
@@ -73,24 +91,15 @@ module _ {R S T E : Type 0} (wrap : CertificateError → E) (pairing : Pairing)
       other
       → SaysOnly said (answering.verdict_of asked)
       → TellsJoint pairing of limit bytes others said
-  verdict_told e asked None joint told says = tt
-  verdict_told e asked (Some v) joint told says =
-      let both = both_whole told bytes others is also joint.0 joint.1 in
-      let whole = joint.2 both.0 both.2.0 both.2.2 in
-      let settled = says.1 in (
-        both.0,
-        both.1,
-        (
-          both.2.0,
-          both.2.1,
-          (
-            whole.0,
-            whole.1,
-            says.0 ∙ settled_said (of whole.0) (answering.verdict_of asked) whole.2
-                settled,
-          ),
-        ),
-      )
+  verdict_told e asked said joint told says =
+      verdict_of_joint pairing of bytes others (answering.verdict_of asked) said told is also
+      joint.0 joint.1
+      (λ f g means settled.
+      let whole = joint.2 f g means in (
+        whole.0,
+        whole.1,
+        settled_said (of whole.0) (answering.verdict_of asked) whole.2 settled,
+      )) says
 
   -- what is said of its query
   pub joint_query : ((e : AnswerError)
@@ -178,11 +187,13 @@ two_by_bytes {optimize} {m} {x} told is =
 
 -- nothing is said of a proof where K isn't below 2^32
 pub none_proof : (pairing : Pairing) (Shows : Circuit → Result (Unit {0}) RefutationError → Type 0)
-    (limit : ℕ) (bytes others : List ℕ) (status : ℕ) → status ≡ many_steps
-    → TellsJointProof pairing Shows limit bytes others (said_of_query_proof status)
-none_proof pairing Shows limit bytes others status is =
-    subst (λ n. TellsJointProof pairing Shows limit bytes others (said_of_query_proof n)) (sym is)
-    tt
+    (limit : ℕ) (bytes others : List ℕ)
+    (said_of : ℕ → Option (Result (Unit {0}) RefutationError)) (status : ℕ) → status ≡ many_steps
+    → said_of many_steps ≡ None
+    → TellsJointProof pairing Shows limit bytes others (said_of status)
+none_proof pairing Shows limit bytes others said_of status is none =
+    subst (λ n. TellsJointProof pairing Shows limit bytes others (said_of n)) (sym is)
+    (subst (TellsJointProof pairing Shows limit bytes others) (sym none) tt)
 
 -- the circuit of two files of which equality is asked has no window
 module _ {R S : Type 0} {left : R → Option (List ℕ)} {failed : R → Bool}

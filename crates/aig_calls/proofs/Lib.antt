@@ -11,3 +11,8 @@ mod Editing
 mod Failing
 mod Bounding
 mod Shown
+mod Proved
+mod Always
+mod Living
+mod Lassos
+mod Unfair

@@ -1,5 +1,5 @@
 -- What a call on two files tells of their bytes.
-use Rattle.std.proofs.Common.{◌≡◌, refl, ℕ, zero, suc, ◌<◌, Bool, List, Option, Some, Result, Ok, Err, Vec, Global, sym, subst, arith, ◌^◌, inl, ◌≤◌}
+use Rattle.std.proofs.Common.{◌≡◌, refl, ℕ, zero, suc, ◌<◌, Bool, List, Option, Some, Result, Ok, Err, Vec, Global, sym, subst, arith, ◌^◌, ◌≤◌}
 use Rattle.aig_edits.specs.Joints.{DoFit, IsRefusalOf}
 use Rattle.aig_edits.specs.Pairs.{ReadsPair}
 use Rattle.aig_edits.specs.declared.error.PairError.TheVariants.{TooLarge}

@@ -3,7 +3,7 @@ use Rattle.aig_base.proofs.Words.{◌≡◌, ◌⊎◌, ℕ, zero, suc, ◌+◌,
 use Rattle.aig_edits.specs.Joints.{first_verdict, second_verdict}
 use Rattle.aig_edits.specs.declared.error.PairError.TheVariants as pair
 use Rattle.aig_reader.specs.declared.error.ReadError.{ReadError}
-use Rattle.aig_reader.specs.Verdicts.{Accepted, verdict_of}
+use Rattle.aig_reader.specs.Verdicts.{Accepted, Verdict, verdict_of}
 use Rattle.aig_answers.specs.Answers.{verdict_of as verdict_by}
 use Rattle.aig_answers.specs.declared.error.AnswerError.{AnswerError}
 use Rattle.aig_answers.specs.declared.error.AnswerError.TheVariants as answers
@@ -12,7 +12,7 @@ use Rattle.aig_certificates.specs.declared.error.CertificateError.TheVariants as
 use Rattle.aig_refutation.specs.declared.error.RefutationError.{RefutationError}
 use Rattle.aig_checks.specs.declared.tool.CheckError.{CheckError}
 use Rattle.aig_checks.specs.declared.tool.CheckError.TheVariants as checks
-use Rattle.aig_calls.specs.Statuses.{IsOfPair, memory, said_by, said_of_other, said_of_proof, said_of_query, said_of_query_proof, said_of_window, said_of_window_proof}
+use Rattle.aig_calls.specs.Statuses.{IsOfPair, memory, said_by, said_of_flagged, said_of_flagged_proof, said_of_other, said_of_proof, said_of_query, said_of_window}
 use Rattle.aig_calls.specs.Parts.{IsErrWith, IsOfCounts, IsPairStatus, SaysJoint, SaysObliged, SaysOnly, SaysProof, SaysQueryProof, SaysWindowProof, flagged}
 
 -- memory, the stream or the step hides it
@@ -25,7 +25,7 @@ none_said (suc (suc (suc (suc zero)))) least low = refl
 none_said (suc (suc (suc (suc (suc n))))) least low = absurd (omega (arith, low))
 
 -- a status with a flag is of a first file that is taken
-above_said : (status : ℕ) → 32 ≤ status → said_by status ≡ Some Accepted
+pub above_said : (status : ℕ) → 32 ≤ status → said_by status ≡ Some Accepted
 above_said status high = grind (arith, high)
 
 -- and says of the second file what it says without
@@ -66,53 +66,77 @@ other_status e status says low least = elim (flagged_cases 256 status) [
       })
 ]
 
+-- a status below a flag, or past those with it, says nothing of what the flag stands for
+pub not_flagged : (flag status : ℕ) → status < flag ⊎ flag + 256 ≤ status
+    → said_of_flagged flag status ≡ None
+not_flagged flag status (inl low) = rw (lt-leb flag status low)
+not_flagged flag status (inr high) = rw (
+  le-leb flag status (omega (arith, high)),
+  le-ltb status (flag + 256) high,
+)
+
+-- one with it says what it says without
+flagged_said : (flag status : ℕ) → status < 256
+    → said_of_flagged flag (flag + status) ≡ said_by status
+flagged_said flag status low =
+    let back : (flag + status) - flag ≡ status = omega arith in
+    rw (
+      le-leb flag (flag + status) (omega arith),
+      lt-ltb (flag + status) (flag + 256) (omega (arith, low)),
+      back,
+    )
+
+-- what is said of what the flag stands for is what is said without it
+pub flagged_says : (flag status : ℕ) (v : Verdict) → 4 ≤ flag → SaysOnly (said_by status) v
+    → status < 256 → SaysOnly (said_of_flagged flag (flagged flag status)) v
+flagged_says flag status v least says low = elim (flagged_cases flag status) [
+  | inl few ↦ rw (not_flagged flag (flagged flag status)
+      (inl (omega (arith, few.0, few.1, least)))) tt
+  | inr many ↦
+      subst (λ n. SaysOnly (said_of_flagged flag n) v) (sym many.1)
+      (rw (flagged_said flag status low) says)
+]
+
 -- a status below the flags says nothing of a query or a window
 pub no_query : (status : ℕ) → status < 512 → said_of_query status ≡ None
-no_query status low = rw (lt-leb 512 status low)
+no_query status low = not_flagged 512 status (inl low)
 
 pub no_window : (status : ℕ) → status < 1024 → said_of_window status ≡ None
-no_window status low = rw (lt-leb 1024 status low)
+no_window status low = not_flagged 1024 status (inl low)
 
 -- nor one of a window of a query
 pub window_no_query : (status : ℕ) → 1024 ≤ status → said_of_query status ≡ None
-window_no_query status high =
-    rw (le-leb 512 status (omega (arith, high)), le-ltb status 1024 high)
+window_no_query status high = not_flagged 512 status (inr (omega (arith, high)))
+
+-- a status with its flag is little more than the flag
+flagged_most : (flag status : ℕ) → flagged flag status ≤ flag + status
+flagged_most flag status = elim (flagged_cases flag status) [
+  | inl few ↦ omega (arith, few.1)
+  | inr many ↦ omega (arith, many.1)
+]
+
+-- and is below all flags or not below its own
+pub window_apart : (status : ℕ) → flagged 1024 status < 512 ⊎ 1024 ≤ flagged 1024 status
+window_apart status = elim (flagged_cases 1024 status) [
+  | inl few ↦ inl (omega (arith, few.0, few.1))
+  | inr many ↦ inr (omega (arith, many.1))
+]
 
 -- the status of the query
 pub query_status : (e : AnswerError) (status : ℕ) → SaysOnly (said_by status) (verdict_by e)
     → status < 60 → SaysJoint (flagged 512 status) (certificate.Query e)
-query_status e status says low = elim (flagged_cases 512 status) [
-  | inl few ↦ (
-    omega (arith, few.0, few.1),
-    rw (no_query (flagged 512 status) (omega (arith, few.0, few.1))) tt,
-  )
-  | inr many ↦
-      let back : (512 + status) - 512 ≡ status = omega arith in
-      let said : said_of_query (512 + status) ≡ said_by status =
-      rw (
-        le-leb 512 (512 + status) (omega arith),
-        lt-ltb (512 + status) 1024 (omega (arith, low)),
-        back,
-      ) in
-      subst (λ n. SaysJoint n (certificate.Query e)) (sym many.1)
-      (omega (arith, low), rw said says)
-]
+query_status e status says low = (
+  omega (arith, low, flagged_most 512 status),
+  flagged_says 512 status (verdict_by e) (omega arith) says (omega (arith, low)),
+)
 
 -- and that of the window
 pub window_status : (e : AnswerError) (status : ℕ) → SaysOnly (said_by status) (verdict_by e)
     → status < 60 → SaysJoint (flagged 1024 status) (certificate.Window e)
-window_status e status says low = elim (flagged_cases 1024 status) [
-  | inl few ↦ (
-    inl (omega (arith, few.0, few.1)),
-    rw (no_window (flagged 1024 status) (omega (arith, few.0, few.1))) tt,
-  )
-  | inr many ↦
-      let back : (1024 + status) - 1024 ≡ status = omega arith in
-      let said : said_of_window (1024 + status) ≡ said_by status =
-      rw (le-leb 1024 (1024 + status) (omega arith), back) in
-      subst (λ n. SaysJoint n (certificate.Window e)) (sym many.1)
-      (inr (omega arith), rw said says)
-]
+window_status e status says low = (
+  window_apart status,
+  flagged_says 1024 status (verdict_by e) (omega arith) says (omega (arith, low)),
+)
 
 -- and which it is
 pub other_own : (status : ℕ) → (status < 3) ⊎ ((8 ≤ status) × (status < 32)) → IsOfPair (flagged 256 status)
@@ -140,7 +164,7 @@ memory_obliged e = omega arith
 -- ---- proofs
 
 -- a refusal of a proof is one of this kind
-errs_so : {Is Other : RefutationError → Type 0} → ((x : RefutationError) → Is x → Other x)
+pub errs_so : {Is Other : RefutationError → Type 0} → ((x : RefutationError) → Is x → Other x)
     → (said : Option (Result (Unit {0}) RefutationError)) → IfSome said (IsErrWith Is)
     → IfSome said (IsErrWith Other)
 errs_so so None is = tt
@@ -154,41 +178,26 @@ above_zero n least = ne_eqb n 0 (λ is. absurd (omega (arith, is, least)))
 no_zero : (n : ℕ) → (suc n == 0) ≡ false
 no_zero n = above_zero (suc n) (omega arith)
 
--- nothing is said of a proof
-no_query_proof : (status : ℕ) → 1 ≤ status → status < 552 ⊎ 1024 ≤ status
-    → said_of_query_proof status ≡ None
-no_query_proof zero least none = absurd (omega (arith, least))
-no_query_proof (suc n) least (inl low) = rw (no_zero n, lt-leb 552 (suc n) low)
-no_query_proof (suc n) least (inr high) = rw (
+-- a status below those with a flag, or past them, says nothing of the flag's proof
+pub no_flagged_proof : (flag status : ℕ) → 1 ≤ status → status < flag + 40 ⊎ flag + 60 ≤ status
+    → said_of_flagged_proof flag status ≡ None
+no_flagged_proof flag zero least none = absurd (omega (arith, least))
+no_flagged_proof flag (suc n) least (inl low) = rw (no_zero n, lt-leb (flag + 40) (suc n) low)
+no_flagged_proof flag (suc n) least (inr high) = rw (
   no_zero n,
-  le-leb 552 (suc n) (omega (arith, high)),
-  le-ltb
-      (suc n) 1024 high,
+  le-leb (flag + 40) (suc n) (omega (arith, high)),
+  le-ltb (suc n) (flag + 60) high,
 )
 
-no_window_proof : (status : ℕ) → 1 ≤ status → status < 1064 → said_of_window_proof status ≡ None
-no_window_proof zero least low = absurd (omega (arith, least))
-no_window_proof (suc n) least low = rw (no_zero n, lt-leb 1064 (suc n) low)
-
-flagged_query_proof : (status : ℕ) → 40 ≤ status → status < 60
-    → said_of_query_proof (512 + status) ≡ said_of_proof status
-flagged_query_proof status least low =
-    let back : (512 + status) - 512 ≡ status = omega arith in
+-- one with it says what it says without
+flagged_proof_said : (flag status : ℕ) → 40 ≤ status → status < 60
+    → said_of_flagged_proof flag (flag + status) ≡ said_of_proof status
+flagged_proof_said flag status least low =
+    let back : (flag + status) - flag ≡ status = omega arith in
     rw (
-      above_zero (512 + status) (omega arith),
-      le-leb 552 (512 + status) (omega (arith, least)),
-      lt-ltb (512 + status) 1024
-          (omega (arith, low)),
-      back,
-    )
-
-flagged_window_proof : (status : ℕ) → 40 ≤ status
-    → said_of_window_proof (1024 + status) ≡ said_of_proof status
-flagged_window_proof status least =
-    let back : (1024 + status) - 1024 ≡ status = omega arith in
-    rw (
-      above_zero (1024 + status) (omega arith),
-      le-leb 1064 (1024 + status) (omega (arith, least)),
+      above_zero (flag + status) (omega (arith, least)),
+      le-leb (flag + 40) (flag + status) (omega (arith, least)),
+      lt-ltb (flag + status) (flag + 60) (omega (arith, low)),
       back,
     )
 
@@ -200,54 +209,45 @@ flagged_apart flag status least = elim (flagged_cases flag status) [
   | inr many ↦ (omega (arith, many.1, least), omega (arith, many.1))
 ]
 
-pub window_apart : (status : ℕ) → 2 ≤ status
-    → flagged 1024 status < 512 ⊎ 1024 ≤ flagged 1024 status
-window_apart status least = elim (flagged_cases 1024 status) [
-  | inl few ↦ inl (omega (arith, few.0, few.1))
-  | inr many ↦ inr (omega (arith, many.1))
+-- what is said of the flag's proof
+pub flagged_proof_says : {Is Other : RefutationError → Type 0} (flag status : ℕ)
+    → ((x : RefutationError) → Is x → Other x) → SaysProof status Is → 2 ≤ status → status < 60
+    → IfSome (said_of_flagged_proof flag (flagged flag status)) (IsErrWith Other)
+flagged_proof_says {Other} flag status so says least low = elim (flagged_cases flag status) [
+  | inl few ↦ rw (no_flagged_proof flag (flagged flag status) (omega (arith, few.1, least))
+      (inl (omega (arith, few.0, few.1)))) tt
+  | inr many ↦ subst (λ n. IfSome (said_of_flagged_proof flag n) (IsErrWith Other)) (sym many.1)
+      (elim (cases_lt status 40) [
+        | inl small ↦ rw (no_flagged_proof flag (flag + status) (omega (arith, least))
+            (inl (omega (arith, small)))) tt
+        | inr large ↦ rw (flagged_proof_said flag status large low)
+            (errs_so so (said_of_proof status) says)
+      ])
 ]
 
--- what is said of the proof of a query
+-- of the proof of a query
 pub query_proof : (e : AnswerError) (status : ℕ)
     → SaysProof status (λ x. e ≡ answers.Refutation x) → 2 ≤ status → status < 60
     → SaysQueryProof (flagged 512 status) (certificate.Query e)
-query_proof e status says least low = elim (flagged_cases 512 status) [
-  | inl few ↦ rw (no_query_proof (flagged 512 status) (omega (arith, few.0, few.1, least))
-      (inl (omega (arith, few.0, few.1)))) tt
-  | inr many ↦ subst (λ n. SaysQueryProof n (certificate.Query e)) (sym many.1)
-      (elim (cases_lt status 40) [
-        | inl small ↦ rw (no_query_proof (512 + status) (omega arith) (inl (omega (arith, small)))) tt
-        | inr large ↦
-            rw (flagged_query_proof status large low)
-            (errs_so (λ x is. ap certificate.Query is) (said_of_proof status) says)
-      ])
-]
+query_proof e status says least low =
+    flagged_proof_says 512 status (λ x is. ap certificate.Query is) says least low
 
 -- and of a window
 pub window_proof : (e : AnswerError) (status : ℕ)
     → SaysProof status (λ x. e ≡ answers.Refutation x) → 2 ≤ status → status < 60
     → SaysWindowProof (flagged 1024 status) (certificate.Window e)
-window_proof e status says least low = elim (flagged_cases 1024 status) [
-  | inl few ↦ rw (no_window_proof (flagged 1024 status) (omega (arith, few.0, few.1, least))
-      (omega (arith, few.0, few.1))) tt
-  | inr many ↦ subst (λ n. SaysWindowProof n (certificate.Window e)) (sym many.1)
-      (elim (cases_lt status 40) [
-        | inl small ↦ rw (no_window_proof (1024 + status) (omega arith) (omega (arith, small))) tt
-        | inr large ↦
-            rw (flagged_window_proof status large)
-            (errs_so (λ x is. ap certificate.Window is) (said_of_proof status) says)
-      ])
-]
+window_proof e status says least low =
+    flagged_proof_says 1024 status (λ x is. ap certificate.Window is) says least low
 
 -- of other errors nothing
 pub other_query_proof : (e : CertificateError) (status : ℕ) → 2 ≤ status
     → status < 512 ⊎ 1024 ≤ status → SaysQueryProof status e
-other_query_proof e status least (inl low) = rw (no_query_proof status (omega (arith, least))
-    (inl (omega (arith, low)))) tt
-other_query_proof e status least (inr high) = rw (no_query_proof status (omega (arith, least))
-    (inr high)) tt
+other_query_proof e status least (inl low) = rw (no_flagged_proof 512 status
+    (omega (arith, least)) (inl (omega (arith, low)))) tt
+other_query_proof e status least (inr high) = rw (no_flagged_proof 512 status
+    (omega (arith, least)) (inr (omega (arith, high)))) tt
 
 pub other_window_proof : (e : CertificateError) (status : ℕ) → 2 ≤ status → status < 1024
     → SaysWindowProof status e
-other_window_proof e status least low = rw (no_window_proof status (omega (arith, least))
-    (omega (arith, low))) tt
+other_window_proof e status least low = rw (no_flagged_proof 1024 status
+    (omega (arith, least)) (inl (omega (arith, low)))) tt

@@ -1,23 +1,23 @@
 -- What statuses of proofs, and of questions that are too large, tell of a file's bytes.
-use Rattle.aig_base.proofs.Words.{◌≡◌, ℕ, ◌<◌, Bool, List, Option, None, Some, Result, Ok, Err, Vec, Global, refl, sym, ap, subst, ◌∙◌, arith, IfErr, IfSome}
+use Rattle.aig_base.proofs.Words.{◌≡◌, ℕ, ◌<◌, Bool, List, Option, None, Some, Result, Ok, Err, Vec, Global, sym, ap, subst, ◌∙◌, arith, IfErr, IfSome}
 use Rattle.aig_bounded.specs.Question.{question_size}
 use Rattle.aig_bounded.specs.declared.error.BoundedError.TheVariants.{TooLarge}
 use Rattle.aig_bounded_answers.specs.Asking as bounding
-use Rattle.aig_bounded_answers.specs.Asking.{AnswersProof, IsAskedWithin, bounded_verdict}
+use Rattle.aig_bounded_answers.specs.Asking.{AnswersCircuit, AnswersProof, IsAskedWithin, ShowsProof, bounded_verdict}
 use Rattle.aig_bounded_answers.specs.declared.error.BoundedAnswerError.{BoundedAnswerError}
 use Rattle.aig_bounded_answers.specs.declared.error.BoundedAnswerError.TheVariants as bounded
-use Rattle.aig_checks.specs.Bounded.{TellsProof}
 use Rattle.aig_checks.specs.Running.{TellsOfGiven, file_verdict, verdict_of}
 use Rattle.aig_checks.specs.declared.command.FileCommand.{FileCommand}
 use Rattle.aig_checks.specs.declared.command.FileCommand.TheVariants as commands
 use Rattle.aig_checks.specs.declared.tool.CheckError.{CheckError}
 use Rattle.aig_checks.specs.declared.tool.CheckError.TheVariants as errors
+use Rattle.aig_circuit.specs.Circuit.{Circuit}
 use Rattle.aig_format.proofs.Words.{circuit_of, File, Accepts}
 use Rattle.aig_reader.specs.Reading.{IsReadAs}
 use Rattle.aig_reader.specs.Verdicts.{Accepted, Judges, Short, Verdict}
 use Rattle.aig_refutation.specs.declared.error.RefutationError.{RefutationError}
-use Rattle.aig_calls.specs.Statuses.{many_steps, said_of_proof}
-use Rattle.aig_calls.specs.Calls.{IsFileWith, TellsOfSize, TellsProofOf}
+use Rattle.aig_calls.specs.Statuses.{many_steps}
+use Rattle.aig_calls.specs.Calls.{IsFileWith, TellsOfQuestion, TellsOfSize, TellsProofBy, TellsProofOf}
 use Rattle.aig_calls.specs.Parts.{IsErrWith, Puts}
 use Rattle.aig_calls.proofs.Giving.{put_told}
 use Rattle.aig_calls.proofs.Making.{whole}
@@ -106,7 +106,15 @@ module _ (limit : ℕ) (bytes : List ℕ) (Shows : File → Result (Unit {0}) Re
     shows_refused (Some (Ok done)) Is says so = absurd says
     shows_refused (Some (Err e)) Is says so = so e says
 
-    -- nothing is said of a proof where K isn't below 2^32
+    -- nothing is said of one of two proofs, where K isn't below 2^32
+    pub none_by : (said_of : ℕ → Option (Result (Unit {0}) RefutationError)) (status : ℕ)
+        → status ≡ many_steps → said_of many_steps ≡ None
+        → TellsProofBy Shows limit bytes (said_of status)
+    none_by said_of status is none =
+        subst (λ n. TellsProofBy Shows limit bytes (said_of n)) (sym is)
+        (subst (TellsProofBy Shows limit bytes) (sym none) tt)
+
+    -- nor of the one there is
     pub none_shown : (status : ℕ) → status ≡ many_steps → TellsProofOf Shows limit bytes status
     none_shown status is = subst (TellsProofOf Shows limit bytes) (sym is) tt
 
@@ -126,6 +134,19 @@ shown_as of limit bytes rest failed Takes accepts Means says e x is taken judges
 
 -- ---- proofs about questions
 
+-- what is told of a circuit's question by the text of a proof is told by its bytes
+pub question_by_bytes : {P : Type 0} (left : P → Option (List ℕ)) (k : ℕ) (optimize : Bool)
+    (p used : P) (m : Circuit) (proof : List ℕ) (result : Result Unit BoundedAnswerError)
+    → AnswersCircuit left k optimize p used m result → left p ≡ Some proof
+    → TellsOfQuestion k optimize proof m result
+question_by_bytes left k optimize p used m proof result told is = record {
+  made = told.0.0;
+  asks = told.0.1;
+  settled = λ other asks settled. ((told.1 other asks).settled settled).0;
+  shown = λ other asks unsettled.
+      subst (λ text. ShowsProof other text result) is ((told.1 other asks).shown unsettled);
+}
+
 module _ {P : Type 0} {left : P → Option (List ℕ)} (k : ℕ) (optimize : Bool) (limit : ℕ)
     (bytes : List ℕ) (rest : Option (List ℕ)) (failed : Bool) (p used : P) (proof : List ℕ) where
   -- what the bytes of a proof show of the clauses of a question of the file that was read
@@ -133,19 +154,13 @@ module _ {P : Type 0} {left : P → Option (List ℕ)} (k : ℕ) (optimize : Boo
       → Judges bounded_verdict limit (Some bytes) rest failed Accepted
       → IsReadAs (IsAskedWithin limit) (AnswersProof left k optimize p used) (Some bytes) rest
       result
-      → IsFileWith limit bytes (λ f. TellsProof (Some proof) k optimize f result)
+      → IsFileWith limit bytes (λ f. TellsOfQuestion k optimize proof (circuit_of f) result)
   answers_proof result is judges read =
       let f = whole bounded_verdict limit bytes rest failed (IsAskedWithin limit)
-      (λ bs f asked. asked.0) (AnswersProof left k optimize p used) result judges read in
-      let told = f.2 in (
+      (λ bs f asked. asked.0) (AnswersProof left k optimize p used) result judges read in (
         f.0,
         f.1,
-        subst (λ text. TellsProof text k optimize f.0 result) is (record {
-          made = told.0.0;
-          asks = told.0.1;
-          settled = λ other asks settled. ((told.1 other asks).settled settled).0;
-          shown = λ other asks. (told.1 other asks).shown;
-        }),
+        question_by_bytes left k optimize p used (circuit_of f.0) proof result f.2 is,
       )
 
   -- of an error that is this one
@@ -154,9 +169,11 @@ module _ {P : Type 0} {left : P → Option (List ℕ)} (k : ℕ) (optimize : Boo
       → Judges bounded_verdict limit (Some bytes) rest failed (bounding.verdict_of e)
       → (bounding.verdict_of e ≡ Accepted → IsReadAs (IsAskedWithin limit)
       (AnswersProof left k optimize p used) (Some bytes) rest (Err e))
-      → IsFileWith limit bytes (λ f. TellsProof (Some proof) k optimize f (Err x))
+      → IsFileWith limit bytes (λ f. TellsOfQuestion k optimize proof (circuit_of f) (Err x))
   answered_as e x is taken text judges read =
       let all = ap bounding.verdict_of is ∙ taken in
-      subst (λ y. IsFileWith limit bytes (λ f. TellsProof (Some proof) k optimize f (Err y))) is
+      subst
+      (λ y. IsFileWith limit bytes (λ f. TellsOfQuestion k optimize proof (circuit_of f) (Err y)))
+      is
       (answers_proof (Err e) text
       (subst (Judges bounded_verdict limit (Some bytes) rest failed) all judges) (read all))

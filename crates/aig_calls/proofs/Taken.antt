@@ -1,5 +1,5 @@
 -- A file that would be taken, of which no more is said, is told to be taken.
-use Rattle.aig_base.proofs.Words.{◌≡◌, ℕ, ◌+◌, ◌≤◌, Bool, true, ltb, List, ◌++◌, Option, None, Some, Err, Vec, Global, refl, sym, ap, subst, ◌∙◌, append_assoc, arith, and_parts, ltb-true, Consumes-whole}
+use Rattle.aig_base.proofs.Words.{◌≡◌, ℕ, ◌+◌, ◌≤◌, Bool, true, ltb, List, ◌++◌, Option, None, Some, Err, Vec, Global, sym, ap, ◌∙◌, append_assoc, arith, and_parts, ltb-true, Consumes-whole}
 use Rattle.aig_checks.specs.Running.{Answers, file_verdict, verdict_of}
 use Rattle.aig_checks.specs.declared.command.FileCommand.{FileCommand}
 use Rattle.aig_checks.specs.declared.tool.CheckError.{CheckError}

@@ -1,22 +1,27 @@
 -- Part of what is promised.
 -- What a call does, by the bytes that it is given: what it leaves in its caller's memory, and what
 -- its status says.
-use Rattle.std.specs.Prelude.{◌≡◌, ℕ, ◌<◌, ◌≤◌, ◌++◌, if◌then◌else◌, Bool, false, IsTrue, List, length, drop, Option, Some, IfSome, Result, Ok, Err}
+use Rattle.std.specs.Prelude.{◌≡◌, ℕ, ◌<◌, ◌≤◌, ◌++◌, if◌then◌else◌, Bool, true, false, IsTrue, List, length, drop, Option, Some, IfSome, Result, Ok, Err}
 use Rattle.aig_runs.specs.declared.window.Window.{Window}
 use Rattle.aig_runs.specs.declared.window.Window.TheVariants.{Distinct, Plain}
 use Rattle.aig_circuit.specs.Circuit.{Circuit}
-use Rattle.aig_answers.specs.Answers.{TellsOfCircuit, TellsOfCircuitWindow, TellsOfStep, TellsOfWindow}
+use Rattle.aig_answers.specs.Answers.{TellsOfCircuit, TellsOfCircuitWindow, TellsOfStep}
 use Rattle.aig_answers.specs.declared.error.AnswerError.TheVariants as answers
 use Rattle.aig_bounded.specs.Question.{question_size}
-use Rattle.aig_bounded_answers.specs.Asking.{RefusesSolution, bounded_verdict}
+use Rattle.aig_bounded_answers.specs.Asking.{AsksOfBads, IsSettled, RefusesSolution, ShowsProof, bounded_verdict}
+use Rattle.aig_bounded_answers.specs.declared.clauses.BoundedClauses.{BoundedClauses}
+use Rattle.aig_bounded_answers.specs.declared.error.BoundedAnswerError.{BoundedAnswerError}
 use Rattle.aig_bounded_answers.specs.declared.error.BoundedAnswerError.TheVariants as bounded
-use Rattle.aig_checks.specs.Bounded.{IsBoundedText, IsSettledTo, TellsProof}
+use Rattle.aig_checks.specs.Bounded.{IsBoundedText, IsSettledTo}
 use Rattle.aig_checks.specs.Running.{RefusesAnswer}
 use Rattle.aig_edits.specs.Edits.{IsEditRefusal, IsWrittenEdit}
+use Rattle.aig_edits.specs.Lives.{IsLiveFile}
 use Rattle.aig_edits.specs.Questions.{IsQuestionOf}
 use Rattle.aig_edits.specs.Reductions.{IsReductionOf}
+use Rattle.aig_edits.specs.Rounds.{IsRoundsFile}
 use Rattle.aig_edits.specs.declared.edit.Edit.{Edit}
 use Rattle.aig_edits.specs.declared.edit.Edit.TheVariants as edits
+use Rattle.aig_edits.specs.declared.edit_error.EditError.{EditError}
 use Rattle.aig_edits.specs.declared.edit_error.EditError.TheVariants as edit_errors
 use Rattle.aig_encode.specs.Encoding.{encoded_verdict}
 use Rattle.aig_edits.specs.Joints.{DoFit, IsJointOf, IsRefusalOf}
@@ -28,11 +33,19 @@ use Rattle.aig_format.specs.Fits.{Accepts}
 use Rattle.aig_reader.specs.Verdicts.{Accepted, Verdict}
 use Rattle.aig_refutation.specs.declared.error.RefutationError.{RefutationError}
 use Rattle.aig_solutions.specs.declared.error.SolutionError.{SolutionError}
-use Rattle.aig_witness.specs.Files.{FailsNext, HasNoNext}
+use Rattle.aig_fair.specs.Files.{FailsClaim, HasNoClaim}
+use Rattle.aig_fair.specs.declared.file.ClaimError.{ClaimError}
+use Rattle.aig_fair.specs.declared.file.ClaimError.TheVariants as claims
+use Rattle.aig_fair.specs.declared.file.ShownProperty.{ShownProperty}
+use Rattle.aig_fair.specs.declared.file.ShownProperty.TheVariants as properties
+use Rattle.aig_witness.specs.Files.{FailsNext, HasNoNext, IsNext}
+use Rattle.aig_witness.specs.Reading.{parse_next_claim}
+use Rattle.aig_witness.specs.Witness.{Claim}
+use Rattle.aig_witness.specs.declared.witness.PropertyKind.TheVariants as kinds
 use Rattle.aig_witness.specs.declared.file.ShowError.{ShowError}
 use Rattle.aig_witness.specs.declared.file.ShowError.TheVariants as shows
 use Rattle.aig_witness.specs.declared.file.Shown.{Shown}
-use Rattle.aig_calls.specs.Statuses.{IsOfPair, SaysFault, SaysSolution, Tells, done, has_bads, is_solution_fault, is_witness_fault, large_question, many_bads, misfit, no_bad, no_output, said_by, said_of_other, said_of_proof, settled, small, unwritable}
+use Rattle.aig_calls.specs.Statuses.{IsOfPair, SaysClaim, SaysFault, SaysSolution, Tells, done, has_bads, is_lasso_fault, is_solution_fault, is_witness_fault, large_base, large_question, many_bads, misfit, no_bad, no_justice, no_output, said_by, said_of_other, said_of_proof, settled, small, unwritable}
 
 -- ---- words
 
@@ -93,25 +106,51 @@ ShowsStep k optimize proof f (Ok taken) = TellsOfStep k optimize (Some proof) f 
 ShowsStep k optimize proof f (Err e) =
     TellsOfStep k optimize (Some proof) f (Err (answers.Refutation e))
 
--- of those of its window
+-- of those of a circuit's window
+abbrev pub ShowsCircuitWindow : Window → ℕ → Bool → List ℕ → Circuit
+    → Result (Unit {0}) RefutationError → Type 0
+ShowsCircuitWindow form k optimize proof m (Ok taken) =
+    TellsOfCircuitWindow form k optimize (Some proof) m (Ok tt)
+ShowsCircuitWindow form k optimize proof m (Err e) =
+    TellsOfCircuitWindow form k optimize (Some proof) m (Err (answers.Refutation e))
+
+-- of those of the file's
 abbrev pub ShowsWindow : Window → ℕ → Bool → List ℕ → File → Result (Unit {0}) RefutationError
     → Type 0
-ShowsWindow form k optimize proof f (Ok taken) = TellsOfWindow form k optimize (Some proof) f
-    (Ok tt)
-ShowsWindow form k optimize proof f (Err e) =
-    TellsOfWindow form k optimize (Some proof) f (Err (answers.Refutation e))
+ShowsWindow form k optimize proof f = ShowsCircuitWindow form k optimize proof (circuit_of f)
 
--- and of those of its question, where that isn't settled
+-- The circuit has a question. One that is settled needs no proof, and of any other it is told what
+-- the bytes of the proof show of its clauses; so of the clauses of each.
+pub record TellsOfQuestion (k : ℕ) (optimize : Bool) (proof : List ℕ) (m : Circuit)
+    (result : Result Unit BoundedAnswerError) : Type 0 where
+  pub made : BoundedClauses
+  pub asks : AsksOfBads m k optimize made
+  pub settled : (other : BoundedClauses) → AsksOfBads m k optimize other → IsSettled other
+      → result ≡ Ok tt
+  pub shown : (other : BoundedClauses) → AsksOfBads m k optimize other → ¬ IsSettled other
+      → ShowsProof other (Some proof) result
+
+-- of those of a circuit's question
+abbrev pub ShowsQuestion : ℕ → Bool → List ℕ → Circuit → Result (Unit {0}) RefutationError
+    → Type 0
+ShowsQuestion k optimize proof m (Ok taken) = TellsOfQuestion k optimize proof m (Ok tt)
+ShowsQuestion k optimize proof m (Err e) =
+    TellsOfQuestion k optimize proof m (Err (bounded.Refutation e))
+
+-- and of those of the file's
 abbrev pub ShowsBounded : ℕ → Bool → List ℕ → File → Result (Unit {0}) RefutationError → Type 0
-ShowsBounded k optimize proof f (Ok taken) = TellsProof (Some proof) k optimize f (Ok tt)
-ShowsBounded k optimize proof f (Err e) =
-    TellsProof (Some proof) k optimize f (Err (bounded.Refutation e))
+ShowsBounded k optimize proof f = ShowsQuestion k optimize proof (circuit_of f)
 
--- what a status says of a proof is what its bytes show
+-- what is said of a proof is what its bytes show
+abbrev pub TellsProofBy : (File → Result (Unit {0}) RefutationError → Type 0) → ℕ → List ℕ
+    → Option (Result (Unit {0}) RefutationError) → Type 0
+TellsProofBy Shows limit bytes said =
+    IfSome said (λ r. IsFileWith limit bytes (λ f. Shows f r))
+
+-- of the one that a status says something of
 abbrev pub TellsProofOf : (File → Result (Unit {0}) RefutationError → Type 0) → ℕ → List ℕ → ℕ
     → Type 0
-TellsProofOf Shows limit bytes status =
-    IfSome (said_of_proof status) (λ said. IsFileWith limit bytes (λ f. Shows f said))
+TellsProofOf Shows limit bytes status = TellsProofBy Shows limit bytes (said_of_proof status)
 
 -- ---- witnesses and solvers' answers
 
@@ -125,6 +164,29 @@ FailsToShow text f e = HasNoNext (Some text) false e
 abbrev pub TellsFault : ℕ → List ℕ → List ℕ → ℕ → Type 0
 TellsFault limit bytes text status = IsTrue (is_witness_fault status)
     → (e : ShowError) × SaysFault status e × IsFileWith limit bytes (λ f. FailsToShow text f e)
+
+-- this fair lasso is shown
+abbrev pub lasso_at : ℕ → ℕ → ℕ → ShownProperty
+lasso_at justice start last =
+    properties.Lasso (record { justice = justice; start = start; last = last })
+
+-- why the bytes of a witness show no fair lasso of the file's machine
+abbrev pub FailsToLasso : List ℕ → File → ClaimError → Type 0
+FailsToLasso text f (claims.Show (shows.File e)) = ⊥
+FailsToLasso text f (claims.Show (shows.Check fault)) = ⊥
+FailsToLasso text f (claims.Show e) = HasNoClaim (Some text) false e
+FailsToLasso text f (claims.Lasso fault) = FailsClaim (Some text) f (claims.Lasso fault)
+
+-- a status that refuses a witness of a justice property says why
+abbrev pub TellsLasso : ℕ → List ℕ → List ℕ → ℕ → Type 0
+TellsLasso limit bytes text status = IsTrue (is_lasso_fault status)
+    → (e : ClaimError) × SaysClaim status e × IsFileWith limit bytes (λ f. FailsToLasso text f e)
+
+-- the next witness of the text is of a bad state property
+abbrev pub IsOfBadState : List ℕ → Type 0
+IsOfBadState text =
+    (claim : Claim) × IsNext (parse_next_claim true) (Some text) claim
+    × (claim.kind ≡ kinds.Bad)
 
 -- why the bytes of a solver's answer to the file's query say no witness
 abbrev pub FailsStep : ℕ → Bool → List ℕ → File → SolutionError → Type 0
@@ -159,6 +221,39 @@ IsReductionText f text = (m : Circuit) × IsReductionOf f m × (text ≡ text_of
 abbrev pub IsQuestionText : ℕ → ℕ → File → List ℕ → Type 0
 IsQuestionText k limit f text = (m : Circuit) × IsQuestionOf k limit f m × (text ≡ text_of m)
 
+-- it is that of the live circuit of justice property j
+abbrev pub IsLiveText : ℕ → File → List ℕ → Type 0
+IsLiveText j f text = (m : Circuit) × IsLiveFile j f m × (text ≡ text_of m)
+
+-- it is that of the circuit that counts so many rounds of it
+abbrev pub IsRoundsText : ℕ → ℕ → File → List ℕ → Type 0
+IsRoundsText j count f text = (m : Circuit) × IsRoundsFile j count f m × (text ≡ text_of m)
+
+-- what is said of the live circuit of justice property j is the verdict on it
+abbrev pub TellsOfLive : ℕ → (Circuit → Verdict) → ℕ → List ℕ → Option Verdict → Type 0
+TellsOfLive j of limit bytes said =
+    IfSome said (λ v. IsFileWith limit bytes (λ f. (m : Circuit) × IsLiveFile j f m × (v ≡ of m)))
+
+-- what is said of a proof about it is what its bytes show of the circuit's clauses
+abbrev pub TellsLiveProof : ℕ → (Circuit → Result (Unit {0}) RefutationError → Type 0) → ℕ
+    → List ℕ → Option (Result (Unit {0}) RefutationError) → Type 0
+TellsLiveProof j Shows limit bytes said =
+    IfSome said (λ r. IsFileWith limit bytes (λ f. (m : Circuit) × IsLiveFile j f m × Shows m r))
+
+-- its question is too large only where its bound passes the limit
+abbrev pub TellsOfLiveBase : ℕ → ℕ → ℕ → List ℕ → ℕ → Type 0
+TellsOfLiveBase j k limit bytes status = status ≡ large_base
+    → IsFileWith limit bytes
+    (λ f. (m : Circuit) × IsLiveFile j f m × (limit < question_size m k))
+
+-- why nothing is made for a justice property of a file
+pub record TellsLive (Refuses : File → EditError → Type 0) (limit : ℕ) (bytes : List ℕ)
+    (status : ℕ) : Type 0 where
+  pub justice : status ≡ no_justice
+      → IsFileWith limit bytes (λ f. Refuses f edit_errors.NoJustice)
+  pub format : status ≡ unwritable
+      → IsFileWith limit bytes (λ f. Refuses f edit_errors.TooLarge)
+
 -- why a file isn't edited
 pub record TellsEdit (edit : Edit) (limit : ℕ) (bytes : List ℕ) (status : ℕ) : Type 0 where
   pub several : status ≡ many_bads
@@ -185,6 +280,11 @@ pub record GivesEdit (edit : Edit) (limit : ℕ) (IsOwn : ℕ → Type 0) (bytes
 -- limit
 abbrev pub TellsOfSize : ℕ → ℕ → List ℕ → ℕ → Type 0
 TellsOfSize k limit bytes status = status ≡ large_question
+    → IsFileWith limit bytes (λ f. limit < question_size (circuit_of f) k)
+
+-- so of first steps, of a call with two proofs
+abbrev pub TellsOfBase : ℕ → ℕ → List ℕ → ℕ → Type 0
+TellsOfBase k limit bytes status = status ≡ large_base
     → IsFileWith limit bytes (λ f. limit < question_size (circuit_of f) k)
 
 -- what a call that gives the clauses of a question does: they are told to be settled only where no
@@ -226,10 +326,7 @@ ShowsQuery k optimize proof m (Err e) =
 
 -- and of those of its plain window of two steps
 abbrev pub ShowsTwo : Bool → List ℕ → Circuit → Result (Unit {0}) RefutationError → Type 0
-ShowsTwo optimize proof m (Ok taken) =
-    TellsOfCircuitWindow Plain 0 optimize (Some proof) m (Ok tt)
-ShowsTwo optimize proof m (Err e) =
-    TellsOfCircuitWindow Plain 0 optimize (Some proof) m (Err (answers.Refutation e))
+ShowsTwo = ShowsCircuitWindow Plain 0
 
 -- what is said of a proof about two files is what its bytes show of their circuit's clauses
 abbrev pub TellsJointProof : Pairing → (Circuit → Result (Unit {0}) RefutationError → Type 0) → ℕ
@@ -237,6 +334,12 @@ abbrev pub TellsJointProof : Pairing → (Circuit → Result (Unit {0}) Refutati
 TellsJointProof pairing Shows limit bytes others said =
     IfSome said (λ r. AreFilesWith limit bytes others
     (λ f g. (m : Circuit) × IsJointOf pairing f g m × Shows m r))
+
+-- the question of the joint circuit is too large only where its bound passes the limit
+abbrev pub TellsOfJointBase : Pairing → ℕ → ℕ → List ℕ → List ℕ → ℕ → Type 0
+TellsOfJointBase pairing k limit bytes others status = status ≡ large_base
+    → AreFilesWith limit bytes others
+    (λ f g. (m : Circuit) × IsJointOf pairing f g m × (limit < question_size m k))
 
 -- what a call that gives an answer about two files does
 pub record GivesPair (pairing : Pairing) (limit : ℕ) (Means : File → File → List ℕ → Type 0)

@@ -1,6 +1,6 @@
 -- Serves private clauses alone.
 -- What the parts of a call do.
-use Rattle.std.specs.Prelude.{◌≡◌, ℕ, ◌+◌, ◌<◌, ◌≤◌, ◌⊎◌, nat_lt, if◌then◌else◌, Bool, List, Option, None, Some, Result, Ok, Err, IfErr, IfOk, IfSome, Vec, ℤ}
+use Rattle.std.specs.Prelude.{◌≡◌, ◌||◌, IsTrue, ℕ, ◌+◌, ◌<◌, ◌≤◌, ◌⊎◌, nat_lt, if◌then◌else◌, Bool, List, Option, None, Some, Result, Ok, Err, IfErr, IfOk, IfSome, Vec, ℤ}
 use Rattle.std.specs.declared.alloc.Global.{Global}
 use Rattle.aig_answers.specs.Answers as answering
 use Rattle.aig_answers.specs.declared.error.AnswerError.TheVariants as answers
@@ -15,15 +15,22 @@ use Rattle.aig_checks.specs.declared.tool.CheckError.{CheckError}
 use Rattle.aig_checks.specs.declared.tool.CheckError.TheVariants as checks
 use Rattle.aig_checks.specs.Bounded.{IsSettledTo}
 use Rattle.aig_edits.specs.declared.edit.Edit.{Edit}
+use Rattle.aig_equality.specs.declared.error.EqualityError.{EqualityError}
+use Rattle.aig_equality.specs.declared.error.EqualityError.TheVariants as equality
+use Rattle.aig_safety.specs.declared.error.SafetyError.TheVariants as proving
 use Rattle.aig_edits.specs.declared.edit_error.EditError.{EditError}
 use Rattle.aig_edits.specs.declared.edit_error.EditError.TheVariants as edit
 use Rattle.aig_edits.specs.declared.error.PairError.{PairError}
 use Rattle.aig_edits.specs.declared.error.PairError.TheVariants as pair
 use Rattle.aig_edits.specs.declared.pairing.Pairing.{Pairing}
+use Rattle.aig_liveness.specs.declared.error.LivenessError.{LivenessError}
+use Rattle.aig_liveness.specs.declared.error.LivenessError.TheVariants as liveness
+use Rattle.aig_bounded.specs.declared.error.BoundedError.TheVariants as questions
+use Rattle.aig_answers.specs.Answers.{IsOfWindow}
 use Rattle.aig_format.specs.File.{File}
 use Rattle.aig_reader.specs.Verdicts.{Accepted, IsSettled, Memory, NoBads, Short, TooLarge, Verdict, verdict_of}
 use Rattle.aig_refutation.specs.declared.error.RefutationError.{RefutationError}
-use Rattle.aig_calls.specs.Statuses.{IsOfBounded, IsOfBoundedSolution, IsOfEdit, IsOfSolution, IsOfText, SaysSolution, Tells, done, has_bads, many_bads, misfit, no_bad, no_output, said_by, said_of_other, said_of_proof, said_of_query, said_of_query_proof, said_of_window, said_of_window_proof, settled, small, unwritable}
+use Rattle.aig_calls.specs.Statuses.{IsOfBase, IsOfBounded, IsOfBoundedSolution, IsOfEdit, IsOfStep, IsOfSolution, IsOfText, SaysSolution, Tells, done, has_bads, is_live_fault, is_refusal, large_base, many_bads, misfit, no_bad, no_justice, no_output, said_by, said_of_base_proof, said_of_other, said_of_proof, said_of_query, said_of_query_proof, said_of_step_proof, said_of_window, said_of_window_proof, settled, small, unwritable}
 use Rattle.aig_calls.specs.declared.numbers.Listed.{Listed}
 use Rattle.aig_calls.specs.Calls.{AreFilesWith, IsEditText, IsFileWith, IsGiven, TellsEdit, TellsMisfit, TellsOfPair, TellsOfSize, edited_verdict}
 
@@ -44,6 +51,20 @@ SaysBounded status e = status < 60
 -- what a status says of a proof is this refusal
 abbrev pub SaysProof : ℕ → (RefutationError → Type 0) → Type 0
 SaysProof status Is = IfSome (said_of_proof status) (IsErrWith Is)
+
+-- so of the proof of first steps, of a call with two proofs
+abbrev pub SaysBase : ℕ → (RefutationError → Type 0) → Type 0
+SaysBase status Is = IfSome (said_of_base_proof status) (IsErrWith Is)
+
+-- and of that of the window
+abbrev pub SaysStep : ℕ → (RefutationError → Type 0) → Type 0
+SaysStep status Is = IfSome (said_of_step_proof status) (IsErrWith Is)
+
+-- what the status of a call on two files says of their miter's window
+abbrev pub SaysMiterWindow : ℕ → EqualityError → Type 0
+SaysMiterWindow status (equality.Miter (proving.File e)) =
+    SaysOnly (said_of_window status) (answering.verdict_of e)
+SaysMiterWindow status e = said_of_window status ≡ None
 
 -- what a status says of a solver's answer is this refusal; one below 60 is another's
 abbrev pub SaysAnswer : ℕ → CheckError → Type 0
@@ -79,6 +100,7 @@ verdict_of_edit e = Accepted
 -- the error is one of an edit
 abbrev pub IsOfEditing : EditError → Type 0
 IsOfEditing edit.NoBads = ⊥
+IsOfEditing edit.NoJustice = ⊥
 IsOfEditing edit.QuestionTooLarge = ⊥
 IsOfEditing e = Unit {0}
 
@@ -90,6 +112,15 @@ IsOfAsking edit.QuestionTooLarge = Unit {0}
 IsOfAsking edit.Memory = Unit {0}
 IsOfAsking edit.Write = Unit {0}
 IsOfAsking e = ⊥
+
+-- or of what is made for a justice property
+abbrev pub IsOfLiving : EditError → Type 0
+IsOfLiving (edit.Read e) = Unit {0}
+IsOfLiving edit.NoJustice = Unit {0}
+IsOfLiving edit.TooLarge = Unit {0}
+IsOfLiving edit.Memory = Unit {0}
+IsOfLiving edit.Write = Unit {0}
+IsOfLiving e = ⊥
 
 -- or of what is always made
 abbrev pub IsOfMaking : EditError → Type 0
@@ -105,6 +136,7 @@ pub record IsEditStatus (e : EditError) (status : ℕ) : Type 0 where
   pub bads : status ≡ has_bads → e ≡ edit.HasBads
   pub output : status ≡ no_output → e ≡ edit.NoOutput
   pub bad : status ≡ no_bad → e ≡ edit.NoBad
+  pub justice : status ≡ no_justice → e ≡ edit.NoJustice
   pub format : status ≡ unwritable → e ≡ edit.TooLarge
   pub least : 2 ≤ status
 
@@ -117,6 +149,11 @@ IsOfCounts e = ⊥
 abbrev pub IsOfCountsIn : CertificateError → Type 0
 IsOfCountsIn (certificate.Pair e) = IsOfCounts e
 IsOfCountsIn e = ⊥
+
+-- or that aren't shown to be equal at every step
+abbrev pub IsOfCountsAlways : EqualityError → Type 0
+IsOfCountsAlways (equality.Pair e) = IsOfCounts e
+IsOfCountsAlways e = ⊥
 
 -- or isn't printed
 abbrev pub IsOfCountsBy : CheckError → Type 0
@@ -230,3 +267,25 @@ pub record MakesOfPair (pairing : Pairing) (limit : ℕ) (Means : File → File 
       (λ text. AreFilesWith limit bytes others (λ f g. Means f g text.items))
   pub misfit : IfErr result
       (λ status. TellsMisfit pairing limit bytes others status × (2 ≤ status) × IsOwn status)
+
+-- what the status of a call about a live circuit says that has this error: nothing is made, or it
+-- is of the circuit's query, its question, its window, or the proof of this
+abbrev pub SaysLive : ℕ → LivenessError → Type 0
+SaysLive status (liveness.Live e) =
+    IsEditStatus e status
+    × (IsOfLiving e → IsTrue (is_refusal status || is_live_fault status)) × (status < 60)
+SaysLive status (liveness.Query e) =
+    ((status ≡ 2) ⊎ ((516 ≤ status) × (status < 572)))
+    × SaysOnly (said_of_query status) (answering.verdict_of e)
+    × IfSome (said_of_query_proof status) (IsErrWith (λ x. e ≡ answers.Refutation x))
+SaysLive status (liveness.Question e) =
+    ((status ≡ 2) ⊎ IsOfBase status) × SaysBase status (λ x. e ≡ bounded.Refutation x)
+    × (status ≡ large_base → e ≡ bounded.Question questions.TooLarge)
+SaysLive status (liveness.Safety (proving.File e)) =
+    ((status ≡ 2) ⊎ (1028 ≤ status)) × (IsOfWindow e → status < 1056)
+    × SaysOnly (said_of_window status) (answering.verdict_of e) × (status < 1280)
+SaysLive status (liveness.Safety (proving.Base e)) =
+    ((status ≡ 2) ⊎ IsOfBase status) × SaysBase status (λ x. e ≡ bounded.Refutation x)
+    × (status ≡ large_base → e ≡ bounded.Question questions.TooLarge)
+SaysLive status (liveness.Safety (proving.Step e)) =
+    ((status ≡ 2) ⊎ IsOfStep status) × SaysStep status (λ x. e ≡ answers.Refutation x)

@@ -1,12 +1,16 @@
 -- Part of what is promised.
 -- What a status says: the number by which a call says how it ended.
-use Rattle.std.specs.Prelude.{◌≡◌, ◌≢◌, ◌⊎◌, ℕ, ◌<◌, ◌≤◌, ◌^◌, ◌-◌, ◌==◌, ◌&&◌, ◌||◌, nat_le, nat_lt, if◌then◌else◌, Bool, IsTrue, List, [], ◌∷◌, Option, None, Some, IfSome, Result, Ok, Err, option_map, slice_get}
+use Rattle.std.specs.Prelude.{◌≡◌, ◌≢◌, ◌⊎◌, ℕ, ◌+◌, ◌<◌, ◌≤◌, ◌^◌, ◌-◌, ◌==◌, ◌&&◌, ◌||◌, nat_le, nat_lt, if◌then◌else◌, Bool, IsTrue, List, [], ◌∷◌, Option, None, Some, IfSome, Result, Ok, Err, option_map, slice_get}
 use Rattle.aig_format.specs.File.{File}
 use Rattle.aig_reader.specs.Verdicts.{Accepted, Crowded, IsVerdictOn, NoBads, Refused, TooLarge, TooMany, Verdict}
 use Rattle.aig_refutation.specs.declared.error.RefutationError.{RefutationError}
 use Rattle.aig_refutation.specs.declared.error.RefutationError.TheVariants as faults
 use Rattle.aig_solutions.specs.declared.error.SolutionError.{SolutionError}
 use Rattle.aig_solutions.specs.declared.error.SolutionError.TheVariants as solution
+use Rattle.aig_fair.specs.declared.fault.LassoFault.{LassoFault}
+use Rattle.aig_fair.specs.declared.fault.LassoFault.TheVariants as lassos
+use Rattle.aig_fair.specs.declared.file.ClaimError.{ClaimError}
+use Rattle.aig_fair.specs.declared.file.ClaimError.TheVariants as claims
 use Rattle.aig_witness.specs.declared.error.WitnessError.{WitnessError}
 use Rattle.aig_witness.specs.declared.error.WitnessError.TheVariants as witness
 use Rattle.aig_witness.specs.declared.fault.WitnessFault.{WitnessFault}
@@ -56,6 +60,10 @@ no_output = 34
 abbrev pub large_question : ℕ
 large_question = 35
 
+-- and that of first steps, of a call with two proofs
+abbrev pub large_base : ℕ
+large_base = 2083
+
 -- constraints would be joined to the first of several bad literals alone
 abbrev pub many_bads : ℕ
 many_bads = 36
@@ -63,6 +71,10 @@ many_bads = 36
 -- there is no bad literal of this number
 abbrev pub no_bad : ℕ
 no_bad = 37
+
+-- there is no justice property of this number
+abbrev pub no_justice : ℕ
+no_justice = 38
 
 -- ---- what is said of a file's bytes
 
@@ -85,14 +97,18 @@ said_of_other status =
     else if nat_lt status 5 then said_by status
     else Some Accepted
 
--- one of the text of the circuit of two files, of which the query is asked
+-- one with a flag of what the flag stands for
+abbrev pub said_of_flagged : ℕ → ℕ → Option Verdict
+said_of_flagged flag status =
+    if nat_le flag status && nat_lt status (flag + 256) then said_by (status - flag) else None
+
+-- one of the circuit that is made of files, of which the query is asked
 abbrev pub said_of_query : ℕ → Option Verdict
-said_of_query status =
-    if nat_le 512 status && nat_lt status 1024 then said_by (status - 512) else None
+said_of_query = said_of_flagged 512
 
 -- or the window
 abbrev pub said_of_window : ℕ → Option Verdict
-said_of_window status = if nat_le 1024 status then said_by (status - 1024) else None
+said_of_window = said_of_flagged 1024
 
 -- where something is said, it is the verdict on these bytes
 abbrev pub Tells : (File → Verdict) → ℕ → List ℕ → Option Verdict → Type 0
@@ -112,17 +128,28 @@ said_of_proof status =
     if status == 0 then Some (Ok tt)
     else if nat_lt status 40 then None else option_map Err (slice_get proof_faults (status - 40))
 
--- of a call on two files, of the proof of their circuit's query
-abbrev pub said_of_query_proof : ℕ → Option (Result (Unit {0}) RefutationError)
-said_of_query_proof status =
+-- so of the proof that a flag stands for
+abbrev pub said_of_flagged_proof : ℕ → ℕ → Option (Result (Unit {0}) RefutationError)
+said_of_flagged_proof flag status =
     if status == 0 then Some (Ok tt)
-    else if nat_le 552 status && nat_lt status 1024 then said_of_proof (status - 512) else None
+    else if nat_le (flag + 40) status && nat_lt status (flag + 60)
+    then said_of_proof (status - flag) else None
+
+-- of the proof of the query of a circuit that is made of files
+abbrev pub said_of_query_proof : ℕ → Option (Result (Unit {0}) RefutationError)
+said_of_query_proof = said_of_flagged_proof 512
 
 -- and of that of its window
 abbrev pub said_of_window_proof : ℕ → Option (Result (Unit {0}) RefutationError)
-said_of_window_proof status =
-    if status == 0 then Some (Ok tt)
-    else if nat_le 1064 status then said_of_proof (status - 1024) else None
+said_of_window_proof = said_of_flagged_proof 1024
+
+-- of a call with proofs of first steps and of a window, of the one
+abbrev pub said_of_base_proof : ℕ → Option (Result (Unit {0}) RefutationError)
+said_of_base_proof = said_of_flagged_proof 2048
+
+-- and of the other
+abbrev pub said_of_step_proof : ℕ → Option (Result (Unit {0}) RefutationError)
+said_of_step_proof = said_of_flagged_proof 4096
 
 -- ---- what is said of a witness and of a solver's answer
 
@@ -172,6 +199,26 @@ SaysFault status (shows.Check fault) = status ≡ fault_status fault
 abbrev pub SaysSolution : ℕ → SolutionError → Type 0
 SaysSolution status e = status ≡ solution_status e
 
+-- the witness is of a bad state property
+abbrev pub witness_bad : ℕ
+witness_bad = 64
+
+-- the status of a fault of a witness of a justice property
+abbrev pub lasso_status : LassoFault → ℕ
+lasso_status (lassos.Run fault) = fault_status fault
+lasso_status lassos.NoJustice = 100
+lasso_status lassos.NoLoop = 101
+lasso_status (lassos.Literal n) = 102
+lasso_status (lassos.Fairness n) = 103
+
+-- a status says that this is why a witness shows no fair lasso: one below 60 that the file is
+-- refused
+abbrev pub SaysClaim : ℕ → ClaimError → Type 0
+SaysClaim status (claims.Show (shows.Check shown.Memory)) = status ≡ memory
+SaysClaim status (claims.Show (shows.Check fault)) = status ≡ witness_bad
+SaysClaim status (claims.Show e) = SaysFault status e
+SaysClaim status (claims.Lasso fault) = status ≡ lasso_status fault
+
 -- ---- which statuses a call has
 
 -- the file is refused, or memory was
@@ -186,6 +233,10 @@ is_edit_fault status =
     status == unwritable || nat_le 33 status && nat_lt status 35 || status == many_bads
     || status == no_bad
 
+-- a circuit isn't made for a justice property
+abbrev pub is_live_fault : ℕ → Bool
+is_live_fault status = status == unwritable || status == no_justice
+
 -- a proof is refused
 abbrev pub is_proof_fault : ℕ → Bool
 is_proof_fault status = nat_le 40 status && nat_lt status 60
@@ -193,6 +244,12 @@ is_proof_fault status = nat_le 40 status && nat_lt status 60
 -- a witness is, or it shows no bad state
 abbrev pub is_witness_fault : ℕ → Bool
 is_witness_fault status = nat_le 60 status && nat_lt status 80
+
+-- a witness of a justice property is, or it shows no fair lasso
+abbrev pub is_lasso_fault : ℕ → Bool
+is_lasso_fault status =
+    nat_le 60 status && nat_lt status 64 || nat_le 70 status && nat_lt status 80
+    || nat_le 100 status && nat_lt status 110
 
 -- a solver's answer is, or its witness shows no bad state
 abbrev pub is_solution_fault : ℕ → Bool
@@ -213,6 +270,10 @@ IsOfSolution status = IsTrue (nat_lt status 2 || (is_refusal status || is_soluti
 -- or what an edit makes of one
 abbrev pub IsOfEdit : ℕ → Type 0
 IsOfEdit status = IsTrue (nat_lt status 2 || (is_refusal status || is_edit_fault status))
+
+-- or what is made for a justice property
+abbrev pub IsOfLive : ℕ → Type 0
+IsOfLive status = IsTrue (nat_lt status 2 || (is_refusal status || is_live_fault status))
 
 -- or the question of a bounded check
 abbrev pub IsOfQuestion : ℕ → Type 0
@@ -241,9 +302,28 @@ IsOfBoundedProof status =
     IsTrue (status == large_question
     || (status == 0 || (is_refusal status || is_proof_fault status)))
 
+-- of a call with two proofs: first steps are refused, or their proof
+abbrev pub IsOfBase : ℕ → Type 0
+IsOfBase status = (status ≡ large_base) ⊎ ((2088 ≤ status) × (status < 2108))
+
+-- or the proof of the window
+abbrev pub IsOfStep : ℕ → Type 0
+IsOfStep status = (4136 ≤ status) × (status < 4156)
+
+-- of one that checks two proofs about a file
+abbrev pub IsOfSafety : ℕ → Type 0
+IsOfSafety status =
+    IsTrue (status == 0 || is_refusal status) ⊎ IsOfBase status ⊎ IsOfStep status
+
 -- or a witness
 abbrev pub IsOfWitness : ℕ → Type 0
 IsOfWitness status = IsTrue (status == 0 || (is_refusal status || is_witness_fault status))
+
+-- or one of a justice property
+abbrev pub IsOfLasso : ℕ → Type 0
+IsOfLasso status =
+    IsTrue (status == 0
+    || (is_refusal status || is_lasso_fault status || status == witness_bad))
 
 -- of one that gives the text of two files' circuit: one of the files is refused, or they are
 abbrev pub IsOfPair : ℕ → Type 0
@@ -260,6 +340,31 @@ abbrev pub IsOfPairProof : ℕ → Type 0
 IsOfPairProof status =
     (status ≢ small)
     × (IsOfPair status ⊎ ((516 ≤ status) × (status < 572)) ⊎ ((1028 ≤ status) × (status < 1084)))
+
+-- or two proofs about their miter: or its window is refused
+abbrev pub IsOfAlways : ℕ → Type 0
+IsOfAlways status =
+    (status ≢ small)
+    × (IsOfPair status ⊎ ((1028 ≤ status) × (status < 1056)) ⊎ IsOfBase status
+    ⊎ IsOfStep status)
+
+-- of one that checks a proof about the live circuit of a justice property: nothing is made, or
+-- the circuit's query is refused, or its proof
+abbrev pub IsOfNoLasso : ℕ → Type 0
+IsOfNoLasso status =
+    IsTrue (status == 0 || (is_refusal status || is_live_fault status))
+    ⊎ ((516 ≤ status) × (status < 572))
+
+-- or its question is
+abbrev pub IsOfNoLassoTo : ℕ → Type 0
+IsOfNoLassoTo status =
+    IsTrue (status == 0 || (is_refusal status || is_live_fault status)) ⊎ IsOfBase status
+
+-- or its window, or one of two proofs
+abbrev pub IsOfNoRun : ℕ → Type 0
+IsOfNoRun status =
+    IsTrue (status == 0 || (is_refusal status || is_live_fault status))
+    ⊎ ((1028 ≤ status) × (status < 1056)) ⊎ IsOfBase status ⊎ IsOfStep status
 
 -- a call for step K refuses a K of 2^32 or more, and has else one of these statuses
 abbrev pub AtStep : ℕ → (ℕ → Type 0) → ℕ → Type 0

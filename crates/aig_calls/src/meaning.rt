@@ -4,12 +4,16 @@ ghost use Rattle.std.specs.Prelude.{◌≡◌, ◌<◌, ◌≤◌, IfErr, List, 
 ghost use Rattle.aig_calls.specs.Calls.{IsGiven};
 
 use crate::buffer::put;
-use crate::status::{MEMORY, OTHER, PROOF, QUERY, WINDOW};
+use crate::status::{BASE, MEMORY, OTHER, PROOF, QUERY, STEP, WINDOW};
 use std::alloc::Global;
 
 /// What is said before the words of a status with a flag.
 fn prefix_of(status: u32) -> &'static [u8] {
-    if status >= WINDOW {
+    if status >= STEP {
+        b"step: "
+    } else if status >= BASE {
+        b"base: "
+    } else if status >= WINDOW {
         b"window: "
     } else if status >= QUERY {
         b"query: "
@@ -59,6 +63,7 @@ fn words_of_file(status: u32) -> &'static [u8] {
         35 => b"question passes the limit",
         36 => b"constraints and several bad state properties (aigedit compress makes these one)",
         37 => b"no such bad state property",
+        38 => b"no such justice property",
         _ => b"no status",
     }
 }
@@ -80,6 +85,7 @@ fn words_of_given(status: u32) -> &'static [u8] {
         61 => b"bad property line",
         62 => b"bad line of values",
         63 => b"no witness",
+        64 => b"the witness is of a bad state property",
         70 => b"the state has not a value for each latch",
         71 => b"a step has not a value for each input",
         72 => b"no step",
@@ -96,6 +102,10 @@ fn words_of_given(status: u32) -> &'static [u8] {
         86 => b"literal and its inverse in a solution",
         87 => b"solution ends before its 0",
         88 => b"no bad state property is true in the solution",
+        100 => b"no such justice property",
+        101 => b"no state is known to come again after the last step",
+        102 => b"a literal of the justice property is not known to hold in the loop",
+        103 => b"a fairness literal is not known to hold in the loop",
         _ => b"no status",
     }
 }

@@ -20,8 +20,8 @@ ghost use Rattle.aig_encode.specs.Encoding as encoding;
 ghost use Rattle.aig_reader.specs.Verdicts as reading;
 ghost use Rattle.aig_reader.specs.Verdicts.{Refused};
 ghost use Rattle.aig_witness.specs.Files as showing;
-ghost use Rattle.aig_calls.specs.Parts.{IsEditStatus, IsOfAsking, IsOfCounts, IsOfCountsBy, IsOfCountsIn, IsOfEditing, IsOfMaking, IsOwnOf, IsPairStatus, SaysAnswer, SaysBounded, SaysJoint, SaysObliged, SaysOnly, SaysProof, SaysQueryProof, SaysWindowProof, flagged, told_as};
-ghost use Rattle.aig_calls.specs.Statuses.{IsOfBounded, IsOfBoundedProof, IsOfBoundedSolution, IsOfObligations, IsOfPair, IsOfPairProof, IsOfQuestion, SaysFault, SaysSolution, fault_status, is_edit_fault, is_proof_fault, is_refusal, is_solution_fault, is_witness_fault, large_question, said_by, settled, witness_status};
+ghost use Rattle.aig_calls.specs.Parts.{IsEditStatus, IsOfAsking, IsOfCounts, IsOfCountsBy, IsOfCountsIn, IsOfEditing, IsOfLiving, IsOfMaking, IsOwnOf, IsPairStatus, SaysAnswer, SaysBounded, SaysJoint, SaysObliged, SaysOnly, SaysProof, SaysQueryProof, SaysWindowProof, flagged, told_as};
+ghost use Rattle.aig_calls.specs.Statuses.{IsOfBounded, IsOfBoundedProof, IsOfBoundedSolution, IsOfObligations, IsOfPair, IsOfPairProof, IsOfQuestion, SaysFault, SaysSolution, fault_status, is_edit_fault, is_live_fault, is_proof_fault, is_refusal, is_solution_fault, is_witness_fault, large_question, said_by, settled, witness_status};
 
 use aig::ReadError;
 use aig_answers::AnswerError;
@@ -74,19 +74,23 @@ const HAS_BADS: u32 = 33;
 /// The file has no output of the number.
 const NO_OUTPUT: u32 = 34;
 /// The question of a bounded check passes the limit while it is made.
-const LARGE_QUESTION: u32 = 35;
+pub(crate) const LARGE_QUESTION: u32 = 35;
 /// Constraints would be joined to the first of several bad literals alone.
 const MANY_BADS: u32 = 36;
 /// The file has no bad literal of the number.
 const NO_BAD: u32 = 37;
+/// The file has no justice property of the number.
+const NO_JUSTICE: u32 = 38;
 /// A proof is refused. The fault's number is added.
 pub(crate) const PROOF: u32 = 40;
 /// A witness is refused. The fault's number is added.
-const WITNESS: u32 = 60;
+pub(crate) const WITNESS: u32 = 60;
 /// A witness shows no bad state. The fault's number is added.
 const SHOW: u32 = 70;
 /// A solver's answer is refused. The fault's number is added.
 const SOLUTION: u32 = 80;
+/// A witness shows no fair lasso. The fault's number is added.
+pub(crate) const LASSO: u32 = 100;
 
 /// It is the second of two files that is refused so.
 pub(crate) const OTHER: u32 = 256;
@@ -94,6 +98,10 @@ pub(crate) const OTHER: u32 = 256;
 pub(crate) const QUERY: u32 = 512;
 /// It is the window of the circuit of two files, or its proof, that is refused so.
 pub(crate) const WINDOW: u32 = 1024;
+/// It is the question of the first steps, or its proof, that is refused so.
+pub(crate) const BASE: u32 = 2048;
+/// It is the proof of the window after the first steps that is refused so.
+pub(crate) const STEP: u32 = 4096;
 
 /// The number of a section, in the order of the header's counts from 1.9 on, and of the gates at last.
 fn section_number(section: Section) -> u32
@@ -149,6 +157,7 @@ pub(crate) fn of_edit(error: EditError) -> u32
     ensures said { IsEditStatus error result }
     ensures editing { IsOfEditing error → IsTrue (is_refusal result || is_edit_fault result) }
     ensures asking { IsOfAsking error → IsOfQuestion result }
+    ensures living { IsOfLiving error → IsTrue (is_refusal result || is_live_fault result) }
     ensures making { IsOfMaking error → IsTrue (is_refusal result) }
     ensures large { result ≡ large_question → error ≡ EditError.QuestionTooLarge }
 {
@@ -162,8 +171,8 @@ pub(crate) fn of_edit(error: EditError) -> u32
         EditError::QuestionTooLarge => LARGE_QUESTION,
         EditError::PassesLimit => TOO_LARGE,
         EditError::TooLarge => UNWRITABLE,
-        // No call asks for a justice property.
-        EditError::NoJustice | EditError::Memory | EditError::Write => MEMORY,
+        EditError::NoJustice => NO_JUSTICE,
+        EditError::Memory | EditError::Write => MEMORY,
     }
 }
 
@@ -181,10 +190,11 @@ pub(crate) fn of_tool(error: ToolError) -> u32
 }
 
 /// The status of a proof that is refused.
-fn of_refutation(error: RefutationError) -> u32
+pub(crate) fn of_refutation(error: RefutationError) -> u32
     ensures said { SaysOnly (said_by result) (answering.verdict_of (AnswerError.Refutation error)) }
     ensures proof { SaysProof result (λ e. e ≡ error) }
     ensures own { IsTrue (is_refusal result || is_proof_fault result) }
+    ensures apart { (result ≡ 2) ⊎ (40 ≤ result) }
     ensures few { result < 60 }
     ensures least { 2 ≤ result }
 {
@@ -221,7 +231,7 @@ pub(crate) fn of_answer(error: AnswerError) -> u32
 }
 
 /// The status of a witness that shows no bad state. Which step it is isn't told.
-fn of_fault(fault: WitnessFault) -> u32
+pub(crate) fn of_fault(fault: WitnessFault) -> u32
     ensures said { SaysOnly (said_by result) (showing.verdict_of (ShowError.Check fault)) }
     ensures exact { result ≡ fault_status fault }
     ensures own { IsTrue (is_refusal result || is_witness_fault result) }
@@ -345,8 +355,8 @@ pub(crate) fn of_check(error: CheckError) -> u32
 }
 
 /// The status with a flag, which one that says nothing hasn't.
-fn flagged(flag: u32, status: u32) -> u32
-    requires flag { flag ≤ 1024 }
+pub(crate) fn flagged(flag: u32, status: u32) -> u32
+    requires flag { flag ≤ 4096 }
     requires few { status < 256 }
     ensures { result ≡ flagged flag status }
 {

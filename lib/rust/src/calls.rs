@@ -53,6 +53,18 @@ unsafe extern "C" {
         proof: *const u8,
         proof_len: usize,
     ) -> u32;
+    pub fn aig_check_safe(
+        file: *const u8,
+        file_len: usize,
+        k: u64,
+        distinct: bool,
+        base_optimize: bool,
+        base: *const u8,
+        base_len: usize,
+        step_optimize: bool,
+        step: *const u8,
+        step_len: usize,
+    ) -> u32;
     pub fn aig_check_certified(
         file: *const u8,
         file_len: usize,
@@ -73,6 +85,20 @@ unsafe extern "C" {
         optimize: bool,
         proof: *const u8,
         proof_len: usize,
+    ) -> u32;
+    pub fn aig_check_always_equal(
+        file: *const u8,
+        file_len: usize,
+        other: *const u8,
+        other_len: usize,
+        k: u64,
+        distinct: bool,
+        base_optimize: bool,
+        base: *const u8,
+        base_len: usize,
+        step_optimize: bool,
+        step: *const u8,
+        step_len: usize,
     ) -> u32;
     pub fn aig_witness(
         file: *const u8,
@@ -103,6 +129,48 @@ unsafe extern "C" {
         witness_len: usize,
         bad: *mut usize,
         step: *mut usize,
+    ) -> u32;
+    pub fn aig_check_lasso(
+        file: *const u8,
+        file_len: usize,
+        witness: *const u8,
+        witness_len: usize,
+        justice: *mut usize,
+        start: *mut usize,
+        last: *mut usize,
+    ) -> u32;
+    pub fn aig_live(file: *const u8, file_len: usize, j: usize, out: *mut u8, out_len: usize, needed: *mut usize) -> u32;
+    pub fn aig_rounds(file: *const u8, file_len: usize, j: usize, count: usize, out: *mut u8, out_len: usize, needed: *mut usize) -> u32;
+    pub fn aig_check_no_lasso(
+        file: *const u8,
+        file_len: usize,
+        j: usize,
+        k: u64,
+        optimize: bool,
+        proof: *const u8,
+        proof_len: usize,
+    ) -> u32;
+    pub fn aig_check_no_lasso_to(
+        file: *const u8,
+        file_len: usize,
+        j: usize,
+        k: u64,
+        optimize: bool,
+        proof: *const u8,
+        proof_len: usize,
+    ) -> u32;
+    pub fn aig_check_no_fair_run(
+        file: *const u8,
+        file_len: usize,
+        j: usize,
+        k: u64,
+        distinct: bool,
+        base_optimize: bool,
+        base: *const u8,
+        base_len: usize,
+        step_optimize: bool,
+        step: *const u8,
+        step_len: usize,
     ) -> u32;
     pub fn aig_miter(
         file: *const u8,

@@ -63,6 +63,17 @@ pub struct Shown {
     pub step: usize,
 }
 
+/// A fair lasso that a witness shows.
+#[derive(Clone, Copy, Debug, PartialEq, Eq)]
+pub struct Lasso {
+    /// The number of the justice property, from 0 on.
+    pub justice: usize,
+    /// The step at which the loop starts, from 0 on.
+    pub start: usize,
+    /// The last step, after which the state is that before the loop's start.
+    pub last: usize,
+}
+
 /// How much room an answer is given at first.
 const ROOM: usize = 1 << 16;
 
@@ -122,4 +133,13 @@ pub fn check_run(file: &[u8], witness: &[u8]) -> Result<Shown> {
         calls::aig_check_run(file.as_ptr(), file.len(), witness.as_ptr(), witness.len(), &mut bad, &mut step)
     })?;
     Ok(Shown { bad, step })
+}
+
+/// Which fair lasso a witness of a justice property shows.
+pub fn check_lasso(file: &[u8], witness: &[u8]) -> Result<Lasso> {
+    let (mut justice, mut start, mut last) = (0, 0, 0);
+    held(unsafe {
+        calls::aig_check_lasso(file.as_ptr(), file.len(), witness.as_ptr(), witness.len(), &mut justice, &mut start, &mut last)
+    })?;
+    Ok(Lasso { justice, start, last })
 }

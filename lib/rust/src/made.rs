@@ -133,6 +133,14 @@ pub fn check_inductive(file: &[u8], k: u64, distinct: bool, optimize: bool, proo
     held(unsafe { calls::aig_check_inductive(file.as_ptr(), file.len(), k, distinct, optimize, proof.as_ptr(), proof.len()) })
 }
 
+/// Done only where no such run ever reaches a bad state. `base` is a proof of the clauses of `bounded`, and isn't read where these are
+/// settled; `step` is one of those of `window`; both are for the same `k`, each with its own setting.
+pub fn check_safe(file: &[u8], k: u64, distinct: bool, base_optimize: bool, base: &[u8], step_optimize: bool, step: &[u8]) -> Result<()> {
+    held(unsafe {
+        calls::aig_check_safe(file.as_ptr(), file.len(), k, distinct, base_optimize, base.as_ptr(), base.len(), step_optimize, step.as_ptr(), step.len())
+    })
+}
+
 /// Done only where no such run ever reaches a bad state, as `certificate` shows: a witness circuit of the hardware model checking
 /// competition: a file that begins with the first one's inputs and latches, in the same order, whatever their names, with resets that are
 /// constants or open, and that is bad, or breaks its constraints, wherever its invariant fails. `base` is a proof of the clauses of
@@ -152,6 +160,13 @@ pub fn check_equal(file: &[u8], other: &[u8], k: u64, optimize: bool, proof: &[u
     })
 }
 
+/// Done only where they have so at every step. `base` and `step` are as in `check_safe`, of the text that `miter` gives.
+pub fn check_always_equal(file: &[u8], other: &[u8], k: u64, distinct: bool, base_optimize: bool, base: &[u8], step_optimize: bool, step: &[u8]) -> Result<()> {
+    held(unsafe {
+        calls::aig_check_always_equal(file.as_ptr(), file.len(), other.as_ptr(), other.len(), k, distinct, base_optimize, base.as_ptr(), base.len(), step_optimize, step.as_ptr(), step.len())
+    })
+}
+
 /// The witness, in the format of AIGER 1.9, that a solver's answer to the query says. It was checked: nothing of the answer is trusted. A
 /// status from 70 on says why there is none.
 pub fn witness(file: &[u8], k: u64, optimize: bool, solution: &[u8]) -> Result<Vec<u8>> {
@@ -165,6 +180,40 @@ pub fn witness(file: &[u8], k: u64, optimize: bool, solution: &[u8]) -> Result<V
 pub fn witness_to(file: &[u8], k: u64, optimize: bool, solution: &[u8]) -> Result<Vec<u8>> {
     given(ROOM, |out, len, needed| unsafe {
         calls::aig_witness_to(file.as_ptr(), file.len(), k, optimize, solution.as_ptr(), solution.len(), out, len, needed)
+    })
+}
+
+/// The text form of the live circuit of a file's justice property `j`, from 0 on: its bad state property holds at a step exactly where
+/// the property has a fair lasso that ends there (liveness to safety). So answers about its bad states are about the file's fair runs.
+pub fn live(file: &[u8], j: usize) -> Result<Vec<u8>> {
+    given(ROOM, |out, len, needed| unsafe { calls::aig_live(file.as_ptr(), file.len(), j, out, len, needed) })
+}
+
+/// The text form of a circuit whose bad state property holds at a step exactly where `count` rounds of a file's justice property `j`,
+/// from 0 on, have ended by then: in each of them each literal of the property and of fairness is true. Where no bad state of it is ever
+/// reached, the property has no fair run (k-liveness).
+pub fn rounds(file: &[u8], j: usize, count: usize) -> Result<Vec<u8>> {
+    given(ROOM, |out, len, needed| unsafe { calls::aig_rounds(file.as_ptr(), file.len(), j, count, out, len, needed) })
+}
+
+/// Done only where a file's justice property `j`, from 0 on, has no fair lasso of `k` + 1 steps: no run of so many from an initial state,
+/// under the constraints at each step, ends where one of its steps began, with each literal of the property and of fairness true from
+/// there on. `proof` is of the clauses of `query` of the text that `live` gives.
+pub fn check_no_lasso(file: &[u8], j: usize, k: u64, optimize: bool, proof: &[u8]) -> Result<()> {
+    held(unsafe { calls::aig_check_no_lasso(file.as_ptr(), file.len(), j, k, optimize, proof.as_ptr(), proof.len()) })
+}
+
+/// Done only where it has none of at most `k` + 1 steps. `proof` is of the clauses of `bounded` of that text; where these are settled it
+/// isn't read.
+pub fn check_no_lasso_to(file: &[u8], j: usize, k: u64, optimize: bool, proof: &[u8]) -> Result<()> {
+    held(unsafe { calls::aig_check_no_lasso_to(file.as_ptr(), file.len(), j, k, optimize, proof.as_ptr(), proof.len()) })
+}
+
+/// Done only where it has no fair run: no run without end from an initial state, under the constraints at each step, on which each
+/// literal of the property and of fairness is true again and again. `base` and `step` are as in `check_safe`, of that text.
+pub fn check_no_fair_run(file: &[u8], j: usize, k: u64, distinct: bool, base_optimize: bool, base: &[u8], step_optimize: bool, step: &[u8]) -> Result<()> {
+    held(unsafe {
+        calls::aig_check_no_fair_run(file.as_ptr(), file.len(), j, k, distinct, base_optimize, base.as_ptr(), base.len(), step_optimize, step.as_ptr(), step.len())
     })
 }
 

@@ -1,4 +1,4 @@
-use Rattle.std.proofs.Common.{◌≡◌, ℕ, Ok, refl, rules}
+use Rattle.std.proofs.Common.{◌≡◌, Ok, refl, rules}
 use Rattle.aig_bounded_answers.specs.Asking.{IsAskedWithin, bounded_verdict, verdict_of}
 use Rattle.aig_bounded_answers.specs.declared.error.BoundedAnswerError.TheVariants as errors
 use Rattle.aig_commands.specs.declared.tool.TheConstants.{LIMIT}

@@ -1,8 +1,9 @@
+use Rattle.std.proofs.Common.{refl}
 use Rattle.aig_commands.specs.declared.tool.TheConstants.{LIMIT}
 use Rattle.aig_edits.specs.declared.pairing.Pairing.TheVariants.{Miter}
 use Rattle.aig_join.specs.Files.{AreEqualMachinesAt, HaveSameFileCounts}
 use Rattle.aig_calls.specs.Calls.{ShowsQuery}
-use Rattle.aig_calls.specs.Statuses.{IsOfPairProof}
+use Rattle.aig_calls.specs.Statuses.{IsOfPairProof, said_of_query_proof}
 use Rattle.aig_certificates.specs.Certificates.{joint_verdict}
 use Rattle.aig_calls.proofs.Joining.{none_proof, none_query}
 use Rattle.aig_calls.proofs.Pairing.{pair_at, pair_none}
@@ -36,4 +37,4 @@ returns-in-Ok-clause-shown c = rw c.in-Ok.ensures.ok.0 at c.refute_miter.ensures
 pub returns-in-Err-clause-shown : goal.returns-in-Err-clause-shown
 returns-in-Err-clause-shown c =
     none_proof Miter (ShowsQuery c.args.k c.args.optimize c.args.proof.now) LIMIT c.args.file.now
-    c.args.other.now _ c.in-Err.ensures.err.0
+    c.args.other.now said_of_query_proof _ c.in-Err.ensures.err.0 refl

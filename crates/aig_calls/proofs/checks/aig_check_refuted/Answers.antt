@@ -1,4 +1,3 @@
-use Rattle.std.proofs.Common.{ℕ}
 use Rattle.aig_answers.specs.Answers.{asked_verdict}
 use Rattle.aig_commands.specs.declared.tool.TheConstants.{LIMIT}
 use Rattle.aig_runs.specs.Safety.{IsSafeAt}

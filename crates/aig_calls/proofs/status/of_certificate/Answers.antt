@@ -43,7 +43,7 @@ returns-in-Window-clause-query c =
     let status = c.of_answer-in-Window.result in
     let least = c.of_answer-in-Window.ensures.least in
     rw c.flagged-in-Window.ensures (other_query_proof _ _ (flagged_apart 1024 status least).0
-    (window_apart status least))
+    (window_apart status))
 
 pub returns-in-Window-clause-window : goal.returns-in-Window-clause-window
 returns-in-Window-clause-window c =

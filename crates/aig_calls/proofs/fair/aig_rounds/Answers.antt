@@ -1,0 +1,18 @@
+use Rattle.aig_commands.specs.declared.tool.TheConstants.{LIMIT}
+use Rattle.aig_edits.specs.Rounds.{IsRoundsRefusal}
+use Rattle.aig_reader.specs.Verdicts.{Accepted}
+use Rattle.aig_calls.specs.Calls.{IsRoundsText}
+use Rattle.aig_calls.specs.Statuses.{IsOfLive}
+use Rattle.aig_calls.proofs.Giving.{gives}
+use Rattle.aig_calls.proofs.Living.{put_living}
+use Rattle.aig_calls.proofs.fair.aig_rounds.Goals as goal
+
+pub returns-clause-gives : goal.returns-clause-gives
+returns-clause-gives c =
+    gives (λ _. Accepted) LIMIT c.args.file.now (IsRoundsText c.args.j c.args.count) IsOfLive
+    c.rounds_text.result _ _ _ _ _ c.rounds_text.ensures.makes c.put.ensures
+
+pub returns-clause-refusal : goal.returns-clause-refusal
+returns-clause-refusal c =
+    put_living (IsRoundsRefusal c.args.j c.args.count) LIMIT c.args.file.now
+    c.rounds_text.result _ _ _ _ _ c.rounds_text.ensures.refusal c.put.ensures
