@@ -211,19 +211,21 @@ uint32_t aig_query(const uint8_t *file, size_t file_len, uint64_t k, bool optimi
 uint32_t aig_query_numbers(const uint8_t *file, size_t file_len, uint64_t k, bool optimize, int32_t *out, size_t out_len,
                            size_t *needed, size_t *variables, size_t *clauses_len);
 
-/* The clauses of the query, in DIMACS form, and before them comments that say which literals stand for the inputs at each step, the
- * latches at step 0 and the bad state properties at step `k`. A file without bad state properties is refused. */
+/* The clauses of the query, in DIMACS form. Before them stand a title, as in `c aigcheck clauses 5 raw sha256 SUM`, and comments that say
+ * which literals stand for the inputs at each step, the latches at step 0 and the bad state properties at step `k`. A file without bad
+ * state properties is refused. */
 uint32_t aig_clauses(const uint8_t *file, size_t file_len, uint64_t k, bool optimize, uint8_t *out, size_t out_len,
                      size_t *needed);
 
-/* The clauses, in DIMACS form, of `aig_question`, and that its output is true; before them comments that say which input or latch each
- * input of the question is, at which step, and its variable. AIG_SETTLED only where no bad state is reached up to step `k`: then there
- * are no clauses to solve. */
+/* The clauses, in DIMACS form, of `aig_question`, and that its output is true. Before them stand a title, as in `c aigcheck bounded 5
+ * sha256 SUM`, and comments that say which input or latch each input of the question is, at which step, and its variable. AIG_SETTLED only
+ * where no bad state is reached up to step `k`: then there are no clauses to solve. */
 uint32_t aig_bounded(const uint8_t *file, size_t file_len, uint64_t k, bool optimize, uint8_t *out, size_t out_len,
                      size_t *needed);
 
 /* The clauses, in DIMACS form, that ask for a window of a file's machine: `k` + 2 steps from any state with a bad state first at
- * their end; where `distinct`, on which no state comes twice. */
+ * their end; where `distinct`, on which no state comes twice. Before them stands a title, as in `c aigcheck window 3 distinct sha256
+ * SUM`. */
 uint32_t aig_window(const uint8_t *file, size_t file_len, uint64_t k, bool distinct, bool optimize, uint8_t *out,
                     size_t out_len, size_t *needed);
 
@@ -326,8 +328,8 @@ uint32_t aig_join(const uint8_t *file, size_t file_len, const uint8_t *certifica
 uint32_t aig_merge(const uint8_t *file, size_t file_len, const uint8_t *other, size_t other_len, uint8_t *out, size_t out_len,
                    size_t *needed);
 
-/* The clauses, in DIMACS form, that the proofs of `aig_check_certified` are of: after the line `c base` those of `base`, and after the
- * line `c step` those of `step`. */
+/* The clauses, in DIMACS form, that the proofs of `aig_check_certified` are of: after a title, as in `c aigcheck obligations sha256 SUM
+ * SUM`, and the line `c base` those of `base`, and after the line `c step` those of `step`. */
 uint32_t aig_obligations(const uint8_t *file, size_t file_len, const uint8_t *certificate, size_t certificate_len, bool optimize,
                          uint8_t *out, size_t out_len, size_t *needed);
 

@@ -172,7 +172,8 @@ class Answers:
                 self.check(line.format(**files), wanted, FILES, stdout=full)
         for form in ["", " raw"]:
             query = harness.run([self.programs["aigtool"], "query", CREDITS, "0", *form.split()], cwd=FILES)[1]
-            self.check(f"aigcheck clauses {CREDITS} 0{form}", (0, COMMENTS + query, b""), FILES)
+            text = harness.title(f"clauses 0{form}", (FILES / CREDITS).read_bytes()) + COMMENTS + query
+            self.check(f"aigcheck clauses {CREDITS} 0{form}", (0, text, b""), FILES)
             self.check_obligations("differing.aag held.aag", form)
 
     def check_obligations(self, pair, form):
@@ -180,8 +181,10 @@ class Answers:
         joined = self.folder / "joined"
         joined.write_bytes(harness.run([self.programs["aigedit"], "join", *pair.split()], cwd=FILES)[1])
         base = harness.run([self.programs["aigtool"], "query", joined, "0", *form.split()])[1]
-        step = harness.run([self.programs["aigcheck"], "window", joined, "0", *form.split()])[1]
-        self.check(f"aigcheck obligations {pair}{form}", (0, b"c base\n" + base + b"c step\n" + step, b""), FILES)
+        window = harness.run([self.programs["aigcheck"], "window", joined, "0", *form.split()])[1]
+        step = window.removeprefix(harness.title(f"window 0{form}", joined.read_bytes()))
+        title = harness.title(f"obligations{form}", *((FILES / name).read_bytes() for name in pair.split()))
+        self.check(f"aigcheck obligations {pair}{form}", (0, title + b"c base\n" + base + b"c step\n" + step, b""), FILES)
 
 
 def main():

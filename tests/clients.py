@@ -61,6 +61,8 @@ SLICES = {"&[u8]": "const uint8_t*", "&mut [u8]": "uint8_t*", "&mut [i32]": "int
 FIRST = {"PROOF": "PROOF_CLAUSES", "WITNESS": "WITNESS_STATUS", "SHOW": "SHOW_LATCHES", "SOLUTION": "SOLUTION_UNSATISFIABLE"}
 FIRST["LASSO"] = "LASSO_NO_JUSTICE"
 SECTIONS = ["INPUTS", "LATCHES", "OUTPUTS", "BADS", "CONSTRAINTS", "JUSTICE", "FAIRNESS", "GATES"]
+# The title of clauses in a table, which numbers haven't.
+TITLE = re.compile(r"^c aigcheck [^\\]*\\n")
 # The step at which a bad state is first reached, as other tools found (tests/designs/answers.tsv; of the example, README).
 REACHED = {"examples/credits.aag": 2, "tests/designs/alu_bug.aig": 4, "tests/designs/sha4.aig": 4}
 # And one of which they found that none is.
@@ -69,7 +71,7 @@ SAFE_DESIGN = "tests/designs/msi.aig"
 
 def table_rows():
     """Rows of the programs' tables that have a call: not those of wrong words, and not those of paths that can't be read. Those of clauses
-    are rows of `numbers` too: the comments that the map says are those that the program prints."""
+    are rows of `numbers` too, but for the title: the comments that the map says are those that the program prints."""
     for table, form in answers.TABLES.items():
         path = TESTS / table
         for row in harness.rows(path):
@@ -81,8 +83,9 @@ def table_rows():
                 command = "lasso" if "bad state" not in printed else ""
             known = [(path.parent / word).is_file() or word in ("GIVEN", *WORDS) or word.isdigit() for word in words]
             if printed != "usage" and all(known) and words and name_of(command, words) in CALLS:
-                for name in ["clauses", "numbers"] if command == "clauses" else [command]:
-                    yield path.parent, program, [name, *words], spelled(given), printed
+                yield path.parent, program, [command, *words], spelled(given), printed
+                if command == "clauses":
+                    yield path.parent, program, ["numbers", *words], spelled(given), TITLE.sub("", printed)
 
 
 def name_of(command, words):

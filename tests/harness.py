@@ -1,6 +1,7 @@
 """What the scripts of this folder stand on: where the programs are, how one is run, spelled bytes, and checks that are counted."""
 import argparse
 import contextlib
+import hashlib
 import os
 import pathlib
 import re
@@ -153,6 +154,12 @@ def rows(path):
     """The cells of each row of a table, but for empty lines and those that begin with #."""
     lines = path.read_text(encoding="utf-8").splitlines()
     return [line.split("\t") for line in lines if line and line[0] != "#"]
+
+
+def title(words, *files):
+    """The title of clauses that aigcheck prints for these words of files of these bytes."""
+    sums = " ".join(hashlib.sha256(data).hexdigest() for data in files)
+    return f"c aigcheck {words} sha256 {sums}\n".encode()
 
 
 def files(path):

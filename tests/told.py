@@ -66,6 +66,11 @@ def lines(program, told):
     return b"".join(b"%s: %s: %s\n" % (program.name.encode(), name.encode(), text) for name, text in told)
 
 
+def titled(words, name, clauses):
+    """The clauses of a file behind their title."""
+    return harness.title(words, FILES[name]) + clauses
+
+
 def paths_are_spelled_out(room):
     for name, shown in NAMES.items():
         for program, command in [(room.editor, [b"refine", name]), (room.checker, [b"window", name, b"0"])]:
@@ -82,10 +87,11 @@ def what_is_left_out_is_told(room):
     harness.write_files(room.folder, FILES)
     for name in ["live.aag", "live.aig", "just.aag", "fair.aag"]:
         told = lines(room.checker, [(name, LEFT_OUT)])
-        ends(room, room.checker, ["clauses", name, "0"], 0, ASKED, told)
+        asked = titled("clauses 0", name, ASKED)
+        ends(room, room.checker, ["clauses", name, "0"], 0, asked, told)
         piped = told.replace(name.encode(), b"/dev/stdin")
-        ends(room, room.checker, ["clauses", "/dev/stdin", "0"], 0, ASKED, piped, input=FILES[name])
-    ends(room, room.checker, ["clauses", "safe.aag", "0"], 0, ASKED, b"")
+        ends(room, room.checker, ["clauses", "/dev/stdin", "0"], 0, asked, piped, input=FILES[name])
+    ends(room, room.checker, ["clauses", "safe.aag", "0"], 0, titled("clauses 0", "safe.aag", ASKED), b"")
     settled = [("none.aag", b"no bad state up to step 1"), ("none.aag", LEFT_OUT)]
     ends(room, room.checker, ["bounded", "none.aag", "1"], 20, b"", lines(room.checker, settled))
     ends(room, room.checker, ["clauses", "cut.aag", "0"], 1, b"", lines(room.checker, [("cut.aag", b"line 4: bad line in justice")]))
@@ -100,7 +106,8 @@ def what_limits_a_comparison_is_told(room):
     for pair in [("held.aag", "safe.aag"), ("safe.aag", "held.aag"), ("held.aag", "held.aag"), ("safe.aag", "safe.aag")]:
         told = lines(room.checker, [(name, WITHIN) for name in pair if name == "held.aag"])
         ends(room, room.checker, ["equal", *pair, "0", "conflict"], 0, b"equal at step 0\n", told)
-    ends(room, room.checker, ["clauses", "held.aag", "0"], 0, ASKED.replace(b"2 2\n-1 0\n", b"2 3\n-1 0\n-2 0\n"), b"")
+    asked = titled("clauses 0", "held.aag", ASKED.replace(b"2 2\n-1 0\n", b"2 3\n-1 0\n-2 0\n"))
+    ends(room, room.checker, ["clauses", "held.aag", "0"], 0, asked, b"")
 
 
 def a_run_names_its_property(room):
@@ -144,4 +151,5 @@ def a_high_limit_takes_no_memory(room):
     little = limit(resource.RLIMIT_AS, 64 << 20)
     ends(room, room.editor, ["--limit", "2147483648", "reencode", "and.aag"], 0, AND, b"", preexec_fn=little)
     harness.write_files(room.folder, FILES)
-    ends(room, room.checker, ["--limit", "2147483648", "clauses", "safe.aag", "0"], 0, ASKED, b"", preexec_fn=little)
+    asked = titled("clauses 0", "safe.aag", ASKED)
+    ends(room, room.checker, ["--limit", "2147483648", "clauses", "safe.aag", "0"], 0, asked, b"", preexec_fn=little)

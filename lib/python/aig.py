@@ -328,23 +328,25 @@ def query(file: bytes, k: int, *, optimize: bool = True) -> bytes:
 
 
 def clauses(file: bytes, k: int, *, optimize: bool = True) -> bytes:
-    """The clauses of the query, in DIMACS form, and before them comments that say which literals stand for the inputs at each step, the
-    latches at step 0 and the bad state properties at step `k`. A file without bad state properties is refused.
+    """The clauses of the query, in DIMACS form. Before them stand a title, as in `c aigcheck clauses 5 raw sha256 SUM`, and comments that
+    say which literals stand for the inputs at each step, the latches at step 0 and the bad state properties at step `k`. A file
+    without bad state properties is refused.
     """
     return _bytes("aig_clauses", *_given(file), _steps(k), optimize)
 
 
 def bounded(file: bytes, k: int, *, optimize: bool = True) -> bytes:
-    """The clauses, in DIMACS form, of `question`, and that its output is true; before them comments that say which input or latch each
-    input of the question is, at which step, and its variable. Raises `Settled` only where no bad state is reached up to step `k`: then
-    there are no clauses to solve.
+    """The clauses, in DIMACS form, of `question`, and that its output is true. Before them stand a title, as in `c aigcheck bounded 5
+    sha256 SUM`, and comments that say which input or latch each input of the question is, at which step, and its variable. Raises
+    `Settled` only where no bad state is reached up to step `k`: then there are no clauses to solve.
     """
     return _bytes("aig_bounded", *_given(file), _steps(k), optimize)
 
 
 def window(file: bytes, k: int, *, distinct: bool = False, optimize: bool = True) -> bytes:
     """The clauses, in DIMACS form, that ask for a window of a file's machine: `k` + 2 steps from any state with a bad state first at
-    their end; where `distinct`, on which no state comes twice.
+    their end; where `distinct`, on which no state comes twice. Before them stands a title, as in `c aigcheck window 3 distinct sha256
+    SUM`.
     """
     return _bytes("aig_window", *_given(file), _steps(k), distinct, optimize)
 
@@ -517,7 +519,7 @@ def merge(file: bytes, other: bytes) -> bytes:
 
 
 def obligations(file: bytes, certificate: bytes, *, optimize: bool = True) -> bytes:
-    """The clauses, in DIMACS form, that the proofs of `check_certified` are of: after the line `c base` those of `base`, and after the
-    line `c step` those of `step`.
+    """The clauses, in DIMACS form, that the proofs of `check_certified` are of: after a title, as in `c aigcheck obligations sha256 SUM
+    SUM`, and the line `c base` those of `base`, and after the line `c step` those of `step`.
     """
     return _bytes("aig_obligations", *_given(file), *_given(certificate), optimize)

@@ -22,7 +22,7 @@ module _ {R P W : Type 0} (left : R → Option (List ℕ)) (read_failed : R → 
       → left r ≡ Some bytes → held w ≡ Some [] → held made ≡ Some out
       → (f : File) × IsAskedBy c limit bytes f
       × ((Accepts bytes limit f → file_verdict c limit f ≡ Accepted)
-      × Answers c (given p) f out)
+      × Answers c (given p) (Some bytes) f out)
   printed u runs is empty all =
       let answer = runs.ok in
       let read = answer.1 in
@@ -35,8 +35,8 @@ module _ {R P W : Type 0} (left : R → Option (List ℕ)) (read_failed : R → 
         subst (λ b. IsAskedBy c limit b read.file) taken read.holds,
         (
           (λ accepts. sym (on.each read.file accepts)),
-          subst (Answers c (given p) read.file)
-              (sym same) read.means,
+          subst (Answers c (given p) (Some bytes) read.file) (sym same)
+              (subst (λ old. Answers c (given p) old read.file answer.0) is read.means),
         ),
       )
 

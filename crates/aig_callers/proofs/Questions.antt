@@ -28,6 +28,8 @@ use Rattle.aig_certificates.specs.declared.error.CertificateError.TheVariants as
 use Rattle.aig_checks.specs.Bounded.{IsBoundedText}
 use Rattle.aig_checks.specs.Pairs.{IsObligationsText, formula_of}
 use Rattle.aig_checks.specs.Running.{IsClausesText, IsWindowText}
+use Rattle.aig_checks.specs.Titling.{pair_title}
+use Rattle.aig_titles.specs.Titles.{title_text}
 use Rattle.aig_commands.specs.Running.{IsTextOf}
 use Rattle.aig_edits.specs.Joints.{IsJointOf}
 use Rattle.aig_edits.specs.Pairs.{ReadsPair}
@@ -47,7 +49,7 @@ module _ (laws : Laws) (one : SpellOne) (limit k : ℕ) (optimize : Bool) (file 
     (f : File) (old new given : Option (List ℕ)) (failed : Bool) (is : old ≡ Some file)
     (known : given ≡ Some proof) where
   pub step_taken : (answer : Result (Unit {0}) AnswerError) → IsAsked limit k file f
-      → asked_verdict limit k f ≡ Accepted → IsClausesText f k optimize text
+      → asked_verdict limit k f ≡ Accepted → IsClausesText (Some file) f k optimize text
       → Judges (asked_verdict limit k) limit old new failed (verdict_by answering.verdict_of answer)
       → (verdict_by answering.verdict_of answer ≡ Accepted
       → IsReadAs (IsAsked limit k) (TellsOfStep k optimize given) old new answer)
@@ -66,7 +68,7 @@ module _ (laws : Laws) (one : SpellOne) (limit k : ℕ) (optimize : Bool) (file 
 
   pub window_taken : (form : Window) (answer : Result (Unit {0}) AnswerError)
       → IsAsked limit (k + 1) file f → window_verdict form limit k f ≡ Accepted
-      → IsWindowText form f k optimize text
+      → IsWindowText (Some file) form f k optimize text
       → Judges (window_verdict form limit k) limit old new failed
       (verdict_by answering.verdict_of answer)
       → (verdict_by answering.verdict_of answer ≡ Accepted
@@ -86,7 +88,7 @@ module _ (laws : Laws) (one : SpellOne) (limit k : ℕ) (optimize : Bool) (file 
   pub bounded_taken : {P : Type 0} (left : P → Option (List ℕ)) (before after : P)
       (answer : Result (Unit {0}) BoundedAnswerError) → IfErr answer IsOfCheck
       → IsAskedWithin limit file f
-      → bounded_verdict f ≡ Accepted → IsBoundedText f k optimize text
+      → bounded_verdict f ≡ Accepted → IsBoundedText (Some file) f k optimize text
       → Judges bounded_verdict limit old new failed (verdict_by bounding.verdict_of answer)
       → (verdict_by bounding.verdict_of answer ≡ Accepted
       → IsReadAs (IsAskedWithin limit) (AnswersProof left k optimize before after) old new answer)
@@ -133,7 +135,7 @@ module _ (laws : Laws) (one : SpellOne) (limit : ℕ) (file beside : List ℕ) (
 
   module _ (optimize : Bool) (text base step : List ℕ) (base_given step_given : Option (List ℕ))
       (base_known : base_given ≡ Some base) (step_known : step_given ≡ Some step)
-      (printed : IsObligationsText optimize f g text) where
+      (printed : IsObligationsText optimize (Some file) (Some beside) f g text) where
     same_joint : (m : Circuit) → IsJointOf Certificate f g m → m ≡ printed.asked.whole
     same_joint m joint = joint.joint ∙ sym printed.asked.joint.joint
 
@@ -190,10 +192,13 @@ module _ (laws : Laws) (one : SpellOne) (limit : ℕ) (file beside : List ℕ) (
           (formula_of printed.base_clauses) in
           let second = dimacs_of (length printed.step_clauses.clauses)
           (formula_of printed.step_clauses) in
+          let title = title_text (pair_title optimize printed.sum printed.beside) in
           record {
+            title = title;
             first = first;
             second = second;
-            parted = printed.exact ∙ ap₂ (λ a b. a ++ b) printed.base_exact printed.step_exact;
+            parted = printed.exact
+                ∙ ap₂ (λ a b. title ++ a ++ b) printed.base_exact printed.step_exact;
             takes = λ p q. both_taken answer reads
                 (subst (λ t. IsProofOf t base) (sym printed.base_exact) p)
                 (subst (λ t. IsProofOf t step) (sym printed.step_exact) q);

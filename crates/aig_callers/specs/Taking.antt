@@ -87,11 +87,13 @@ IsOfNoProof (certificate.Query (answers.Refutation e)) = IsOutside e
 IsOfNoProof (certificate.Window (answers.Refutation e)) = IsOutside e
 IsOfNoProof e = Unit {0}
 
--- the text is that of two formulas, after a line that names each, and proofs of both aren't refused
+-- the text is a title and then that of two formulas, after a line that names each, and proofs of
+-- both aren't refused
 pub record TakesParts (text base step : List ℕ) (answer : Result (Unit {0}) CertificateError)
     : Type 0 where
+  pub title : List ℕ
   pub first : List ℕ
   pub second : List ℕ
-  pub parted : text ≡ (codes "c base\n" ++ first) ++ (codes "c step\n" ++ second)
+  pub parted : text ≡ title ++ (codes "c base\n" ++ first) ++ (codes "c step\n" ++ second)
   pub takes : IsProofOf (codes "c base\n" ++ first) base
       → IsProofOf (codes "c step\n" ++ second) step → IfErr answer IsOfNoProof

@@ -1,6 +1,6 @@
 -- Serves private clauses alone.
 -- What the programs print of files that lie in memory.
-use Rattle.std.specs.Prelude.{◌≡◌, ℕ, ◌+◌, ◌^◌, Bool, List}
+use Rattle.std.specs.Prelude.{◌≡◌, ℕ, ◌+◌, ◌^◌, Bool, List, Some}
 use Rattle.aig_answers.specs.Answers.{IsAsked, asked_verdict, window_verdict}
 use Rattle.aig_bounded_answers.specs.Asking.{IsAskedWithin, bounded_verdict}
 use Rattle.aig_checks.specs.Bounded.{IsBoundedText}
@@ -22,25 +22,25 @@ use Rattle.aig_runs.specs.declared.window.Window.{Window}
 abbrev pub IsClausesTextOf : ℕ → Bool → List ℕ → List ℕ → Type 0
 IsClausesTextOf k optimize file text =
     (f : File) × IsAsked (2 ^ 24) k file f × (asked_verdict (2 ^ 24) k f ≡ Accepted)
-    × IsClausesText f k optimize text
+    × IsClausesText (Some file) f k optimize text
 
 -- that of `window FILE K`
 abbrev pub IsWindowTextOf : Window → ℕ → Bool → List ℕ → List ℕ → Type 0
 IsWindowTextOf form k optimize file text =
     (f : File) × IsAsked (2 ^ 24) (k + 1) file f × (window_verdict form (2 ^ 24) k f ≡ Accepted)
-    × IsWindowText form f k optimize text
+    × IsWindowText (Some file) form f k optimize text
 
 -- that of `bounded FILE K`
 abbrev pub IsBoundedTextOf : ℕ → Bool → List ℕ → List ℕ → Type 0
 IsBoundedTextOf k optimize file text =
     (f : File) × IsAskedWithin (2 ^ 24) file f × (bounded_verdict f ≡ Accepted)
-    × IsBoundedText f k optimize text
+    × IsBoundedText (Some file) f k optimize text
 
 -- that of `obligations FILE CERT`
 abbrev pub AreObligationsOf : Bool → List ℕ → List ℕ → List ℕ → Type 0
 AreObligationsOf optimize file certificate text =
     (f : File) × (g : File) × Accepts file (2 ^ 24) f × Accepts certificate (2 ^ 24) g
-    × IsObligationsText optimize f g text
+    × IsObligationsText optimize (Some file) (Some certificate) f g text
 
 -- that of `aigedit miter FILE OTHER`
 abbrev pub IsMiterTextOf : List ℕ → List ℕ → List ℕ → Type 0

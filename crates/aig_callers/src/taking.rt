@@ -37,7 +37,7 @@ fn clauses_text(alloc: Global, file: &[u8], k: usize, optimize: bool) -> Result<
     ensures { IfOk result (λ text. IsClausesTextOf k optimize file.now text.items) }
 {
     let mut out = FlushedWriter::new(Vec::new(alloc));
-    print_clauses(alloc, LIMIT, k, optimize, &mut source_of(file), &mut out)?;
+    print_clauses(alloc, LIMIT, k, optimize, source_of(file), &mut out)?;
     Ok(out.into_inner())
 }
 
@@ -78,15 +78,7 @@ fn window_text(
     ensures { IfOk result (λ text. IsWindowTextOf form k optimize file.now text.items) }
 {
     let mut out = FlushedWriter::new(Vec::new(alloc));
-    print_window(
-        alloc,
-        LIMIT,
-        k,
-        form,
-        optimize,
-        &mut source_of(file),
-        &mut out,
-    )?;
+    print_window(alloc, LIMIT, k, form, optimize, source_of(file), &mut out)?;
     Ok(out.into_inner())
 }
 
@@ -119,7 +111,7 @@ fn bounded_text(alloc: Global, file: &[u8], k: usize, optimize: bool) -> Result<
     ensures { IfOk result (λ text. IsBoundedTextOf k optimize file.now text.items) }
 {
     let mut out = FlushedWriter::new(Vec::new(alloc));
-    print_bounded(alloc, LIMIT, k, optimize, &mut source_of(file), &mut out)?;
+    print_bounded(alloc, LIMIT, k, optimize, source_of(file), &mut out)?;
     Ok(out.into_inner())
 }
 
@@ -156,7 +148,7 @@ fn obligations_text(
         (λ text. AreObligationsOf optimize file.now certificate.now text.items) }
 {
     let mut out = FlushedWriter::new(Vec::new(alloc));
-    let (file, certificate) = (&mut source_of(file), &mut source_of(certificate));
+    let (file, certificate) = (source_of(file), source_of(certificate));
     print_obligations(alloc, LIMIT, optimize, file, certificate, &mut out)?;
     Ok(out.into_inner())
 }

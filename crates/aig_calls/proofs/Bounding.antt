@@ -43,8 +43,8 @@ module _ (k : ℕ) (optimize : Bool) (limit : ℕ) (bytes : List ℕ) where
       → MakesBounded k optimize limit bytes made → Puts made status old new before needed
       → GivesBounded k optimize limit IsOfBounded bytes status old new before needed
   gives_bounded made status old new before needed makes puts = record {
-    gives = gives bounded_verdict limit bytes (λ f text. IsBoundedText f k optimize text)
-        IsOfBounded made status old new before needed makes.makes puts;
+    gives = gives bounded_verdict limit bytes
+        (λ f text. IsBoundedText (Some bytes) f k optimize text) IsOfBounded made status old new before needed makes.makes puts;
     safe = put_settled made status old new before needed makes.safe puts;
   }
 
@@ -54,8 +54,8 @@ module _ (k : ℕ) (optimize : Bool) (limit : ℕ) (bytes : List ℕ) where
         needed
         → GivesBounded k optimize limit (AtStep k IsOwn) bytes status old new before needed
     bounded_at low told = record {
-      gives = gives_at bounded_verdict limit bytes (λ f text. IsBoundedText f k optimize text) k
-          IsOwn status old new before needed low told.gives;
+      gives = gives_at bounded_verdict limit bytes
+          (λ f text. IsBoundedText (Some bytes) f k optimize text) k IsOwn status old new before needed low told.gives;
       safe = told.safe;
     }
 
@@ -63,7 +63,7 @@ module _ (k : ℕ) (optimize : Bool) (limit : ℕ) (bytes : List ℕ) where
     pub bounded_none : 2 ^ 32 ≤ k → status ≡ many_steps → new ≡ old → needed ≡ before
         → GivesBounded k optimize limit (AtStep k IsOwn) bytes status old new before needed
     bounded_none many is same none = record {
-      gives = gives_none bounded_verdict limit bytes (λ f text. IsBoundedText f k optimize text) k
-          IsOwn status old new before needed many is same none;
+      gives = gives_none bounded_verdict limit bytes
+          (λ f text. IsBoundedText (Some bytes) f k optimize text) k IsOwn status old new before needed many is same none;
       safe = λ settled_is. absurd (omega (arith, is, settled_is));
     }

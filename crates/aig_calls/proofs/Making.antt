@@ -29,7 +29,8 @@ module _ (of : File → Verdict) (limit : ℕ) (bytes : List ℕ) (rest : Option
         → IsReadAs Takes Means (Some bytes) rest x → IsFileWith limit bytes (λ f. Means f x)
     whole Means x told read =
         let end = (told.whole tt).1 in
-        let takes = Consumes-whole (Some bytes) rest read.bytes (λ bs. Takes bs read.file) read.taken end read.holds in
+        let takes = Consumes-whole (Some bytes) rest read.bytes (λ bs. Takes bs read.file)
+        read.taken end read.holds in
         (read.file, accepts bytes read.file takes, read.means)
 
     -- a text was written to memory

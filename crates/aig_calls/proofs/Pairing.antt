@@ -1,5 +1,6 @@
 -- What a call on two files tells of their bytes.
-use Rattle.std.proofs.Common.{◌≡◌, refl, ℕ, zero, suc, ◌<◌, Bool, List, Option, Some, Result, Ok, Err, Vec, Global, sym, subst, arith, ◌^◌, ◌≤◌}
+use Rattle.std.proofs.Common.{◌≡◌, refl, ℕ, zero, suc, ◌<◌, Bool, List, Option, Some, Result, Ok, Err, Vec, Global, sym, subst, arith, ◌^◌, inl, ◌≤◌}
+use Rattle.aig_checks.specs.Pairs.{IsObligationsText}
 use Rattle.aig_edits.specs.Joints.{DoFit, IsRefusalOf}
 use Rattle.aig_edits.specs.Pairs.{ReadsPair}
 use Rattle.aig_edits.specs.declared.error.PairError.TheVariants.{TooLarge}
@@ -103,6 +104,15 @@ misfit_tells {E = E} {left = left} {failed = failed} {left_of = left_of} {failed
           let both = both_whole (subst Told (says.large h) told) bytes others is also three four in
           (both.0, both.1, (both.2.0, both.2.1, large both.0 both.2.0 both.2.2));
     }
+
+-- the clauses of a certificate's proofs are titled by the bytes that were left
+pub titled_by : (optimize : Bool) (bytes others : List ℕ) (f g : File) (text : List ℕ)
+    {old old_other : Option (List ℕ)} → IsObligationsText optimize old old_other f g text
+    → old ≡ Some bytes → old_other ≡ Some others
+    → IsObligationsText optimize (Some bytes) (Some others) f g text
+titled_by optimize bytes others f g text {old} {old_other} told is also =
+    subst (λ o. IsObligationsText optimize (Some bytes) o f g text) also
+    (subst (λ o. IsObligationsText optimize o old_other f g text) is told)
 
 -- ---- statuses of calls
 

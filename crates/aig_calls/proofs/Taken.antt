@@ -75,7 +75,7 @@ pub check_not_made : (limit : ℕ) (bytes : List ℕ) (rest : Option (List ℕ))
     → MakesChecked limit c given bytes (Err status)
 check_not_made limit bytes rest failed c given e status judges says least own =
     not_made (file_verdict c limit) limit bytes rest failed
-    (λ f (made : Vec ℕ Global). Answers c given f made.items) (IsOwnOf c)
+    (λ f (made : Vec ℕ Global). Answers c given (Some bytes) f made.items) (IsOwnOf c)
     (told_as (verdict_of e)) status
     (judged_as (file_verdict c limit) limit bytes rest failed (verdict_of e) judges) says least
     own

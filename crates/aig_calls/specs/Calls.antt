@@ -291,8 +291,8 @@ TellsOfBase k limit bytes status = status ≡ large_base
 -- bad state is reached
 pub record GivesBounded (k : ℕ) (optimize : Bool) (limit : ℕ) (IsOwn : ℕ → Type 0)
     (bytes : List ℕ) (status : ℕ) (old new : List ℕ) (before needed : ℕ) : Type 0 where
-  pub gives : Gives bounded_verdict limit (λ f text. IsBoundedText f k optimize text) IsOwn bytes
-      status old new before needed
+  pub gives : Gives bounded_verdict limit (λ f text. IsBoundedText (Some bytes) f k optimize text)
+      IsOwn bytes status old new before needed
   pub safe : status ≡ settled → IsFileWith limit bytes (IsSettledTo k optimize)
 
 -- ---- two files

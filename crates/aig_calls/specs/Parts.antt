@@ -220,8 +220,8 @@ pub record Makes {T : Type 0} (of : File → Verdict) (limit : ℕ) (Means : Fil
 abbrev pub MakesChecked : ℕ → FileCommand → Option (List ℕ) → List ℕ → Result (Vec ℕ Global) ℕ
     → Type 0
 MakesChecked limit c given bytes result =
-    Makes (file_verdict c limit) limit (λ f made. Answers c given f made.items) (IsOwnOf c) bytes
-    result
+    Makes (file_verdict c limit) limit (λ f made. Answers c given (Some bytes) f made.items)
+    (IsOwnOf c) bytes result
 
 -- the text of an edited file, or a status that says why there is none
 pub record MakesEdit (change : Edit) (limit : ℕ) (bytes : List ℕ) (result : Result (Vec ℕ Global) ℕ)

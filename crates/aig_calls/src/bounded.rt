@@ -21,9 +21,9 @@ use std::alloc::Global;
 fn bounded_text(alloc: Global, file: &[u8], k: usize, optimize: bool) -> Result<Vec<u8>, u32>
     ensures { MakesBounded k optimize LIMIT file.now result }
 {
-    let mut source = FromRead::new(file);
+    let source = FromRead::new(file);
     let mut sink = ToWrite::new(Vec::new(alloc));
-    match aig_checks::print_bounded(alloc, LIMIT, k, optimize, &mut source, &mut sink) {
+    match aig_checks::print_bounded(alloc, LIMIT, k, optimize, source, &mut sink) {
         Ok(()) => Ok(sink.into_inner()),
         Err(error) => Err(of_check(error)),
     }

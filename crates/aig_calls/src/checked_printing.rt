@@ -21,9 +21,9 @@ fn clauses_text(alloc: Global, file: &[u8], k: usize, optimize: bool) -> Result<
     requires { k < 2 ^ 32 }
     ensures { MakesChecked LIMIT (commands.Clauses k optimize) None file.now result }
 {
-    let mut source = FromRead::new(file);
+    let source = FromRead::new(file);
     let mut sink = ToWrite::new(Vec::new(alloc));
-    match aig_checks::print_clauses(alloc, LIMIT, k, optimize, &mut source, &mut sink) {
+    match aig_checks::print_clauses(alloc, LIMIT, k, optimize, source, &mut sink) {
         Ok(()) => Ok(sink.into_inner()),
         Err(error) => Err(of_check(error)),
     }
@@ -40,9 +40,9 @@ fn window_text(
     requires { k < 2 ^ 32 }
     ensures { MakesChecked LIMIT (commands.Window k form optimize) None file.now result }
 {
-    let mut source = FromRead::new(file);
+    let source = FromRead::new(file);
     let mut sink = ToWrite::new(Vec::new(alloc));
-    match aig_checks::print_window(alloc, LIMIT, k, form, optimize, &mut source, &mut sink) {
+    match aig_checks::print_window(alloc, LIMIT, k, form, optimize, source, &mut sink) {
         Ok(()) => Ok(sink.into_inner()),
         Err(error) => Err(of_check(error)),
     }
@@ -79,8 +79,8 @@ fn witness_text(
     }
 }
 
-/// The clauses of the query of a file for step `k`, in DIMACS form, and before them comments that say which literals stand for its
-/// inputs, latches and bad state properties.
+/// The clauses of the query of a file for step `k`, in DIMACS form. Before them stand their title, with the SHA-256 sum of the file, and
+/// comments that say which literals stand for its inputs, latches and bad state properties.
 #[unsafe(no_mangle)]
 pub extern "C" fn aig_clauses(
     alloc: Global,
@@ -90,8 +90,9 @@ pub extern "C" fn aig_clauses(
     out: &mut [u8],
     needed: &mut usize,
 ) -> u32
-    ensures { Gives (asked_verdict LIMIT k) LIMIT (λ f text. IsClausesText f k optimize text)
-        (AtStep k IsOfText) file.now result out.old out.new needed.old needed.new }
+    ensures { Gives (asked_verdict LIMIT k) LIMIT
+        (λ f text. IsClausesText (Some file.now) f k optimize text) (AtStep k IsOfText) file.now
+        result out.old out.new needed.old needed.new }
 {
     match step_of(k) {
         Ok(k) => put(clauses_text(alloc, file, k, optimize), out, needed),
@@ -99,8 +100,8 @@ pub extern "C" fn aig_clauses(
     }
 }
 
-/// The clauses, in DIMACS form, that ask for a window of `k + 2` steps of a file's machine with a bad state first at its end; where
-/// `distinct`, for one on which no state comes twice.
+/// The clauses, in DIMACS form and behind their title, that ask for a window of `k + 2` steps of a file's machine with a bad state first at
+/// its end; where `distinct`, for one on which no state comes twice.
 #[unsafe(no_mangle)]
 pub extern "C" fn aig_window(
     alloc: Global,
@@ -112,8 +113,8 @@ pub extern "C" fn aig_window(
     needed: &mut usize,
 ) -> u32
     ensures { Gives (window_verdict (form_of distinct) LIMIT k) LIMIT
-        (λ f text. IsWindowText (form_of distinct) f k optimize text) (AtStep k IsOfText) file.now
-        result out.old out.new needed.old needed.new }
+        (λ f text. IsWindowText (Some file.now) (form_of distinct) f k optimize text)
+        (AtStep k IsOfText) file.now result out.old out.new needed.old needed.new }
 {
     match step_of(k) {
         Ok(k) => {

@@ -93,25 +93,25 @@ fn obligations_text(
     certificate: &[u8],
     optimize: bool,
 ) -> Result<Vec<u8>, u32>
-    ensures makes { MakesOfPair Certificate LIMIT (IsObligationsText optimize) IsOfObligations
+    ensures makes { MakesOfPair Certificate LIMIT
+        (IsObligationsText optimize (Some file.now) (Some certificate.now)) IsOfObligations
         file.now certificate.now result }
     ensures query { IfErr result (λ status. TellsJoint Certificate (joint_verdict LIMIT 0) LIMIT
         file.now certificate.now (said_of_query status)) }
     ensures window { IfErr result (λ status. TellsJoint Certificate (joint_verdict LIMIT 1)
         LIMIT file.now certificate.now (said_of_window status)) }
 {
-    let mut first = FromRead::new(file);
-    let mut second = FromRead::new(certificate);
+    let first = FromRead::new(file);
+    let second = FromRead::new(certificate);
     let mut sink = ToWrite::new(Vec::new(alloc));
-    let (r, s) = (&mut first, &mut second);
-    match aig_checks::print_obligations(alloc, LIMIT, optimize, r, s, &mut sink) {
+    match aig_checks::print_obligations(alloc, LIMIT, optimize, first, second, &mut sink) {
         Ok(()) => Ok(sink.into_inner()),
         Err(error) => Err(of_obligations(error)),
     }
 }
 
-/// The clauses, in DIMACS form, that the proofs of `aig_check_certified` are of: after the line `c base` those of the joint circuit's
-/// query for step 0, and after the line `c step` those of its window.
+/// The clauses, in DIMACS form, that the proofs of `aig_check_certified` are of, behind their title, with the SHA-256 sums of both files:
+/// after the line `c base` those of the joint circuit's query for step 0, and after the line `c step` those of its window.
 #[unsafe(no_mangle)]
 pub extern "C" fn aig_obligations(
     alloc: Global,
@@ -121,7 +121,8 @@ pub extern "C" fn aig_obligations(
     out: &mut [u8],
     needed: &mut usize,
 ) -> u32
-    ensures gives { GivesPair Certificate LIMIT (IsObligationsText optimize) IsOfObligations
+    ensures gives { GivesPair Certificate LIMIT
+        (IsObligationsText optimize (Some file.now) (Some certificate.now)) IsOfObligations
         file.now certificate.now result out.old out.new needed.old needed.new }
     ensures query { TellsJoint Certificate (joint_verdict LIMIT 0) LIMIT file.now certificate.now
         (said_of_query result) }

@@ -1,5 +1,5 @@
 -- The lines of comments, as a text for each place in a list, and behind them the clauses.
-use Rattle.std.proofs.Common.{◌≡◌, ℕ, Bool, ◌+◌, ◌<◌, ◌==◌, true, false, Some, List, [], ◌∷◌, ◌++◌, length, get_or, refl, sym, ap, ◌∙◌, zero-add}
+use Rattle.std.proofs.Common.{◌≡◌, ℕ, Bool, ◌+◌, ◌<◌, ◌==◌, true, false, Option, Some, List, [], ◌∷◌, ◌++◌, length, get_or, refl, sym, ap, ◌∙◌, zero-add}
 use Rattle.aig_base.proofs.Words.{codes, decimal, enumerate_from, flat_map, range_with_len, zip}
 use Rattle.std.proofs.lemmas.Slice.Zip.{get_or-zip}
 use Rattle.std.proofs.lemmas.List.FromFn.{get_or-enumerate_from}
@@ -17,10 +17,16 @@ use Rattle.aig_format.proofs.Words.{File, circuit_of}
 use Rattle.aig_runs.proofs.Asking.{asks, encodes}
 use Rattle.aig_runs.specs.Unrolled.{IsUnrolledOf, UnrolledCircuit}
 use Rattle.aig_bounded_answers.specs.declared.clauses.BoundedClauses.{BoundedClauses}
+use Rattle.aig_titles.proofs.Passing.{title_passed}
+use Rattle.aig_titles.specs.Sums.{IsSum}
+use Rattle.aig_titles.specs.Titles.{title_text}
+use Rattle.aig_titles.specs.declared.title.Question.TheVariants.{Clauses}
+use Rattle.aig_titles.specs.declared.title.Title.{Title}
 use Rattle.aig_checks.specs.Bounded.{bounded_comments, letter_of, place_line}
 use Rattle.aig_checks.specs.Comments.{bad_line, comments_of, input_line, input_lines, latch_comment, literal_line}
 use Rattle.aig_checks.specs.Printing.{IsQueryText}
 use Rattle.aig_checks.specs.Running.{IsClausesText}
+use Rattle.aig_checks.specs.Titling.{title_of}
 
 pub line_at : {X : Type 0} (line : ℕ × X → List ℕ) (xs : List X) (i : ℕ) (d : X) → i < length xs → line (get_or (enumerate_from 0 xs) i (0, d)) ≡ line (i, get_or xs i d)
 line_at {X} line xs i d h = ap line (get_or-enumerate_from 0 xs i (0, d) h) ∙ ap (λ j. line (j, get_or xs i d)) (zero-add i)
@@ -86,22 +92,42 @@ unfolding bounded_comments
 bounded_passed made =
     passed-flat_map place_line (λ x. place_passed x.1.is_latch x.1.number x.1.step x.0) (zip made.question.circuit.inputs.items made.named.items)
 
--- the clauses behind them are read again
-pub bounded_again : (made : BoundedClauses) → IsFormula (length made.clauses) (clauses_in made.clauses ++ made.further)
-    → parse_formula (bounded_comments made ++ dimacs_of (length made.clauses) (clauses_in made.clauses ++ made.further)) ≡ Some (length made.clauses, clauses_in made.clauses ++ made.further)
-bounded_again made formula =
-    let all = clauses_in made.clauses ++ made.further in
-    parse_formula-passed (bounded_comments made) (dimacs_of (length made.clauses) all) (bounded_passed made) ∙ parse_formula-dimacs_of (length made.clauses) all formula
+-- the clauses behind comments are read again
+again : (front : List ℕ) (variables : ℕ) (clauses : List (List Lit)) → ArePassed front
+    → IsFormula variables clauses
+    → parse_formula (front ++ dimacs_of variables clauses) ≡ Some (variables, clauses)
+again front variables clauses passed formula =
+    parse_formula-passed front (dimacs_of variables clauses) passed
+    ∙ parse_formula-dimacs_of variables clauses formula
+
+pub titled_again : (t : Title) (variables : ℕ) (clauses : List (List Lit))
+    → IsFormula variables clauses
+    → parse_formula (title_text t ++ dimacs_of variables clauses) ≡ Some (variables, clauses)
+titled_again t variables clauses = again (title_text t) variables clauses (title_passed t)
+
+pub bounded_again : (t : Title) (made : BoundedClauses)
+    → IsFormula (length made.clauses) (clauses_in made.clauses ++ made.further)
+    → parse_formula (title_text t ++ bounded_comments made
+    ++ dimacs_of (length made.clauses) (clauses_in made.clauses ++ made.further))
+    ≡ Some (length made.clauses, clauses_in made.clauses ++ made.further)
+bounded_again t made =
+    again (title_text t ++ bounded_comments made) (length made.clauses)
+    (clauses_in made.clauses ++ made.further)
+    (passed-append (title_text t) (bounded_comments made) (title_passed t) (bounded_passed made))
 
 -- the text of the query of the file's circuit is that of the file
-pub clauses_text : (f : File) (limit k : ℕ) (optimize : Bool) (u : UnrolledCircuit)
-    (text : List ℕ) → IsUnrolledOf k limit f u → IsQueryText u optimize text
-    → IsClausesText f k optimize text
-clauses_text f limit k optimize u text of is =
+pub clauses_text : (bytes : Option (List ℕ)) (sum : List ℕ) → IsSum bytes sum → (f : File)
+    (limit k : ℕ) (optimize : Bool) (u : UnrolledCircuit) (text : List ℕ) → IsUnrolledOf k limit f u
+    → IsQueryText (title_of (Clauses k) optimize sum) u optimize text
+    → IsClausesText bytes f k optimize text
+clauses_text bytes sum sums f limit k optimize u text of is =
+    let t = title_of (Clauses k) optimize sum in
     let all = clauses_in is.lists ++ is.further in
     let comments = ap (λ (c : Circuit). comments_of c u.unrolled u.steps) of.unrolls.circuit
     ∙ ap (comments_of (circuit_of f) u.unrolled) of.unrolls.steps in
     record {
+      sum = sum;
+      sums = sums;
       query = record {
         encoded = record { circuit = circuit_of f; unrolled = u.unrolled; clauses = is.lists };
         extra = is.further;
@@ -110,9 +136,10 @@ clauses_text f limit k optimize u text of is =
         encodes f limit k optimize u is.lists of is.has,
         asks f limit k optimize u is.lists of is.has is.further is.asks,
       );
-      exact = is.exact ∙ ap (λ (cs : List ℕ). cs ++ dimacs_of (length is.lists) all) comments;
+      exact = is.exact
+          ∙ ap (λ (cs : List ℕ). title_text t ++ cs ++ dimacs_of (length is.lists) all) comments;
       again = ap parse_formula is.exact
-          ∙ parse_formula-passed (comments_of u.circuit u.unrolled u.steps)
-          (dimacs_of (length is.lists) all) (comments_passed u.circuit u.unrolled u.steps)
-          ∙ parse_formula-dimacs_of (length is.lists) all is.formula;
+          ∙ again (title_text t ++ comments_of u.circuit u.unrolled u.steps) (length is.lists) all
+          (passed-append (title_text t) (comments_of u.circuit u.unrolled u.steps) (title_passed t)
+          (comments_passed u.circuit u.unrolled u.steps)) is.formula;
     }

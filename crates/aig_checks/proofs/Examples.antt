@@ -1,6 +1,6 @@
 -- The comments of a small query, computed; and wrong words and lines, of which the definitions are
 -- false.
-use Rattle.aig_base.proofs.Words.{◌≡◌, ◌≢◌, ℕ, Bool, true, false, None, Option, List, [], ◌∷◌, ◌++◌, length, refl, ap, subst, arith, length-append, ◌∙◌, inl, inr}
+use Rattle.aig_base.proofs.Words.{◌≡◌, ◌≢◌, ℕ, Bool, true, false, None, Option, List, [], ◌∷◌, ◌++◌, length, refl, ap, subst, sym, arith, length-append, ◌∙◌, inl, inr}
 use Rattle.std.specs.Prelude.{IsTrue, codes, not, slice_get, slice_index, slice_index_or}
 use Rattle.std.specs.Fmt.{digits}
 use Rattle.aig_base.specs.Clauses.{lit_to}
@@ -11,6 +11,7 @@ use Rattle.aig_reader.specs.Verdicts.{Accepted, Judges}
 use Rattle.aig_refutation.specs.declared.error.RefutationError.{RefutationError}
 use Rattle.aig_answers.specs.declared.error.AnswerError.{AnswerError}
 use Rattle.aig_answers.specs.declared.error.AnswerError.TheVariants as answers
+use Rattle.aig_titles.specs.Titles.{title_text}
 use Rattle.aig_witness.specs.declared.error.WitnessError.TheVariants as witness
 use Rattle.aig_witness.specs.declared.file.ShowError.TheVariants as shows
 use Rattle.aig_fair.specs.declared.file.ShownProperty.TheVariants as properties
@@ -141,31 +142,40 @@ unfolding digits
 loop-told = refl
 
 -- a proof for one step is told as one for each
-no_window_told : (optimize : Bool) (given : Option (List ℕ)) (f : File)
-    → ¬ Answers (commands.Refuted 1 optimize) given f (window_line 1)
+no_window_told : (optimize : Bool) (given bytes : Option (List ℕ)) (f : File)
+    → ¬ Answers (commands.Refuted 1 optimize) given bytes f (window_line 1)
 unfolding digits
-no_window_told optimize given f answers =
+no_window_told optimize given bytes f answers =
     let word : 97 ≡ 115 = ap (λ text. slice_index text 16) answers.0 in omega (arith, word)
 
 -- steps up to one are told as that one
-no_one_step_told : (optimize : Bool) (given : Option (List ℕ)) (f : File)
-    → ¬ Answers (commands.RefutedTo 1 optimize) given f (step_line 1)
+no_one_step_told : (optimize : Bool) (given bytes : Option (List ℕ)) (f : File)
+    → ¬ Answers (commands.RefutedTo 1 optimize) given bytes f (step_line 1)
 unfolding digits
-no_one_step_told optimize given f answers =
+no_one_step_told optimize given bytes f answers =
     let word : 97 ≡ 117 = ap (λ text. slice_index text 13) answers.0 in omega (arith, word)
 
 -- equal machines are told as a safe one
-no_safety_told : (k limit : ℕ) (optimize : Bool) (base step : Option (List ℕ)) (f g : File)
-    → ¬ PairAnswers (on_pair.Equal k optimize) limit base step f g safe_line
-no_safety_told k limit optimize base step f g answers =
+no_safety_told : (k limit : ℕ) (optimize : Bool) (base step bytes others : Option (List ℕ))
+    (f g : File)
+    → ¬ PairAnswers (on_pair.Equal k optimize) limit base step bytes others f g safe_line
+no_safety_told k limit optimize base step bytes others f g answers =
     let letter : 110 ≡ 101 = ap (λ text. slice_index text 0) answers.0 in omega (arith, letter)
 
 -- the clauses of BASE under the name of those of STEP
-no_step_first : (optimize : Bool) (f g : File) (rest : List ℕ)
-    → ¬ IsObligationsText optimize f g (codes "c step" ++ rest)
-no_step_first optimize f g rest is =
-    let same = is.exact ∙ ap (λ base. base ++ is.step) is.base_exact in
-    let letter : 115 ≡ 98 = ap (λ text. slice_index text 2) same in omega (arith, letter)
+no_step_first : (optimize : Bool) (bytes others : Option (List ℕ)) (f g : File)
+    (text rest : List ℕ) (is : IsObligationsText optimize bytes others f g text)
+    → is.base ≢ codes "c step" ++ rest
+no_step_first optimize bytes others f g text rest is same =
+    let letter : 115 ≡ 98 = ap (λ text. slice_index text 2) (sym same ∙ is.base_exact) in
+    omega (arith, letter)
+
+-- clauses without their title
+no_bare_clauses : (optimize : Bool) (bytes others : Option (List ℕ)) (f g : File) (rest : List ℕ)
+    → ¬ IsObligationsText optimize bytes others f g (codes "c base" ++ rest)
+unfolding title_text
+no_bare_clauses optimize bytes others f g rest is =
+    let letter : 98 ≡ 97 = ap (λ text. slice_index text 2) is.exact in omega (arith, letter)
 
 -- ---- errors
 

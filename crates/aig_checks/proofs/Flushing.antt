@@ -97,24 +97,24 @@ module _ {W : Type 0} (held : W → Option (List ℕ)) (write_failed : W → Boo
         }
     runs_ended left failed given given_failed limit c r rest p used (Err e) runs never = absurd never
 
-    told_ended : (limit : ℕ) (c : PairCommand) (base step : Option (List ℕ)) (f g : File) (done : Result Unit CheckError)
-        → TellsOfPair held write_failed c limit base step w made f g (Ok u)
-        → EndsBy (write_failed flat) done → TellsOfPair held write_failed c limit base step w flat f g done
-    told_ended limit c base step f g (Ok v) told sound = (told.0, told.1, appends_kept (held w) (held made) (held flat) told.0 told.2 keeps, sound)
-    told_ended limit c base step f g (Err errors.Write) told lost = (told.0, told.1, stops told.0 told.2 lost)
-    told_ended limit c base step f g (Err e) told never = absurd never
+    told_ended : (limit : ℕ) (c : PairCommand) (base step bytes others : Option (List ℕ)) (f g : File) (done : Result Unit CheckError)
+        → TellsOfPair held write_failed c limit base step bytes others w made f g (Ok u)
+        → EndsBy (write_failed flat) done → TellsOfPair held write_failed c limit base step bytes others w flat f g done
+    told_ended limit c base step bytes others f g (Ok v) told sound = (told.0, told.1, appends_kept (held w) (held made) (held flat) told.0 told.2 keeps, sound)
+    told_ended limit c base step bytes others f g (Err errors.Write) told lost = (told.0, told.1, stops told.0 told.2 lost)
+    told_ended limit c base step bytes others f g (Err e) told never = absurd never
 
     pair_ended : {R S P Q : Type 0} (left : R → Option (List ℕ)) (failed : R → Bool) (left_of : S → Option (List ℕ)) (failed_of : S → Bool) (base_left : P → Option (List ℕ)) (base_failed : P → Bool) (step_left : Q → Option (List ℕ)) (step_failed : Q → Bool) (limit : ℕ) (c : PairCommand) (r rest : R) (s other : S) (p used : P) (q spent : Q) (done : Result Unit CheckError)
         → RunsPair left failed left_of failed_of base_left base_failed step_left step_failed held write_failed c limit r s p q w (Ok u) rest other used spent made
         → EndsBy (write_failed flat) done → RunsPair left failed left_of failed_of base_left base_failed step_left step_failed held write_failed c limit r s p q w done rest other used spent flat
     pair_ended left failed left_of failed_of base_left base_failed step_left step_failed limit c r rest s other p used q spent done runs ends =
         let reads =
-        reads_on left failed left_of failed_of limit r s rest other (TellsOfPair held write_failed c limit (base_left p) (step_left q) w flat) verdict_of other_verdict_of (IsErrorOfPair c) done runs.reads (accepted_by _ done ends) (other_accepted_by _ done ends) (own_by c _ done ends)
-        (λ f g bytes others fits also told. told_ended limit c (base_left p) (step_left q) f g done told ends) in
+        reads_on left failed left_of failed_of limit r s rest other (TellsOfPair held write_failed c limit (base_left p) (step_left q) (left r) (left_of s) w flat) verdict_of other_verdict_of (IsErrorOfPair c) done runs.reads (accepted_by _ done ends) (other_accepted_by _ done ends) (own_by c _ done ends)
+        (λ f g bytes others fits also told. told_ended limit c (base_left p) (step_left q) (left r) (left_of s) f g done told ends) in
         end done ends reads
       where
         end : (x : Result Unit CheckError) → EndsBy (write_failed flat) x
-            → ReadsPair left failed left_of failed_of limit (TellsOfPair held write_failed c limit (base_left p) (step_left q) w flat) verdict_of other_verdict_of (IsErrorOfPair c) r s x rest other
+            → ReadsPair left failed left_of failed_of limit (TellsOfPair held write_failed c limit (base_left p) (step_left q) (left r) (left_of s) w flat) verdict_of other_verdict_of (IsErrorOfPair c) r s x rest other
             → RunsPair left failed left_of failed_of base_left base_failed step_left step_failed held write_failed c limit r s p q w x rest other used spent flat
         end (Ok v) sound reads = record { reads = reads; kept = tt; base_unread = tt; step_unread = tt; base_stream = λ is. cc; step_stream = λ is. cc; miter_base_stream = λ is. cc; miter_step_stream = λ is. cc }
         end (Err errors.Write) lost reads = record { reads = reads; kept = λ not. absurd (not refl); base_unread = λ no. absurd no; step_unread = λ no. absurd no; base_stream = λ is. cc; step_stream = λ is. cc; miter_base_stream = λ is. cc; miter_step_stream = λ is. cc }

@@ -1,10 +1,11 @@
 -- What a command does, at each way out of it.
 use Rattle.aig_base.proofs.Words.{◌≡◌, ◌≢◌, ℕ, ◌+◌, Bool, false, Option, Ok, Err, List, refl, sym, ap, subst, Appends}
 use Rattle.std.specs.Prelude.{IfErr, IsErrOf, IsTrue, Result}
+use Rattle.std.specs.Io.KnownBytes.{IsAtEnd}
 use Rattle.aig_format.specs.File.{File}
 use Rattle.aig_reader.specs.declared.error.ReadError.{ReadError}
 use Rattle.aig_reader.specs.Reading.{IsReadAs}
-use Rattle.aig_reader.specs.Verdicts.{Accepted, IsOfFile, Judges}
+use Rattle.aig_reader.specs.Verdicts.{Accepted, IsOfFile, Judges, Verdict}
 use Rattle.aig_reader.proofs.Verdicts.{of_no_file, short_of}
 use Rattle.aig_output.specs.Sinks.{Stops}
 use Rattle.aig_encode.specs.declared.encoding.Encoded.{Encoded}
@@ -22,6 +23,7 @@ use Rattle.aig_bounded_answers.specs.declared.error.BoundedAnswerError.{BoundedA
 use Rattle.aig_bounded_answers.specs.declared.error.BoundedAnswerError.TheVariants as bounded
 use Rattle.aig_bounded_answers.specs.Asking as bounding
 use Rattle.aig_bounded_answers.specs.Asking.{AnswersProof, IsAskedWithin, IsOfCheck, IsOfQuestion, IsOfWitness}
+use Rattle.aig_titles.specs.Sums.{IsSum}
 use Rattle.aig_checks.specs.Bounded.{TellsProof}
 use Rattle.aig_checks.specs.declared.command.FileCommand.{FileCommand}
 use Rattle.aig_checks.specs.declared.command.FileCommand.TheVariants as commands
@@ -116,7 +118,7 @@ module _ {R P W : Type 0} {left : R → Option (List ℕ)} {read_failed : R → 
   -- the answer was written
   pub answered : (u : Unit {0}) (text : List ℕ) → TakesProof c limit (left r) (left rest) (given p)
       → Judges (file_verdict c limit) limit (left r) (left rest) (read_failed rest) Accepted
-      → IsReadAs (IsAskedBy c limit) (Answers c (given p)) (left r) (left rest) text → Appends (held
+      → IsReadAs (IsAskedBy c limit) (Answers c (given p) (left r)) (left r) (left rest) text → Appends (held
       w) (held made) text → write_failed made ≡ false
       → Runs left read_failed given given_failed held write_failed c limit r p w (Ok u) rest used
       made
@@ -136,7 +138,7 @@ module _ {R P W : Type 0} {left : R → Option (List ℕ)} {read_failed : R → 
   -- the writer failed after a beginning of it
   pub stopped : (text : List ℕ) → TakesProof c limit (left r) (left rest) (given p) → Judges
       (file_verdict c limit) limit (left r) (left rest) (read_failed rest) Accepted
-      → IsReadAs (IsAskedBy c limit) (Answers c (given p)) (left r) (left rest) text → Stops (held
+      → IsReadAs (IsAskedBy c limit) (Answers c (given p) (left r)) (left r) (left rest) text → Stops (held
       w) (held made) (write_failed made) text
       → Runs left read_failed given given_failed held write_failed c limit r p w (Err errors.Write)
       rest used made
@@ -157,7 +159,7 @@ module _ {R P W : Type 0} {left : R → Option (List ℕ)} {read_failed : R → 
   pub text_ends : (result : Result Unit CheckError) (IsSuch : List ℕ → Type 0) → TakesProof c limit
       (left r) (left rest) (given p) → Judges (file_verdict c limit) limit (left r) (left rest)
       (read_failed rest) Accepted
-      → ((text : List ℕ) → IsSuch text → IsReadAs (IsAskedBy c limit) (Answers c (given p)) (left r)
+      → ((text : List ℕ) → IsSuch text → IsReadAs (IsAskedBy c limit) (Answers c (given p) (left r)) (left r)
       (left rest) text) → Prints held write_failed IsSuch w result made → IfErr result IsOfText
       → IsErrorOf c errors.Memory
       → Runs left read_failed given given_failed held write_failed c limit r p w result rest used
@@ -175,7 +177,7 @@ module _ {R P W : Type 0} {left : R → Option (List ℕ)} {read_failed : R → 
   pub solution_ends : (result : Result Unit CheckError) (IsSuch : List ℕ → Type 0) → TakesProof c
       limit (left r) (left rest) (given p) → Judges (file_verdict c limit) limit (left r) (left
       rest) (read_failed rest) Accepted
-      → ((text : List ℕ) → IsSuch text → IsReadAs (IsAskedBy c limit) (Answers c (given p)) (left r)
+      → ((text : List ℕ) → IsSuch text → IsReadAs (IsAskedBy c limit) (Answers c (given p) (left r)) (left r)
       (left rest) text) → Prints held write_failed IsSuch w result made → (x : Encoded) (k : ℕ)
       → IfErr result (IsOfSolution (given p) (given_failed used) x k) → ((e : SolutionError) →
       IsErrorOf c (errors.Solution e)) → ((e : SolutionError) → RefusesSolution (given p) x k
@@ -191,6 +193,14 @@ module _ {R P W : Type 0} {left : R → Option (List ℕ)} {read_failed : R → 
       refused (errors.Solution e) said (has e) (λ is. cc) (prints.kept (λ is. cc)) (λ alone. absurd
       alone) (tells e own)
   solution_ends (Err e) IsSuch takes said answers prints x k own has tells = absurd own
+
+-- the bytes of a file that was read were summed to their end
+pub summed : {of : File → Verdict} {limit : ℕ} {first old new : Option (List ℕ)} {failed : Bool}
+    (start : Option (List ℕ)) (sum : List ℕ) → Judges of limit old new failed Accepted
+    → first ≡ start → (failed ≡ false → IsAtEnd new → IsSum start sum) → IsSum first sum
+summed start sum said same sums =
+    let read = said.whole tt in
+    subst (λ bytes. IsSum bytes sum) (sym same) (sums read.0 read.1)
 
 -- ---- what is printed
 

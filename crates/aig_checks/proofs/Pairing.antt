@@ -1,5 +1,5 @@
 -- What a command on two files does, at each way out of it.
-use Rattle.aig_base.proofs.Words.{◌≡◌, ◌≢◌, ℕ, Bool, false, Option, Some, Ok, Err, List, [], ◌∷◌, ◌++◌, length, refl, subst, ◌∙◌, Appends, Appends-trans, on_err_weaker, on_ok_weaker}
+use Rattle.aig_base.proofs.Words.{◌≡◌, ◌≢◌, ℕ, Bool, false, Option, Some, Ok, Err, List, [], ◌∷◌, ◌++◌, length, refl, ap, subst, ◌∙◌, Appends, Appends-trans, on_err_weaker, on_ok_weaker}
 use Rattle.std.specs.Prelude.{IsTrue, Result, codes}
 use Rattle.aig_answers.specs.declared.error.AnswerError.{AnswerError}
 use Rattle.aig_answers.specs.declared.windows.WindowClauses.{WindowClauses}
@@ -32,12 +32,16 @@ use Rattle.aig_reader.specs.Verdicts.{Verdict}
 use Rattle.aig_refutation.specs.declared.error.RefutationError.{RefutationError}
 use Rattle.aig_refutation.specs.declared.error.RefutationError.TheVariants as refutation
 use Rattle.aig_safety.specs.declared.error.SafetyError.TheVariants as proving
+use Rattle.aig_titles.specs.Sums.{IsSum}
+use Rattle.aig_titles.specs.Titles.{title_text}
+use Rattle.aig_titles.specs.declared.title.Title.{Title}
 use Rattle.aig_checks.specs.declared.command.PairCommand.{PairCommand}
 use Rattle.aig_checks.specs.declared.tool.CheckError.{CheckError}
 use Rattle.aig_checks.specs.declared.tool.CheckError.TheVariants as errors
 use Rattle.aig_checks.specs.Pairs.{IsErrorOfPair, IsObligationsText, LeavesBase, LeavesStep, PairAnswers, RefusesPair, RunsPair, TellsOfPair, formula_of, other_verdict_of, part_text}
 use Rattle.aig_checks.specs.Running.{verdict_of}
 use Rattle.aig_checks.specs.Printing.{clauses_with}
+use Rattle.aig_checks.specs.Titling.{pair_title}
 use Rattle.aig_checks.proofs.Outcomes.{is_error}
 
 module _ {R S P Q W : Type 0} {left : R → Option (List ℕ)} {failed : R → Bool} {left_of : S → Option (List ℕ)} {failed_of : S → Bool} {base_left : P → Option (List ℕ)} {base_failed : P → Bool} {step_left : Q → Option (List ℕ)} {step_failed : Q → Bool} {held : W → Option (List ℕ)} {write_failed : W → Bool} {c : PairCommand} {limit : ℕ} {r rest : R} {s other : S} {p used : P} {q spent : Q} {w made : W} {T E : Type 0} (Means : File → File → Result T E → Type 0) {first second : E → Verdict} {Own : E → Type 0} where
@@ -45,7 +49,7 @@ module _ {R S P Q W : Type 0} {left : R → Option (List ℕ)} {failed : R → B
   pub refused_so : (e : E) (x : CheckError) → x ≢ errors.Write
       → ReadsPair left failed left_of failed_of limit Means first second Own r s (Err e) rest other
       → verdict_of x ≡ first e → other_verdict_of x ≡ second e → (Own e → IsErrorOfPair c x)
-      → ((f g : File) → Means f g (Err e) → TellsOfPair held write_failed c limit (base_left p) (step_left q) w made f g (Err x)) → made ≡ w
+      → ((f g : File) → Means f g (Err e) → TellsOfPair held write_failed c limit (base_left p) (step_left q) (left r) (left_of s) w made f g (Err x)) → made ≡ w
       → (LeavesBase x → used ≡ p) → (LeavesStep x → spent ≡ q)
       → (x ≡ errors.Certificate (certificate.Query (answers.Refutation refutation.Stream)) → IsTrue (base_failed used))
       → (x ≡ errors.Certificate (certificate.Window (answers.Refutation refutation.Stream)) → IsTrue (step_failed spent))
@@ -53,7 +57,7 @@ module _ {R S P Q W : Type 0} {left : R → Option (List ℕ)} {failed : R → B
       → (x ≡ errors.Equality (always.Miter (proving.Step (answers.Refutation refutation.Stream))) → IsTrue (step_failed spent))
       → RunsPair left failed left_of failed_of base_left base_failed step_left step_failed held write_failed c limit r s p q w (Err x) rest other used spent made
   refused_so e x other_error reads same also own means kept base step query_stream window_stream base_stream step_stream = record {
-    reads = reads_on left failed left_of failed_of limit r s rest other (TellsOfPair held write_failed c limit (base_left p) (step_left q) w made) verdict_of other_verdict_of (IsErrorOfPair c) (Err x) reads same also (own reads.own) (λ f g bytes others fits also told. means f g told);
+    reads = reads_on left failed left_of failed_of limit r s rest other (TellsOfPair held write_failed c limit (base_left p) (step_left q) (left r) (left_of s) w made) verdict_of other_verdict_of (IsErrorOfPair c) (Err x) reads same also (own reads.own) (λ f g bytes others fits also told. means f g told);
     kept = λ not. kept;
     base_unread = base;
     step_unread = step;
@@ -66,10 +70,10 @@ module _ {R S P Q W : Type 0} {left : R → Option (List ℕ)} {failed : R → B
   -- the answer was written
   pub pair_answered : (u : T) (v : Unit {0}) (text : List ℕ)
       → ReadsPair left failed left_of failed_of limit Means first second Own r s (Ok u) rest other
-      → ((f g : File) → Means f g (Ok u) → PairAnswers c limit (base_left p) (step_left q) f g text) → Appends (held w) (held made) text → write_failed made ≡ false
+      → ((f g : File) → Means f g (Ok u) → PairAnswers c limit (base_left p) (step_left q) (left r) (left_of s) f g text) → Appends (held w) (held made) text → write_failed made ≡ false
       → RunsPair left failed left_of failed_of base_left base_failed step_left step_failed held write_failed c limit r s p q w (Ok v) rest other used spent made
   pair_answered u v text reads means written sound = record {
-    reads = reads_on left failed left_of failed_of limit r s rest other (TellsOfPair held write_failed c limit (base_left p) (step_left q) w made) verdict_of other_verdict_of (IsErrorOfPair c) (Ok v) reads refl refl tt (λ f g bytes others fits also told. (text, means f g told, written, sound));
+    reads = reads_on left failed left_of failed_of limit r s rest other (TellsOfPair held write_failed c limit (base_left p) (step_left q) (left r) (left_of s) w made) verdict_of other_verdict_of (IsErrorOfPair c) (Ok v) reads refl refl tt (λ f g bytes others fits also told. (text, means f g told, written, sound));
     kept = tt;
     base_unread = tt;
     step_unread = tt;
@@ -82,10 +86,10 @@ module _ {R S P Q W : Type 0} {left : R → Option (List ℕ)} {failed : R → B
   -- the writer failed after a beginning of it
   pub pair_stopped : (u : T) (text : List ℕ)
       → ReadsPair left failed left_of failed_of limit Means first second Own r s (Ok u) rest other
-      → ((f g : File) → Means f g (Ok u) → PairAnswers c limit (base_left p) (step_left q) f g text) → Stops (held w) (held made) (write_failed made) text
+      → ((f g : File) → Means f g (Ok u) → PairAnswers c limit (base_left p) (step_left q) (left r) (left_of s) f g text) → Stops (held w) (held made) (write_failed made) text
       → RunsPair left failed left_of failed_of base_left base_failed step_left step_failed held write_failed c limit r s p q w (Err errors.Write) rest other used spent made
   pair_stopped u text reads means stops = record {
-    reads = reads_on left failed left_of failed_of limit r s rest other (TellsOfPair held write_failed c limit (base_left p) (step_left q) w made) verdict_of other_verdict_of (IsErrorOfPair c) (Err errors.Write) reads refl refl tt (λ f g bytes others fits also told. (text, means f g told, stops));
+    reads = reads_on left failed left_of failed_of limit r s rest other (TellsOfPair held write_failed c limit (base_left p) (step_left q) (left r) (left_of s) w made) verdict_of other_verdict_of (IsErrorOfPair c) (Err errors.Write) reads refl refl tt (λ f g bytes others fits also told. (text, means f g told, stops));
     kept = λ not. absurd (not refl);
     base_unread = λ no. absurd no;
     step_unread = λ no. absurd no;
@@ -94,6 +98,23 @@ module _ {R S P Q W : Type 0} {left : R → Option (List ℕ)} {failed : R → B
     miter_base_stream = λ is. absurd cc;
     miter_step_stream = λ is. absurd cc;
   }
+
+-- what is said of sources is said of those under them
+pub reads_under : {A B R S T E : Type 0} {Means : File → File → Result T E → Type 0}
+    {first second : E → Verdict} {Own : E → Type 0} {limit : ℕ} {r rest : A} {s other : B}
+    {result : Result T E} (left : R → Option (List ℕ)) (failed : R → Bool)
+    (left_of : S → Option (List ℕ)) (failed_of : S → Bool) (under : A → R) (under_of : B → S)
+    → ReadsPair (λ x. left (under x)) (λ x. failed (under x)) (λ y. left_of (under_of y))
+    (λ y. failed_of (under_of y)) limit Means first second Own r s result rest other
+    → ReadsPair left failed left_of failed_of limit Means first second Own (under r) (under_of s)
+    result (under rest) (under_of other)
+reads_under left failed left_of failed_of under under_of told = record {
+  verdict = told.verdict;
+  other_verdict = told.other_verdict;
+  unread = λ no. ap under_of (told.unread no);
+  answer = told.answer;
+  own = told.own;
+}
 
 inner_error : (x y : CertificateError) → errors.Certificate x ≡ errors.Certificate y → x ≡ y
 inner_error x y is = cc
@@ -156,19 +177,26 @@ step_named : ArePassed (codes "c step" ++ 10 ∷ [])
 unfolding after_comments
 step_named rest = refl
 
--- both texts, one after the other
-abbrev pub obliged_text : Obligations → List (List (List Lit)) → List (List (List Lit)) → List ℕ
-obliged_text o base step =
-    part_text (codes "c base") (clauses_with base o.base.further)
+-- both texts, one after the other, behind their title
+abbrev pub obliged_text : Title → Obligations → List (List (List Lit)) → List (List (List Lit))
+    → List ℕ
+obliged_text title o base step =
+    title_text title ++ part_text (codes "c base") (clauses_with base o.base.further)
     ++ part_text (codes "c step") (clauses_with step o.step.further)
 
-pub obligations_text : (optimize : Bool) (f g : File) (o : Obligations) (base step : List (List (List Lit)))
+pub obligations_text : (optimize : Bool) (bytes others : Option (List ℕ)) (sum beside : List ℕ)
+    → IsSum bytes sum → IsSum others beside
+    → (f g : File) (o : Obligations) (base step : List (List (List Lit)))
     → (m : Circuit) × IsJointOf Certificate f g m × AreObligationsOf optimize m o
     → HasClauses o.joint.unrolled optimize base → HasClauses (lists_circuit o.stepped) optimize step
     → IsFormula (length base) (clauses_in base ++ o.base.further)
     → IsFormula (length step) (clauses_in step ++ o.step.further)
-    → IsObligationsText optimize f g (obliged_text o base step)
-obligations_text optimize f g o base step asked base_has step_has base_formula step_formula = record {
+    → IsObligationsText optimize bytes others f g (obliged_text (pair_title optimize sum beside) o base step)
+obligations_text optimize bytes others sum beside sums sums_beside f g o base step asked base_has step_has base_formula step_formula = record {
+  sum = sum;
+  sums = sums;
+  beside = beside;
+  sums_beside = sums_beside;
   base_clauses = clauses_with base o.base.further;
   step_clauses = clauses_with step o.step.further;
   asked = record {

@@ -14,23 +14,25 @@ use Rattle.aig_checks.specs.Running.{verdict_of}
 
 -- what is told of a refusal
 pub tells_why : {W : Type 0} (held : W → Option (List ℕ)) (write_failed : W → Bool)
-    (limit : ℕ) (c : PairCommand) (base step : Option (List ℕ)) (w made : W) (f g : File)
-    (e : CheckError) → TellsOfPair held write_failed c limit base step w made f g (Err e) → RefusesFor limit c f g e
-tells_why held write_failed limit c base step w made f g (errors.Certificate e) told =
+    (limit : ℕ) (c : PairCommand) (base step bytes others : Option (List ℕ)) (w made : W)
+    (f g : File) (e : CheckError)
+    → TellsOfPair held write_failed c limit base step bytes others w made f g (Err e)
+    → RefusesFor limit c f g e
+tells_why held write_failed limit c base step bytes others w made f g (errors.Certificate e) told =
     (base, step, told)
-tells_why held write_failed limit c base step w made f g errors.Open told = tt
-tells_why held write_failed limit c base step w made f g errors.Memory told = tt
-tells_why held write_failed limit c base step w made f g (errors.Answer e) told = tt
-tells_why held write_failed limit c base step w made f g (errors.Solution e) told = tt
-tells_why held write_failed limit c base step w made f g (errors.Show e) told = tt
-tells_why held write_failed limit c base step w made f g errors.Write told = tt
-tells_why held write_failed limit c base step w made f g (errors.Bounded e) told = tt
-tells_why held write_failed limit c base step w made f g (errors.Settled k) told = tt
-tells_why held write_failed limit c base step w made f g (errors.Safe e) told = tt
-tells_why held write_failed limit c base step w made f g (errors.Equality e) told =
+tells_why held write_failed limit c base step bytes others w made f g errors.Open told = tt
+tells_why held write_failed limit c base step bytes others w made f g errors.Memory told = tt
+tells_why held write_failed limit c base step bytes others w made f g (errors.Answer e) told = tt
+tells_why held write_failed limit c base step bytes others w made f g (errors.Solution e) told = tt
+tells_why held write_failed limit c base step bytes others w made f g (errors.Show e) told = tt
+tells_why held write_failed limit c base step bytes others w made f g errors.Write told = tt
+tells_why held write_failed limit c base step bytes others w made f g (errors.Bounded e) told = tt
+tells_why held write_failed limit c base step bytes others w made f g (errors.Settled k) told = tt
+tells_why held write_failed limit c base step bytes others w made f g (errors.Safe e) told = tt
+tells_why held write_failed limit c base step bytes others w made f g (errors.Equality e) told =
     (base, step, told)
-tells_why held write_failed limit c base step w made f g (errors.Lasso e) told = tt
-tells_why held write_failed limit c base step w made f g (errors.Miter e) told = tt
+tells_why held write_failed limit c base step bytes others w made f g (errors.Lasso e) told = tt
+tells_why held write_failed limit c base step bytes others w made f g (errors.Miter e) told = tt
 
 -- a value of the same file, with another meaning
 pub read_as : {T U : Type 0} {Holds : List ℕ → File → Type 0} (Means : File → T → Type 0)
@@ -61,5 +63,5 @@ refused_again {left = left} {left_of = left_of} {held = held} {write_failed = wr
     {r = r} {s = s} {w = w} again e {rest = rest} {other = other} {made = made} runs same =
     subst (λ (x : CheckError). verdict_of x ≡ Accepted → other_verdict_of x ≡ Accepted
     → AreReadAs limit (RefusesFor limit c) (left r) (left rest) (left_of s) (left_of other) x) same
-    (λ first second. read_as _ _ (λ f. read_as _ _ (λ g. tells_why held write_failed limit c _ _ w made f g
+    (λ first second. read_as _ _ (λ f. read_as _ _ (λ g. tells_why held write_failed limit c _ _ _ _ w made f g
     again)) (runs.reads.answer first second))

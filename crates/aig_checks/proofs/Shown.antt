@@ -22,8 +22,8 @@ use Rattle.aig_checks.proofs.Outcomes.{err_of, refused}
 -- what was shown answers the file
 pub shown_answers : (limit : ℕ) (old new given : Option (List ℕ)) (shown : ShownProperty)
     → IsReadAs (λ bytes. Accepts bytes limit) (ShowsClaim given) old new shown
-    → IsReadAs (λ bytes. Accepts bytes limit) (Answers commands.Run given) old new (shown_line
-    shown)
+    → IsReadAs (λ bytes. Accepts bytes limit) (Answers commands.Run given old) old new
+    (shown_line shown)
 shown_answers limit old new given shown read = record {
   file = read.file;
   bytes = read.bytes;

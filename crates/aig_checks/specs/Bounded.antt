@@ -13,9 +13,13 @@ use Rattle.aig_dimacs.specs.Reading.{parse_formula}
 use Rattle.aig_dimacs.specs.Text.{dimacs_of}
 use Rattle.aig_format.specs.File.{File}
 use Rattle.aig_runs.specs.Queries.{IsSafeTo}
+use Rattle.aig_titles.specs.Sums.{IsSum}
+use Rattle.aig_titles.specs.Titles.{title_text}
+use Rattle.aig_titles.specs.declared.title.Question.TheVariants as questions
 use Rattle.aig_witness.specs.Machine.{ShowsBad}
 use Rattle.aig_witness.specs.Witness.{Witness, witness_text}
 use Rattle.aig_checks.specs.Comments.{literal_line}
+use Rattle.aig_checks.specs.Titling.{title_of}
 
 -- the line of steps up to which no bad state is reached
 abbrev pub safe_to_line : ℕ → List ℕ
@@ -38,14 +42,18 @@ unfoldable pub bounded_comments : BoundedClauses → List ℕ
 bounded_comments made =
     flat_map place_line (zip made.question.circuit.inputs.items made.named.items)
 
--- the text of a question of the file that isn't settled: the lines of its inputs, and then its
--- clauses; from it a plain reader reads just these again
-pub record IsBoundedText (f : File) (k : ℕ) (optimize : Bool) (text : List ℕ) : Type 0 where
+-- the text of a question of the file of these bytes that isn't settled: its title, with their sum,
+-- the lines of its inputs, and then its clauses; from it a plain reader reads just these again
+pub record IsBoundedText (bytes : Option (List ℕ)) (f : File) (k : ℕ) (optimize : Bool)
+    (text : List ℕ) : Type 0 where
+  pub sum : List ℕ
+  pub sums : IsSum bytes sum
   pub made : BoundedClauses
   pub asks : AsksBounded f k optimize made
   pub unsettled : ¬ IsSettled made
   pub exact : text
-      ≡ bounded_comments made
+      ≡ title_text (title_of (questions.Bounded k) optimize sum)
+      ++ bounded_comments made
       ++ dimacs_of (length made.clauses) (clauses_in made.clauses ++ made.further)
   pub again : parse_formula text
       ≡ Some (length made.clauses, clauses_in made.clauses ++ made.further)

@@ -1,6 +1,7 @@
 pub mod Bounded
 pub mod Words
 pub mod Comments
+pub mod Titling
 pub mod Running
 pub mod Safe
 pub mod Pairs

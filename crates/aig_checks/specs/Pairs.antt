@@ -26,11 +26,14 @@ use Rattle.aig_reader.specs.Verdicts.{Accepted, Refused, Verdict}
 use Rattle.aig_refutation.specs.declared.error.RefutationError.TheVariants as refutation
 use Rattle.aig_runs.specs.declared.window.Window.{Window}
 use Rattle.aig_safety.specs.declared.error.SafetyError.TheVariants as proving
+use Rattle.aig_titles.specs.Sums.{IsSum}
+use Rattle.aig_titles.specs.Titles.{title_text}
 use Rattle.aig_checks.specs.declared.command.PairCommand.{PairCommand}
 use Rattle.aig_checks.specs.declared.command.PairCommand.TheVariants as commands
 use Rattle.aig_checks.specs.declared.tool.CheckError.{CheckError}
 use Rattle.aig_checks.specs.declared.tool.CheckError.TheVariants as errors
 use Rattle.aig_checks.specs.Running.{verdict_of}
+use Rattle.aig_checks.specs.Titling.{pair_title}
 
 -- ---- answers
 
@@ -54,9 +57,15 @@ formula_of made = clauses_in made.clauses ++ made.further
 abbrev pub part_text : List ℕ → WindowClauses → List ℕ
 part_text name made = (name ++ 10 ∷ []) ++ dimacs_of (length made.clauses) (formula_of made)
 
--- the text of the clauses of which the proofs of a certificate are, in two parts; from each a plain
--- reader reads just these again
-pub record IsObligationsText (optimize : Bool) (f g : File) (text : List ℕ) : Type 0 where
+-- the text of the clauses of which the proofs of a certificate are: their title, with the sums of
+-- the bytes of FILE and CERT, and then two parts, from each of which a plain reader reads just
+-- these again
+pub record IsObligationsText (optimize : Bool) (bytes others : Option (List ℕ)) (f g : File)
+    (text : List ℕ) : Type 0 where
+  pub sum : List ℕ
+  pub sums : IsSum bytes sum
+  pub beside : List ℕ
+  pub sums_beside : IsSum others beside
   pub base_clauses : WindowClauses
   pub step_clauses : WindowClauses
   pub asked : AreObligations optimize f g base_clauses step_clauses
@@ -64,7 +73,7 @@ pub record IsObligationsText (optimize : Bool) (f g : File) (text : List ℕ) : 
   pub base_exact : base ≡ part_text (codes "c base") base_clauses
   pub step : List ℕ
   pub step_exact : step ≡ part_text (codes "c step") step_clauses
-  pub exact : text ≡ base ++ step
+  pub exact : text ≡ title_text (pair_title optimize sum beside) ++ base ++ step
   pub base_again : parse_formula base
       ≡ Some (length base_clauses.clauses, formula_of base_clauses)
   pub step_again : parse_formula step
@@ -80,18 +89,18 @@ abbrev pub AlwaysEqualsBy : ℕ → ℕ → Window → Bool → Option (List ℕ
 AlwaysEqualsBy limit k form optimize base step =
     AlwaysEquals own_text own_text limit k optimize form optimize base base step
 
--- What the command puts into its writer for FILE and the file beside it, whose counts fit, what is
--- then so of their machines, and what the texts of BASE, or of the proof of `equal`, and of STEP
--- show of the clauses that they are of.
-abbrev pub PairAnswers : PairCommand → ℕ → Option (List ℕ) → Option (List ℕ) → File → File
-    → List ℕ → Type 0
-PairAnswers (commands.Certified optimize) limit base step f g text =
+-- What the command puts into its writer for FILE and the file beside it, which are of these bytes
+-- and whose counts fit, what is then so of their machines, and what the texts of BASE, or of the
+-- proof of `equal`, and of STEP show of the clauses that they are of.
+abbrev pub PairAnswers : PairCommand → ℕ → Option (List ℕ) → Option (List ℕ) → Option (List ℕ)
+    → Option (List ℕ) → File → File → List ℕ → Type 0
+PairAnswers (commands.Certified optimize) limit base step bytes others f g text =
     (text ≡ safe_line) × Certifies limit optimize base step f g (Ok tt)
-PairAnswers (commands.Equal k optimize) limit base step f g text =
+PairAnswers (commands.Equal k optimize) limit base step bytes others f g text =
     (text ≡ equal_line k) × Equals limit k optimize base f g (Ok tt)
-PairAnswers (commands.Obligations optimize) limit base step f g text =
-    IsObligationsText optimize f g text
-PairAnswers (commands.AlwaysEqual k form optimize) limit base step f g text =
+PairAnswers (commands.Obligations optimize) limit base step bytes others f g text =
+    IsObligationsText optimize bytes others f g text
+PairAnswers (commands.AlwaysEqual k form optimize) limit base step bytes others f g text =
     (text ≡ always_line) × AlwaysEqualsBy limit k form optimize base step f g (Ok tt)
 
 -- ---- errors
@@ -148,18 +157,20 @@ LeavesStep e = ⊥
 -- what a result tells of two files that were taken: the answer to them was written, and the writer
 -- has not failed; or a beginning of it was, and the writer has; or it is said why there is none
 abbrev pub TellsOfPair : {W : Type 0} → (W → Option (List ℕ)) → (W → Bool) → PairCommand → ℕ
-    → Option (List ℕ) → Option (List ℕ) → W → W → File → File → Result Unit CheckError → Type 0
-TellsOfPair held write_failed c limit base step w made f g (Ok done) =
-    (text : List ℕ) × PairAnswers c limit base step f g text × Appends (held w) (held made) text
-    × (write_failed made ≡ false)
-TellsOfPair held write_failed c limit base step w made f g (Err errors.Write) =
-    (text : List ℕ) × PairAnswers c limit base step f g text
+    → Option (List ℕ) → Option (List ℕ) → Option (List ℕ) → Option (List ℕ) → W → W → File → File
+    → Result Unit CheckError → Type 0
+TellsOfPair held write_failed c limit base step bytes others w made f g (Ok done) =
+    (text : List ℕ) × PairAnswers c limit base step bytes others f g text
+    × Appends (held w) (held made) text × (write_failed made ≡ false)
+TellsOfPair held write_failed c limit base step bytes others w made f g (Err errors.Write) =
+    (text : List ℕ) × PairAnswers c limit base step bytes others f g text
     × Stops (held w) (held made) (write_failed made) text
-TellsOfPair held write_failed c limit base step w made f g (Err (errors.Certificate e)) =
+TellsOfPair held write_failed c limit base step bytes others w made f g
+    (Err (errors.Certificate e)) =
     RefusesPair c limit base step f g e
-TellsOfPair held write_failed c limit base step w made f g (Err (errors.Equality e)) =
+TellsOfPair held write_failed c limit base step bytes others w made f g (Err (errors.Equality e)) =
     RefusesAlways c limit base step f g e
-TellsOfPair held write_failed c limit base step w made f g (Err e) = ⊥
+TellsOfPair held write_failed c limit base step bytes others w made f g (Err e) = ⊥
 
 -- What a command does: r, s, p, q and w are before it the readers of FILE, of the file beside it,
 -- and of two proofs, and the writer; rest, other, used, spent and made are these after it.
@@ -172,8 +183,8 @@ pub record RunsPair {R S P Q W : Type 0} (left : R → Option (List ℕ)) (faile
     : Type 0 where
   -- what is said of the bytes of both files, and where they are taken, of their machines
   pub reads : ReadsPair left failed left_of failed_of limit
-      (TellsOfPair held write_failed c limit (base_left p) (step_left q) w made) verdict_of
-      other_verdict_of (IsErrorOfPair c) r s result rest other
+      (TellsOfPair held write_failed c limit (base_left p) (step_left q) (left r) (left_of s) w
+      made) verdict_of other_verdict_of (IsErrorOfPair c) r s result rest other
   -- every refusal but that of the writer leaves the writer as it was
   pub kept : IfErr result (λ e. e ≢ errors.Write → made ≡ w)
   -- a proof is read only where what comes before it is taken

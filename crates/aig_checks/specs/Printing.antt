@@ -15,6 +15,8 @@ use Rattle.aig_output.specs.Sinks.{Stops, WritesOrStops}
 use Rattle.aig_runs.specs.Queries.{query_clauses}
 use Rattle.aig_runs.specs.Unrolled.{UnrolledCircuit}
 use Rattle.aig_solutions.specs.Checked.{RefusesSolution, SaysWitness}
+use Rattle.aig_titles.specs.Titles.{title_text}
+use Rattle.aig_titles.specs.declared.title.Title.{Title}
 use Rattle.aig_witness.specs.Witness.{Witness, witness_text}
 use Rattle.aig_witness.specs.Shown.{IsKnownWitness}
 use Rattle.aig_checks.specs.Comments.{comments_of}
@@ -22,30 +24,31 @@ use Rattle.aig_checks.specs.Pairs.{part_text}
 use Rattle.aig_checks.specs.declared.tool.CheckError.{CheckError}
 use Rattle.aig_checks.specs.declared.tool.CheckError.TheVariants as errors
 
--- the text of a query: its comments, and then these clauses
-abbrev pub query_text : UnrolledCircuit → List (List (List Lit)) → List (List Lit) → List ℕ
-query_text u lists further =
-    comments_of u.circuit u.unrolled u.steps
+-- the text of a query: its title, its comments, and then these clauses
+abbrev pub query_text : Title → UnrolledCircuit → List (List (List Lit)) → List (List Lit) → List ℕ
+query_text title u lists further =
+    title_text title ++ comments_of u.circuit u.unrolled u.steps
     ++ dimacs_of (length lists) (clauses_in lists ++ further)
 
 -- it is written with the clauses of the circuit with its further steps, or a beginning of it, and
 -- the clauses are a formula
 pub record WritesQuery {W T E : Type 0} (held : W → Option (List ℕ)) (failed : W → Bool)
-    (u : UnrolledCircuit) (optimize : Bool) (further : List (List Lit)) (old : W)
+    (title : Title) (u : UnrolledCircuit) (optimize : Bool) (further : List (List Lit)) (old : W)
     (result : Result T E) (new : W) : Type 0 where
   pub lists : List (List (List Lit))
   pub has : HasClauses u.unrolled optimize lists
   pub formula : IsFormula (length lists) (clauses_in lists ++ further)
-  pub writes : WritesOrStops held failed old result (query_text u lists further) new
+  pub writes : WritesOrStops held failed old result (query_text title u lists further) new
 
 -- the text with the clauses that ask for a bad state at the last step
-pub record IsQueryText (u : UnrolledCircuit) (optimize : Bool) (text : List ℕ) : Type 0 where
+pub record IsQueryText (title : Title) (u : UnrolledCircuit) (optimize : Bool) (text : List ℕ)
+    : Type 0 where
   pub lists : List (List (List Lit))
   pub has : HasClauses u.unrolled optimize lists
   pub further : List (List Lit)
   pub asks : further ≡ query_clauses u.circuit u.steps u.unrolled
   pub formula : IsFormula (length lists) (clauses_in lists ++ further)
-  pub exact : text ≡ query_text u lists further
+  pub exact : text ≡ query_text title u lists further
 
 -- the clauses of a circuit and further ones
 abbrev pub clauses_with : List (List (List Lit)) → List (List Lit) → WindowClauses
@@ -62,9 +65,20 @@ pub record WritesPart {W T E : Type 0} (held : W → Option (List ℕ)) (failed 
   pub writes : WritesOrStops held failed old result (part_text name (clauses_with lists further))
       new
 
--- so are the texts of the clauses of which the proofs of a certificate are
+-- so is that of the clauses of which BASE is a proof, behind a title
+pub record WritesBase {W T E : Type 0} (held : W → Option (List ℕ)) (failed : W → Bool)
+    (title : Title) (c : Circuit) (optimize : Bool) (further : List (List Lit)) (old : W)
+    (result : Result T E) (new : W) : Type 0 where
+  pub lists : List (List (List Lit))
+  pub has : HasClauses c optimize lists
+  pub formula : IsFormula (length lists) (clauses_in lists ++ further)
+  pub writes : WritesOrStops held failed old result
+      (title_text title ++ part_text (codes "c base") (clauses_with lists further)) new
+
+-- so are the texts of the clauses of which the proofs of a certificate are, behind their title
 pub record WritesBoth {W T E : Type 0} (held : W → Option (List ℕ)) (failed : W → Bool)
-    (o : Obligations) (optimize : Bool) (old : W) (result : Result T E) (new : W) : Type 0 where
+    (title : Title) (o : Obligations) (optimize : Bool) (old : W) (result : Result T E) (new : W)
+    : Type 0 where
   pub base : List (List (List Lit))
   pub base_has : HasClauses o.joint.unrolled optimize base
   pub base_formula : IsFormula (length base) (clauses_in base ++ o.base.further)
@@ -72,7 +86,7 @@ pub record WritesBoth {W T E : Type 0} (held : W → Option (List ℕ)) (failed 
   pub step_has : HasClauses (lists_circuit o.stepped) optimize step
   pub step_formula : IsFormula (length step) (clauses_in step ++ o.step.further)
   pub writes : WritesOrStops held failed old result
-      (part_text (codes "c base") (clauses_with base o.base.further)
+      (title_text title ++ part_text (codes "c base") (clauses_with base o.base.further)
       ++ part_text (codes "c step") (clauses_with step o.step.further)) new
 
 -- the text of a witness of k + 1 steps that a solver's answer says and that was checked in three

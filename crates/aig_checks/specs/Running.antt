@@ -46,8 +46,12 @@ use Rattle.aig_equality.specs.Equality as equality
 use Rattle.aig_safety.specs.Safety as safety
 use Rattle.aig_solutions.specs.declared.error.SolutionError.{SolutionError}
 use Rattle.aig_solutions.specs.Checked.{RefusesSolution, SaysWitness}
+use Rattle.aig_titles.specs.Sums.{IsSum}
+use Rattle.aig_titles.specs.Titles.{title_text}
+use Rattle.aig_titles.specs.declared.title.Question.TheVariants as questions
 use Rattle.aig_checks.specs.Bounded.{IsBoundedText, IsSettledTo, IsWitnessToText, TellsProof, safe_to_line}
 use Rattle.aig_checks.specs.Comments.{comments_of, named_text}
+use Rattle.aig_checks.specs.Titling.{is_distinct, title_of}
 use Rattle.aig_checks.specs.declared.command.FileCommand.{FileCommand}
 use Rattle.aig_checks.specs.declared.command.FileCommand.TheVariants as commands
 use Rattle.aig_checks.specs.declared.tool.CheckError.{CheckError}
@@ -79,25 +83,35 @@ abbrev pub IsShownLine : Option (List ℕ) → File → List ℕ → Type 0
 IsShownLine given f text =
     (shown : ShownProperty) × ShowsClaim given f shown × (text ≡ shown_line shown)
 
--- the text of the file's query: comments that say where inputs, latches and bad literals stand, and
--- then the clauses; from it a plain reader reads just these again
-pub record IsClausesText (f : File) (k : ℕ) (optimize : Bool) (text : List ℕ) : Type 0 where
+-- the text of the query of the file of these bytes: its title, with their sum, comments that say
+-- where inputs, latches and bad literals stand, and then the clauses; from it a plain reader reads
+-- just these again
+pub record IsClausesText (bytes : Option (List ℕ)) (f : File) (k : ℕ) (optimize : Bool)
+    (text : List ℕ) : Type 0 where
+  pub sum : List ℕ
+  pub sums : IsSum bytes sum
   pub query : Query
   pub asks : IsQuery k optimize f query
   pub exact : text
-      ≡ comments_of query.encoded.circuit query.encoded.unrolled k
+      ≡ title_text (title_of (questions.Clauses k) optimize sum)
+      ++ comments_of query.encoded.circuit query.encoded.unrolled k
       ++ dimacs_of (length query.encoded.clauses)
       (clauses_in query.encoded.clauses ++ query.extra)
   pub again : parse_formula text
       ≡ Some (length query.encoded.clauses, clauses_in query.encoded.clauses ++ query.extra)
 
--- the text of clauses that ask for a window, from which a plain reader reads just these again
-pub record IsWindowText (form : Window) (f : File) (k : ℕ) (optimize : Bool) (text : List ℕ)
-    : Type 0 where
+-- the text of clauses that ask for a window of the file of these bytes, behind their title; from
+-- it a plain reader reads just these again
+pub record IsWindowText (bytes : Option (List ℕ)) (form : Window) (f : File) (k : ℕ)
+    (optimize : Bool) (text : List ℕ) : Type 0 where
+  pub sum : List ℕ
+  pub sums : IsSum bytes sum
   pub lists : List (List (List Lit))
   pub further : List (List Lit)
   pub asks : AsksWindow form (circuit_of f) k optimize lists further
-  pub exact : text ≡ dimacs_of (length lists) (clauses_in lists ++ further)
+  pub exact : text
+      ≡ title_text (title_of (questions.Window k (is_distinct form)) optimize sum)
+      ++ dimacs_of (length lists) (clauses_in lists ++ further)
   pub again : parse_formula text ≡ Some (length lists, clauses_in lists ++ further)
 
 -- the text of a witness of k + 1 steps that shows a bad state of the file's machine; it is the one
@@ -112,19 +126,20 @@ pub record IsWitnessText (given : Option (List ℕ)) (f : File) (k : ℕ) (optim
   pub asks : IsQuery k optimize f query
   pub said : SaysWitness given query.encoded k witness
 
--- what the command puts into its writer for the file and what is given beside it, and what is then
--- so of the file's machine
-abbrev pub Answers : FileCommand → Option (List ℕ) → File → List ℕ → Type 0
-Answers (commands.Clauses k optimize) given f text = IsClausesText f k optimize text
-Answers (commands.Window k form optimize) given f text = IsWindowText form f k optimize text
-Answers (commands.Refuted k optimize) given f text = (text ≡ step_line k) × IsSafeAt f k
-Answers (commands.Inductive k form optimize) given f text =
+-- what the command puts into its writer for what is given and the file, which is of these bytes,
+-- and what is then so of the file's machine
+abbrev pub Answers : FileCommand → Option (List ℕ) → Option (List ℕ) → File → List ℕ → Type 0
+Answers (commands.Clauses k optimize) given bytes f text = IsClausesText bytes f k optimize text
+Answers (commands.Window k form optimize) given bytes f text =
+    IsWindowText bytes form f k optimize text
+Answers (commands.Refuted k optimize) given bytes f text = (text ≡ step_line k) × IsSafeAt f k
+Answers (commands.Inductive k form optimize) given bytes f text =
     (text ≡ window_line k) × IsKInductive form f k × (IsSafeTo f k → (n : ℕ) → IsSafeTo f n)
-Answers (commands.Witness k optimize) given f text = IsWitnessText given f k optimize text
-Answers commands.Run given f text = IsShownLine given f text
-Answers (commands.Bounded k optimize) given f text = IsBoundedText f k optimize text
-Answers (commands.RefutedTo k optimize) given f text = (text ≡ safe_to_line k) × IsSafeTo f k
-Answers (commands.WitnessTo k optimize) given f text = IsWitnessToText f k text
+Answers (commands.Witness k optimize) given bytes f text = IsWitnessText given f k optimize text
+Answers commands.Run given bytes f text = IsShownLine given f text
+Answers (commands.Bounded k optimize) given bytes f text = IsBoundedText bytes f k optimize text
+Answers (commands.RefutedTo k optimize) given bytes f text = (text ≡ safe_to_line k) × IsSafeTo f k
+Answers (commands.WitnessTo k optimize) given bytes f text = IsWitnessToText f k text
 
 -- ---- files
 
@@ -158,7 +173,8 @@ file_verdict (commands.WitnessTo k optimize) limit f = bounded_verdict f
 abbrev pub AnswersFile : FileCommand → ℕ → Option (List ℕ) → Option (List ℕ) → Option (List ℕ)
     → (List ℕ → Type 0) → Type 0
 AnswersFile c limit given old new Holds =
-    (text : List ℕ) × IsReadAs (IsAskedBy c limit) (Answers c given) old new text × Holds text
+    (text : List ℕ) × IsReadAs (IsAskedBy c limit) (Answers c given old) old new text
+    × Holds text
 
 -- ---- errors
 

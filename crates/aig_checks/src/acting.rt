@@ -108,20 +108,20 @@ fn run_beside<F: Opens, R: Source, W: Sink>(
 }
 
 /// Runs a command on a file, and on what the words name beside it.
-fn run_on<F: Opens, R: Source, W: Sink>(
+fn run_on<F: Opens, R: Source + Drop, W: Sink>(
     alloc: Global,
     limit: usize,
     files: &F,
     command: FileCommand,
     further: &[String],
-    r: &mut R,
+    mut r: R,
     w: &mut W,
 ) -> Result<(), CheckError>
     requires limit { IsLimit limit }
     requires further { length further.now ≡ beside_of (Command.File command) }
     requires small { step_of (Command.File command) < 2 ^ 32 }
-    ensures { RunsFile (F.opens files.now) R.left R.failed F.File.left F.File.failed W.held
-        W.failed limit command (map string_bytes further.now) r.old w.old result r.new w.new }
+    ensures { (rest : R) × RunsFile (F.opens files.now) R.left R.failed F.File.left F.File.failed
+        W.held W.failed limit command (map string_bytes further.now) r w.old result rest w.new }
 {
     match command {
         FileCommand::Clauses { k, optimize } => print_clauses(alloc, limit, k, optimize, r, w),
@@ -129,7 +129,7 @@ fn run_on<F: Opens, R: Source, W: Sink>(
             alloc, limit, k, form, optimize, r, w,
         ),
         FileCommand::Bounded { k, optimize } => print_bounded(alloc, limit, k, optimize, r, w),
-        _ => run_beside(alloc, limit, files, command, further[0].as_str(), r, w),
+        _ => run_beside(alloc, limit, files, command, further[0].as_str(), &mut r, w),
     }
 }
 
@@ -208,22 +208,22 @@ fn run_equal<F: Opens, R: Source, S: Source, W: Sink>(
 }
 
 /// Runs a command on two files, and on the proofs that the words name beside them.
-fn run_on_pair<F: Opens, R: Source, S: Source, W: Sink>(
+fn run_on_pair<F: Opens, R: Source + Drop, S: Source + Drop, W: Sink>(
     alloc: Global,
     limit: usize,
     files: &F,
     command: PairCommand,
     further: &[String],
-    r: &mut R,
-    s: &mut S,
+    mut r: R,
+    mut s: S,
     w: &mut W,
 ) -> Result<(), CheckError>
     requires limit { IsLimit limit }
     requires further { length further.now ≡ beside_of (Command.Pair command) }
     requires small { step_of (Command.Pair command) < 2 ^ 32 }
-    ensures { RunsProofs (F.opens files.now) R.left R.failed S.left S.failed F.File.left
-        F.File.failed W.held W.failed limit command (map string_bytes further.now) r.old s.old w.old
-        result r.new s.new w.new }
+    ensures { (rest : R) × (other : S) × RunsProofs (F.opens files.now) R.left R.failed S.left
+        S.failed F.File.left F.File.failed W.held W.failed limit command
+        (map string_bytes further.now) r s w.old result rest other w.new }
 {
     match command {
         PairCommand::Equal { k, optimize } => {
@@ -234,15 +234,15 @@ fn run_on_pair<F: Opens, R: Source, S: Source, W: Sink>(
                 k,
                 optimize,
                 further[0].as_str(),
-                r,
-                s,
+                &mut r,
+                &mut s,
                 w,
             )
         }
         PairCommand::Obligations { optimize } => print_obligations(alloc, limit, optimize, r, s, w),
         _ => {
             let (base, step) = (further[0].as_str(), further[1].as_str());
-            run_both(alloc, limit, files, command, base, step, r, s, w)
+            run_both(alloc, limit, files, command, base, step, &mut r, &mut s, w)
         }
     }
 }
@@ -263,8 +263,8 @@ fn run_file<F: Opens, W: Sink>(
     ensures { Acts (F.opens files.now) F.File.left F.File.failed W.held W.failed limit
         (Command.File command) (path.now ∷ []) (map string_bytes further.now) w.old result w.new }
 {
-    let mut file = files.open(path)?;
-    run_on(alloc, limit, files, command, further, &mut file, w)
+    let file = files.open(path)?;
+    run_on(alloc, limit, files, command, further, file, w)
 }
 
 /// Runs a command on the files at two paths.
@@ -285,11 +285,9 @@ fn run_pair<F: Opens, W: Sink>(
         (Command.Pair command) (path.now ∷ beside.now ∷ []) (map string_bytes further.now) w.old
         result w.new }
 {
-    let mut file = files.open(path)?;
-    let mut other = files.open(beside)?;
-    run_on_pair(
-        alloc, limit, files, command, further, &mut file, &mut other, w,
-    )
+    let file = files.open(path)?;
+    let other = files.open(beside)?;
+    run_on_pair(alloc, limit, files, command, further, file, other, w)
 }
 
 /// Checks the proofs at two paths that the machine of the file at a path is safe.

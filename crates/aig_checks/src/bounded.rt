@@ -7,6 +7,7 @@ ghost use Rattle.aig_base.specs.Formula.{clauses_in};
 ghost use Rattle.aig_command_line.specs.Limits.{IsLimit};
 ghost use Rattle.aig_dimacs.specs.Text.{dimacs_of};
 ghost use Rattle.aig_output.specs.Sinks.{BuffersOrStops, WritesOrStops};
+ghost use Rattle.aig_titles.specs.Titles.{title_text};
 ghost use Rattle.aig_checks.specs.Bounded.{bounded_comments, letter_of, place_line};
 ghost use Rattle.aig_checks.specs.Running.{Runs, nothing_fails, nothing_given};
 
@@ -17,10 +18,13 @@ use aig_base::{Sink, Source, StreamFault, Var};
 use aig_bounded_answers::{
     BoundedClauses, Named, bounded, bounded_witness, check_bounded, refuted_questions_are_safe,
 };
+use aig_command_line::Origin;
 use aig_dimacs::write_dimacs;
 use aig_output::OutputBuffer;
+use aig_titles::{Question, Summed, Title, write_title};
 use aig_witness::write_witness;
 use std::alloc::Global;
+use std::marker::Brand;
 
 /// The letter of an input or of a latch, in a line about it.
 fn letter(named: &Named) -> &'static [u8]
@@ -59,42 +63,81 @@ fn write_places<W: Sink>(w: &mut W, made: &BoundedClauses) -> Result<(), StreamF
     buffer.flush(w)
 }
 
-/// Writes the lines of a question's inputs, and then its clauses.
-fn write_bounded<W: Sink>(w: &mut W, made: &BoundedClauses) -> Result<(), StreamFault>
+/// Writes a title, and then the lines of a question's inputs.
+fn write_front<W: Sink>(w: &mut W, title: &Title, made: &BoundedClauses) -> Result<(), StreamFault>
+    requires { All (λ n. n < 2 ^ 31) made.now.question.circuit.inputs.items }
+    ensures { let text = title_text title.now ++ bounded_comments made.now in
+        WritesOrStops W.held W.failed w.old result text w.new }
+{
+    write_title(w, title)?;
+    write_places(w, made)
+}
+
+/// Writes a title, the lines of a question's inputs, and then its clauses.
+fn write_bounded<W: Sink>(
+    w: &mut W,
+    title: &Title,
+    made: &BoundedClauses,
+) -> Result<(), StreamFault>
     requires few { All (λ n. n < 2 ^ 31) made.now.question.circuit.inputs.items }
     requires below { AreBelow (length made.now.clauses) made.now.further }
     ensures { let clauses = dimacs_of (length made.now.clauses)
         (clauses_in made.now.clauses ++ made.now.further) in
-        let text = bounded_comments made.now ++ clauses in
+        let text = title_text title.now ++ bounded_comments made.now ++ clauses in
         WritesOrStops W.held W.failed w.old result text w.new }
 {
-    write_places(w, made)?;
+    write_front(w, title, made)?;
     write_dimacs(w, &made.clauses, &made.further)
 }
 
-/// Prints the clauses of one question: whether a bad state is reached at a step up to `k`, and before them comments that say which
-/// input or latch of the file each input of the question is, at which step, and its variable. Where the question is settled, no
-/// bad state is reached, and nothing is printed: `Settled`.
-pub fn print_bounded<R: Source, W: Sink>(
+/// Prints the clauses of one question of the file whose bytes are the origin.
+fn print_bounded_of<R: Source + Drop, B: Origin, W: Sink>(
     alloc: Global,
     limit: usize,
     k: usize,
     optimize: bool,
-    r: &mut R,
+    r: R,
     w: &mut W,
 ) -> Result<(), CheckError>
-    requires { IsLimit limit }
+    requires origin { R.left r ≡ B.bytes }
+    requires limit { IsLimit limit }
     ensures { let command = FileCommand.Bounded k optimize in
-        Runs R.left R.failed nothing_given nothing_fails W.held W.failed
-        command limit r.old tt w.old result r.new tt w.new }
+        (rest : R) × Runs R.left R.failed nothing_given nothing_fails W.held W.failed
+        command limit r tt w.old result rest tt w.new }
 {
     refuted_questions_are_safe();
-    let made = bounded(alloc, r, limit, k, optimize)?;
+    let mut file = Summed::<R, B>::new(r);
+    let made = bounded(alloc, &mut file, limit, k, optimize)?;
     tell_formula(&made.clauses, &made.further);
     if made.is_settled() {
         return Err(CheckError::Settled(k));
     }
-    Ok(write_bounded(w, &made)?)
+    let title = Title {
+        question: Question::Bounded { k },
+        optimize,
+        sum: file.finish(),
+        beside: None,
+    };
+    Ok(write_bounded(w, &title, &made)?)
+}
+
+/// Prints the clauses of one question: whether a bad state is reached at a step up to `k`. Before them stand their title, and comments
+/// that say which input or latch of the file each input of the question is, at which step, and its variable. Where the question is
+/// settled, no bad state is reached, and nothing is printed: `Settled`.
+pub fn print_bounded<R: Source + Drop, W: Sink>(
+    alloc: Global,
+    limit: usize,
+    k: usize,
+    optimize: bool,
+    r: R,
+    w: &mut W,
+) -> Result<(), CheckError>
+    requires { IsLimit limit }
+    ensures { let command = FileCommand.Bounded k optimize in
+        (rest : R) × Runs R.left R.failed nothing_given nothing_fails W.held W.failed
+        command limit r tt w.old result rest tt w.new }
+{
+    print_bounded_of::<R, Brand, W>(alloc, limit, k, optimize, r, w)
 }
 
 /// Checks a proof that no bad state is reached up to step `k`, and prints so.

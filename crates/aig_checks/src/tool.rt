@@ -6,11 +6,14 @@ ghost use Rattle.aig_base.specs.Clauses.{AreBelow};
 ghost use Rattle.aig_base.specs.Formula.{clauses_in};
 ghost use Rattle.aig_cnf.specs.Cnf.{AreNeeded, HasClauses};
 ghost use Rattle.aig_command_line.specs.Limits.{IsLimit};
-ghost use Rattle.aig_dimacs.specs.Text.{IsFormula};
+ghost use Rattle.aig_dimacs.specs.Text.{IsFormula, dimacs_of};
 ghost use Rattle.aig_output.specs.Sinks.{BuffersOrStops, WritesOrStops};
+ghost use Rattle.aig_titles.specs.Titles.{title_text};
 ghost use Rattle.aig_unroll.specs.Unroll.{UnrollsTo};
+ghost use Rattle.aig_checks.specs.Comments.{comments_of};
 ghost use Rattle.aig_checks.specs.Printing.{IsKnownText, IsOfSolution, IsOfText, IsQueryText, Prints, WritesQuery};
 ghost use Rattle.aig_checks.specs.Running.{Runs, error_of_claim, error_status, nothing_fails, nothing_given};
+ghost use Rattle.aig_checks.specs.Titling.{is_distinct};
 ghost use Rattle.aig_checks.specs.declared.tool.CheckError.TheVariants as errors;
 
 use crate::command::FileCommand;
@@ -23,7 +26,7 @@ use aig_bounded_answers::BoundedAnswerError;
 use aig_certificates::{CertificateError, MiterError};
 use aig_circuit::CircuitView;
 use aig_cnf::{NeededGates, find_needed};
-use aig_command_line::HasStatus;
+use aig_command_line::{HasStatus, Origin};
 use aig_dimacs::{write_circuit, write_dimacs};
 use aig_encode::Query;
 use aig_equality::EqualityError;
@@ -32,8 +35,10 @@ use aig_output::OutputBuffer;
 use aig_runs::{Unrolled, inductive_windows_are_safe};
 use aig_safety::SafetyError;
 use aig_solutions::{Places, SolutionError, checked_witness};
+use aig_titles::{Question, Summed, Title, write_title};
 use aig_witness::{ShowError, known_witnesses_show, write_witness};
 use std::alloc::Global;
+use std::marker::Brand;
 use thiserror::Error;
 
 /// Why the program doesn't do what was asked.
@@ -198,24 +203,82 @@ pub(crate) fn write_line<W: Sink>(w: &mut W, text: &[u8], k: usize) -> Result<()
     buffer.flush(w)
 }
 
-/// Prints the clauses that ask for a window of a file's machine. Requires that `k` is below 2^32.
-pub fn print_window<R: Source, W: Sink>(
+/// Whether no state comes twice.
+fn is_distinct(form: Window) -> bool
+    ensures { result ≡ is_distinct form }
+{
+    match form {
+        Window::Plain => false,
+        Window::Distinct => true,
+    }
+}
+
+/// Writes clauses behind their title.
+fn write_titled<W: Sink>(
+    w: &mut W,
+    title: &Title,
+    clauses: &DagCnf,
+    further: &LitVvec,
+) -> Result<(), StreamFault>
+    requires { AreBelow (length clauses.now) further.now }
+    ensures writes { let formula = clauses_in clauses.now ++ further.now in
+        let text = title_text title.now ++ dimacs_of (length clauses.now) formula in
+        WritesOrStops W.held W.failed w.old result text w.new }
+    ensures formula { IsFormula (length clauses.now) (clauses_in clauses.now ++ further.now) }
+{
+    tell_formula(clauses, further);
+    write_title(w, title)?;
+    write_dimacs(w, clauses, further)
+}
+
+/// Prints the clauses of a window of the file whose bytes are the origin.
+fn print_window_of<R: Source + Drop, B: Origin, W: Sink>(
     alloc: Global,
     limit: usize,
     k: usize,
     form: Window,
     optimize: bool,
-    r: &mut R,
+    r: R,
+    w: &mut W,
+) -> Result<(), CheckError>
+    requires origin { R.left r ≡ B.bytes }
+    requires limit { IsLimit limit }
+    requires small { k < 2 ^ 32 }
+    ensures { let command = FileCommand.Window k form optimize in
+        (rest : R) × Runs R.left R.failed nothing_given nothing_fails W.held W.failed
+        command limit r tt w.old result rest tt w.new }
+{
+    let mut file = Summed::<R, B>::new(r);
+    let asked = window(alloc, &mut file, limit, k, optimize, form)?;
+    let title = Title {
+        question: Question::Window {
+            k,
+            distinct: is_distinct(form),
+        },
+        optimize,
+        sum: file.finish(),
+        beside: None,
+    };
+    Ok(write_titled(w, &title, &asked.clauses, &asked.further)?)
+}
+
+/// Prints the clauses that ask for a window of a file's machine, behind their title. Requires that `k` is below 2^32.
+pub fn print_window<R: Source + Drop, W: Sink>(
+    alloc: Global,
+    limit: usize,
+    k: usize,
+    form: Window,
+    optimize: bool,
+    r: R,
     w: &mut W,
 ) -> Result<(), CheckError>
     requires limit { IsLimit limit }
     requires small { k < 2 ^ 32 }
     ensures { let command = FileCommand.Window k form optimize in
-        Runs R.left R.failed nothing_given nothing_fails W.held W.failed
-        command limit r.old tt w.old result r.new tt w.new }
+        (rest : R) × Runs R.left R.failed nothing_given nothing_fails W.held W.failed
+        command limit r tt w.old result rest tt w.new }
 {
-    let asked = window(alloc, r, limit, k, optimize, form)?;
-    Ok(write_dimacs(w, &asked.clauses, &asked.further)?)
+    print_window_of::<R, Brand, W>(alloc, limit, k, form, optimize, r, w)
 }
 
 /// Checks a proof that no bad state is reached at step `k`, and prints so.
@@ -291,9 +354,28 @@ pub(crate) fn tell_circuit(
     );
 }
 
-/// Writes a query: comments that say which literals stand for what, and then its clauses.
+/// Writes the title and the comments of a query.
+fn write_front<'a, W: Sink>(
+    w: &mut W,
+    title: &Title,
+    asked: &'a Unrolled,
+    places: &Places<'_, CircuitView<'a>>,
+) -> Result<(), StreamFault>
+    requires places { places.now ≡ asked.now.circuit }
+    requires few { length asked.now.unrolled.nodes ≤ 2 ^ 31 }
+    requires small { asked.now.steps < 2 ^ 32 }
+    ensures { let text = title_text title.now
+        ++ comments_of asked.now.circuit asked.now.unrolled asked.now.steps in
+        WritesOrStops W.held W.failed w.old result text w.new }
+{
+    write_title(w, title)?;
+    write_comments(w, asked, places)
+}
+
+/// Writes a query: its title, comments that say which literals stand for what, and then its clauses.
 fn write_query<'a, W: Sink>(
     w: &mut W,
+    title: &Title,
     asked: &'a Unrolled,
     places: &Places<'_, CircuitView<'a>>,
     optimize: bool,
@@ -306,52 +388,81 @@ fn write_query<'a, W: Sink>(
     requires needed { AreNeeded asked.now.unrolled optimize needed.now.marks.items
         needed.now.clauses }
     requires below { AreBelow (length asked.now.unrolled.nodes) further.now }
-    ensures { WritesQuery W.held W.failed asked.now optimize further.now w.old result w.new }
+    ensures { WritesQuery W.held W.failed title.now asked.now optimize further.now w.old result
+        w.new }
 {
     let unrolled = asked.unrolled();
     tell_circuit(&unrolled, optimize, needed, further);
-    write_comments(w, asked, places)?;
+    write_front(w, title, asked, places)?;
     write_circuit(w, &unrolled, optimize, needed, further)
 }
 
 /// Prints a query of a circuit. The clauses are written from the circuit, and no list of them is made.
 fn print_query<W: Sink>(
     alloc: Global,
+    title: &Title,
     asked: &Unrolled,
     optimize: bool,
     w: &mut W,
 ) -> Result<(), CheckError>
     requires few { length asked.now.unrolled.nodes ≤ 2 ^ 31 }
     requires small { asked.now.steps < 2 ^ 32 }
-    ensures prints { Prints W.held W.failed (IsQueryText asked.now optimize) w.old result w.new }
+    ensures prints { Prints W.held W.failed (IsQueryText title.now asked.now optimize) w.old result
+        w.new }
     ensures own { IfErr result IsOfText }
 {
     let circuit = asked.circuit();
     let places = Places::new(alloc, &circuit)?;
     let further = asked.query_clauses(alloc)?;
     let needed = find_needed(alloc, &asked.unrolled(), optimize)?;
-    Ok(write_query(w, asked, &places, optimize, &needed, &further)?)
+    Ok(write_query(w, title, asked, &places, optimize, &needed, &further)?)
 }
 
-/// Prints the clauses of the query of a file for step `k`, as `write_dimacs` does, and before them comments that say which
-/// literals stand for its inputs at each step, its latches at step 0, and its bad state properties at step `k`. Requires that `k`
-/// is below 2^32.
-pub fn print_clauses<R: Source, W: Sink>(
+/// Prints the query of the file whose bytes are the origin.
+fn print_clauses_of<R: Source + Drop, B: Origin, W: Sink>(
     alloc: Global,
     limit: usize,
     k: usize,
     optimize: bool,
-    r: &mut R,
+    r: R,
+    w: &mut W,
+) -> Result<(), CheckError>
+    requires origin { R.left r ≡ B.bytes }
+    requires limit { IsLimit limit }
+    requires small { k < 2 ^ 32 }
+    ensures { let command = FileCommand.Clauses k optimize in
+        (rest : R) × Runs R.left R.failed nothing_given nothing_fails W.held W.failed
+        command limit r tt w.old result rest tt w.new }
+{
+    let mut file = Summed::<R, B>::new(r);
+    let asked = asked_circuit(alloc, &mut file, limit, k)?;
+    let title = Title {
+        question: Question::Clauses { k },
+        optimize,
+        sum: file.finish(),
+        beside: None,
+    };
+    print_query(alloc, &title, &asked, optimize, w)
+}
+
+/// Prints the clauses of the query of a file for step `k`, as `write_dimacs` does. Before them stand their title, and comments that
+/// say which literals stand for its inputs at each step, its latches at step 0, and its bad state properties at step `k`. Requires
+/// that `k` is below 2^32.
+pub fn print_clauses<R: Source + Drop, W: Sink>(
+    alloc: Global,
+    limit: usize,
+    k: usize,
+    optimize: bool,
+    r: R,
     w: &mut W,
 ) -> Result<(), CheckError>
     requires limit { IsLimit limit }
     requires small { k < 2 ^ 32 }
     ensures { let command = FileCommand.Clauses k optimize in
-        Runs R.left R.failed nothing_given nothing_fails W.held W.failed
-        command limit r.old tt w.old result r.new tt w.new }
+        (rest : R) × Runs R.left R.failed nothing_given nothing_fails W.held W.failed
+        command limit r tt w.old result rest tt w.new }
 {
-    let asked = asked_circuit(alloc, r, limit, k)?;
-    print_query(alloc, &asked, optimize, w)
+    print_clauses_of::<R, Brand, W>(alloc, limit, k, optimize, r, w)
 }
 
 /// Reads a solver's answer to a query for step `k`, and prints the witness that it says, which was checked.

@@ -97,21 +97,22 @@ pub fn query(file: &[u8], k: u64, optimize: bool) -> Result<Vec<u8>> {
     given(ROOM, |out, len, needed| unsafe { calls::aig_query(file.as_ptr(), file.len(), k, optimize, out, len, needed) })
 }
 
-/// The clauses of the query, in DIMACS form, and before them comments that say which literals stand for the inputs at each step, the
-/// latches at step 0 and the bad state properties at step `k`. A file without bad state properties is refused.
+/// The clauses of the query, in DIMACS form. Before them stand a title, as in `c aigcheck clauses 5 raw sha256 SUM`, and comments that
+/// say which literals stand for the inputs at each step, the latches at step 0 and the bad state properties at step `k`. A file without
+/// bad state properties is refused.
 pub fn clauses(file: &[u8], k: u64, optimize: bool) -> Result<Vec<u8>> {
     given(ROOM, |out, len, needed| unsafe { calls::aig_clauses(file.as_ptr(), file.len(), k, optimize, out, len, needed) })
 }
 
-/// The clauses, in DIMACS form, of `question`, and that its output is true; before them comments that say which input or latch each input
-/// of the question is, at which step, and its variable. `Status::SETTLED` only where no bad state is reached up to step `k`: then there
-/// are no clauses to solve.
+/// The clauses, in DIMACS form, of `question`, and that its output is true. Before them stand a title, as in `c aigcheck bounded 5 sha256
+/// SUM`, and comments that say which input or latch each input of the question is, at which step, and its variable. `Status::SETTLED`
+/// only where no bad state is reached up to step `k`: then there are no clauses to solve.
 pub fn bounded(file: &[u8], k: u64, optimize: bool) -> Result<Vec<u8>> {
     given(ROOM, |out, len, needed| unsafe { calls::aig_bounded(file.as_ptr(), file.len(), k, optimize, out, len, needed) })
 }
 
 /// The clauses, in DIMACS form, that ask for a window of a file's machine: `k` + 2 steps from any state with a bad state first at their
-/// end; where `distinct`, on which no state comes twice.
+/// end; where `distinct`, on which no state comes twice. Before them stands a title, as in `c aigcheck window 3 distinct sha256 SUM`.
 pub fn window(file: &[u8], k: u64, distinct: bool, optimize: bool) -> Result<Vec<u8>> {
     given(ROOM, |out, len, needed| unsafe { calls::aig_window(file.as_ptr(), file.len(), k, distinct, optimize, out, len, needed) })
 }
@@ -235,8 +236,8 @@ pub fn merge(file: &[u8], other: &[u8]) -> Result<Vec<u8>> {
     given(ROOM, |out, len, needed| unsafe { calls::aig_merge(file.as_ptr(), file.len(), other.as_ptr(), other.len(), out, len, needed) })
 }
 
-/// The clauses, in DIMACS form, that the proofs of `check_certified` are of: after the line `c base` those of `base`, and after the line
-/// `c step` those of `step`.
+/// The clauses, in DIMACS form, that the proofs of `check_certified` are of: after a title, as in `c aigcheck obligations sha256 SUM
+/// SUM`, and the line `c base` those of `base`, and after the line `c step` those of `step`.
 pub fn obligations(file: &[u8], certificate: &[u8], optimize: bool) -> Result<Vec<u8>> {
     given(ROOM, |out, len, needed| unsafe {
         calls::aig_obligations(file.as_ptr(), file.len(), certificate.as_ptr(), certificate.len(), optimize, out, len, needed)

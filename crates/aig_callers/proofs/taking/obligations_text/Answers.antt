@@ -1,4 +1,5 @@
 use Rattle.aig_base.proofs.Words.{Some, ap, sym, subst, ◌∙◌}
+use Rattle.std.proofs.Common.{subst₂}
 use Rattle.aig_checks.specs.Pairs.{IsObligationsText}
 use Rattle.aig_callers.proofs.Answered.{both_read}
 use Rattle.aig_callers.proofs.Text.{all_held}
@@ -7,7 +8,8 @@ use Rattle.aig_callers.proofs.taking.obligations_text.Goals as goal
 pub returns : goal.returns
 returns c =
     let read = both_read _ _ _ _ 16777216 _ _ _ _ _ _ _ _ c.args.file.now c.args.certificate.now tt
-    c.in_ok-print_obligations.ensures.reads c.source_of.ensures c.source_of-2.ensures in
+    c.in_ok-print_obligations.ensures.2.reads c.source_of-file.ensures
+    c.source_of-certificate.ensures in
     let told = read.4 in
     let all = all_held _ _ c.into_inner.result.items told.0 (c.new-out.ensures.held
     ∙ ap (λ l. Some l) c.new.ensures.items) (sym c.into_inner.ensures) told.2 in (
@@ -15,6 +17,9 @@ returns c =
       read.1,
       read.2,
       read.3,
-      subst (IsObligationsText c.args.optimize read.0 read.1)
-          (sym all) told.1,
+      subst (IsObligationsText c.args.optimize (Some c.args.file.now) (Some c.args.certificate.now)
+          read.0 read.1) (sym all)
+          (subst₂ (λ bytes others.
+          IsObligationsText c.args.optimize bytes others read.0 read.1 told.0)
+          c.source_of-file.ensures c.source_of-certificate.ensures told.1),
     )

@@ -13,14 +13,14 @@ use Rattle.aig_calls.proofs.bounded.bounded_text.Goals as goal
 pub returns-in-Ok : goal.returns-in-Ok
 returns-in-Ok c =
     let command = (commands.Bounded c.args.k c.args.optimize) in
-    let told = c.in-Ok.ensures in
+    let told = c.in-Ok.ensures.1 in
     let items = λ (v : Vec ℕ Global). Some v.items in
     let none = ap items c.new-sink.ensures.writer ∙ ap (λ (xs : List ℕ). Some xs)
     c.new.ensures.items in
     let all = ap items (sym c.into_inner.ensures) in
     record {
       makes = text_made bounded_verdict LIMIT c.args.file.now _ _ (IsAskedWithin LIMIT)
-          (λ bs f asked. asked.0) (Answers command None)
+          (λ bs f asked. asked.0) (Answers command None (Some c.args.file.now))
           (IsOwnOf command) _ _ _ c.into_inner.result (search rules) (search rules)
           (rw c.new-source.ensures.reader at told.verdict)
           (rw c.new-source.ensures.reader at told.ok) none all;
@@ -31,7 +31,7 @@ returns-in-Ok c =
 pub returns-in-Err : goal.returns-in-Err
 returns-in-Err c =
     let command = (commands.Bounded c.args.k c.args.optimize) in
-    let told = c.in-Err.ensures in
+    let told = c.in-Err.ensures.1 in
     let e = c.in-Err.error in
     let bytes = c.args.file.now in
     let judges = rw c.new-source.ensures.reader at told.verdict in

@@ -20,7 +20,8 @@ returns-in-Ok-clause-makes c =
     let all = ap items (sym c.into_inner.ensures) in
     text_made bounded_verdict LIMIT c.args.file.now _ _ (IsAskedWithin LIMIT)
     (λ bs f asked. asked.0)
-    (Answers command (Some c.args.solution.now)) (IsOwnOf command) _ _ _ c.into_inner.result
+    (Answers command (Some c.args.solution.now) (Some c.args.file.now)) (IsOwnOf command) _ _ _
+    c.into_inner.result
     (search rules) (search rules)
     (rw c.new-source.ensures.reader at told.verdict)
     (rw (c.new-source.ensures.reader, c.new-answer.ensures.reader) at told.ok) none all

@@ -1,4 +1,4 @@
-use Rattle.std.proofs.Common.{ℕ, List}
+use Rattle.std.proofs.Common.{ℕ, List, Some}
 use Rattle.aig_answers.specs.Answers.{window_verdict}
 use Rattle.aig_checks.specs.Running.{IsWindowText}
 use Rattle.aig_calls.specs.Calls.{form_of}
@@ -14,7 +14,9 @@ returns-in-Ok c =
     let step = c.in-Ok.ensures.ok in
     let bytes = c.args.file.now in
     let form = form_of c.args.distinct in
-    let Means = λ (f : File) (text : List ℕ). IsWindowText form f k c.args.optimize text in
+    let Means = λ (f : File) (text : List ℕ).
+    IsWindowText (Some bytes) form f k c.args.optimize text in
     let made = rw (step.0, c.window_form-form.ensures) at c.window_text.ensures in
     gives_at (window_verdict form LIMIT k) LIMIT bytes Means k IsOfText _ _ _ _ _ step.1
-    (gives (window_verdict form LIMIT k) LIMIT bytes Means IsOfText c.window_text.result _ _ _ _ _ made c.put.ensures)
+    (gives (window_verdict form LIMIT k) LIMIT bytes Means IsOfText c.window_text.result _ _ _ _ _
+    made c.put.ensures)

@@ -1,4 +1,4 @@
-use Rattle.std.proofs.Common.{ℕ, inl, arith}
+use Rattle.std.proofs.Common.{ℕ, Some, inl, arith}
 use Rattle.aig_certificates.specs.Certificates.{joint_verdict}
 use Rattle.aig_checks.specs.Pairs.{IsObligationsText}
 use Rattle.aig_commands.specs.declared.tool.TheConstants.{LIMIT}
@@ -13,7 +13,9 @@ use Rattle.aig_calls.proofs.pairs.aig_obligations.Goals as goal
 
 pub returns-clause-gives : goal.returns-clause-gives
 returns-clause-gives c =
-    puts_pair Certificate LIMIT (IsObligationsText c.args.optimize) IsOfObligations c.args.file.now
+    puts_pair Certificate LIMIT
+    (IsObligationsText c.args.optimize (Some c.args.file.now) (Some c.args.certificate.now))
+    IsOfObligations c.args.file.now
     c.args.certificate.now
     c.obligations_text.result _ _ _ _ _ (inl (inl (omega arith))) (inl (inl (omega arith)))
     c.obligations_text.ensures.makes c.put.ensures

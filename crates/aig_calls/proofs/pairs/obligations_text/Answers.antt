@@ -9,12 +9,12 @@ use Rattle.aig_edits.specs.declared.error.PairError.TheVariants as pair
 use Rattle.aig_calls.proofs.Counts.{counts_first_by, counts_second_by, counts_tell, misfit_by}
 use Rattle.aig_calls.proofs.Making.{only_text}
 use Rattle.aig_calls.proofs.Joining.{obliged_query, obliged_window}
-use Rattle.aig_calls.proofs.Pairing.{both_whole, misfit_tells, pair_tells}
+use Rattle.aig_calls.proofs.Pairing.{both_whole, misfit_tells, pair_tells, titled_by}
 use Rattle.aig_calls.proofs.pairs.obligations_text.Goals as goal
 
 pub returns-in-Ok-clause-makes : goal.returns-in-Ok-clause-makes
 returns-in-Ok-clause-makes c =
-    let told = c.in-Ok.ensures.reads in
+    let told = c.in-Ok.ensures.2.reads in
     let bytes = c.args.file.now in
     let others = c.args.certificate.now in
     let items = λ (v : Vec ℕ Global). Some v.items in
@@ -31,14 +31,21 @@ returns-in-Ok-clause-makes c =
       answer = (
         f.0,
         f.1,
-        (f.2.0, f.2.1, subst (IsObligationsText c.args.optimize f.0 f.2.0) (sym is) printed.1),
+        (
+          f.2.0,
+          f.2.1,
+          subst (IsObligationsText c.args.optimize (Some bytes) (Some others) f.0 f.2.0)
+              (sym is)
+              (titled_by c.args.optimize bytes others f.0 f.2.0 printed.0 printed.1
+              (rw c.new-first.ensures.reader) (rw c.new-second.ensures.reader)),
+        ),
       );
       misfit = tt;
     }
 
 pub returns-in-Err-clause-makes : goal.returns-in-Err-clause-makes
 returns-in-Err-clause-makes c =
-    let told = c.in-Err.ensures.reads in
+    let told = c.in-Err.ensures.2.reads in
     let says = c.of_obligations.ensures.said in
     let bytes = c.args.file.now in
     let others = c.args.certificate.now in
@@ -62,10 +69,10 @@ pub returns-in-Err-clause-query : goal.returns-in-Err-clause-query
 returns-in-Err-clause-query c =
     obliged_query c.args.optimize c.args.file.now c.args.certificate.now
     (rw c.new-first.ensures.reader) (rw c.new-second.ensures.reader) c.of_obligations.result
-    (λ x f g told. told) c.in-Err.error c.in-Err.ensures.reads c.of_obligations.ensures.joint
+    (λ x f g told. told) c.in-Err.error c.in-Err.ensures.2.reads c.of_obligations.ensures.joint
 
 pub returns-in-Err-clause-window : goal.returns-in-Err-clause-window
 returns-in-Err-clause-window c =
     obliged_window c.args.optimize c.args.file.now c.args.certificate.now
     (rw c.new-first.ensures.reader) (rw c.new-second.ensures.reader) c.of_obligations.result
-    (λ x f g told. told) c.in-Err.error c.in-Err.ensures.reads c.of_obligations.ensures.joint
+    (λ x f g told. told) c.in-Err.error c.in-Err.ensures.2.reads c.of_obligations.ensures.joint

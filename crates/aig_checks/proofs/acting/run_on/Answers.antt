@@ -20,4 +20,4 @@ returns-in-Bounded g c =
 pub returns-in_default : goal.returns-in_default
 returns-in_default g c =
     let one = c.requires.further ∙ one_beside c.args.command c.in_default.not-Clauses c.in_default.not-Window c.in_default.not-Bounded in
-    rw (one_name c.args.further.now c.index-further-0.result one c.index-further-0.is, sym c.as_str.ensures.value) c.run_beside.ensures
+    rw (one_name c.args.further.now c.index-further-0.result one c.index-further-0.is, sym c.as_str.ensures.value) (c.run_beside.new.r, c.run_beside.ensures)

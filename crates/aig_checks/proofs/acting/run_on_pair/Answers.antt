@@ -5,7 +5,7 @@ use Rattle.aig_checks.proofs.acting.run_on_pair.Goals as goal
 pub returns-in-Equal : goal.returns-in-Equal
 returns-in-Equal g c =
     let names = one_name c.args.further.now c.index-further-0.result (rw c.in-Equal.is at c.requires.further) c.index-further-0.is in
-    rw (names, c.in-Equal.is, sym c.as_str.ensures.value) c.run_equal.ensures
+    rw (names, c.in-Equal.is, sym c.as_str.ensures.value) (c.run_equal.new.r, c.run_equal.new.s, c.run_equal.ensures)
 
 pub returns-in-Obligations : goal.returns-in-Obligations
 returns-in-Obligations g c =
@@ -22,4 +22,4 @@ returns-in_default g c =
     let second = c.index-further-1 in
     let two = c.requires.further ∙ two_beside c.args.command c.in_default.not-Equal c.in_default.not-Obligations in
     let names = two_names c.args.further.now first.result second.result two first.is second.is in
-    rw (names, sym c.as_str-base.ensures.value, sym c.as_str-step.ensures.value) c.run_both.ensures
+    rw (names, sym c.as_str-base.ensures.value, sym c.as_str-step.ensures.value) (c.run_both.new.r, c.run_both.new.s, c.run_both.ensures)

@@ -1,13 +1,14 @@
-use Rattle.aig_base.proofs.Words.{rules, codes}
+use Rattle.aig_base.proofs.Words.{◌++◌, rules, codes}
 use Rattle.aig_output.proofs.Putting.{Stops-before, failed_put}
+use Rattle.aig_titles.specs.Titles.{title_text}
 use Rattle.aig_checks.specs.Pairs.{part_text}
 use Rattle.aig_checks.specs.Printing.{clauses_with}
 use Rattle.aig_checks.proofs.Pairing.{then_written}
 use Rattle.aig_checks.proofs.pairs.write_obligations.Goals as goal
 
-pub returns-in_err-write_part : goal.returns-in_err-write_part
-returns-in_err-write_part g c =
-    let base = rw c.unrolled-joint.ensures.value at c.in_err-write_part.ensures in
+pub returns-in_err-write_base : goal.returns-in_err-write_base
+returns-in_err-write_base g c =
+    let base = rw c.unrolled-joint.ensures.value at c.in_err-write_base.ensures in
     let step = rw c.new-stepped.ensures at c.tell_circuit.ensures in
     let text = part_text (codes "c step") (clauses_with step.0 c.args.asked.now.step.further) in
     record {
@@ -23,8 +24,8 @@ returns-in_err-write_part g c =
 pub returns : goal.returns
 returns g c =
     let o = c.args.asked.now in
-    let base = rw c.unrolled-joint.ensures.value at c.in_ok-write_part.ensures in
-    let step = rw c.new-stepped.ensures at c.write_part-2.ensures in
+    let base = rw c.unrolled-joint.ensures.value at c.in_ok-write_base.ensures in
+    let step = rw c.new-stepped.ensures at c.write_part.ensures in
     record {
       base = base.lists;
       base_has = base.has;
@@ -32,5 +33,5 @@ returns g c =
       step = step.lists;
       step_has = step.has;
       step_formula = step.formula;
-      writes = then_written (part_text (codes "c base") (clauses_with base.lists o.base.further)) base.writes.ok step.writes;
+      writes = then_written (title_text c.args.title.now ++ part_text (codes "c base") (clauses_with base.lists o.base.further)) base.writes.ok step.writes;
     }

@@ -2,19 +2,20 @@ use Rattle.std.proofs.Common.{◌++◌, length, rules}
 use Rattle.aig_base.specs.Formula.{clauses_in}
 use Rattle.aig_dimacs.specs.Text.{dimacs_of}
 use Rattle.aig_output.proofs.Putting.{Stops-before, failed_put}
+use Rattle.aig_titles.specs.Titles.{title_text}
 use Rattle.aig_checks.specs.Comments.{comments_of}
 use Rattle.aig_checks.proofs.Pairing.{then_written}
 use Rattle.aig_checks.proofs.tool.write_query.Goals as goal
 
-pub returns-in_err-write_comments : goal.returns-in_err-write_comments
-returns-in_err-write_comments g c =
+pub returns-in_err-write_front : goal.returns-in_err-write_front
+returns-in_err-write_front g c =
     let told = rw c.unrolled-unrolled.ensures.value at c.tell_circuit.ensures in
     let text = dimacs_of (length told.0) (clauses_in told.0 ++ c.args.further.now) in
     record {
       lists = told.0;
       has = told.1;
       formula = told.2;
-      writes = failed_put (Stops-before text c.in_err-write_comments.ensures.err) (search rules);
+      writes = failed_put (Stops-before text c.in_err-write_front.ensures.err) (search rules);
     }
 
 pub returns : goal.returns
@@ -25,6 +26,6 @@ returns g c =
       lists = told.0;
       has = told.1;
       formula = told.2.formula;
-      writes = then_written (comments_of u.circuit u.unrolled u.steps)
-          c.in_ok-write_comments.ensures.ok told.2.writes;
+      writes = then_written (title_text c.args.title.now ++ comments_of u.circuit u.unrolled u.steps)
+          c.in_ok-write_front.ensures.ok told.2.writes;
     }
