@@ -1,4 +1,4 @@
-use Rattle.aig_base.proofs.Words.{◌++◌, refl, codes, err_from_is_err_and}
+use Rattle.aig_base.proofs.Words.{refl, err_from_is_err_and}
 use Rattle.aig_certificates.specs.Certificates.{Obliges}
 use Rattle.aig_refutation.specs.declared.error.RefutationError.TheVariants as refutation
 use Rattle.aig_checks.proofs.Pairing.{no_proof_of_clauses, obligations_text, obliged_text, pair_answered, pair_refused, pair_stopped}
