@@ -30,6 +30,7 @@ TABLES = {
     "answers/certificates.tsv": "aigcheck {}",
     "answers/bounded.tsv": "aigcheck {}",
     "answers/safe.tsv": "aigcheck {}",
+    "answers/justice.tsv": "aigcheck {}",
     "answers/equality.tsv": "aigcheck {}",
     "answers/words.tsv": "aigcheck {}",
     "witnesses/rows.tsv": "aigcheck run {} GIVEN",

@@ -24,7 +24,8 @@ USAGE = {
     "aigedit": b"usage: aigedit [--limit N] refine FILE, reencode FILE, unroll FILE K, move FILE, compress FILE, bads FILE, "
     b"property FILE N, possible FILE, reduce FILE, cone FILE N, question FILE K, live FILE J, rounds FILE J N, info FILE, "
     b"miter FILE OTHER, join FILE CERT, merge FILE OTHER\n",
-    "aigcheck": b"usage: aigcheck [--limit N] clauses FILE K [raw], window FILE K [distinct] [raw], refuted FILE K PROOF [raw], "
+    "aigcheck": b"usage: aigcheck [--limit N] [--justice J [--rounds N]] clauses FILE K [raw], window FILE K [distinct] [raw], "
+    b"refuted FILE K PROOF [raw], "
     b"inductive FILE K PROOF [distinct] [raw], witness FILE K SOLUTION [raw], run FILE WITNESS, "
     b"certified FILE CERT BASE STEP [raw], equal FILE OTHER K PROOF [raw], obligations FILE CERT [raw], "
     b"bounded FILE K [raw], refuted FILE to K PROOF [raw], witness FILE to K SOLUTION [raw], "

@@ -5,7 +5,7 @@ For each justice property of FILES (200) random files with justice, fairness and
 for which of the first k there is a fair lasso of k + 1 steps: a run that meets the constraints, comes back to a state, and has each
 literal of the property and of fairness true in between. The printed file has to reach its bad state at just these steps, and to have
 the counts and the names that the command says. No step of the search knows how the file is made. The files are small, so that it is over
-all runs.
+all runs. What `aigcheck --justice` prints of clauses has to be what it prints of the printed file.
 
 Of the first ANSWERS files `aigprove --justice` has to say whether there is any fair lasso, and the lasso that it writes has to be one,
 with the loop that `aigcheck run` finds in it.
@@ -21,6 +21,8 @@ from aiger import machine_of
 
 LAST = 6
 ANSWERS = 20
+# By which words aigcheck prints clauses.
+CLAUSES = [["clauses", "file", "2"], ["window", "file", "1", "distinct"], ["bounded", "file", "3", "raw"]]
 # There is a fair lasso; there is none; and there is none as from some step on the constraints can't be met.
 FAIR, NONE, EMPTY = 10, 20, 0
 # The loop of a lasso, in a line of aigcheck.
@@ -137,6 +139,15 @@ def bad_steps(machine, last):
     return {step for step, layer in enumerate(layers(steps, last)) if any(now for state in layer for _, now in steps.of(state))}
 
 
+def check_clauses(tally, folder, options, made, what):
+    """Checks that with these options aigcheck ends and prints of a file as without them of one with these bytes."""
+    (folder / "made").mkdir(exist_ok=True)
+    (folder / "made" / "file").write_bytes(made)
+    for words in CLAUSES:
+        wanted = harness.run([harness.CHECK, *words], cwd=folder / "made")
+        tally.wants(f"{options} {words}: {what}", wanted, harness.run([harness.CHECK, *options, *words], cwd=folder))
+
+
 class Lives:
     """A program, a folder, and what was seen."""
 
@@ -160,6 +171,7 @@ class Lives:
         self.tally.check(len(made.gates) - len(machine.gates) <= 1 + 7 * latches + 3 * count, f"too many gates: {what}")
         self.tally.wants(what, live_names(machine, count), dict(NAME.findall(out.decode())))
         self.tally.wants(what, lassos(machine, asked, LAST), bad_steps(made, LAST))
+        check_clauses(self.tally, self.folder, ["--justice", str(j)], out, what)
 
     def check_answer(self, machine, j):
         """Checks what aigprove says of a justice property."""

@@ -4,7 +4,8 @@
 For each justice property of FILES (200) random files with justice, fairness and constraints, and for 0 to 3 rounds, a search over all states
 says at which of the first steps so many rounds can have ended: in a run that meets the constraints, a round ends with the step by which
 each literal of the property and of fairness was true in it. The printed file has to reach its bad state at just these steps, and to have
-the counts and the names that the command says. No step of the search knows how the file is made.
+the counts and the names that the command says. No step of the search knows how the file is made. What `aigcheck --justice` prints of
+clauses of so many rounds has to be what it prints of the printed file.
 
 Where a search for lassos finds a fair one, many rounds have to end at some step, too.
 """
@@ -14,7 +15,7 @@ import sys
 
 import harness
 from aiger import machine_of
-from live import LAST, NAME, Steps, bad_steps, has_lasso, named, random_machine
+from live import LAST, NAME, Steps, bad_steps, check_clauses, has_lasso, named, random_machine
 
 # How many rounds are counted; and how many that a fair lasso has to end.
 COUNTS, MANY = range(4), 5
@@ -81,6 +82,7 @@ class Rounds:
         self.tally.wants(what, rounds_names(machine, len(asked), count), dict(NAME.findall(out.decode())))
         found = itertools.islice(layers(machine, asked, count), LAST + 1)
         self.tally.wants(what, {step for step, layer in enumerate(found) if has_ended(layer, count)}, bad_steps(made, LAST))
+        check_clauses(self.tally, self.folder, ["--justice", str(j), "--rounds", str(count)], out, what)
 
     def check(self, machine):
         """Checks each justice property of a file, and the number past the last."""

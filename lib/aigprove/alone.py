@@ -2,11 +2,13 @@
 
 So many at once as there are programs that may run are asked about, for two seconds each, then for eight, and so on."""
 import concurrent.futures
+import functools
 import math
 import sys
 import threading
 import time
 
+from aigprove.evidence import ABOVE
 from aigprove.justice import Justice
 from aigprove.programs import MARK, say, tell
 from aigprove.quest import Quest
@@ -112,4 +114,4 @@ class Alone:
 class Fair(Alone):
     """Justice properties, of each of which a file is made."""
 
-    one = Justice
+    one = staticmethod(functools.partial(Justice, folder=ABOVE))

@@ -12,6 +12,7 @@ from aigprove.evidence import ABOVE
 from aigprove.files import NODE
 from aigprove.kept import PART
 from aigprove.judge import Claim
+from aigprove.justice import Justices
 from aigprove.programs import Fault, Sealed, reason, say
 from aigprove.source import Source
 
@@ -28,7 +29,9 @@ STEP, STEPS, RUN = map(
         "b([0-9]+) at step [0-9]+",
     ],
 )
-SAFE = "no bad state at any step"
+SAFE, NONE = "no bad state at any step", "no fair run of j{}"
+# The word that comes before the number of a justice property.
+JUSTICE, COUNT = "--justice", re.compile("[0-9]{1,9}")
 # The file of what is kept of assumptions, which are looked at anew.
 POSSIBLE = "possible.aag"
 
@@ -46,9 +49,9 @@ def taken(path, limit):
         return Sealed(file)
 
 
-class Line(collections.namedtuple("Line", "part name line words noted")):
-    """A line of a script: the folder, the name of the file that it is about, what is to be shown, the words of that, and which engine
-    answered after how many seconds, as is noted there."""
+class Line(collections.namedtuple("Line", "part name line setting words noted")):
+    """A line of a script: the folder, the name of the file that it is about, what is to be shown, the words that ask about a justice
+    property of that file, if it does, the other words, and which engine answered after how many seconds, as is noted there."""
 
 
 def lines_of(folder, part, limit):
@@ -64,11 +67,19 @@ def lines_of(folder, part, limit):
                 raise Fault(f"{part or folder}: {SCRIPT} has a line that is no line of a shell") from None
             if kind == "makes" and words[1:2] in (["property"], ["live"]) and len(words) == 4:
                 made[words[0]] = words[2]
-            elif kind == "shows" and len(words) > 2:
-                lines.append(Line(part, words[2], words[0], words[1:], noted))
+            elif kind == "shows" and (it := shown(part, words, noted)):
+                lines.append(it)
         elif found := NOTED.fullmatch(line):
             noted[0] = found[1], float(found[2])
     return lines, made
+
+
+def shown(part, words, noted):
+    """The line of these words, if it is about a file."""
+    line, *words = words or [""]
+    setting = words[:2] if words[:1] == [JUSTICE] and COUNT.fullmatch("".join(words[1:2])) else []
+    words = words[len(setting):]
+    return Line(part, words[1], line, setting, words, noted) if len(words) > 1 else None
 
 
 class Gathered:
@@ -103,7 +114,7 @@ class Gathered:
             raise Fault(f"{command} is no command that shows an answer")
         paths = {word: os.path.join(self.folder, line.part, word) for word in words if NAME.fullmatch(word)}
         given = {word: taken(path, self.limit) for word, path in paths.items() if os.path.lexists(path)}
-        return Claim(line.line, [command, "FILE", *words], {**given, "FILE": file})
+        return Claim(line.line, [*line.setting, command, "FILE", *words], {**given, "FILE": file})
 
     def checked(self, line, made):
         """What a line is about, the number of the property, where it is about one alone, the line, and the witness of a run, once aigcheck
@@ -111,8 +122,10 @@ class Gathered:
         try:
             found = PROPERTY.fullmatch(line.name)
             option, number = (found[1], int(found[2])) if found else (Source.option, None)
+            if line.setting:
+                option, number, found = Justices.option, int(line.setting[1]), None
             each = self.file_of(made.get(line.name, line.name), line.part, option)
-            if found and number >= len(each.answers):
+            if number is not None and number >= len(each.answers):
                 raise Fault(f"there is no {option} {number}")
             claim = self.claim(line, each.sources[number].asked if found else each.source.asked)
             self.judge.check(claim)
@@ -144,12 +157,12 @@ class Gathered:
         for each, number, line, _ in self.found:
             command, _, *words = line.words
             name = each.source.name
-            if number is not None:
+            if number is not None and not line.setting:
                 name = f"{each.sources[number].stem}.aag"
                 source = each.sources[number]
                 kept.makes(name, source.asked, source.command, each.source.name, str(number))
             is_file = lambda word: NAME.fullmatch(word) and os.path.lexists(os.path.join(self.folder, line.part, word))
-            kept.add("shows", line.line, command, name, *(os.path.join(line.part, word) if is_file(word) else word for word in words))
+            kept.add("shows", line.line, *line.setting, command, name, *(os.path.join(line.part, word) if is_file(word) else word for word in words))
 
 
 def told(claim):
@@ -169,7 +182,7 @@ def conclude(answer, found):
     for _, number, line, told in found:
         run = RUN.fullmatch(line.line)
         bad = answer.number if number is None else 0
-        if line.line == SAFE:
+        if line.line == (NONE.format(answer.number) if answer.letter == Justices.letter else SAFE):
             answer.take(None, *line.noted[0])
         elif run and int(run[1]) == bad:
             answer.take(told, *line.noted[0])

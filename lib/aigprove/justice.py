@@ -4,6 +4,7 @@ import functools
 import re
 
 from aigprove import waves
+from aigprove.judge import Claim
 from aigprove.programs import Fault, Sealed
 from aigprove.report import Answer
 from aigprove.source import Asked, Given, changes_of, counted, of_kind
@@ -42,8 +43,10 @@ class Justice(Asked):
     # What stands before lines of aigcheck, and by which command of aigedit the file is made.
     prefix, of_step, command = "live: ", "live: ", "live"
 
-    def __init__(self, whole, number, is_alone=True):
+    def __init__(self, whole, number, is_alone=True, folder=""):
         self.given, self.path, self.number, self.circuit, self.is_alone = whole.given, whole.path, number, whole.circuit, is_alone
+        # The name of the file that was given among what is kept, which may stand in a folder.
+        self.file = folder + self.given.name
         self.name, self.stem = f"justice-{number}.aag", f"{whole.stems[1]}-{number}"
         self.safe, self.so_far = f"no fair run of j{number}", f"no fair lasso of j{number}"
         if number >= self.given.header().justice:
@@ -52,6 +55,18 @@ class Justice(Asked):
     @functools.cached_property
     def asked(self):
         return self.given.judge.made(self.command, self.given.file, self.number)
+
+    def of_given(self, command, words, files):
+        """That the file that was given has no fair run, as aigcheck says of it."""
+        return Claim(self.safe, ["--justice", str(self.number), command, self.file, *words], {self.file: self.given.file, **files})
+
+    def proved(self, question, base, window, step):
+        words = ["to", str(question.k), question.name, window.name, *window.form]
+        return self.of_given("safe", words, {question.name: base, window.name: step})
+
+    def certified(self, certificate, base, step):
+        files = {"certificate": certificate, "base": base, "step": step}
+        return self.of_given("certified", files, files)
 
     def warnings(self):
         """A line of what the file has that nothing is asked about."""
@@ -130,7 +145,7 @@ class Justice(Asked):
         """Keeps the file and the words that make it, of a file that is kept too, or that stands in a folder."""
         if not folder:
             self.given.keep(evidence)
-        evidence.makes(self.name, self.asked, self.command, folder + self.given.name, str(self.number))
+        evidence.makes(self.name, self.asked, self.command, self.file, str(self.number))
 
 
 def named(circuit, left):

@@ -195,13 +195,8 @@ class Race:
             files.write(self.words.write_certificate, [make()])
 
     def print_safe(self, claim):
-        """Prints a claim that no step has what is asked about; or one about a file that was made of others, and what follows of these."""
-        safe = self.source.safe
-        self.print_claim(claim, "" if claim.line == safe else self.source.prefix, claim.line == safe)
-        if claim.line != safe:
-            self.print_line(safe, True)
-            if self.evidence:
-                self.evidence.add("echo", safe)
+        """Prints a claim that no step has what is asked about."""
+        self.print_claim(claim, is_answer=True)
         return SAFE
 
     def print_met(self):

@@ -349,8 +349,8 @@ pub(crate) fn of_check(error: CheckError) -> u32
         CheckError::Certificate(error) => of_certificate(error),
         CheckError::Bounded(error) => of_bounded(error),
         CheckError::Settled(_) => SETTLED,
-        // Nor one of a witness of a justice property.
-        CheckError::Lasso(_) => MEMORY,
+        // Nor one about a justice property.
+        CheckError::Lasso(_) | CheckError::Unmade(_) => MEMORY,
     }
 }
 

@@ -1,6 +1,7 @@
 -- Words give one command.
 use Rattle.aig_base.proofs.Words.{◌≢◌, Bool, length, map, get_or, Global, ◌≡◌, ◌↔◌, ℕ, List, ◌∷◌, [], Some, refl, sym, ap, ◌∙◌, arith, same_Some}
-use Rattle.std.specs.Prelude.{All, Contains, Err, Ok, Result, String, codes, string_bytes}
+use Rattle.std.specs.Prelude.{All, Contains, Err, None, Ok, Option, Result, String, codes, slice_index, slice_index_or, string_bytes}
+use Rattle.aig_format.specs.Text.{IsNumber, value_of}
 use Rattle.aig_command_line.specs.declared.about.Question.{Question}
 use Rattle.aig_command_line.specs.declared.about.Question.TheVariants.{Usage, Version}
 use Rattle.aig_command_line.specs.About.{word_of}
@@ -20,7 +21,9 @@ use Rattle.aig_checks.specs.declared.command.FileCommand.TheVariants as on_file
 use Rattle.aig_checks.specs.declared.command.PairCommand.{PairCommand}
 use Rattle.aig_checks.specs.declared.command.PairCommand.TheVariants as on_pair
 use Rattle.aig_checks.specs.declared.command.TheConstants.Action.{ALL}
-use Rattle.aig_checks.specs.Words.{Give, IsCall, beside_of, command_of, form_of, name_of}
+use Rattle.aig_checks.specs.declared.justice.Justice.{Justice}
+use Rattle.aig_checks.specs.Justice.{AreJustice, IsNumbered, command_by}
+use Rattle.aig_checks.specs.Words.{Give, IsCall, beside_of, command_of, form_of, name_of, paths_of}
 
 -- each command is in the list
 pub among : (a : Action) → Contains ALL a
@@ -44,29 +47,139 @@ among actions.EqualBy = (14, omega arith, refl)
 pub each : (P : Action → Type 0) → All P ALL → (a : Action) → P a
 each = apart.each name_of form_of ALL refl among
 
+-- ---- the justice property
+
+-- words give one number after a word, or none
+one_number : (name : List ℕ) (words : List (List ℕ)) (m n : Option ℕ) (r s : List (List ℕ))
+    → IsNumbered name m words r → IsNumbered name n words s → (m ≡ n) × (r ≡ s)
+one_number name words (Some m) (Some n) r s g h =
+    let are = sym g.1 ∙ h.1 in
+    let word : g.0 ≡ h.0 = cc in
+    let rest : r ≡ s = cc in
+    (ap Some (sym g.2.value ∙ ap value_of word ∙ h.2.value), rest)
+one_number name words (Some m) None r s g h = absurd (h.0 _ g.1)
+one_number name words None (Some n) r s g h = absurd (g.0 _ h.1)
+one_number name words None None r s g h = (refl, g.1 ∙ sym h.1)
+
+same_parts : (a b : Justice) → a.property ≡ b.property → a.rounds ≡ b.rounds → a ≡ b
+same_parts a b property rounds =
+    ap (λ n. the n a.rounds) property ∙ ap (λ o. the b.property o) rounds
+  where
+    the : ℕ → Option ℕ → Justice
+    the n o = record { property = n; rounds = o }
+
+-- a word with no number after it
+pub no_numbered : (name : List ℕ) (words rest : List (List ℕ)) → words ≡ name ∷ rest
+    → ((k : ℕ) (word : List ℕ) (more : List (List ℕ)) → IsNumber k word → ¬ (rest ≡ word ∷ more))
+    → (n : Option ℕ) (more : List (List ℕ)) → ¬ IsNumbered name n words more
+no_numbered name words rest are none (Some n) more g =
+    let same : name ∷ rest ≡ name ∷ g.0 ∷ more = sym are ∙ g.1 in
+    let after : rest ≡ g.0 ∷ more = cc in
+    none n g.0 more g.2 after
+no_numbered name words rest are none None more g = g.0 rest are
+
+-- words that give no property
+pub no_property : (words : List (List ℕ))
+    → ((n : Option ℕ) (rest : List (List ℕ)) → ¬ IsNumbered (codes "--justice") n words rest)
+    → (a : Option Justice) (rest : List (List ℕ)) → ¬ AreJustice a words rest
+no_property words none (Some a) rest g = none (Some a.property) g.0 g.1
+no_property words none None rest g = none None rest g
+
+-- words that give one, and no rounds rightly
+pub no_rounds : (words after : List (List ℕ)) (n : ℕ)
+    → IsNumbered (codes "--justice") (Some n) words after
+    → ((n : Option ℕ) (rest : List (List ℕ)) → ¬ IsNumbered (codes "--rounds") n after rest)
+    → (a : Option Justice) (rest : List (List ℕ)) → ¬ AreJustice a words rest
+no_rounds words after n given none (Some a) rest g =
+    let one = one_number (codes "--justice") words (Some a.property) (Some n) g.0 after g.1 given in
+    none a.rounds rest (rw one.1 at g.2)
+no_rounds words after n given none None rest g = g.0 _ given.1
+
+-- words give one justice property, or none
+pub one_justice : (words : List (List ℕ)) (a b : Option Justice) (r s : List (List ℕ))
+    → AreJustice a words r → AreJustice b words s → (a ≡ b) × (r ≡ s)
+one_justice words (Some a) (Some b) r s g h =
+    let first = one_number (codes "--justice") words (Some a.property) (Some b.property) g.0 h.0 g.1
+    h.1 in
+    let second = one_number (codes "--rounds") h.0 a.rounds b.rounds r s (rw first.1 at g.2) h.2 in
+    (ap Some (same_parts a b (same_Some _ _ first.0) second.0), second.1)
+one_justice words (Some a) None r s g h = absurd (h.0 _ g.1.1)
+one_justice words None (Some b) r s g h = absurd (g.0 _ h.1.1)
+one_justice words None None r s g h = (refl, g.1 ∙ sym h.1)
+
+-- words that do not begin with `--justice` give none
+pub no_justice : (words : List (List ℕ)) (a : Option Justice) (rest : List (List ℕ))
+    → ((more : List (List ℕ)) → ¬ (words ≡ codes "--justice" ∷ more)) → AreJustice a words rest
+    → (a ≡ None) × (rest ≡ words)
+no_justice words None rest other g = (refl, g.1)
+no_justice words (Some a) rest other g = absurd (other _ g.1.1)
+
+-- ---- commands
+
+-- what words give after their limit and their justice property, where they give a command
+given_is : (words rest more : List (List ℕ)) (limit : ℕ) (a : Option Justice) (b : Action)
+    (x : Arguments) → IsLimited words limit rest → AreJustice a rest more
+    → Gives (name_of b) (form_of b) more x
+    → (other : ℕ) (c : Command) (paths further : List (List ℕ))
+    → IsCall words other c paths further
+    → (other ≡ limit) × (Some c ≡ command_by a (command_of b x.step x.distinct x.optimize))
+    × (paths ≡ x.paths) × (further ≡ x.further)
+given_is words rest more limit a b x limited asked gives other c paths further g =
+    let words_are = one_limit words other limit g.rest rest g.limited limited in
+    let justice = one_justice rest g.justice a g.more more (rw words_are.1 at g.asked) asked in
+    let same = apart.one_fits name_of form_of ALL refl among more g.action b g.arguments x
+    (rw justice.1 at g.gives) gives in (
+      words_are.0,
+      sym g.command
+          ∙ ap (λ j. command_by j (command_of g.action g.arguments.step g.arguments.distinct
+          g.arguments.optimize)) justice.0
+          ∙ ap (λ d. command_by a (command_of d g.arguments.step g.arguments.distinct
+          g.arguments.optimize)) same.0
+          ∙ ap (λ (y : Arguments). command_by a (command_of b y.step y.distinct y.optimize)) same.1,
+      g.on ∙ ap (λ (y : Arguments). y.paths) same.1,
+      g.beside ∙ ap (λ (y : Arguments). y.further) same.1,
+    )
+
 -- words give one command, with one limit, one list of paths and one of what is beside them
 pub one_call : (words : List (List ℕ)) (limit other : ℕ) (c d : Command) (p q r s : List (List ℕ))
     → IsCall words limit c p r
     → IsCall words other d q s → (limit ≡ other) × (c ≡ d) × (p ≡ q) × (r ≡ s)
 one_call words limit other c d p q r s g h =
-    let words_are = one_limit words limit other g.rest h.rest g.limited h.limited in
-    let same = apart.one_fits name_of form_of ALL refl among h.rest g.action h.action g.arguments
-    h.arguments (rw words_are.1 at g.gives) h.gives in (
-      words_are.0,
-      g.command ∙ ap (λ a. command_of a g.arguments.step g.arguments.distinct g.arguments.optimize) same.0
-          ∙ ap (λ (x : Arguments). command_of h.action x.step x.distinct x.optimize) same.1 ∙ sym h.command,
-      g.on ∙ ap (λ (x : Arguments). x.paths) same.1 ∙ sym h.on,
-      g.beside ∙ ap (λ (x : Arguments). x.further) same.1 ∙ sym h.beside,
-    )
+    let is = given_is words h.rest h.more other h.justice h.action h.arguments h.limited h.asked
+    h.gives limit c p r g in
+    (is.0, same_Some _ _ (is.1 ∙ h.command), is.2 ∙ sym h.on, is.3 ∙ sym h.beside)
 
--- words after a limit that fit no command give none
-pub fits_none : (words rest : List (List ℕ)) (limit : ℕ) → IsLimited words limit rest
-    → All (λ a. (g : Arguments) → ¬ Gives (name_of a) (form_of a) rest g) ALL
+-- words after a limit that give no justice property rightly give no command
+pub unjust_none : (words rest : List (List ℕ)) (limit : ℕ) → IsLimited words limit rest
+    → ((a : Option Justice) (more : List (List ℕ)) → ¬ AreJustice a rest more)
     → (other : ℕ) (c : Command) (paths further : List (List ℕ)) → ¬ IsCall words other c paths further
-fits_none words rest limit limited none other c paths further g =
+unjust_none words rest limit limited none other c paths further g =
     let same = (one_limit words other limit g.rest rest g.limited limited).1 in
-    each (λ a. (x : Arguments) → ¬ Gives (name_of a) (form_of a) rest x) none g.action g.arguments
-    (rw same at g.gives)
+    none g.justice g.more (rw same at g.asked)
+
+-- nor do words after these that fit none
+pub fits_none : (words rest more : List (List ℕ)) (limit : ℕ) (a : Option Justice)
+    → IsLimited words limit rest → AreJustice a rest more
+    → All (λ a. (g : Arguments) → ¬ Gives (name_of a) (form_of a) more g) ALL
+    → (other : ℕ) (c : Command) (paths further : List (List ℕ)) → ¬ IsCall words other c paths
+    further
+fits_none words rest more limit a limited asked none other c paths further g =
+    let words_are = one_limit words other limit g.rest rest g.limited limited in
+    let justice = one_justice rest g.justice a g.more more (rw words_are.1 at g.asked) asked in
+    each (λ b. (x : Arguments) → ¬ Gives (name_of b) (form_of b) more x) none g.action g.arguments
+    (rw justice.1 at g.gives)
+
+-- nor where no justice property is asked about by what they fit
+pub unasked_none : (words rest more : List (List ℕ)) (limit : ℕ) (a : Option Justice) (b : Action)
+    (x : Arguments) → IsLimited words limit rest → AreJustice a rest more
+    → Gives (name_of b) (form_of b) more x
+    → command_by a (command_of b x.step x.distinct x.optimize) ≡ None
+    → (other : ℕ) (c : Command) (paths further : List (List ℕ)) → ¬ IsCall words other c paths
+    further
+unasked_none words rest more limit a b x limited asked gives none other c paths further g =
+    let is = (given_is words rest more limit a b x limited asked gives other c paths further g).1 ∙
+    none in
+    cc
 
 -- so what they give is told exactly
 pub gives_exactly : (words : List (List ℕ)) (limit : ℕ) (c : Command) (paths further : List (List ℕ))
@@ -82,8 +195,19 @@ pub no_command : (words : List (List ℕ)) (q : Question) (limit : ℕ) (c : Com
     (paths further : List (List ℕ)) → words ≡ word_of q ∷ []
     → ¬ IsCall words limit c paths further
 no_command words q limit c paths further are g =
-    no_question q g.action g.arguments (rw (asked_alone words g.rest q limit are g.limited) at g.gives)
+    let alone = asked_alone words g.rest q limit are g.limited in
+    let rest = (no_justice (word_of q ∷ []) g.justice g.more (no_asked q) (rw alone at g.asked)).1
+    in
+    no_question q g.action g.arguments (rw rest at g.gives)
   where
+    no_asked : (q : Question) (more : List (List ℕ)) → ¬ (word_of q ∷ [] ≡ codes "--justice" ∷ more)
+    no_asked Usage more is =
+        let letter = ap (λ (words : List (List ℕ)). slice_index (slice_index_or words 0 []) 2) is in
+        omega (arith, letter)
+    no_asked Version more is =
+        let letter = ap (λ (words : List (List ℕ)). slice_index (slice_index_or words 0 []) 2) is in
+        omega (arith, letter)
+
     no_question : (q : Question) (a : Action) (x : Arguments)
         → ¬ Gives (name_of a) (form_of a) (word_of q ∷ []) x
     no_question Usage a x = apart.no_name name_of form_of ALL refl among (codes "--help") [] refl a x
@@ -96,6 +220,44 @@ never_none (Ok u) is = cc
 never_none (Err e) is = cc
 
 -- ---- what is given beside the files
+
+-- a command has as many paths as its form
+pub paths_fit : (a : Action) (k : ℕ) (d o : Bool) → paths_of (command_of a k d o) ≡ (form_of
+    a).paths
+paths_fit actions.Clauses k d o = refl
+paths_fit actions.Window k d o = refl
+paths_fit actions.Refuted k d o = refl
+paths_fit actions.Inductive k d o = refl
+paths_fit actions.Witness k d o = refl
+paths_fit actions.Run k d o = refl
+paths_fit actions.Certified k d o = refl
+paths_fit actions.Equal k d o = refl
+paths_fit actions.Obligations k d o = refl
+paths_fit actions.Bounded k d o = refl
+paths_fit actions.RefutedTo k d o = refl
+paths_fit actions.WitnessTo k d o = refl
+paths_fit actions.Safe k d o = refl
+paths_fit actions.AlwaysEqual k d o = refl
+paths_fit actions.EqualBy k d o = refl
+
+-- and as many beside them
+pub beside_fit : (a : Action) (k : ℕ) (d o : Bool) → beside_of (command_of a k d o) ≡ (form_of
+    a).further
+beside_fit actions.Clauses k d o = refl
+beside_fit actions.Window k d o = refl
+beside_fit actions.Refuted k d o = refl
+beside_fit actions.Inductive k d o = refl
+beside_fit actions.Witness k d o = refl
+beside_fit actions.Run k d o = refl
+beside_fit actions.Certified k d o = refl
+beside_fit actions.Equal k d o = refl
+beside_fit actions.Obligations k d o = refl
+beside_fit actions.Bounded k d o = refl
+beside_fit actions.RefutedTo k d o = refl
+beside_fit actions.WitnessTo k d o = refl
+beside_fit actions.Safe k d o = refl
+beside_fit actions.AlwaysEqual k d o = refl
+beside_fit actions.EqualBy k d o = refl
 
 pub one_beside : (c : FileCommand) → ((k : ℕ) (o : Bool) → c ≢ on_file.Clauses k o) → ((k : ℕ) (form : Window) (o : Bool) → c ≢ on_file.Window k form o)
     → ((k : ℕ) (o : Bool) → c ≢ on_file.Bounded k o) → beside_of (commands.File c) ≡ 1

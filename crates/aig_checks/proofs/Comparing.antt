@@ -1,6 +1,6 @@
 -- What the command does that compares two files by a certificate, at each way out of it.
 use Rattle.aig_base.proofs.Words.{◌≡◌, ℕ, Bool, false, Option, Ok, Err, List, refl, Appends}
-use Rattle.std.specs.Prelude.{IsErrOf, IsTrue, Result}
+use Rattle.std.specs.Prelude.{IsErrOf, IsTrue}
 use Rattle.aig_answers.specs.declared.error.AnswerError.TheVariants as answers
 use Rattle.aig_certificates.specs.Comparing as comparing
 use Rattle.aig_certificates.specs.Comparing.{EqualsBy}

@@ -1,8 +1,7 @@
 -- What is told of proofs that are read is told of their texts.
 use Rattle.aig_base.proofs.Words.{◌≡◌, ◌≢◌, ℕ, Bool, Option, List, Result, Ok, Err, refl, ap}
 use Rattle.std.specs.Prelude.{IsErrOf}
-use Rattle.aig_bounded_answers.specs.Asking.{AnswersCircuit, TellsOfProof}
-use Rattle.aig_bounded_answers.specs.declared.clauses.BoundedClauses.{BoundedClauses}
+use Rattle.aig_bounded_answers.specs.Asking.{AnswersCircuit}
 use Rattle.aig_bounded_answers.specs.declared.error.BoundedAnswerError.{BoundedAnswerError}
 use Rattle.aig_certificates.specs.declared.error.CertificateError.{CertificateError}
 use Rattle.aig_circuit.specs.Circuit.{Circuit}

@@ -1,6 +1,6 @@
 -- The comments of a small query, computed; and wrong words and lines, of which the definitions are
 -- false.
-use Rattle.aig_base.proofs.Words.{◌≡◌, ◌≢◌, ℕ, Bool, true, false, None, Option, List, [], ◌∷◌, ◌++◌, length, refl, ap, subst, sym, arith, length-append, ◌∙◌, inl, inr}
+use Rattle.aig_base.proofs.Words.{◌≡◌, ◌≢◌, ℕ, Bool, true, false, None, Option, List, [], ◌∷◌, ◌++◌, length, refl, ap, subst, sym, arith, length-append, ◌∙◌, inl, inr, Some, same_Some}
 use Rattle.std.specs.Prelude.{IsTrue, codes, not, slice_get, slice_index, slice_index_or}
 use Rattle.std.specs.Fmt.{digits}
 use Rattle.aig_base.specs.Clauses.{lit_to}
@@ -15,7 +15,12 @@ use Rattle.aig_titles.specs.Titles.{title_text}
 use Rattle.aig_witness.specs.declared.error.WitnessError.TheVariants as witness
 use Rattle.aig_witness.specs.declared.file.ShowError.TheVariants as shows
 use Rattle.aig_fair.specs.declared.file.ShownProperty.TheVariants as properties
+use Rattle.aig_checks.specs.declared.command.Command.{Command}
 use Rattle.aig_checks.specs.declared.command.FileCommand.{FileCommand}
+use Rattle.aig_checks.specs.declared.justice.Justice.{Justice}
+use Rattle.aig_checks.specs.declared.justice.LassoCommand.{LassoCommand}
+use Rattle.aig_checks.specs.Justice.{command_by, fair_command, lasso_command}
+use Rattle.aig_checks.proofs.Calling.{no_justice}
 use Rattle.aig_checks.specs.declared.tool.CheckError.TheVariants as errors
 use Rattle.aig_checks.specs.Running.{Answers, IsErrorOf, TellsOfGiven, error_status, file_verdict, shown_line, step_line, window_line}
 use Rattle.aig_command_line.specs.Arguments.{Gives, setting_words}
@@ -42,6 +47,31 @@ is_witness : (a : Action) (k m : ℕ) (d o p : Bool) → asked.File (commands.Wi
 is_witness actions.Witness k m d o p is = refl
 is_witness a k m d o p is = cc
 
+no_lasso : (rounds : Option ℕ) (property : ℕ) (c : LassoCommand) (d : FileCommand)
+    → ¬ (lasso_command rounds property c ≡ Some (asked.File d))
+no_lasso None property c d is = cc
+no_lasso (Some n) property c d is = cc
+
+-- what is asked of a justice property is no command on a file
+no_fair : (a : Justice) (c : Command) (d : FileCommand)
+    → ¬ (fair_command a c ≡ Some (asked.File d))
+no_fair a (asked.File (commands.Clauses k o)) d is = cc
+no_fair a (asked.File (commands.Window k form o)) d is = cc
+no_fair a (asked.File (commands.Bounded k o)) d is = cc
+no_fair a (asked.File (commands.Refuted k o)) d is = no_lasso a.rounds a.property _ d is
+no_fair a (asked.File (commands.RefutedTo k o)) d is = no_lasso a.rounds a.property _ d is
+no_fair a (asked.File (commands.Inductive k form o)) d is = no_lasso a.rounds a.property _ d is
+no_fair a (asked.Pair (on_pair.Certified o)) d is = cc
+no_fair a (asked.Pair (on_pair.Obligations o)) d is = cc
+no_fair a (asked.Safe k form o) d is = cc
+no_fair a c d is = cc
+
+-- so it is asked of none
+plain : (a : Option Justice) (c : Command) (d : FileCommand) → command_by a c ≡ Some (asked.File d)
+    → asked.File d ≡ c
+plain None c d is = sym (same_Some _ _ is)
+plain (Some a) c d is = absurd (no_fair a c d is)
+
 -- words that do not begin with `--limit` stand alone
 no_limit : (words : List (List ℕ)) (limit : ℕ) (rest : List (List ℕ))
     → ((more : List (List ℕ)) → ¬ (words ≡ codes "--limit" ∷ more)) → IsLimited words limit rest
@@ -55,12 +85,17 @@ no_more_words : (file witness more : List ℕ)
 no_more_words file witness more give =
     let call = give.3 in
     let x = call.arguments in
-    let run = is_run call.action x.step x.distinct x.optimize call.command in
+    let run = is_run call.action x.step x.distinct x.optimize (plain call.justice _ _ call.command)
+    in
     let all = no_limit (codes "run" ∷ file ∷ witness ∷ more ∷ []) give.0 call.rest (λ further is.
     let letter = ap (λ (words : List (List ℕ)). slice_index (slice_index_or words 0 []) 0) is in
     omega (arith, letter)) call.limited in
+    let every = (no_justice (codes "run" ∷ file ∷ witness ∷ more ∷ []) call.justice call.more
+    (λ further is.
+    let letter = ap (λ (words : List (List ℕ)). slice_index (slice_index_or words 0 []) 0) is in
+    omega (arith, letter)) (rw all at call.asked)).1 in
     let gives = subst (λ a. Gives (name_of a) (form_of a) (codes "run" ∷ file ∷ witness ∷ more ∷ [])
-    x) run (rw all at call.gives) in
+    x) run (rw every at call.gives) in
     let settings = setting_words x.distinct x.optimize in
     let count = ap length gives.spelled in
     let parts = length-append x.paths (gives.steps ++ (x.further ++ settings)) in
@@ -86,8 +121,13 @@ no_other_name file steps proof k optimize give =
     let all = no_limit (codes "refuted" ∷ file ∷ steps ∷ proof ∷ []) give.0 call.rest (λ further is.
     let letter = ap (λ (words : List (List ℕ)). slice_index (slice_index_or words 0 []) 0) is in
     omega (arith, letter)) call.limited in
-    let gives = rw all at call.gives in
-    let is = is_witness call.action x.step k x.distinct x.optimize optimize call.command in
+    let every = (no_justice (codes "refuted" ∷ file ∷ steps ∷ proof ∷ []) call.justice call.more
+    (λ further is.
+    let letter = ap (λ (words : List (List ℕ)). slice_index (slice_index_or words 0 []) 0) is in
+    omega (arith, letter)) (rw all at call.asked)).1 in
+    let gives = rw every at call.gives in
+    let is = is_witness call.action x.step k x.distinct x.optimize optimize
+    (plain call.justice _ _ call.command) in
     let letter = ap (λ (words : List (List ℕ)). slice_index (slice_index_or words 0 []) 0)
     gives.spelled in
     let first = ap (λ a. slice_index (name_of a) 0) is in

@@ -1,11 +1,13 @@
 -- What a command printed on files that were opened, and was flushed.
-use Rattle.aig_base.proofs.Words.{◌≡◌, Bool, false, List, [], ◌∷◌, ℕ, Option, Ok, Err, refl, Appends, Keeps}
+use Rattle.aig_base.proofs.Words.{◌≡◌, Bool, false, List, [], ◌∷◌, ℕ, Option, Some, Ok, Err, refl, Appends, Keeps}
 use Rattle.std.specs.Prelude.{IfErr, IsTrue, Result}
 use Rattle.aig_command_line.proofs.Kept.{appends_kept, stops_unflushed}
 use Rattle.aig_command_line.specs.declared.files.OpenError.{OpenError}
+use Rattle.aig_edits.proofs.ReadFiles.{file_on}
 use Rattle.aig_edits.proofs.Reading.{reads_on}
 use Rattle.aig_edits.specs.Pairs.{ReadsPair}
 use Rattle.aig_format.specs.File.{File}
+use Rattle.aig_live_laws.specs.Fair.{HasFairRun}
 use Rattle.aig_output.specs.Sinks.{Stops}
 use Rattle.aig_reader.specs.Verdicts.{Accepted, verdict_by}
 use Rattle.aig_checks.specs.declared.command.Command.{Command}
@@ -17,7 +19,14 @@ use Rattle.aig_checks.specs.declared.tool.CheckError.TheVariants as errors
 use Rattle.aig_checks.specs.Acting.{Acts, RunsFile, RunsProofs}
 use Rattle.aig_checks.specs.Comparing.{IsErrorOfComparing, RunsComparing, TellsOfComparing}
 use Rattle.aig_checks.specs.Opening.{OnOpening, Opening}
-use Rattle.aig_checks.specs.Pairs.{IsErrorOfPair, RunsPair, TellsOfPair, always_line, other_verdict_of, safe_line}
+use Rattle.aig_checks.specs.declared.command.PairCommand.TheVariants as on_pair
+use Rattle.aig_checks.specs.declared.justice.FairCommand.{FairCommand}
+use Rattle.aig_checks.specs.declared.justice.FairCommand.TheVariants as fair
+use Rattle.aig_checks.specs.declared.justice.Justice.{Justice}
+use Rattle.aig_checks.specs.declared.justice.LassoCommand.{LassoCommand}
+use Rattle.aig_checks.specs.Justice.{lassos_of, print_of}
+use Rattle.aig_checks.specs.Living.{ActsFair, ActsLasso, CertifiesText, Concludes, IsMadeOwn, IsOfMaking, RefutesText, RunsMade, SavesText, ShowsLasso, TellsMade, made_verdict, no_lasso_line, no_run_line}
+use Rattle.aig_checks.specs.Pairs.{IsErrorOfPair, RunsPair, TellsOfPair, always_line, other_verdict_of, own_text, safe_line}
 use Rattle.aig_checks.specs.Safe.{RunsSafe}
 use Rattle.aig_runs.specs.declared.window.Window.{Window}
 use Rattle.aig_checks.specs.Running.{Runs, nothing_fails, nothing_given, verdict_of}
@@ -225,6 +234,59 @@ module _ {W : Type 0} (held : W → Option (List ℕ)) (write_failed : W → Boo
           }
           end (Err e) never reads = absurd never
 
+-- ---- what is made of a file
+
+module _ {R : Type 0} (left : R → Option (List ℕ)) (failed : R → Bool) (limit : ℕ) (a : Justice)
+    (Means Also : File → List ℕ → Result Unit CheckError → Type 0) (Unread Other : Type 0) (r rest
+    : R) (lost : Bool) (u : Unit {0}) where
+  tells_ended : (done : Result Unit CheckError) → EndsBy lost done
+      → ((f : File) (text : List ℕ) → Means f text (Ok u) → Also f text done)
+      → (f : File) → TellsMade a Means f (Ok u) → TellsMade a Also f done
+  tells_ended (Ok v) ends on f told = (told.0, told.1, on f _ told.2)
+  tells_ended (Err errors.Write) ends on f told = (told.0, told.1, on f _ told.2)
+  tells_ended (Err e) ends on f told = absurd ends
+
+  made_accepted : (done : Result Unit CheckError) → EndsBy lost done
+      → verdict_by made_verdict done ≡ Accepted
+  made_accepted (Ok v) ends = refl
+  made_accepted (Err errors.Write) ends = refl
+  made_accepted (Err e) ends = absurd ends
+
+  made_own : (done : Result Unit CheckError) → EndsBy lost done → IfErr done IsMadeOwn
+  made_own (Ok v) ends = tt
+  made_own (Err errors.Write) ends = tt
+  made_own (Err e) ends = absurd ends
+
+  made_unread : (done : Result Unit CheckError) → EndsBy lost done
+      → IfErr done (λ e. IsOfMaking e → Other)
+  made_unread (Ok v) ends = tt
+  made_unread (Err errors.Write) ends = λ no. absurd no
+  made_unread (Err e) ends = absurd ends
+
+  -- a command that was run on it, once more is written
+  made_ended : (done : Result Unit CheckError) → EndsBy lost done
+      → ((f : File) (text : List ℕ) → Means f text (Ok u) → Also f text done)
+      → RunsMade left failed limit a Means Unread r (Ok u) rest
+      → RunsMade left failed limit a Also Other r done rest
+  made_ended done ends on runs = record {
+    reads = file_on left failed limit r rest (TellsMade a Also) made_verdict IsMadeOwn done
+        runs.reads
+        (made_accepted done ends) (made_own done ends) (λ f fits. tells_ended done ends on f);
+    unread = made_unread done ends;
+  }
+
+module _ {W : Type 0} (held : W → Option (List ℕ)) (write_failed : W → Bool) (w made flat : W)
+    (keeps : Keeps (held made) (held flat)) (u : Unit {0}) where
+  concludes_ended : (line : List ℕ) (Shown : Type 0) (Checks : Result Unit CheckError → Type 0)
+      (done : Result Unit CheckError) → EndsBy (write_failed flat) done
+      → Concludes held write_failed line Shown Checks w made (Ok u)
+      → Concludes held write_failed line Shown Checks w flat done
+  concludes_ended line Shown Checks (Ok v) sound told =
+      (told.0, told.1, appends_kept (held w) (held made) (held flat) line told.2 keeps, sound)
+  concludes_ended line Shown Checks (Err errors.Write) lost told =
+      (told.0, told.1, stops held write_failed w made flat keeps line told.2 lost)
+  concludes_ended line Shown Checks (Err e) never told = absurd never
+
 module _ {F W : Type 0} (opens : List ℕ → Result F OpenError → Type 0) (left : F → Option (List ℕ)) (failed : F → Bool) (held : W → Option (List ℕ)) (write_failed : W → Bool) (w made flat : W) (keeps : Keeps (held made) (held flat)) (u : Unit {0}) (done : Result Unit CheckError) (ends : EndsBy (write_failed flat) done) where
   file_ended : (limit : ℕ) (c : FileCommand) (further : List (List ℕ)) (r rest : F)
       → RunsFile opens left failed left failed held write_failed limit c further r w (Ok u) rest made
@@ -243,6 +305,99 @@ module _ {F W : Type 0} (opens : List ℕ → Result F OpenError → Type 0) (le
       opening_on _ _ _ _
       (λ p. opening_on _ _ _ _ (λ q so. (so.0, so.1, pair_ended held write_failed w made flat keeps u left failed left failed left failed left failed limit c r rest s other p so.0 q so.1 done so.2 ends)) (λ e no. let is = no.0 in cc) opens step)
       (λ e no. let is = no.0 in cc) opens base runs
+
+  fair_ended : (limit : ℕ) (a : Justice) (c : FairCommand) (paths further : List (List ℕ))
+      → ActsFair opens left failed held write_failed limit a c paths further w (Ok u) made
+      → ActsFair opens left failed held write_failed limit a c paths further w done flat
+  fair_ended limit a (fair.Print c) (path ∷ []) [] acts =
+      opening_on _ _ _ _
+      (λ r so. (
+        so.0,
+        made_ended left failed limit a _ _ _ _ r so.0 _ u done ends
+            (λ f text on. (
+              on.0,
+              on.1,
+              runs_ended held write_failed w made flat keeps u own_text (λ x. on.1) nothing_given
+                  nothing_fails limit (print_of c) (Some text) on.0 tt tt done on.2 ends,
+            )) so.1,
+      ))
+      (λ e no. let is = no.0 in cc) opens path acts
+  fair_ended limit a (fair.Obligations optimize) (path ∷ certificate ∷ []) [] acts =
+      opening_on _ _ _ _
+      (λ r. opening_on _ _ _ _
+      (λ s so. (
+        so.0,
+        so.1,
+        made_ended left failed limit a _ _ _ _ r so.0 _ u done ends
+            (λ f text on. (
+              on.0,
+              on.1,
+              pair_ended held write_failed w made flat keeps u own_text (λ x. on.1) left failed
+                  nothing_given nothing_fails nothing_given nothing_fails limit
+                  (on_pair.Obligations optimize) (Some text) on.0 s so.1 tt tt tt tt done on.2 ends,
+            )) so.2,
+      ))
+      (λ e no. let is = no.0 in cc) opens certificate)
+      (λ e no. let is = no.0 in cc) opens path acts
+  fair_ended limit a (fair.Certified optimize) (path ∷ certificate ∷ []) (base ∷ step ∷ []) acts =
+      opening_on _ _ _ _
+      (λ r. opening_on _ _ _ _
+      (λ s. opening_on _ _ _ _
+      (λ p. opening_on _ _ _ _
+      (λ q so. (
+        so.0,
+        so.1,
+        so.2,
+        so.3,
+        made_ended left failed limit a _ _ _ _ r so.0 _ u done ends
+            (λ f text on. concludes_ended held write_failed w made flat keeps u (no_run_line
+            a.property)
+            (¬ HasFairRun f a.property) (CertifiesText left failed left failed left failed limit
+            optimize
+            s so.1 p so.2 q so.3 text) done ends on) so.4,
+      ))
+      (λ e no. let is = no.0 in cc) opens step)
+      (λ e no. let is = no.0 in cc) opens base)
+      (λ e no. let is = no.0 in cc) opens certificate)
+      (λ e no. let is = no.0 in cc) opens path acts
+  fair_ended limit a (fair.Safe k form optimize) (path ∷ []) (base ∷ step ∷ []) acts =
+      opening_on _ _ _ _
+      (λ r. opening_on _ _ _ _
+      (λ p. opening_on _ _ _ _
+      (λ q so. (
+        so.0,
+        so.1,
+        so.2,
+        made_ended left failed limit a _ _ _ _ r so.0 _ u done ends
+            (λ f text on. concludes_ended held write_failed w made flat keeps u (no_run_line
+            a.property)
+            (¬ HasFairRun f a.property) (SavesText left failed left failed limit k form optimize p
+            so.1 q
+            so.2 text) done ends on) so.3,
+      ))
+      (λ e no. let is = no.0 in cc) opens step)
+      (λ e no. let is = no.0 in cc) opens base)
+      (λ e no. let is = no.0 in cc) opens path acts
+  fair_ended limit a c paths further acts = absurd acts
+
+  lasso_ended : (limit property : ℕ) (c : LassoCommand) (paths further : List (List ℕ))
+      → ActsLasso opens left failed held write_failed limit property c paths further w (Ok u) made
+      → ActsLasso opens left failed held write_failed limit property c paths further w done flat
+  lasso_ended limit property c (path ∷ []) (proof ∷ []) acts =
+      opening_on _ _ _ _
+      (λ r. opening_on _ _ _ _
+      (λ p so. (
+        so.0,
+        so.1,
+        made_ended left failed limit (lassos_of property) _ _ _ _ r so.0 _ u done ends
+            (λ f text on. concludes_ended held write_failed w made flat keeps u (no_lasso_line c
+            property)
+            (ShowsLasso c property f) (RefutesText left failed limit c p so.1 text) done ends on)
+            so.2,
+      ))
+      (λ e no. let is = no.0 in cc) opens proof)
+      (λ e no. let is = no.0 in cc) opens path acts
+  lasso_ended limit property c paths further acts = absurd acts
 
   -- a command that was run, and what it printed flushed
   pub acts_ended : (limit : ℕ) (c : Command) (paths further : List (List ℕ))
@@ -289,4 +444,7 @@ module _ {F W : Type 0} (opens : List ℕ → Result F OpenError → Type 0) (le
       (λ e no. let is = no.0 in cc) opens certificate)
       (λ e no. let is = no.0 in cc) opens beside)
       (λ e no. let is = no.0 in cc) opens path acts
+  acts_ended limit (commands.Fair a c) paths further acts = fair_ended limit a c paths further acts
+  acts_ended limit (commands.Lasso property c) paths further acts =
+      lasso_ended limit property c paths further acts
   acts_ended limit c paths further acts = absurd acts

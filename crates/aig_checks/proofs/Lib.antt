@@ -4,6 +4,7 @@ mod Comparing
 mod ComparedAgain
 mod Equating
 mod Flushing
+mod Made
 mod Outcomes
 mod Pairing
 mod Placing

@@ -3,7 +3,6 @@ use Rattle.aig_base.proofs.Words.{◌≡◌, ◌≢◌, ℕ, ◌+◌, Bool, fals
 use Rattle.std.specs.Prelude.{IfErr, IsErrOf, IsTrue, Result}
 use Rattle.std.specs.Io.KnownBytes.{IsAtEnd}
 use Rattle.aig_format.specs.File.{File}
-use Rattle.aig_reader.specs.declared.error.ReadError.{ReadError}
 use Rattle.aig_reader.specs.Reading.{IsReadAs}
 use Rattle.aig_reader.specs.Verdicts.{Accepted, IsOfFile, Judges, Verdict}
 use Rattle.aig_reader.proofs.Verdicts.{of_no_file, short_of}

@@ -1,8 +1,7 @@
 -- Why a proof that a file's machine is safe is refused.
-use Rattle.aig_base.proofs.Words.{◌≡◌, ℕ, ◌+◌, Bool, List, Option, Err, refl, subst}
+use Rattle.aig_base.proofs.Words.{◌≡◌, ℕ, ◌+◌, Bool, List, Option, Err, subst}
 use Rattle.aig_answers.specs.Answers.{IsAsked}
 use Rattle.aig_format.specs.Circuit.{circuit_of}
-use Rattle.aig_format.specs.File.{File}
 use Rattle.aig_reader.specs.Reading.{IsReadAs}
 use Rattle.aig_reader.specs.Verdicts.{Accepted}
 use Rattle.aig_runs.specs.declared.window.Window.{Window}

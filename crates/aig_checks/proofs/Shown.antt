@@ -1,5 +1,5 @@
 -- A witness that is taken answers the file, and one that is refused says why.
-use Rattle.aig_base.proofs.Words.{◌≡◌, ◌≢◌, ℕ, Bool, Option, Result, Ok, Err, List, refl, ap}
+use Rattle.aig_base.proofs.Words.{◌≡◌, ℕ, Bool, Option, Err, List, refl, ap}
 use Rattle.std.specs.Prelude.{IsErrOf}
 use Rattle.aig_format.proofs.Words.{Accepts}
 use Rattle.aig_fair.specs.declared.file.ClaimError.{ClaimError}
@@ -14,7 +14,6 @@ use Rattle.aig_reader.specs.Verdicts.{Accepted, Judges}
 use Rattle.aig_witness.specs.declared.file.ShowError.{ShowError}
 use Rattle.aig_witness.specs.declared.file.ShowError.TheVariants as shows
 use Rattle.aig_checks.specs.declared.command.FileCommand.TheVariants as commands
-use Rattle.aig_checks.specs.declared.tool.CheckError.{CheckError}
 use Rattle.aig_checks.specs.declared.tool.CheckError.TheVariants as errors
 use Rattle.aig_checks.specs.Running.{Answers, IsOfFileAlone, Runs, error_of_claim, shown_line}
 use Rattle.aig_checks.proofs.Outcomes.{err_of, refused}

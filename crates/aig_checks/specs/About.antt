@@ -11,6 +11,8 @@ use Rattle.aig_certificates.specs.declared.error.CertificateError.{CertificateEr
 use Rattle.aig_certificates.specs.declared.error.CertificateError.TheVariants as certificate
 use Rattle.aig_command_line.specs.declared.tally.Measure.{Measure}
 use Rattle.aig_command_line.specs.declared.tally.Measure.TheVariants as measures
+use Rattle.aig_edits.specs.declared.edit_error.EditError.{EditError}
+use Rattle.aig_edits.specs.declared.edit_error.EditError.TheVariants as edit
 use Rattle.aig_edits.specs.declared.error.PairError.{PairError}
 use Rattle.aig_edits.specs.declared.error.PairError.TheVariants as pair
 use Rattle.aig_encode.specs.declared.error.EncodeError.{EncodeError}
@@ -118,6 +120,13 @@ abbrev pub about_lasso : LassoFault → About
 about_lasso (lassos.Run fault) = about_fault fault
 about_lasso fault = whole subjects.Given
 
+-- FILE, of which something is made
+abbrev pub about_edit : EditError → About
+about_edit (edit.Read e) = about_read subjects.File e
+about_edit edit.Memory = nothing
+about_edit edit.Write = nothing
+about_edit e = whole subjects.File
+
 -- FILE, or the file beside it
 abbrev pub about_pair : PairError → About
 about_pair (pair.Read e) = about_read subjects.File e
@@ -184,3 +193,4 @@ about_error (errors.Safe e) = about_safety e
 about_error (errors.Equality e) = about_equality e
 about_error (errors.Lasso fault) = about_lasso fault
 about_error (errors.Miter e) = about_miter e
+about_error (errors.Unmade e) = about_edit e

@@ -17,6 +17,7 @@ use Rattle.aig_checks.specs.declared.tool.CheckError.{CheckError}
 use Rattle.aig_checks.specs.declared.tool.CheckError.TheVariants as errors
 use Rattle.aig_checks.specs.Opening.{Opening}
 use Rattle.aig_checks.specs.Comparing.{RunsComparing}
+use Rattle.aig_checks.specs.Living.{ActsFair, ActsLasso}
 use Rattle.aig_checks.specs.Pairs.{RunsPair}
 use Rattle.aig_checks.specs.Safe.{RunsSafe}
 use Rattle.aig_checks.specs.Running.{Runs, nothing_fails, nothing_given}
@@ -110,6 +111,12 @@ Acts {F} opens left failed held write_failed limit (commands.EqualBy optimize)
     (λ e. (result ≡ Err e) × (made ≡ w)))
     (λ e. (result ≡ Err e) × (made ≡ w)))
     (λ e. (result ≡ Err e) × (made ≡ w))
+Acts opens left failed held write_failed limit (commands.Fair justice c) paths further w result
+    made =
+    ActsFair opens left failed held write_failed limit justice c paths further w result made
+Acts opens left failed held write_failed limit (commands.Lasso property c) paths further w result
+    made =
+    ActsLasso opens left failed held write_failed limit property c paths further w result made
 Acts opens left failed held write_failed limit c paths further w result made = ⊥
 
 -- what the words ask for was done, and how the program ends by it

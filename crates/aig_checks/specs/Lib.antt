@@ -1,4 +1,5 @@
 pub mod Bounded
+pub mod Justice
 pub mod Words
 pub mod Comments
 pub mod Titling
@@ -9,6 +10,8 @@ pub mod Comparing
 pub mod Printing
 pub mod Asked
 pub mod Opening
+pub mod Living
+pub mod LivingParts
 pub mod Acting
 pub mod About
 pub mod Explaining

@@ -15,15 +15,17 @@ use Rattle.aig_checks.specs.declared.tool.CheckError.{CheckError}
 use Rattle.aig_checks.specs.declared.tool.CheckError.TheVariants as errors
 use Rattle.aig_checks.specs.Words.{IsCall}
 
--- What a command does with parts of its files that its answer is not about: `equal` compares. None
--- but `run` leaves out justice and fairness: it names the property that the witness shows, and in a
--- fair lasso it looks at both.
+-- What a command does with parts of its files that its answer is not about: `equal` compares. Each
+-- leaves out justice and fairness but those that ask about a justice property, and `run`: it names
+-- the property that the witness shows, and in a fair lasso it looks at both.
 abbrev pub regard_of : Command → Regard
 regard_of (commands.File on_file.Run) = record { leaves_out = false; compares = false }
 regard_of (commands.Pair (on_pair.Equal k optimize)) = record { leaves_out = true; compares = true }
 regard_of (commands.Pair (on_pair.AlwaysEqual k form optimize)) =
     record { leaves_out = true; compares = true }
 regard_of (commands.EqualBy optimize) = record { leaves_out = true; compares = true }
+regard_of (commands.Fair justice c) = record { leaves_out = false; compares = false }
+regard_of (commands.Lasso property c) = record { leaves_out = false; compares = false }
 regard_of c = record { leaves_out = true; compares = false }
 
 -- the program has answered: it did what was asked, or the question is settled

@@ -42,6 +42,7 @@ use Rattle.aig_bounded_answers.specs.Asking as bounding
 use Rattle.aig_bounded_answers.specs.Asking.{IsAskedWithin, IsOfCheck, IsOfQuestion, IsOfWitness, bounded_verdict}
 use Rattle.aig_certificates.specs.Certificates as certificates
 use Rattle.aig_certificates.specs.Comparing as comparing
+use Rattle.aig_edits.specs.Edits.{edit_verdict}
 use Rattle.aig_equality.specs.Equality as equality
 use Rattle.aig_safety.specs.Safety as safety
 use Rattle.aig_solutions.specs.declared.error.SolutionError.{SolutionError}
@@ -194,6 +195,7 @@ verdict_of (errors.Safe e) = safety.verdict_of e
 verdict_of (errors.Equality e) = equality.first_verdict e
 verdict_of (errors.Lasso e) = showing.verdict_of (claims.Lasso e)
 verdict_of (errors.Miter e) = comparing.first_verdict e
+verdict_of (errors.Unmade e) = edit_verdict e
 
 -- the error of a witness that is refused
 abbrev pub error_of_claim : ClaimError → CheckError

@@ -1,6 +1,6 @@
 -- Part of what is promised.
 -- Which words give which command.
-use Rattle.std.specs.Prelude.{◌≡◌, ℕ, Bool, true, false, List, codes}
+use Rattle.std.specs.Prelude.{◌≡◌, ℕ, Bool, true, false, List, Option, Some, codes}
 use Rattle.aig_runs.specs.declared.window.Window.{Window}
 use Rattle.aig_runs.specs.declared.window.Window.TheVariants.{Plain, Distinct}
 use Rattle.aig_command_line.specs.declared.arguments.Form.{Form}
@@ -14,6 +14,11 @@ use Rattle.aig_checks.specs.declared.command.Command.{Command}
 use Rattle.aig_checks.specs.declared.command.Command.TheVariants as commands
 use Rattle.aig_checks.specs.declared.command.FileCommand.TheVariants as on_file
 use Rattle.aig_checks.specs.declared.command.PairCommand.TheVariants as on_pair
+use Rattle.aig_checks.specs.declared.justice.FairCommand.TheVariants as fair
+use Rattle.aig_checks.specs.declared.justice.FairPrint.TheVariants as prints
+use Rattle.aig_checks.specs.declared.justice.Justice.{Justice}
+use Rattle.aig_checks.specs.declared.justice.LassoCommand.TheVariants as lassos
+use Rattle.aig_checks.specs.Justice.{AreJustice, command_by}
 
 -- the word that names a command
 abbrev pub name_of : Action → List ℕ
@@ -90,15 +95,21 @@ command_of actions.AlwaysEqual k distinct optimize =
     commands.Pair (on_pair.AlwaysEqual k (window_of distinct) optimize)
 command_of actions.EqualBy k distinct optimize = commands.EqualBy optimize
 
--- the words give the limit, and then the command, with its files and what is given beside them
+-- the words give the limit, then the justice property that is asked about, if there is one, and
+-- then the command, with its files and what is given beside them
 pub record IsCall (words : List (List ℕ)) (limit : ℕ) (c : Command) (paths further : List (List ℕ))
     : Type 0 where
   pub rest : List (List ℕ)
   pub limited : IsLimited words limit rest
+  pub justice : Option Justice
+  pub more : List (List ℕ)
+  pub asked : AreJustice justice rest more
   pub action : Action
   pub arguments : Arguments
-  pub gives : Gives (name_of action) (form_of action) rest arguments
-  pub command : c ≡ command_of action arguments.step arguments.distinct arguments.optimize
+  pub gives : Gives (name_of action) (form_of action) more arguments
+  pub command : command_by justice
+      (command_of action arguments.step arguments.distinct arguments.optimize)
+      ≡ Some c
   pub on : paths ≡ arguments.paths
   pub beside : further ≡ arguments.further
 
@@ -122,6 +133,13 @@ step_of (commands.File (on_file.WitnessTo k optimize)) = k
 step_of (commands.Pair (on_pair.Equal k optimize)) = k
 step_of (commands.Pair (on_pair.AlwaysEqual k form optimize)) = k
 step_of (commands.Safe k form optimize) = k
+step_of (commands.Fair justice (fair.Print (prints.Clauses k optimize))) = k
+step_of (commands.Fair justice (fair.Print (prints.Window k form optimize))) = k
+step_of (commands.Fair justice (fair.Print (prints.Bounded k optimize))) = k
+step_of (commands.Fair justice (fair.Safe k form optimize)) = k
+step_of (commands.Lasso property (lassos.Refuted k optimize)) = k
+step_of (commands.Lasso property (lassos.RefutedTo k optimize)) = k
+step_of (commands.Lasso property (lassos.Inductive k form optimize)) = k
 step_of c = 0
 
 -- on how many files it is
@@ -130,6 +148,11 @@ paths_of (commands.File c) = 1
 paths_of (commands.Pair c) = 2
 paths_of (commands.Safe k form optimize) = 1
 paths_of (commands.EqualBy optimize) = 2
+paths_of (commands.Fair justice (fair.Print c)) = 1
+paths_of (commands.Fair justice (fair.Obligations optimize)) = 2
+paths_of (commands.Fair justice (fair.Certified optimize)) = 2
+paths_of (commands.Fair justice (fair.Safe k form optimize)) = 1
+paths_of (commands.Lasso property c) = 1
 
 -- how many are given beside these
 abbrev pub beside_of : Command → ℕ
@@ -141,4 +164,8 @@ beside_of (commands.Pair (on_pair.Obligations optimize)) = 0
 beside_of (commands.Pair (on_pair.AlwaysEqual k form optimize)) = 2
 beside_of (commands.Safe k form optimize) = 2
 beside_of (commands.EqualBy optimize) = 3
+beside_of (commands.Fair justice (fair.Print c)) = 0
+beside_of (commands.Fair justice (fair.Obligations optimize)) = 0
+beside_of (commands.Fair justice (fair.Certified optimize)) = 2
+beside_of (commands.Fair justice (fair.Safe k form optimize)) = 2
 beside_of c = 1

@@ -9,7 +9,7 @@ use aig_bounded::BoundedError;
 use aig_bounded_answers::BoundedAnswerError;
 use aig_certificates::{CertificateError, MiterError};
 use aig_command_line::Measure;
-use aig_edits::PairError;
+use aig_edits::{EditError, PairError};
 use aig_encode::EncodeError;
 use aig_equality::EqualityError;
 use aig_fair::LassoFault;
@@ -189,6 +189,17 @@ fn about_lasso(fault: LassoFault) -> About
     }
 }
 
+/// What an error of what is made of a file is about.
+fn about_edit(error: EditError) -> About
+    ensures { result ≡ specs.about_edit error }
+{
+    match error {
+        EditError::Read(error) => about_read(Subject::File, error),
+        EditError::Memory | EditError::Write => NOTHING,
+        _ => whole(Subject::File),
+    }
+}
+
 /// What an error of two files is about.
 fn about_pair(error: PairError) -> About
     ensures { result ≡ specs.about_pair error }
@@ -295,5 +306,6 @@ pub(crate) fn about_error(error: CheckError) -> About
         CheckError::Equality(error) => about_equality(error),
         CheckError::Lasso(fault) => about_lasso(fault),
         CheckError::Miter(error) => about_miter(error),
+        CheckError::Unmade(error) => about_edit(error),
     }
 }

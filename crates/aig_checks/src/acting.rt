@@ -15,6 +15,7 @@ use crate::bounded::{print_bounded, print_refuted_to, print_witness_to};
 use crate::command::{Call, Command, FileCommand, PairCommand, call_of};
 use crate::compared::print_equal_by;
 use crate::equality::print_always_equal;
+use crate::living::{refute_at, run_fair};
 use crate::pairs::{print_certified, print_equal, print_obligations};
 use crate::run::print_run;
 use crate::safe::print_safe;
@@ -28,8 +29,8 @@ use std::alloc::Global;
 
 /// How the program is used.
 pub const USAGE: &str =
-    "usage: aigcheck [--limit N] clauses FILE K [raw], window FILE K [distinct] [raw], refuted FILE K PROOF [raw], \
-    inductive FILE K PROOF [distinct] [raw], witness FILE K SOLUTION [raw], run FILE WITNESS, \
+    "usage: aigcheck [--limit N] [--justice J [--rounds N]] clauses FILE K [raw], window FILE K [distinct] [raw], \
+    refuted FILE K PROOF [raw], inductive FILE K PROOF [distinct] [raw], witness FILE K SOLUTION [raw], run FILE WITNESS, \
     certified FILE CERT BASE STEP [raw], equal FILE OTHER K PROOF [raw], obligations FILE CERT [raw], \
     bounded FILE K [raw], refuted FILE to K PROOF [raw], witness FILE to K SOLUTION [raw], \
     safe FILE to K BASE STEP [distinct] [raw], equal FILE OTHER to K BASE STEP [distinct] [raw], \
@@ -395,6 +396,14 @@ fn run<F: Opens, W: Sink>(
                 step,
                 w,
             )
+        }
+        Command::Fair { justice, command } => {
+            let (paths, further) = (call.paths, call.further);
+            run_fair(alloc, limit, files, justice, command, paths, further, w)
+        }
+        Command::Lasso { property, command } => {
+            let proof = call.further[0].as_str();
+            refute_at(alloc, limit, files, property, command, path, proof, w)
         }
     }
 }

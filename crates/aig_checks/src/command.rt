@@ -5,6 +5,7 @@ ghost use Rattle.aig_command_line.specs.Limits.{IsLimit};
 ghost use Rattle.aig_checks.specs.Words.{Give, IsCall, beside_of, command_of, form_of, name_of, on_certificate, on_step, paths_of, step_of, window_of};
 ghost use Rattle.aig_checks.specs.declared.command.Command.{Command};
 
+use crate::justice::{FairCommand, Justice, LassoCommand, command_by, justice_first};
 use aig_answers::Window;
 use aig_command_line::{Form, HasForm, Step, find, limited};
 
@@ -126,6 +127,20 @@ pub enum Command {
     EqualBy {
         /// Whether exclusive ors and choices have clauses of their own.
         optimize: bool,
+    },
+    /// A command about the fair runs of FILE.
+    Fair {
+        /// The justice property.
+        justice: Justice,
+        /// What is asked.
+        command: FairCommand,
+    },
+    /// A command about the fair lassos of FILE.
+    Lasso {
+        /// The number of the justice property.
+        property: usize,
+        /// What is asked.
+        command: LassoCommand,
     },
 }
 
@@ -307,8 +322,8 @@ pub struct Call<'a> {
     pub further: &'a [String],
 }
 
-/// What the words after the program's name give, or none where they are wrong: N of `--limit N`, or 2^24, and then the command and what
-/// it takes. It takes no memory.
+/// What the words after the program's name give, or none where they are wrong: N of `--limit N`, or 2^24, then J of `--justice J`, and
+/// N of `--rounds N`, where these come, and then the command and what it takes. It takes no memory.
 pub fn call_of(words: &[String]) -> Option<Call<'_>>
     ensures some { IfSome result (λ c. IsCall (map string_bytes words.now) c.limit c.command
         (map string_bytes c.paths.now) (map string_bytes c.further.now)) }
@@ -320,10 +335,12 @@ pub fn call_of(words: &[String]) -> Option<Call<'_>>
     ensures small { IfSome result (λ c. step_of c.command < 2 ^ 32) }
 {
     let (limit, rest) = limited(words)?;
+    let (justice, rest) = justice_first(rest)?;
     let (action, given) = find(&Action::ALL, rest)?;
+    let command = action.command(given.step, given.distinct, given.optimize);
     Some(Call {
         limit,
-        command: action.command(given.step, given.distinct, given.optimize),
+        command: command_by(justice, command)?,
         paths: given.paths,
         further: given.further,
     })
@@ -331,7 +348,7 @@ pub fn call_of(words: &[String]) -> Option<Call<'_>>
 
 /// The command that the words after the program's name give, or none where they are wrong.
 ///
-/// The words `--limit` and N may come first. The word after the command's name is FILE. The next is WITNESS of `run`, CERT of `certified`
+/// The words `--limit` and N may come first, and then `--justice` and J, and then `--rounds` and N. The word after the command's name is FILE. The next is WITNESS of `run`, CERT of `certified`
 /// and `obligations`, and OTHER of `equal`. Then comes K, where the command has one, after the word `to` where it is on the steps up to K,
 /// and the words after that are PROOF of `refuted`, `inductive` and `equal`, SOLUTION of `witness`, and BASE and STEP of `certified`, `safe`
 /// and `equal` with `to`. Of `equal` with the word `by` it is CERT, BASE and STEP that come after that. It takes no memory.

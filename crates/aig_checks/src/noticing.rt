@@ -8,12 +8,13 @@ use crate::tool::CheckError;
 use aig_base::MemoryError;
 use aig_command_line::{Ending, Headers, Regard, Tells, tell_of_files};
 
-/// Whether a command answers without a look at justice and fairness: each but `run`, which names the property that the witness shows.
+/// Whether a command answers without a look at justice and fairness: each but those about a justice property, and `run`, which names the
+/// property that the witness shows.
 fn leaves_out(command: Command) -> bool
     ensures { result ≡ (regard_of command).leaves_out }
 {
     match command {
-        Command::File(FileCommand::Run) => false,
+        Command::File(FileCommand::Run) | Command::Fair { .. } | Command::Lasso { .. } => false,
         _ => true,
     }
 }

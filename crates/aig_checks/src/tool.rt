@@ -28,6 +28,7 @@ use aig_circuit::CircuitView;
 use aig_cnf::{NeededGates, find_needed};
 use aig_command_line::{HasStatus, Origin};
 use aig_dimacs::{write_circuit, write_dimacs};
+use aig_edits::EditError;
 use aig_encode::Query;
 use aig_equality::EqualityError;
 use aig_fair::{ClaimError, LassoFault};
@@ -83,6 +84,9 @@ pub enum CheckError {
     /// A certificate doesn't show that two files' machines are equal at every step.
     #[error("{0}")]
     Miter(MiterError),
+    /// The file is refused, or nothing is made of it to ask about a justice property.
+    #[error("{0}")]
+    Unmade(EditError),
 }
 
 impl HasStatus for CheckError {
@@ -168,6 +172,14 @@ impl From<MiterError> for CheckError {
 
     fn from(error: MiterError) -> CheckError {
         CheckError::Miter(error)
+    }
+}
+
+impl From<EditError> for CheckError {
+    ghost from_gives = { λ e r. r ≡ errors.Unmade e };
+
+    fn from(error: EditError) -> CheckError {
+        CheckError::Unmade(error)
     }
 }
 

@@ -45,3 +45,17 @@ returns-in-EqualBy g c =
     let step = c.as_str-step-in-EqualBy.ensures.value ∙ ap string_bytes (sym third.is) in
     rw (names, further, c.in-EqualBy.is, sym path, sym beside, sym certificate, sym base, sym step)
     c.run_equal_by.ensures
+
+pub returns-in-Fair : goal.returns-in-Fair
+returns-in-Fair g c = rw c.in-Fair.is c.run_fair.ensures
+
+pub returns-in-Lasso : goal.returns-in-Lasso
+returns-in-Lasso g c =
+    let first = c.index-call-0-in-Lasso in
+    let names = one_name c.args.call.now.paths.now c.index-call-0.result
+    (rw c.in-Lasso.is at c.requires.paths) c.index-call-0.is in
+    let further = one_name c.args.call.now.further.now first.result
+    (rw c.in-Lasso.is at c.requires.further) first.is in
+    let path = c.as_str-path.ensures.value ∙ ap string_bytes (sym c.index-call-0.is) in
+    let proof = c.as_str-proof.ensures.value ∙ ap string_bytes (sym first.is) in
+    rw (names, further, c.in-Lasso.is, sym path, sym proof) c.refute_at.ensures
