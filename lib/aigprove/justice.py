@@ -40,7 +40,7 @@ class Justice(Asked):
     """A justice property of a file, by its number there."""
 
     # What stands before lines of aigcheck, and by which command of aigedit the file is made.
-    prefix, of_step, command = "live: ", "live: ", "live"
+    prefix, of_step, command, counts = "live: ", "live: ", "live", True
 
     def __init__(self, whole, number, is_alone=True):
         self.given, self.path, self.number, self.circuit, self.is_alone = whole.given, whole.path, number, whole.circuit, is_alone
@@ -52,6 +52,10 @@ class Justice(Asked):
     @functools.cached_property
     def asked(self):
         return self.given.judge.made(self.command, self.given.file, self.number)
+
+    def rounds(self, count):
+        """The file in which so many rounds of it end."""
+        return self.given.judge.made("rounds", self.given.file, self.number, count)
 
     def warnings(self):
         """A line of what the file has that nothing is asked about."""
