@@ -29,6 +29,8 @@ TOP = os.path.dirname(os.path.dirname(os.path.dirname(os.path.realpath(__file__)
 ENGINES = ["bmc3", "pdr", "bounded", "steps", "windows"]
 # One for two files.
 REGISTERS = "registers"
+# One for justice properties.
+ROUNDS = "rounds"
 BELIEVED = ["aigtool", "aigedit", "aigcheck"]
 # What can go wrong: a thread that can't be started is a RuntimeError.
 FAULTS = (Fault, OSError, MemoryError, RuntimeError, UnicodeError)
@@ -61,6 +63,7 @@ Engines look for an answer side by side, and the first that is checked is printe
   steps     asks it about step 0, 1 and so on
   windows   asks it about K + 2 steps from any state, bad at the last alone (k-induction)
   registers guesses which registers of two files are always equal, and asks it whether a step keeps them so
+  rounds    asks pdr whether 1, 2, 4 and so on rounds of a justice property can end
 An engine that isn't installed, lies or breaks is told of on standard error, and changes nothing else.
 
 With --equal outputs and bad states of FILE and OTHER are compared, on all runs of both that have the same inputs, and that the
@@ -142,7 +145,7 @@ def parameter(word):
 
 def engines(word):
     names = word.replace("abc", "bmc3,pdr").split(",")
-    known = [*ENGINES, REGISTERS]
+    known = [*ENGINES, REGISTERS, ROUNDS]
     if not set(names) <= set(known):
         raise argparse.ArgumentTypeError(f"{word} names others than {', '.join(known)} and abc")
     return names

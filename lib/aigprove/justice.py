@@ -41,7 +41,7 @@ class Justice(Asked):
     """A justice property of a file, by its number there."""
 
     # What stands before lines of aigcheck, and by which command of aigedit the file is made.
-    prefix, of_step, command = "live: ", "live: ", "live"
+    prefix, of_step, command, counts = "live: ", "live: ", "live", True
 
     def __init__(self, whole, number, is_alone=True, folder=""):
         self.given, self.path, self.number, self.circuit, self.is_alone = whole.given, whole.path, number, whole.circuit, is_alone
@@ -56,17 +56,22 @@ class Justice(Asked):
     def asked(self):
         return self.given.judge.made(self.command, self.given.file, self.number)
 
-    def of_given(self, command, words, files):
+    def of_given(self, command, words, files, *rounds):
         """That the file that was given has no fair run, as aigcheck says of it."""
-        return Claim(self.safe, ["--justice", str(self.number), command, self.file, *words], {self.file: self.given.file, **files})
+        words = ["--justice", str(self.number), *rounds, command, self.file, *words]
+        return Claim(self.safe, words, {self.file: self.given.file, **files})
 
     def proved(self, question, base, window, step):
         words = ["to", str(question.k), question.name, window.name, *window.form]
         return self.of_given("safe", words, {question.name: base, window.name: step})
 
-    def certified(self, certificate, base, step):
+    def certified(self, certificate, base, step, *rounds):
         files = {"certificate": certificate, "base": base, "step": step}
-        return self.of_given("certified", files, files)
+        return self.of_given("certified", files, files, *rounds)
+
+    def rounds(self, count):
+        """The file in which so many rounds of it end."""
+        return self.given.judge.made("rounds", self.given.file, self.number, count)
 
     def warnings(self):
         """A line of what the file has that nothing is asked about."""

@@ -14,6 +14,7 @@ from aigprove.programs import Fault, Sealed, Stopped, reason, say, tell
 from aigprove.questions import Solver
 from aigprove.registers import Registers
 from aigprove.replay import SIMULATED
+from aigprove.rounds import Rounds
 from aigprove.shown import Shown
 
 SAFE, UNSAFE, OPEN, FAILED = 20, 10, 0, 1
@@ -185,6 +186,13 @@ class Race:
         self.write_certificate(lambda: certificates.by_invariant(self.circuit, self.judge.circuit(machine, "the certificate")))
         return status
 
+    def print_counted(self, claim):
+        """Prints what a file that counts rounds shows."""
+        status = self.print_safe(claim)
+        if self.words.write_certificate:
+            say("no certificate: the answer is about rounds")
+        return status
+
     def write_certificate(self, make):
         """Writes a certificate of the answer, where that is wanted and there is one."""
         if not self.words.write_certificate:
@@ -263,9 +271,10 @@ class Race:
             given["certificate"] = lambda: Certificate(self, words.certificate)
         if words.run:
             given["run"] = lambda: Run(self, words.run)
-        own = {"steps": Steps, "bounded": Bounded, "windows": Windows, "registers": Registers}
+        own = {"steps": Steps, "bounded": Bounded, "windows": Windows, "registers": Registers, "rounds": Rounds}
         own.update((name, functools.partial(Abc, name)) for name in COMMANDS)
-        return given | {name: functools.partial(own[name], self) for name in words.engines}
+        names = [*words.engines, *["rounds"] * (self.source.counts and not words.engine)]
+        return given | {name: functools.partial(own[name], self) for name in names}
 
     def start(self, name, make):
         """Starts an engine; whether it was."""

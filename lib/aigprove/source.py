@@ -101,6 +101,8 @@ class Asked:
     # beginning of one of what was shown so far; what is said of a file about which nothing can be asked; and what stands before a line of
     # one step.
     prefix, safe, so_far, empty, of_step = "", "no bad state at any step", "no bad state", "no bad state property", ""
+    # Whether there are files that count its rounds.
+    counts = False
 
     def claim(self, line, command, words, files):
         """What aigcheck says of the file."""
