@@ -273,13 +273,21 @@ FOLLOWS = [
     (["all: b1 at step 4"], "undecided"),
     (["equal at step 0"], "undecided"),
 ]
+# The same of justice property 0: what aigcheck says of the made file ends it by no step of ours.
+FOLLOWS_FAIR = [
+    (["no fair run of j0"], "no fair run"),
+    (["no fair run of j1"], "undecided"),
+    (["no bad state at any step"], "undecided"),
+    (["no bad state up to step 1"], "undecided up to step 1"),
+]
 
 
 def follow_faults(tally):
     """What follows of lines."""
-    for lines, wanted in FOLLOWS:
-        answer, told = Answer("b", 0), Witness(0, "", [""] * 5)
-        made = [gather.Line("part", "", line.removeprefix("all: "), [], [("pdr", 1.0)]) for line in lines]
+    rows = [("b", *row) for row in FOLLOWS] + [("j", *row) for row in FOLLOWS_FAIR]
+    for letter, lines, wanted in rows:
+        answer, told = Answer(letter, 0), Witness(0, "", [""] * 5)
+        made = [gather.Line("part", "", line.removeprefix("all: "), [], [], [("pdr", 1.0)]) for line in lines]
         gather.conclude(answer, [(None, None if line.startswith("all: ") else 0, it, told) for line, it in zip(lines, made)])
         tally.wants(lines, wanted, answer.text())
 

@@ -243,8 +243,8 @@ module _ {R : Type 0} (left : R → Option (List ℕ)) (failed : R → Bool) (li
         result)
         → RunsMade left failed limit a Means Unread r result rest
     ran text result not told means = record {
-      reads = file_on left failed limit r rest (TellsMade a Means) made_verdict IsMadeOwn result told
-          (accepted result not) (own result not)
+      reads = file_on left failed limit r rest (TellsMade a Means) made_verdict IsMadeOwn result
+          told (accepted result not) (own result not)
           (λ f fits made. tells result not f made.0 made.1 (means f made.0 made.1 made.2));
       unread = unread result not;
     }
@@ -345,20 +345,20 @@ pair_no_write e runs is = cc
 
 module _ {R : Type 0} {left : R → Option (List ℕ)} {failed : R → Bool} {r rest : R} {text : List ℕ}
   where
-    pub runs_on_text : {P W : Type 0} {given : P → Option (List ℕ)} {given_failed : P → Bool} {held :
-        W → Option (List ℕ)} {write_failed : W → Bool} {c : FileCommand} {limit : ℕ} {p used : P} {w
-        made : W} {result : Result (Unit {0}) CheckError}
+    pub runs_on_text : {P W : Type 0} {given : P → Option (List ℕ)} {given_failed : P → Bool} {held
+        : W → Option (List ℕ)} {write_failed : W → Bool} {c : FileCommand} {limit : ℕ} {p used : P}
+        {w made : W} {result : Result (Unit {0}) CheckError}
         → left r ≡ Some text
         → Runs left failed given given_failed held write_failed c limit r p w result rest used made
-        → OnText (λ left failed r rest. Runs left failed given given_failed held write_failed c limit
-        r p w result rest used made) text
+        → OnText (λ left failed r rest. Runs left failed given given_failed held write_failed c
+        limit r p w result rest used made) text
     runs_on_text {given = given} {given_failed = given_failed} {held = held} {write_failed =
         write_failed} {c = c} {limit = limit} {p = p} {used = used} {w = w} {made = made} {result =
         result} is runs = (
           left rest,
           failed rest,
-          subst (λ o. Runs own_text (λ x. failed rest) given given_failed held write_failed c limit o p w
-              result (left rest) used made) is (record {
+          subst (λ o. Runs own_text (λ x. failed rest) given given_failed held write_failed c limit
+              o p w result (left rest) used made) is (record {
                 verdict = runs.verdict;
                 own = runs.own;
                 ok = runs.ok;
@@ -383,13 +383,13 @@ module _ {R : Type 0} {left : R → Option (List ℕ)} {failed : R → Bool} {r 
         made) text
     pair_on_text {left_of = left_of} {failed_of = failed_of} {base_left = base_left} {base_failed =
         base_failed} {step_left = step_left} {step_failed = step_failed} {held = held} {write_failed
-        = write_failed} {c = c} {limit = limit} {s = s} {other = other} {p = p} {used = used} {q = q}
-        {spent = spent} {w = w} {made = made} {result = result} is runs = (
+        = write_failed} {c = c} {limit = limit} {s = s} {other = other} {p = p} {used = used} {q =
+        q} {spent = spent} {w = w} {made = made} {result = result} is runs = (
           left rest,
           failed rest,
           subst (λ o. RunsPair own_text (λ x. failed rest) left_of failed_of base_left base_failed
-              step_left step_failed held write_failed c limit o s p q w result (left rest) other used
-              spent made) is (record {
+              step_left step_failed held write_failed c limit o s p q w result (left rest) other
+              used spent made) is (record {
                 reads = record {
                   verdict = runs.reads.verdict;
                   other_verdict = runs.reads.other_verdict;
@@ -418,14 +418,14 @@ module _ {R : Type 0} {left : R → Option (List ℕ)} {failed : R → Bool} {r 
         step_failed held write_failed k form optimize limit r p q w result rest used spent made)
         text
     safe_on_text {base_left = base_left} {base_failed = base_failed} {step_left = step_left}
-        {step_failed = step_failed} {held = held} {write_failed = write_failed} {k = k} {form = form}
-        {optimize = optimize} {limit = limit} {p = p} {used = used} {q = q} {spent = spent} {w = w}
-        {made = made} {result = result} is runs = (
+        {step_failed = step_failed} {held = held} {write_failed = write_failed} {k = k} {form =
+        form} {optimize = optimize} {limit = limit} {p = p} {used = used} {q = q} {spent = spent}
+        {w = w} {made = made} {result = result} is runs = (
           left rest,
           failed rest,
-          subst (λ o. RunsSafe own_text (λ x. failed rest) base_left base_failed step_left step_failed
-              held write_failed k form optimize limit o p q w result (left rest) used spent made) is
-              (record {
+          subst (λ o. RunsSafe own_text (λ x. failed rest) base_left base_failed step_left
+              step_failed held write_failed k form optimize limit o p q w result (left rest) used
+              spent made) is (record {
                 verdict = runs.verdict;
                 own = runs.own;
                 safe = runs.safe;
@@ -501,7 +501,8 @@ module _ {R W : Type 0} {left : R → Option (List ℕ)} {failed : R → Bool} {
             (TellsOfPair nothing_given nothing_fails c limit (base_left p) (step_left q) tt tt)
             verdict_of
             other_verdict_of (IsErrorOfPair c) result runs.reads refl refl runs.reads.own
-            (λ f g bytes others fits also told. nothing (base_left p) (step_left q) f g result told);
+            (λ f g bytes others fits also told. nothing (base_left p) (step_left q) f g result
+            told);
         kept = kept_nothing result;
         base_unread = runs.base_unread;
         step_unread = runs.step_unread;
