@@ -498,11 +498,12 @@ module _ {R W : Type 0} {left : R → Option (List ℕ)} {failed : R → Bool} {
   pair_unwritten {left_of = left_of} {failed_of = failed_of} {base_left = base_left} {step_left =
       step_left} {c = c} {limit = limit} {s = s} {other = other} {p = p} {q = q} runs = record {
         reads = reads_on left failed left_of failed_of limit r s rest other
-            (TellsOfPair nothing_given nothing_fails c limit (base_left p) (step_left q) tt tt)
+            (TellsOfPair nothing_given nothing_fails c limit (base_left p) (step_left q) (left r)
+            (left_of s) tt tt)
             verdict_of
             other_verdict_of (IsErrorOfPair c) result runs.reads refl refl runs.reads.own
-            (λ f g bytes others fits also told. nothing (base_left p) (step_left q) f g result
-            told);
+            (λ f g bytes others fits also told. nothing (base_left p) (step_left q) (left r)
+            (left_of s) f g result told);
         kept = kept_nothing result;
         base_unread = runs.base_unread;
         step_unread = runs.step_unread;
@@ -512,11 +513,12 @@ module _ {R W : Type 0} {left : R → Option (List ℕ)} {failed : R → Bool} {
         miter_step_stream = runs.miter_step_stream;
       }
     where
-      nothing : (base step : Option (List ℕ)) (f g : File) (x : Result (Unit {0}) CheckError)
-          → TellsOfPair {W = W} (λ y. None) (λ y. false) c limit base step w made f g x
-          → TellsOfPair nothing_given nothing_fails c limit base step tt tt f g x
-      nothing base step f g (Ok u) told = told
-      nothing base step f g (Err errors.Write) told = told
-      nothing base step f g (Err (errors.Certificate e)) told = told
-      nothing base step f g (Err (errors.Equality e)) told = told
-      nothing base step f g (Err e) told = absurd told
+      nothing : (base step first second : Option (List ℕ)) (f g : File)
+          (x : Result (Unit {0}) CheckError)
+          → TellsOfPair {W = W} (λ y. None) (λ y. false) c limit base step first second w made f g x
+          → TellsOfPair nothing_given nothing_fails c limit base step first second tt tt f g x
+      nothing base step first second f g (Ok u) told = told
+      nothing base step first second f g (Err errors.Write) told = told
+      nothing base step first second f g (Err (errors.Certificate e)) told = told
+      nothing base step first second f g (Err (errors.Equality e)) told = told
+      nothing base step first second f g (Err e) told = absurd told

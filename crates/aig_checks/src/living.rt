@@ -93,46 +93,33 @@ fn print_of_text<W: Sink>(
     ensures { OnText (λ left failed r rest. Runs left failed nothing_given nothing_fails W.held
         W.failed (print_of command) limit r tt w.old result rest tt w.new) text.now }
 {
-    let mut source = FromRead::new(text);
+    let source = FromRead::new(text);
     match command {
-        FairPrint::Clauses { k, optimize } => print_clauses(
-            alloc,
-            limit,
-            k,
-            optimize,
-            &mut source,
-            w,
-        ),
+        FairPrint::Clauses { k, optimize } => print_clauses(alloc, limit, k, optimize, source, w),
         FairPrint::Window { k, form, optimize } => {
-            print_window(alloc, limit, k, form, optimize, &mut source, w)
+            print_window(alloc, limit, k, form, optimize, source, w)
         }
-        FairPrint::Bounded { k, optimize } => print_bounded(
-            alloc,
-            limit,
-            k,
-            optimize,
-            &mut source,
-            w,
-        ),
+        FairPrint::Bounded { k, optimize } => print_bounded(alloc, limit, k, optimize, source, w),
     }
 }
 
 /// Prints the clauses of which the proofs are about the file of this text and a certificate of it.
-fn obligations_of_text<S: Source, W: Sink>(
+fn obligations_of_text<S: Source + Drop, W: Sink>(
     alloc: Global,
     limit: usize,
     optimize: bool,
     text: &[u8],
-    certificate: &mut S,
+    certificate: S,
     w: &mut W,
 ) -> Result<(), CheckError>
     requires { IsLimit limit }
-    ensures { OnText (λ left failed r rest. RunsPair left failed S.left S.failed nothing_given
-        nothing_fails nothing_given nothing_fails W.held W.failed (on_pair.Obligations optimize)
-        limit r certificate.old tt tt w.old result rest certificate.new tt tt w.new) text.now }
+    ensures { (other : S) × OnText (λ left failed r rest. RunsPair left failed S.left S.failed
+        nothing_given nothing_fails nothing_given nothing_fails W.held W.failed
+        (on_pair.Obligations optimize) limit r certificate tt tt w.old result rest other tt tt
+        w.new) text.now }
 {
-    let mut source = FromRead::new(text);
-    print_obligations(alloc, limit, optimize, &mut source, certificate, w)
+    let source = FromRead::new(text);
+    print_obligations(alloc, limit, optimize, source, certificate, w)
 }
 
 /// Runs a command on the file of this text and on what is given beside it, and prints nothing.
@@ -334,19 +321,19 @@ fn print_made<R: Source, W: Sink>(
 }
 
 /// Prints the clauses of which the proofs are about a certificate of what is made of a file.
-fn oblige_made<R: Source, S: Source, W: Sink>(
+fn oblige_made<R: Source, S: Source + Drop, W: Sink>(
     alloc: Global,
     limit: usize,
     justice: Justice,
     optimize: bool,
     r: &mut R,
-    certificate: &mut S,
+    certificate: S,
     w: &mut W,
 ) -> Result<(), CheckError>
     requires { IsLimit limit }
-    ensures { RunsMade R.left R.failed limit justice
-        (ObligesMade S.left S.failed W.held W.failed limit optimize certificate.old certificate.new
-        w.old w.new) ((certificate.new ≡ certificate.old) × (w.new ≡ w.old)) r.old result r.new }
+    ensures { (other : S) × RunsMade R.left R.failed limit justice
+        (ObligesMade S.left S.failed W.held W.failed limit optimize certificate other w.old w.new)
+        ((other ≡ certificate) × (w.new ≡ w.old)) r.old result r.new }
 {
     let text = made_text(alloc, limit, justice, r)?;
     obligations_of_text(alloc, limit, optimize, text.as_slice(), certificate, w)
@@ -471,16 +458,8 @@ fn oblige_at<F: Opens, W: Sink>(
         (fair.Obligations optimize) (path.now ∷ certificate.now ∷ []) [] w.old result w.new }
 {
     let mut file = files.open(path)?;
-    let mut certificate = files.open(certificate)?;
-    oblige_made(
-        alloc,
-        limit,
-        justice,
-        optimize,
-        &mut file,
-        &mut certificate,
-        w,
-    )
+    let certificate = files.open(certificate)?;
+    oblige_made(alloc, limit, justice, optimize, &mut file, certificate, w)
 }
 
 /// Checks the certificate at a path, of what is made of the file at another, and the proofs at two more.
