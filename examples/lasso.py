@@ -1,0 +1,58 @@
+#!/usr/bin/env python3
+"""Prints the fair lasso that a witness of a live file is: lasso.py FILE J WITNESS
+
+FILE is in AIGER form, text or binary; WITNESS, in the form of docs/COMMANDS.md, is one of the file that `aigedit live FILE J` prints. The
+lasso is a witness of FILE for its justice property J: without the values of the latches that the live file has more, and of its last
+input.
+
+Nothing is judged: whether it is a lasso is what `aigcheck run FILE LASSO` says.
+
+Exit status 0: printed. 1: not printed, with one line of why. 2: wrong words."""
+import argparse
+import pathlib
+import sys
+
+sys.path.insert(0, str(pathlib.Path(__file__).resolve().parent.parent / "lib"))
+
+from aigprove import witness
+from aigprove.aiger import Circuit, Fault, Lines
+
+
+def property_number(word):
+    if not word.isascii() or not word.isdigit():
+        raise argparse.ArgumentTypeError(f"{word} is no number of a justice property")
+    return int(word)
+
+
+def parse():
+    parser = argparse.ArgumentParser(description=__doc__, formatter_class=argparse.RawDescriptionHelpFormatter)
+    parser.add_argument("file", metavar="FILE", help="a file in AIGER form, text or binary")
+    parser.add_argument("number", metavar="J", type=property_number, help="which justice property, from 0 on")
+    parser.add_argument("witness", metavar="WITNESS", help="a witness of its live file")
+    return parser.parse_args()
+
+
+def lasso(words):
+    """The text of the lasso, once both files were read."""
+    circuit = Circuit(Lines(pathlib.Path(words.file).read_bytes(), "FILE"))
+    if words.number >= len(circuit.justice):
+        raise Fault(f"{words.file}: no such justice property")
+    # The live file has a copy of each latch more, one that says whether a state was saved, and one for each literal that is asked for.
+    asked = len(circuit.justice[words.number]) + len(circuit.fairness)
+    latches, inputs = len(circuit.latches), len(circuit.inputs)
+    lines = Lines(pathlib.Path(words.witness).read_bytes(), "WITNESS")
+    told = witness.read(lines, 2 * latches + 1 + asked, inputs + 1)
+    return told._replace(letter="j", bad=words.number, start=told.start[:latches], steps=[row[:-1] for row in told.steps]).text()
+
+
+def main():
+    words = parse()
+    try:
+        print(lasso(words), end="")
+    except (Fault, OSError, ValueError) as fault:
+        print(f"lasso: {fault}", file=sys.stderr)
+        sys.exit(1)
+
+
+if __name__ == "__main__":
+    main()
