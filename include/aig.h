@@ -139,7 +139,10 @@ enum aig_status {
 
   /* Added to a status of a call with proofs of first steps and of a window. */
   AIG_BASE = 2048, /* The question of the steps 0 to `k`, or its proof. */
-  AIG_STEP = 4096  /* The proof of the window. */
+  AIG_STEP = 4096, /* The proof of the window. */
+
+  /* Added to a status of `aig_check_equal_by` that `aig_check_certified` has of the miter's text, the certificate and the proofs. */
+  AIG_CERTIFICATE = 8192
 };
 
 /* What a status says, in the words of the programs. It fits 128 bytes. There is no 0 at its end. */
@@ -266,6 +269,12 @@ uint32_t aig_check_equal(const uint8_t *file, size_t file_len, const uint8_t *ot
 uint32_t aig_check_always_equal(const uint8_t *file, size_t file_len, const uint8_t *other, size_t other_len, uint64_t k,
                                 bool distinct, bool base_optimize, const uint8_t *base, size_t base_len, bool step_optimize,
                                 const uint8_t *step, size_t step_len);
+
+/* AIG_DONE only where they have so at every step, as `certificate` shows: one that `aig_check_certified` takes, with `base` and `step`, of
+ * the text that `aig_miter` gives. */
+uint32_t aig_check_equal_by(const uint8_t *file, size_t file_len, const uint8_t *other, size_t other_len,
+                            const uint8_t *certificate, size_t certificate_len, bool optimize, const uint8_t *base,
+                            size_t base_len, const uint8_t *step, size_t step_len);
 
 /* The witness, in the format of AIGER 1.9, that a solver's answer to the query says. It was checked: nothing of the answer is
  * trusted. A status from 70 on says why there is none. */

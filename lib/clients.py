@@ -31,7 +31,7 @@ struct bytes {
   size_t len;
 };
 struct words {
-  struct bytes files[4];
+  struct bytes files[5];
   uint64_t numbers[2];
   bool optimize, distinct;
 };

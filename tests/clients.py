@@ -35,12 +35,14 @@ NUMBERED = [
     (rb"\bliteral \d+ of the justice", b"a literal of the justice"),
     (rb"\bfairness literal \d+ is", b"a fairness literal is"),
 ]
-# The calls of the programs' commands, where these have other names: behind ` to` those for all steps up to one.
+# The calls of the programs' commands, where these have other names: behind ` to` those for all steps up to one, and behind ` by` that by a
+# certificate.
 CALLS = {name: name for name in "text strash cnf query clauses window witness bounded miter join merge obligations".split()}
 CALLS |= {name: name for name in "refine reencode unroll possible cone reduce question info live rounds".split()}
 CALLS |= {"move": "move_constraints", "compress": "compress_bads", "bads": "outputs_as_bads", "property": "property_alone"}
 CALLS |= {name: f"check_{name}" for name in "refuted inductive run lasso certified equal".split()}
 CALLS |= {"refuted to": "check_refuted_to", "witness to": "witness_to", "safe to": "check_safe", "equal to": "check_always_equal"}
+CALLS["equal by"] = "check_equal_by"
 CALLS |= {"no_lasso": "check_no_lasso", "no_lasso to": "check_no_lasso_to", "no_run": "check_no_fair_run"}
 CALLS |= {"numbers": "query_numbers", "binary": "binary"}
 # Those that return nothing, whose line is the program's.
@@ -51,9 +53,9 @@ DISTINCT = ["window", "inductive", "safe to", "equal to", "no_run"]
 # Those with a setting for each of two proofs.
 SET_TWICE = ["safe to", "equal to", "no_run"]
 # The statuses that say what another one is about.
-ADDED = ["OTHER", "QUERY", "WINDOW", "BASE", "STEP"]
+ADDED = ["OTHER", "QUERY", "WINDOW", "BASE", "STEP", "CERTIFICATE"]
 # The words of a command that name no file.
-WORDS = ["raw", "distinct", "to"]
+WORDS = ["raw", "distinct", "to", "by"]
 # The types of C that parameters have, by those of Rust; a slice is followed by its length, and is a pointer to its caller.
 C_TYPES = {"&mut usize": "size_t*", "usize": "size_t", "u64": "uint64_t", "u32": "uint32_t", "bool": "bool"}
 SLICES = {"&[u8]": "const uint8_t*", "&mut [u8]": "uint8_t*", "&mut [i32]": "int32_t*"}
@@ -90,7 +92,7 @@ def table_rows():
 
 def name_of(command, words):
     """The name of a command and of its form, as CALLS has it."""
-    return command + " to" * ("to" in words)
+    return command + "".join(f" {word}" for word in ("to", "by") if word in words)
 
 
 def told(program, words, printed):
@@ -284,7 +286,7 @@ def by_python(aig, place, program, words, given):
     """How a command ends through the Python module, as its program would. Its calls take what the words name in the same order."""
     command, file, *rest = words
     name = name_of(command, words)
-    settings = {"optimize": "raw" not in rest} if name in SET or name in ("refuted to", "witness to", "no_lasso to") else {}
+    settings = {"optimize": "raw" not in rest} if name in SET or name in ("refuted to", "witness to", "no_lasso to", "equal by") else {}
     if name in SET_TWICE:
         settings = {"base_optimize": "raw" not in rest, "step_optimize": "raw" not in rest}
     if name in DISTINCT:

@@ -203,6 +203,7 @@ _declare({
     "aig_check_certified": [_TEXT, _size, _TEXT, _size, _bool, _TEXT, _size, _TEXT, _size],
     "aig_check_equal": [_TEXT, _size, _TEXT, _size, _step, _bool, _TEXT, _size],
     "aig_check_always_equal": [_TEXT, _size, _TEXT, _size, _step, _bool, _bool, _TEXT, _size, _bool, _TEXT, _size],
+    "aig_check_equal_by": [_TEXT, _size, _TEXT, _size, _TEXT, _size, _bool, _TEXT, _size, _TEXT, _size],
     "aig_witness": [_TEXT, _size, _step, _bool, _TEXT, _size, _U8, _size, _SIZES],
     "aig_witness_to": [_TEXT, _size, _step, _bool, _TEXT, _size, _U8, _size, _SIZES],
     "aig_check_run": [_TEXT, _size, _TEXT, _size, _SIZES, _SIZES],
@@ -221,8 +222,8 @@ _declare({
 __all__ += """
     text binary strash refine reencode unroll move_constraints compress_bads outputs_as_bads property_alone possible cone reduce
     question info cnf query clauses bounded window check_refuted check_refuted_to check_inductive check_safe check_certified
-    check_equal check_always_equal witness witness_to live rounds check_no_lasso check_no_lasso_to check_no_fair_run miter join merge
-    obligations
+    check_equal check_always_equal check_equal_by witness witness_to live rounds check_no_lasso check_no_lasso_to check_no_fair_run
+    miter join merge obligations
 """.split()
 
 
@@ -427,6 +428,13 @@ def check_always_equal(
         step_optimize,
         *_given(step),
     )
+
+
+def check_equal_by(file: bytes, other: bytes, certificate: bytes, base: bytes, step: bytes, *, optimize: bool = True) -> None:
+    """Returns only where they have so at every step, as `certificate` shows: one that `check_certified` takes, with `base` and `step`, of
+    the text that `miter` gives.
+    """
+    _hold("aig_check_equal_by", *_given(file), *_given(other), *_given(certificate), optimize, *_given(base), *_given(step))
 
 
 def witness(file: bytes, k: int, solution: bytes, *, optimize: bool = True) -> bytes:

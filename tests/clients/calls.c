@@ -146,7 +146,7 @@ int main(int argc, char **argv) {
   program = argv[1];
   const char *command = argv[2];
   struct words w = {.optimize = true};
-  const char *paths[4];
+  const char *paths[5];
   int count = 0, numbers = 0;
   for (int i = 3; i < argc; i++) {
     char *end;
@@ -157,7 +157,7 @@ int main(int argc, char **argv) {
       w.distinct = true;
     else if (!*end && i > 3 && numbers < 2)
       w.numbers[numbers++] = number;
-    else if (strcmp(argv[i], "to") && count < 4)
+    else if (strcmp(argv[i], "to") && strcmp(argv[i], "by") && count < 5)
       paths[count++] = argv[i];
   }
   for (int i = 0; i < count; i++) w.files[i] = read_file(paths[i]);

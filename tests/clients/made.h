@@ -6,7 +6,7 @@ struct bytes {
   size_t len;
 };
 struct words {
-  struct bytes files[4];
+  struct bytes files[5];
   uint64_t numbers[2];
   bool optimize, distinct;
 };
@@ -94,6 +94,9 @@ static uint32_t check_equal_of(const struct words *w) {
 static uint32_t check_always_equal_of(const struct words *w) {
   return aig_check_always_equal(w->files[0].at, w->files[0].len, w->files[1].at, w->files[1].len, w->numbers[0], w->distinct, w->optimize, w->files[2].at, w->files[2].len, w->optimize, w->files[3].at, w->files[3].len);
 }
+static uint32_t check_equal_by_of(const struct words *w) {
+  return aig_check_equal_by(w->files[0].at, w->files[0].len, w->files[1].at, w->files[1].len, w->files[2].at, w->files[2].len, w->optimize, w->files[3].at, w->files[3].len, w->files[4].at, w->files[4].len);
+}
 static uint32_t witness_of(const struct words *w, uint8_t *out, size_t len, size_t *needed) {
   return aig_witness(w->files[0].at, w->files[0].len, w->numbers[0], w->optimize, w->files[1].at, w->files[1].len, out, len, needed);
 }
@@ -173,6 +176,7 @@ static const struct {
   {"check_certified", check_certified_of, 4},
   {"check_equal", check_equal_of, 3},
   {"check_always_equal", check_always_equal_of, 4},
+  {"check_equal_by", check_equal_by_of, 5},
   {"check_no_lasso", check_no_lasso_of, 2},
   {"check_no_lasso_to", check_no_lasso_to_of, 2},
   {"check_no_fair_run", check_no_fair_run_of, 3},

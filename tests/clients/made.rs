@@ -30,6 +30,7 @@ pub fn answer(call: &str, files: &[&[u8]], numbers: &[u64], distinct: bool, opti
         "check_certified" => aig::check_certified(files[0], files[1], optimize, files[2], files[3]).map(|()| Vec::new()),
         "check_equal" => aig::check_equal(files[0], files[1], numbers[0], optimize, files[2]).map(|()| Vec::new()),
         "check_always_equal" => aig::check_always_equal(files[0], files[1], numbers[0], distinct, optimize, files[2], optimize, files[3]).map(|()| Vec::new()),
+        "check_equal_by" => aig::check_equal_by(files[0], files[1], files[2], optimize, files[3], files[4]).map(|()| Vec::new()),
         "witness" => aig::witness(files[0], numbers[0], optimize, files[1]),
         "witness_to" => aig::witness_to(files[0], numbers[0], optimize, files[1]),
         "live" => aig::live(files[0], numbers[0] as usize),

@@ -23,7 +23,7 @@ fn main() -> ExitCode {
     let has = |name: &str| words.iter().any(|word| word == name);
     let mut numbers: Vec<u64> = words.iter().skip(2).filter_map(|word| word.parse().ok()).collect();
     numbers.resize(2, 0);
-    let is_path = |word: &&String| word.parse::<u64>().is_err() && !["raw", "distinct", "to"].contains(&word.as_str());
+    let is_path = |word: &&String| word.parse::<u64>().is_err() && !["raw", "distinct", "to", "by"].contains(&word.as_str());
     let read: Vec<Vec<u8>> = words.iter().skip(1).filter(is_path).map(|path| std::fs::read(path).expect("a file")).collect();
     let files: Vec<&[u8]> = read.iter().map(Vec::as_slice).collect();
     let optimize = !has("raw");

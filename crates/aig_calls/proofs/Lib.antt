@@ -16,3 +16,4 @@ mod Always
 mod Living
 mod Lassos
 mod Unfair
+mod Beside

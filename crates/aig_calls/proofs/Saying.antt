@@ -16,7 +16,7 @@ use Rattle.aig_calls.specs.Statuses.{IsOfPair, memory, said_by, said_of_flagged,
 use Rattle.aig_calls.specs.Parts.{IsErrWith, IsOfCounts, IsPairStatus, SaysJoint, SaysObliged, SaysOnly, SaysProof, SaysQueryProof, SaysWindowProof, flagged}
 
 -- memory, the stream or the step hides it
-none_said : (status : ℕ) → 2 ≤ status → status < 5 → said_by status ≡ None
+pub none_said : (status : ℕ) → 2 ≤ status → status < 5 → said_by status ≡ None
 none_said zero least low = absurd (omega (arith, least))
 none_said (suc zero) least low = absurd (omega (arith, least))
 none_said (suc (suc zero)) least low = refl
@@ -35,7 +35,7 @@ other_said status low =
     rw (le-leb 256 (256 + status) (omega arith), lt-ltb (256 + status) 512 (omega (arith, low)), back)
 
 -- the status with its flag, by cases
-flagged_cases : (flag status : ℕ)
+pub flagged_cases : (flag status : ℕ)
     → ((status < 4) × (flagged flag status ≡ status)) ⊎ ((4 ≤ status) × (flagged flag status ≡ flag + status))
 flagged_cases flag status = grind arith
 

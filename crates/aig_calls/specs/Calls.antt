@@ -1,7 +1,7 @@
 -- Part of what is promised.
 -- What a call does, by the bytes that it is given: what it leaves in its caller's memory, and what
 -- its status says.
-use Rattle.std.specs.Prelude.{◌≡◌, ℕ, ◌<◌, ◌≤◌, ◌++◌, if◌then◌else◌, Bool, true, false, IsTrue, List, length, drop, Option, Some, IfSome, Result, Ok, Err}
+use Rattle.std.specs.Prelude.{◌≡◌, ◌⊎◌, ℕ, ◌<◌, ◌≤◌, ◌++◌, if◌then◌else◌, Bool, true, false, IsTrue, List, length, drop, Option, Some, IfSome, Result, Ok, Err}
 use Rattle.aig_runs.specs.declared.window.Window.{Window}
 use Rattle.aig_runs.specs.declared.window.Window.TheVariants.{Distinct, Plain}
 use Rattle.aig_circuit.specs.Circuit.{Circuit}
@@ -27,7 +27,10 @@ use Rattle.aig_encode.specs.Encoding.{encoded_verdict}
 use Rattle.aig_edits.specs.Joints.{DoFit, IsJointOf, IsRefusalOf}
 use Rattle.aig_edits.specs.declared.error.PairError.TheVariants.{TooLarge}
 use Rattle.aig_edits.specs.declared.pairing.Pairing.{Pairing}
-use Rattle.aig_format.specs.Circuit.{circuit_of, text_of}
+use Rattle.aig_edits.specs.declared.pairing.Pairing.TheVariants.{Certificate, Miter}
+use Rattle.aig_certificates.specs.Certificates.{joint_verdict}
+use Rattle.aig_format.specs.declared.FileKind.TheVariants.{Text}
+use Rattle.aig_format.specs.Circuit.{circuit_of, file_of, text_of}
 use Rattle.aig_format.specs.File.{File}
 use Rattle.aig_format.specs.Fits.{Accepts}
 use Rattle.aig_reader.specs.Verdicts.{Accepted, Verdict}
@@ -45,7 +48,7 @@ use Rattle.aig_witness.specs.declared.witness.PropertyKind.TheVariants as kinds
 use Rattle.aig_witness.specs.declared.file.ShowError.{ShowError}
 use Rattle.aig_witness.specs.declared.file.ShowError.TheVariants as shows
 use Rattle.aig_witness.specs.declared.file.Shown.{Shown}
-use Rattle.aig_calls.specs.Statuses.{IsOfPair, SaysClaim, SaysFault, SaysSolution, Tells, done, has_bads, is_lasso_fault, is_solution_fault, is_witness_fault, large_base, large_question, many_bads, misfit, no_bad, no_justice, no_output, said_by, said_of_other, said_of_proof, settled, small, unwritable}
+use Rattle.aig_calls.specs.Statuses.{IsOfPair, SaysClaim, SaysFault, SaysSolution, Tells, done, has_bads, is_lasso_fault, is_solution_fault, is_witness_fault, large_base, large_question, many_bads, misfit, no_bad, no_justice, no_output, said_by, said_of_other, said_of_proof, said_of_query, said_of_query_proof, said_of_window, said_of_window_proof, certified_status, settled, small, unwritable}
 
 -- ---- words
 
@@ -368,3 +371,30 @@ pub record ChecksPair (pairing : Pairing) (limit : ℕ) (Holds : File → File �
   pub own : IsOwn status
   pub misfit : TellsMisfit pairing limit bytes others status
   pub answer : status ≡ done → AreFilesWith limit bytes others Holds
+
+-- What the status of `aig_check_certified` says of a certificate of the file h, by its bytes and
+-- those of two proofs.
+pub record TellsCertified (limit : ℕ) (optimize : Bool) (base step : List ℕ) (h : File)
+    (certificate : List ℕ) (status : ℕ) : Type 0 where
+  pub said : said_by status ≡ Some Accepted
+      → Tells (λ _. Accepted) limit certificate (said_of_other status)
+  pub counts : status ≡ misfit → IsFileWith limit certificate (λ g. ¬ DoFit Certificate h g)
+  pub format : status ≡ unwritable
+      → IsFileWith limit certificate (λ g. IsRefusalOf Certificate h g TooLarge)
+  pub query : IfSome (said_of_query status) (λ v. IsFileWith limit certificate
+      (λ g. (b : Circuit) × IsJointOf Certificate h g b × (v ≡ joint_verdict limit 0 b)))
+  pub window : IfSome (said_of_window status) (λ v. IsFileWith limit certificate
+      (λ g. (b : Circuit) × IsJointOf Certificate h g b × (v ≡ joint_verdict limit 1 b)))
+  pub base_proof : IfSome (said_of_query_proof status) (λ r. IsFileWith limit certificate
+      (λ g. (b : Circuit) × IsJointOf Certificate h g b × ShowsQuery 0 optimize base b r))
+  pub step_proof : IfSome (said_of_window_proof status) (λ r. IsFileWith limit certificate
+      (λ g. (b : Circuit) × IsJointOf Certificate h g b × ShowsTwo optimize step b r))
+
+-- what a status says of the certificate of two files' miter it says of the file that the miter's
+-- text is
+abbrev pub TellsMiter : ℕ → Bool → List ℕ → List ℕ → List ℕ → List ℕ → List ℕ → ℕ → Type 0
+TellsMiter limit optimize base step bytes others certificate status =
+    (status ≡ done ⊎ 8192 ≤ status) → AreFilesWith limit bytes others
+    (λ f g. (m : Circuit) × IsJointOf Miter f g m
+    × TellsCertified limit optimize base step (file_of Text m) certificate
+    (certified_status status))

@@ -4,6 +4,9 @@ use Rattle.std.specs.Prelude.{◌≡◌, ◌||◌, IsTrue, ℕ, ◌+◌, ◌<◌
 use Rattle.std.specs.declared.alloc.Global.{Global}
 use Rattle.aig_answers.specs.Answers as answering
 use Rattle.aig_answers.specs.declared.error.AnswerError.TheVariants as answers
+use Rattle.aig_certificates.specs.Certificates as certificates
+use Rattle.aig_certificates.specs.declared.compare_error.MiterError.{MiterError}
+use Rattle.aig_certificates.specs.declared.compare_error.MiterError.TheVariants as miter
 use Rattle.aig_certificates.specs.declared.error.CertificateError.{CertificateError}
 use Rattle.aig_certificates.specs.declared.error.CertificateError.TheVariants as certificate
 use Rattle.aig_checks.specs.Running.{Answers, file_verdict}
@@ -30,7 +33,7 @@ use Rattle.aig_answers.specs.Answers.{IsOfWindow}
 use Rattle.aig_format.specs.File.{File}
 use Rattle.aig_reader.specs.Verdicts.{Accepted, IsSettled, Memory, NoBads, Short, TooLarge, Verdict, verdict_of}
 use Rattle.aig_refutation.specs.declared.error.RefutationError.{RefutationError}
-use Rattle.aig_calls.specs.Statuses.{IsOfBase, IsOfBounded, IsOfBoundedSolution, IsOfEdit, IsOfStep, IsOfSolution, IsOfText, SaysSolution, Tells, done, has_bads, is_live_fault, is_refusal, large_base, many_bads, misfit, no_bad, no_justice, no_output, said_by, said_of_base_proof, said_of_other, said_of_proof, said_of_query, said_of_query_proof, said_of_step_proof, said_of_window, said_of_window_proof, settled, small, unwritable}
+use Rattle.aig_calls.specs.Statuses.{IsOfBase, IsOfBounded, IsOfBoundedSolution, IsOfEdit, IsOfStep, IsOfSolution, IsOfText, SaysSolution, Tells, certified_status, done, has_bads, is_live_fault, is_refusal, large_base, many_bads, misfit, no_bad, no_justice, no_output, said_by, said_of_base_proof, said_of_other, said_of_proof, said_of_query, said_of_query_proof, said_of_step_proof, said_of_window, said_of_window_proof, settled, small, unwritable}
 use Rattle.aig_calls.specs.declared.numbers.Listed.{Listed}
 use Rattle.aig_calls.specs.Calls.{AreFilesWith, IsEditText, IsFileWith, IsGiven, TellsEdit, TellsMisfit, TellsOfPair, TellsOfSize, edited_verdict}
 
@@ -154,6 +157,11 @@ IsOfCountsIn e = ⊥
 abbrev pub IsOfCountsAlways : EqualityError → Type 0
 IsOfCountsAlways (equality.Pair e) = IsOfCounts e
 IsOfCountsAlways e = ⊥
+
+-- or that aren't shown to be so by a certificate
+abbrev pub IsOfCountsMiter : MiterError → Type 0
+IsOfCountsMiter (miter.Pair e) = IsOfCounts e
+IsOfCountsMiter e = ⊥
 
 -- or isn't printed
 abbrev pub IsOfCountsBy : CheckError → Type 0
@@ -289,3 +297,16 @@ SaysLive status (liveness.Safety (proving.Base e)) =
     × (status ≡ large_base → e ≡ bounded.Question questions.TooLarge)
 SaysLive status (liveness.Safety (proving.Step e)) =
     ((status ≡ 2) ⊎ IsOfStep status) × SaysStep status (λ x. e ≡ answers.Refutation x)
+
+-- what a status says of a certificate that is refused so: that of `aig_check_certified`
+pub record SaysCertificate (status : ℕ) (e : CertificateError) : Type 0 where
+  pub pair : IsPairStatus certificates.first_verdict certificates.second_verdict IsOfCountsIn
+      (certificate.Pair pair.TooLarge) e status
+  pub joint : SaysJoint status e
+  pub query : SaysQueryProof status e
+  pub window : SaysWindowProof status e
+
+-- what the status of a call with a certificate of a miter says
+abbrev pub SaysMiter : ℕ → MiterError → Type 0
+SaysMiter status (miter.Pair e) = (2 ≤ status) × (status < 512)
+SaysMiter status (miter.Certificate e) = SaysCertificate (certified_status status) e

@@ -110,6 +110,12 @@ said_of_query = said_of_flagged 512
 abbrev pub said_of_window : ℕ → Option Verdict
 said_of_window = said_of_flagged 1024
 
+-- one of a call with a certificate of a miter: that which `aig_check_certified` has of the miter's
+-- file and the certificate, and memory's where it says nothing of these
+abbrev pub certified_status : ℕ → ℕ
+certified_status status =
+    if status == 0 then 0 else if nat_le 8192 status then status - 8192 else memory
+
 -- where something is said, it is the verdict on these bytes
 abbrev pub Tells : (File → Verdict) → ℕ → List ℕ → Option Verdict → Type 0
 Tells of limit bytes said = IfSome said (IsVerdictOn of limit bytes)
@@ -347,6 +353,12 @@ IsOfAlways status =
     (status ≢ small)
     × (IsOfPair status ⊎ ((1028 ≤ status) × (status < 1056)) ⊎ IsOfBase status
     ⊎ IsOfStep status)
+
+-- or of proofs about their miter and its certificate: or this is refused, or what is made of both
+abbrev pub IsOfMiter : ℕ → Type 0
+IsOfMiter status =
+    (status ≢ small)
+    × (IsOfPair status ⊎ ((8192 ≤ status) × IsOfPairProof (status - 8192)))
 
 -- of one that checks a proof about the live circuit of a justice property: nothing is made, or
 -- the circuit's query is refused, or its proof

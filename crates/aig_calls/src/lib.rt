@@ -9,6 +9,7 @@ mod buffer;
 mod certificates;
 mod checked_printing;
 mod checks;
+mod compared;
 mod edits;
 mod equality;
 mod fair;

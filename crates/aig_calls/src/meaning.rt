@@ -4,7 +4,7 @@ ghost use Rattle.std.specs.Prelude.{◌≡◌, ◌<◌, ◌≤◌, IfErr, List, 
 ghost use Rattle.aig_calls.specs.Calls.{IsGiven};
 
 use crate::buffer::put;
-use crate::status::{BASE, MEMORY, OTHER, PROOF, QUERY, STEP, WINDOW};
+use crate::status::{BASE, CERTIFICATE, MEMORY, OTHER, PROOF, QUERY, STEP, WINDOW};
 use std::alloc::Global;
 
 /// What is said before the words of a status with a flag.
@@ -19,6 +19,15 @@ fn prefix_of(status: u32) -> &'static [u8] {
         b"query: "
     } else if status >= OTHER {
         b"other file: "
+    } else {
+        b""
+    }
+}
+
+/// What is said before that of a status about a certificate of a miter.
+fn lead_of(status: u32) -> &'static [u8] {
+    if status >= CERTIFICATE {
+        b"certificate: "
     } else {
         b""
     }
@@ -125,7 +134,11 @@ fn text_of(alloc: Global, status: u32) -> Result<Vec<u8>, u32>
     ensures { IfErr result (λ error. error ≡ 2) }
 {
     let mut text = Vec::new(alloc);
-    match text.extend_from_slice(prefix_of(status)) {
+    match text.extend_from_slice(lead_of(status)) {
+        Ok(()) => {}
+        Err(_) => return Err(MEMORY),
+    }
+    match text.extend_from_slice(prefix_of(status % CERTIFICATE)) {
         Ok(()) => {}
         Err(_) => return Err(MEMORY),
     }

@@ -102,6 +102,8 @@ pub(crate) const WINDOW: u32 = 1024;
 pub(crate) const BASE: u32 = 2048;
 /// It is the proof of the window after the first steps that is refused so.
 pub(crate) const STEP: u32 = 4096;
+/// It is the certificate of two files' miter, or what is made of both, that is refused so.
+pub(crate) const CERTIFICATE: u32 = 8192;
 
 /// The number of a section, in the order of the header's counts from 1.9 on, and of the gates at last.
 fn section_number(section: Section) -> u32
@@ -356,8 +358,8 @@ pub(crate) fn of_check(error: CheckError) -> u32
 
 /// The status with a flag, which one that says nothing hasn't.
 pub(crate) fn flagged(flag: u32, status: u32) -> u32
-    requires flag { flag ≤ 4096 }
-    requires few { status < 256 }
+    requires flag { flag ≤ 8192 }
+    requires few { status < 2048 }
     ensures { result ≡ flagged flag status }
 {
     if status < MANY_STEPS {

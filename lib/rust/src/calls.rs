@@ -100,6 +100,19 @@ unsafe extern "C" {
         step: *const u8,
         step_len: usize,
     ) -> u32;
+    pub fn aig_check_equal_by(
+        file: *const u8,
+        file_len: usize,
+        other: *const u8,
+        other_len: usize,
+        certificate: *const u8,
+        certificate_len: usize,
+        optimize: bool,
+        base: *const u8,
+        base_len: usize,
+        step: *const u8,
+        step_len: usize,
+    ) -> u32;
     pub fn aig_witness(
         file: *const u8,
         file_len: usize,

@@ -168,6 +168,14 @@ pub fn check_always_equal(file: &[u8], other: &[u8], k: u64, distinct: bool, bas
     })
 }
 
+/// Done only where they have so at every step, as `certificate` shows: one that `check_certified` takes, with `base` and `step`, of the
+/// text that `miter` gives.
+pub fn check_equal_by(file: &[u8], other: &[u8], certificate: &[u8], optimize: bool, base: &[u8], step: &[u8]) -> Result<()> {
+    held(unsafe {
+        calls::aig_check_equal_by(file.as_ptr(), file.len(), other.as_ptr(), other.len(), certificate.as_ptr(), certificate.len(), optimize, base.as_ptr(), base.len(), step.as_ptr(), step.len())
+    })
+}
+
 /// The witness, in the format of AIGER 1.9, that a solver's answer to the query says. It was checked: nothing of the answer is trusted. A
 /// status from 70 on says why there is none.
 pub fn witness(file: &[u8], k: u64, optimize: bool, solution: &[u8]) -> Result<Vec<u8>> {
