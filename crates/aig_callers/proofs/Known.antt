@@ -1,5 +1,5 @@
 -- What the contracts of `aigcheck` and `aigedit` say of words and files that are known.
-use Rattle.aig_base.proofs.Words.{◌≡◌, ℕ, ◌^◌, Bool, true, false, List, [], ◌∷◌, inr, Option, Some, Result, Ok, Err, IfOk, refl, sym, ap, subst, ◌∙◌, ◌++◌, arith, ◌==◌, true≢false, codes}
+use Rattle.aig_base.proofs.Words.{◌≡◌, ℕ, ◌^◌, Bool, true, false, List, [], ◌∷◌, inr, Option, None, Some, Result, Ok, Err, IfOk, refl, sym, ap, subst, ◌∙◌, ◌++◌, arith, ◌==◌, true≢false, codes}
 use Rattle.std.proofs.lemmas.Fmt.{decimal_digit}
 use Rattle.aig_change.specs.Changes.{CompressesBads}
 use Rattle.aig_circuit.specs.Circuit.{Circuit}
@@ -58,6 +58,9 @@ refuted_call words are = record {
         refl;
     usual = refl;
   });
+  justice = None;
+  more = words;
+  asked = (λ more is. true≢false (ap (begins_with 114) (sym are ∙ is)), refl);
   action = actions.Refuted;
   arguments = record {
     paths = codes "FILE" ∷ [];
