@@ -5,8 +5,8 @@ Rows stand in the tables below, and were worked by hand. A row is the words of a
 bytes of the second cell as its file GIVEN; what is printed; and what the row is about, where that has to be said. `usage` ends with
 status 2, a line that begins with the program's name with status 1, or 20 where a question is settled, both to standard error, and all
 else goes to standard output with status 0, but for lines at its end that begin so, which are told beside it. The file that such a line
-names, and the place there, are left out but in places.tsv. In these cells `\\n` is a line feed, `\\x` a byte in hexadecimal, and
-`{PIECE}*N` the piece N times.
+names, and the place there, are left out but in places.tsv, and everywhere the line behind that of a refused proof. In these cells `\\n`
+is a line feed, `\\x` a byte in hexadecimal, and `{PIECE}*N` the piece N times.
 
 What aigtool and aigedit print is cut at each length, too, by a limit on the size of files: then a beginning of it is there, and the
 last write is told to have failed. And rows that are made here have long clauses, limits on time and memory, and full devices.
@@ -115,6 +115,7 @@ class Answers:
     def check(self, line, wanted, place, given="", **how):
         """Checks how a command ends in a place, and what it prints, with a file of these bytes."""
         status, out, said = self.given_by(line, place, **how)
+        wanted = *wanted[:2], harness.advised(wanted[2])
         self.tally.wants(f"{line}: {given}", wanted, (status, out, harness.unnamed(said)))
 
     def given_by(self, line, place, **how):
@@ -153,7 +154,7 @@ class Answers:
     def check_places(self, path):
         """Checks which file a refusal names, and the place there; aigedit tells it of a pipe, too."""
         for words, given, printed in self.rows(path):
-            wanted = spelled(printed.replace("GIVEN", str(self.folder / "GIVEN")))
+            wanted = harness.advised(spelled(printed.replace("GIVEN", str(self.folder / "GIVEN"))))
             self.tally.wants(f"{words}: {given}", (1, b"", wanted), self.given_by(words, path.parent, stdin=subprocess.DEVNULL))
             if words.startswith("aigedit ") and "GIVEN" in words:
                 piped, wanted = words.replace("GIVEN", "/dev/stdin"), spelled(printed.replace("GIVEN", "/dev/stdin"))

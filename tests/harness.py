@@ -43,6 +43,15 @@ NAMED = re.compile(rb"^(aigcheck|aigedit): (?!query: |window: |base: |step: )[^ 
 # What a program tells of files beside its answer.
 NOTICES = [b"justice and fairness were not looked at", b"compared only on runs that its constraints allow"]
 BESIDE = re.compile(rb"^aig(?:check|edit): (?:.*: )?(?:%s)\n" % b"|".join(NOTICES), re.M)
+# How aigcheck's line ends where a proof is refused as one of other clauses is, and what it tells behind that.
+MISFITS = (
+    b"proof step does not follow\n",
+    b"proof step has not the RAT property\n",
+    b"literal of no variable in proof\n",
+    b"number of no clause in proof\n",
+    b"proof ends before the empty clause\n",
+)
+ADVICE = b"aigcheck: it may be a proof of other clauses: of another K, another file, or the other setting (raw)\n"
 
 
 def parser(doc, *programs):
@@ -94,6 +103,11 @@ def unnamed(said):
 def alone(said):
     """What a program says, without what it tells of files beside its answer."""
     return BESIDE.sub(b"", said)
+
+
+def advised(said):
+    """What a program says in a line, with what aigcheck tells behind it."""
+    return said + ADVICE * said.endswith(MISFITS)
 
 
 def output(words, statuses=(0,)):

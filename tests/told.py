@@ -95,7 +95,7 @@ def what_is_left_out_is_told(room):
     settled = [("none.aag", b"no bad state up to step 1"), ("none.aag", LEFT_OUT)]
     ends(room, room.checker, ["bounded", "none.aag", "1"], 20, b"", lines(room.checker, settled))
     ends(room, room.checker, ["clauses", "cut.aag", "0"], 1, b"", lines(room.checker, [("cut.aag", b"line 4: bad line in justice")]))
-    refused = lines(room.checker, [("conflict", b"proof step does not follow")])
+    refused = harness.advised(lines(room.checker, [("conflict", b"proof step does not follow")]))
     ends(room, room.checker, ["refuted", "live.aag", "0", "conflict"], 1, b"", refused)
     with open("/dev/full", "wb") as full:
         ends(room, room.checker, ["clauses", "live.aag", "0"], 1, b"", b"aigcheck: write failed\n", stdout=full)

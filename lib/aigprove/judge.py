@@ -7,7 +7,7 @@ from aigprove.programs import Fault, Sealed, ending
 
 # The status of `aigcheck bounded` where no bad state is reached, as is seen without a solver.
 SETTLED = 20
-# How what aigcheck says ends where a proof doesn't follow.
+# How the first line of what aigcheck says ends where a proof doesn't follow.
 STEP = "proof step does not follow"
 
 
@@ -61,8 +61,9 @@ class Judge:
     def refusal(self, claim):
         """Why aigcheck doesn't print the line of a claim, where a proof doesn't follow; else None, and other faults are raised."""
         status, printed, said = self.programs.output([*self.aigcheck, *(claim.files.get(word, word) for word in claim.words)])
+        said = said.partition("\n")[0]
         if status != 0 and not said.endswith(STEP):
-            raise Fault(said.partition("\n")[0] or f"{self.aigcheck[0]} {ending(status)}")
+            raise Fault(said or f"{self.aigcheck[0]} {ending(status)}")
         if status == 0 and printed != claim.line + "\n":
             raise Fault(f"aigcheck printed {printed!r}")
         return said if status else None

@@ -16,3 +16,4 @@ pub mod Acting
 pub mod About
 pub mod Explaining
 pub mod Noticing
+pub mod Advising

@@ -3,6 +3,7 @@
 
 mod about;
 mod acting;
+mod advising;
 mod again;
 mod again_compared;
 mod again_safe;
@@ -22,6 +23,7 @@ mod safe;
 mod tool;
 
 pub use acting::{USAGE, act};
+pub use advising::advise;
 pub use bounded::{print_bounded, print_refuted_to, print_witness_to};
 pub use command::{Command, FileCommand, PairCommand, parse};
 pub use compared::print_equal_by;

@@ -1,7 +1,7 @@
 //! `aigcheck` checks proofs and witnesses about the machines of AIGER files, and prints the clauses that such proofs are of.
 #![tactic(auto)]
 
-use aig_checks::{USAGE, act, explain, notice};
+use aig_checks::{USAGE, act, advise, explain, notice};
 pub use aig_checks::{
     CheckError, Command, FileCommand, PairCommand, parse, print_bounded, print_certified,
     print_clauses, print_equal, print_inductive, print_obligations, print_refuted,
@@ -23,5 +23,6 @@ fn main(rt: HostRuntime) -> ExitCode {
     let told = explain(rt.alloc(), &words, &files, ending);
     let status = end("aigcheck", USAGE, &told, &mut errors);
     notice(&words, watch.headers(), ending, &mut errors);
+    advise(ending, &mut errors);
     ExitCode::from(status)
 }
