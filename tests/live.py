@@ -148,6 +148,13 @@ def check_clauses(tally, folder, options, made, what):
         tally.wants(f"{options} {words}: {what}", wanted, harness.run([harness.CHECK, *options, *words], cwd=folder))
 
 
+def first_marked(dump):
+    """The step from which on a value change dump marks the loop."""
+    mark = re.search(r"^\$var wire 1 (\S+) loop \$end$", dump, re.M)[1]
+    steps = re.split("^#([0-9]+)$", dump, flags=re.M)
+    return next(step for step, changes in zip(steps[1::2], steps[2::2]) if f"1{mark}" in changes.split("\n"))
+
+
 class Lives:
     """A program, a folder, and what was seen."""
 
@@ -175,8 +182,8 @@ class Lives:
 
     def check_answer(self, machine, j):
         """Checks what aigprove says of a justice property."""
-        asked, lasso = machine.justice[j] + machine.fairness, self.folder / "lasso"
-        words = ["--justice", str(j), "--engine", "bounded,windows", "--witness", lasso, "--aigedit", self.program, "file"]
+        asked, lasso, dump = machine.justice[j] + machine.fairness, self.folder / "lasso", self.folder / "dump"
+        words = ["--justice", str(j), "--engine", "bounded,windows", "--witness", lasso, "--vcd", dump, "--aigedit", self.program, "file"]
         status, out, said = harness.run([harness.PROVE, *words], cwd=self.folder)
         what = f"aigprove --justice {j}: {out} {said}\n{machine.text()}"
         self.tally.wants(what, FAIR if has_lasso(machine, asked) else NONE if machine.first_unmet() is None else EMPTY, status)
@@ -185,6 +192,7 @@ class Lives:
             begin, last = LOOP.search(harness.output([harness.CHECK, "run", self.folder / "file", lasso])).groups()
             steps = f"step {begin}" if begin == last else f"steps {begin} to {last}"
             self.tally.check(f"a fair run of j{j}: {steps} again and again\n" in out.decode(), f"{begin} to {last}: {what}")
+            self.tally.wants(what, begin, first_marked(dump.read_text()))
 
     def check(self, machine, is_asked):
         """Checks each justice property of a file, and the number past the last."""

@@ -106,9 +106,13 @@ class Justice(Asked):
         judge = self.given.judge
         self.loop = judge.printed(*judge.aigcheck, "run", self.given.file, self.lasso(told)).bytes().decode().rstrip("\n")
 
+    def steps_of_loop(self):
+        """The first and the last step of the loop, as aigcheck found."""
+        return map(int, re.search("from step ([0-9]+) to ([0-9]+)", self.loop).groups())
+
     def found(self, shown, tolds):
         """The line that says where the loop of a lasso is, as aigcheck found."""
-        begin, last = map(int, re.search("from step ([0-9]+) to ([0-9]+)", self.loop).groups())
+        begin, last = self.steps_of_loop()
         span = f"step {begin}" if begin == last else f"steps {begin} to {last}"
         return f"a fair run of {shown.place('j', self.number)}: {span} again and again"
 
@@ -142,9 +146,9 @@ class Justice(Asked):
             yield from [f"it says: {text}"] * bool(text)
 
     def dump(self, circuit, told):
-        """The lines of a value change dump."""
-        lasso = self.of_file(told)
-        return waves.dump(circuit, lasso.start, lasso.steps)
+        """The lines of a value change dump, in which the loop is marked."""
+        lasso, (begin, _) = self.of_file(told), self.steps_of_loop()
+        return waves.dump(circuit, lasso.start, lasso.steps, begin)
 
     def keep(self, evidence, folder=""):
         """Keeps the file and the words that make it, of a file that is kept too, or that stands in a folder."""

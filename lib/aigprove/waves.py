@@ -91,19 +91,24 @@ def declarations(made):
     yield from ["$upscope $end"] * len(opened)
 
 
-def dump(circuit, state, inputs):
-    """The lines of the value change dump."""
+def dump(circuit, state, inputs, loop=None):
+    """The lines of the value change dump. Of a run that comes again and again from a step on, the signal `loop` is 1 from there on."""
     made = list(variables(circuit))
+    mark = code(sum(len(own) for _, own in made))
     yield "$comment a time unit is a step $end"
     yield "$timescale 1 s $end"
     for letter, own in made:
         yield f"$scope module {KINDS[letter]} $end"
         yield from declarations(sorted(own, key=lambda it: it.scopes))
         yield "$upscope $end"
+    if loop is not None:
+        yield from ["$scope module run $end", f"$var wire 1 {mark} loop $end", "$upscope $end"]
     yield "$enddefinitions $end"
     last = {}
     for t, values in enumerate(run(circuit, state, inputs)):
         now = {it.code: it.change(values) for _, own in made for it in own}
+        if loop is not None:
+            now[mark] = f"{int(t >= loop)}{mark}"
         yield f"#{t}"
         changes = [line for name, line in now.items() if last.get(name) != line]
         yield from ["$dumpvars", *changes, "$end"] if t == 0 else changes
