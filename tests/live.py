@@ -186,13 +186,22 @@ class Lives:
         words = ["--justice", str(j), "--engine", "bounded,windows", "--witness", lasso, "--vcd", dump, "--aigedit", self.program, "file"]
         status, out, said = harness.run([harness.PROVE, *words], cwd=self.folder)
         what = f"aigprove --justice {j}: {out} {said}\n{machine.text()}"
-        self.tally.wants(what, FAIR if has_lasso(machine, asked) else NONE if machine.first_unmet() is None else EMPTY, status)
+        wanted = FAIR if has_lasso(machine, asked) else NONE if machine.first_unmet() is None else EMPTY
+        if wanted == NONE and machine.fairness:
+            wanted = self.without_end(machine, out.decode(), what)
+        self.tally.wants(what, wanted, status)
         if status == FAIR:
             self.tally.check(is_lasso(machine, asked, lasso.read_text(), j), f"{lasso.read_text()} {what}")
             begin, last = LOOP.search(harness.output([harness.CHECK, "run", self.folder / "file", lasso])).groups()
             steps = f"step {begin}" if begin == last else f"steps {begin} to {last}"
             self.tally.check(f"a fair run of j{j}: {steps} again and again\n" in out.decode(), f"{begin} to {last}: {what}")
             self.tally.wants(what, begin, first_marked(dump.read_text()))
+
+    def without_end(self, machine, out, what):
+        """Checks what aigprove says of runs without end that meet the fairness, and gives the status that goes with it."""
+        can, cannot = (f"the assumptions {word} be met without end" in out for word in ["can", "can't"])
+        self.tally.check(not (cannot if has_lasso(machine, machine.fairness) else can), f"without end: {what}")
+        return EMPTY if cannot else NONE
 
     def check(self, machine, is_asked):
         """Checks each justice property of a file, and the number past the last."""

@@ -69,6 +69,9 @@ class Justice(Asked):
         files = {"certificate": certificate, "base": base, "step": step}
         return self.of_given("certified", files, files, *rounds)
 
+    def is_fair(self):
+        return self.given.header().fairness > 0
+
     def rounds(self, count):
         """The file in which so many rounds of it end."""
         return self.given.judge.made("rounds", self.given.file, self.number, count)

@@ -8,6 +8,7 @@ import time
 
 from aigprove import aiger, certificates, files, met, plain, witness
 from aigprove.engines import COMMANDS, Abc, Bounded, Certificate, Missing, Run, Steps, Windows
+from aigprove.endless import Endless
 from aigprove.evidence import Evidence
 from aigprove.minimal import minimal, simulated
 from aigprove.programs import Fault, Sealed, Stopped, reason, say, tell
@@ -220,6 +221,19 @@ class Race:
         self.print_line(found.line(), found.unmet is not None)
         return found.unmet is None
 
+    def print_endless(self):
+        """Prints whether a run without end was seen to meet the fairness, too, or that none does: whether the answer isn't empty."""
+        self.programs.end_engines()
+        found = Endless(self.source, self.judge)
+        try:
+            found.look(self.needs_solver(), self.words.deadline)
+        except Fault as why:
+            say(f"assumptions: {why}")
+        if self.evidence:
+            found.keep(self.evidence)
+        self.print_line(found.line(), found.is_unmet)
+        return not found.is_unmet
+
     def smallest(self, tolds):
         """Witnesses of a run with x for what doesn't matter to what they show. Of a small run a simulation finds that, and it is checked."""
         if len(tolds) > SHOWN:
@@ -330,6 +344,8 @@ class Race:
             status = FAILED if len(self.faults) == len(engines) else self.print_open()
         if status == SAFE and self.header.constraints:
             status = SAFE if self.print_met() else OPEN
+        if status == SAFE and self.source.is_fair():
+            status = SAFE if self.print_endless() else OPEN
         return self.print_status(status, self.told)
 
     def raced(self, engines):

@@ -142,6 +142,10 @@ class Asked:
         """How the AIGER report names what is asked about, in the file that was given."""
         return [f"b{i}" for i in range(len(circuit.bads))]
 
+    def is_fair(self):
+        """Whether it is about runs without end, some of which fairness leaves out."""
+        return False
+
     def of_file(self, told):
         """A witness as one of the file that was given."""
         return told
