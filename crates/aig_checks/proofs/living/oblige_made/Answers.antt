@@ -23,8 +23,7 @@ returns g c =
     let on = c.obligations_of_text.ensures.1 in
     let made = ObligesMade g.S.Source.left g.S.Source.failed g.W.Sink.held g.W.Sink.failed
     c.args.limit c.args.optimize c.args.certificate other c.args.w.now
-    c.obligations_of_text.new.w in
-    (
+    c.obligations_of_text.new.w in (
       other,
       ran g.R.Source.left g.R.Source.failed c.args.limit c.args.justice made
           _ c.args.r.now _ c.in_ok-text.text c.obligations_of_text.result
