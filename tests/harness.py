@@ -29,7 +29,8 @@ USAGE = {
     b"inductive FILE K PROOF [distinct] [raw], witness FILE K SOLUTION [raw], run FILE WITNESS, "
     b"certified FILE CERT BASE STEP [raw], equal FILE OTHER K PROOF [raw], obligations FILE CERT [raw], "
     b"bounded FILE K [raw], refuted FILE to K PROOF [raw], witness FILE to K SOLUTION [raw], "
-    b"safe FILE to K BASE STEP [distinct] [raw], equal FILE OTHER to K BASE STEP [distinct] [raw], "
+    b"safe FILE to K BASE STEP [distinct] [raw | raw-base | raw-step], "
+    b"equal FILE OTHER to K BASE STEP [distinct] [raw | raw-base | raw-step], "
     b"equal FILE OTHER by CERT BASE STEP [raw]\n",
 }
 TOOL, EDIT, CHECK = (str(TOP / "crates" / name / "out" / name) for name in ["aigtool", "aigedit", "aigcheck"])

@@ -1,6 +1,6 @@
 -- Words give one command.
-use Rattle.aig_base.proofs.Words.{◌≢◌, Bool, length, map, get_or, Global, ◌≡◌, ◌↔◌, ℕ, List, ◌∷◌, [], Some, refl, sym, ap, ◌∙◌, arith, same_Some}
-use Rattle.std.specs.Prelude.{All, Contains, Err, None, Ok, Option, Result, String, codes, slice_index, slice_index_or, string_bytes}
+use Rattle.aig_base.proofs.Words.{◌≢◌, Bool, true, false, length, length-append, map, map-append, inl, inr, ◌++◌, get_or, Global, ◌≡◌, ◌↔◌, ℕ, List, ◌∷◌, [], Some, refl, sym, ap, ◌∙◌, arith, same_Some}
+use Rattle.std.specs.Prelude.{All, Contains, Err, IfNone, None, Ok, Option, Result, String, codes, slice_index, slice_index_or, string_bytes}
 use Rattle.aig_format.specs.Text.{IsNumber, value_of}
 use Rattle.aig_command_line.specs.declared.about.Question.{Question}
 use Rattle.aig_command_line.specs.declared.about.Question.TheVariants.{Usage, Version}
@@ -9,6 +9,7 @@ use Rattle.aig_command_line.specs.declared.status.Ending.TheVariants as endings
 use Rattle.aig_command_line.specs.Ending.{ended}
 use Rattle.aig_runs.specs.declared.window.Window.{Window}
 use Rattle.aig_command_line.specs.Arguments.{Arguments, Gives}
+use Rattle.aig_command_line.specs.declared.arguments.Given.{Given}
 use Rattle.aig_command_line.specs.Limits.{IsLimited}
 use Rattle.aig_command_line.proofs.Apart as apart
 use Rattle.aig_command_line.proofs.Limits.{asked_alone, one_limit}
@@ -23,7 +24,7 @@ use Rattle.aig_checks.specs.declared.command.PairCommand.TheVariants as on_pair
 use Rattle.aig_checks.specs.declared.command.TheConstants.Action.{ALL}
 use Rattle.aig_checks.specs.declared.justice.Justice.{Justice}
 use Rattle.aig_checks.specs.Justice.{AreJustice, IsNumbered, command_by}
-use Rattle.aig_checks.specs.Words.{Give, IsCall, beside_of, command_of, form_of, name_of, paths_of}
+use Rattle.aig_checks.specs.Words.{AreCommand, Give, IsAlone, IsCall, IsWhole, beside_of, command_of, form_of, name_of, paths_of, raw_alone, raw_word}
 
 -- each command is in the list
 pub among : (a : Action) → Contains ALL a
@@ -116,26 +117,146 @@ no_justice words (Some a) rest other g = absurd (other _ g.1.1)
 
 -- ---- commands
 
+-- words fit one command, and give it one list of what it takes
+one_whole : (words : List (List ℕ)) (c d : Command) (x y : Arguments) → IsWhole words c x
+    → IsWhole words d y → (c ≡ d) × (x ≡ y)
+one_whole words c d x y g h =
+    let same = apart.one_fits name_of form_of ALL refl among words g.action h.action x y g.gives
+    h.gives in (
+      g.command ∙ ap (λ a. command_of a x.step x.distinct x.optimize) same.0
+          ∙ ap (λ (z : Arguments). command_of h.action z.step z.distinct z.optimize) same.1
+          ∙ sym h.command,
+      same.1,
+    )
+
+-- words before a last one are told by it
+one_last : (xs ys : List (List ℕ)) (a b : List ℕ) → xs ++ a ∷ [] ≡ ys ++ b ∷ []
+    → (xs ≡ ys) × (a ≡ b)
+one_last [] [] a b is = (refl, cc)
+one_last [] (y ∷ ys) a b is =
+    let count = ap length is in
+    let parts = length-append ys (b ∷ []) in
+    absurd (omega (arith, count, parts))
+one_last (x ∷ xs) [] a b is =
+    let count = ap length is in
+    let parts = length-append xs (a ∷ []) in
+    absurd (omega (arith, count, parts))
+one_last (x ∷ xs) (y ∷ ys) a b is =
+    let first : x ≡ y = cc in
+    let after : xs ++ a ∷ [] ≡ ys ++ b ∷ [] = cc in
+    let rest = one_last xs ys a b after in
+    (ap (λ z. z ∷ xs) first ∙ ap (λ zs. y ∷ zs) rest.0, rest.1)
+
+-- a word says one of both proofs
+one_raw : (a b : Bool) → raw_word a ≡ raw_word b → a ≡ b
+one_raw true true is = refl
+one_raw false false is = refl
+one_raw true false is =
+    let letter = ap (λ (word : List ℕ). slice_index word 4) is in
+    absurd (omega (arith, letter))
+one_raw false true is =
+    let letter = ap (λ (word : List ℕ). slice_index word 4) is in
+    absurd (omega (arith, letter))
+
+one_alone : (words : List (List ℕ)) (c d : Command) (x y : Arguments) → IsAlone words c x
+    → IsAlone words d y → (c ≡ d) × (x ≡ y)
+one_alone words c d x y g h =
+    let last = one_last g.plain h.plain (raw_word g.step) (raw_word h.step) (sym g.spelled ∙
+    h.spelled)
+    in
+    let step = one_raw g.step h.step last.1 in
+    let usual = one_whole h.plain g.usual h.usual x y (rw last.0 at g.whole) h.whole in
+    let same : Some c ≡ Some d =
+    sym g.command ∙ ap (λ s. raw_alone s g.usual) step ∙ ap (λ u. raw_alone h.step u) usual.0
+    ∙ h.command in
+    (same_Some _ _ same, usual.1)
+
+-- words are one command, and what it takes
+pub one_command : (words : List (List ℕ)) (c d : Command) (x y : Arguments) → AreCommand words c x
+    → AreCommand words d y → (c ≡ d) × (x ≡ y)
+one_command words c d x y (inl g) (inl h) = one_whole words c d x y g h
+one_command words c d x y (inl g) (inr h) = absurd (h.0 c x g)
+one_command words c d x y (inr g) (inl h) = absurd (g.0 d y h)
+one_command words c d x y (inr g) (inr h) = one_alone words c d x y g.1 h.1
+
+-- words that fit no form are no command with one setting
+pub whole_none : (words : List (List ℕ))
+    → All (λ a. (g : Arguments) → ¬ Gives (name_of a) (form_of a) words g) ALL
+    → (c : Command) (x : Arguments) → ¬ IsWhole words c x
+whole_none words none c x g =
+    each (λ b. (x : Arguments) → ¬ Gives (name_of b) (form_of b) words x) none g.action x g.gives
+
+-- words and a last one are their bytes
+pub last_words : (xs ys : List (String Global)) (x : String Global) → xs ≡ ys ++ x ∷ []
+    → map string_bytes xs ≡ map string_bytes ys ++ string_bytes x ∷ []
+last_words xs ys x is = ap (λ l. map string_bytes l) is ∙ map-append string_bytes ys (x ∷ [])
+
+-- words whose last says no proof are no command without it
+pub no_raw_none : (words plain : List (List ℕ)) (last : List ℕ) → words ≡ plain ++ last ∷ []
+    → ((step : Bool) → ¬ (last ≡ raw_word step)) → (c : Command) (x : Arguments)
+    → ¬ IsAlone words c x
+no_raw_none words plain last are none c x g =
+    none g.step (one_last plain g.plain last (raw_word g.step) (sym are ∙ g.spelled)).1
+
+-- nor those that are no command before it
+pub plain_none : (words plain : List (List ℕ)) (last : List ℕ) → words ≡ plain ++ last ∷ []
+    → ((c : Command) (x : Arguments) → ¬ IsWhole plain c x) → (c : Command) (x : Arguments)
+    → ¬ IsAlone words c x
+plain_none words plain last are none c x g =
+    let same = (one_last g.plain plain (raw_word g.step) last (sym g.spelled ∙ are)).0 in
+    none g.usual x (rw same at g.whole)
+
+-- nor those where this has `raw`
+pub raw_none : (words plain : List (List ℕ)) (last : List ℕ) (u : Command) (y : Arguments)
+    → words ≡ plain ++ last ∷ [] → IsWhole plain u y → y.optimize ≡ false
+    → (c : Command) (x : Arguments) → ¬ IsAlone words c x
+raw_none words plain last u y are whole raw c x g =
+    let same = (one_last g.plain plain (raw_word g.step) last (sym g.spelled ∙ are)).0 in
+    let given = (one_whole plain g.usual u x y (rw same at g.whole) whole).1 in
+    let optimize = ap (λ (z : Arguments). z.optimize) given ∙ raw in
+    let optimized : x.optimize ≡ true = g.optimized in
+    cc
+
+-- nor those where this has no proofs
+pub proofless_none : (words plain : List (List ℕ)) (step : Bool) (u : Command) (y : Arguments)
+    → words ≡ plain ++ raw_word step ∷ [] → IsWhole plain u y → raw_alone step u ≡ None
+    → (c : Command) (x : Arguments) → ¬ IsAlone words c x
+proofless_none words plain step u y are whole none c x g =
+    let last = one_last g.plain plain (raw_word g.step) (raw_word step) (sym g.spelled ∙ are) in
+    let usual = (one_whole plain g.usual u x y (rw last.0 at g.whole) whole).0 in
+    let is : raw_alone step u ≡ Some c =
+    ap (λ s. raw_alone s u) (sym (one_raw g.step step last.1))
+    ∙ ap (λ v. raw_alone g.step v) (sym usual) ∙ g.command in
+    let not : Some c ≡ None = sym is ∙ none in
+    cc
+
+-- words that are no command whole, and none without their last
+neither : (words : List (List ℕ)) → ((c : Command) (x : Arguments) → ¬ IsWhole words c x)
+    → ((c : Command) (x : Arguments) → ¬ IsAlone words c x)
+    → (c : Command) (x : Arguments) → ¬ AreCommand words c x
+neither words whole alone c x (inl g) = whole c x g
+neither words whole alone c x (inr g) = alone c x g.1
+
+-- the same of a result
+pub neither_if : (words : List (List ℕ)) → ((c : Command) (x : Arguments) → ¬ IsWhole words c x)
+    → (o : Option (Command × Given))
+    → IfNone o ((c : Command) (x : Arguments) → ¬ IsAlone words c x)
+    → IfNone o ((c : Command) (x : Arguments) → ¬ AreCommand words c x)
+neither_if words whole (Some g) alone = tt
+neither_if words whole None alone = neither words whole alone
+
 -- what words give after their limit and their justice property, where they give a command
-given_is : (words rest more : List (List ℕ)) (limit : ℕ) (a : Option Justice) (b : Action)
-    (x : Arguments) → IsLimited words limit rest → AreJustice a rest more
-    → Gives (name_of b) (form_of b) more x
+given_is : (words rest more : List (List ℕ)) (limit : ℕ) (a : Option Justice) (u : Command)
+    (x : Arguments) → IsLimited words limit rest → AreJustice a rest more → AreCommand more u x
     → (other : ℕ) (c : Command) (paths further : List (List ℕ))
     → IsCall words other c paths further
-    → (other ≡ limit) × (Some c ≡ command_by a (command_of b x.step x.distinct x.optimize))
-    × (paths ≡ x.paths) × (further ≡ x.further)
-given_is words rest more limit a b x limited asked gives other c paths further g =
+    → (other ≡ limit) × (Some c ≡ command_by a u) × (paths ≡ x.paths) × (further ≡ x.further)
+given_is words rest more limit a u x limited asked gives other c paths further g =
     let words_are = one_limit words other limit g.rest rest g.limited limited in
     let justice = one_justice rest g.justice a g.more more (rw words_are.1 at g.asked) asked in
-    let same = apart.one_fits name_of form_of ALL refl among more g.action b g.arguments x
-    (rw justice.1 at g.gives) gives in (
+    let same = one_command more g.usual u g.arguments x (rw justice.1 at g.gives) gives in (
       words_are.0,
-      sym g.command
-          ∙ ap (λ j. command_by j (command_of g.action g.arguments.step g.arguments.distinct
-          g.arguments.optimize)) justice.0
-          ∙ ap (λ d. command_by a (command_of d g.arguments.step g.arguments.distinct
-          g.arguments.optimize)) same.0
-          ∙ ap (λ (y : Arguments). command_by a (command_of b y.step y.distinct y.optimize)) same.1,
+      sym g.command ∙ ap (λ j. command_by j g.usual) justice.0 ∙ ap (λ d. command_by a d) same.0,
       g.on ∙ ap (λ (y : Arguments). y.paths) same.1,
       g.beside ∙ ap (λ (y : Arguments). y.further) same.1,
     )
@@ -145,7 +266,7 @@ pub one_call : (words : List (List ℕ)) (limit other : ℕ) (c d : Command) (p 
     → IsCall words limit c p r
     → IsCall words other d q s → (limit ≡ other) × (c ≡ d) × (p ≡ q) × (r ≡ s)
 one_call words limit other c d p q r s g h =
-    let is = given_is words h.rest h.more other h.justice h.action h.arguments h.limited h.asked
+    let is = given_is words h.rest h.more other h.justice h.usual h.arguments h.limited h.asked
     h.gives limit c p r g in
     (is.0, same_Some _ _ (is.1 ∙ h.command), is.2 ∙ sym h.on, is.3 ∙ sym h.beside)
 
@@ -157,27 +278,25 @@ unjust_none words rest limit limited none other c paths further g =
     let same = (one_limit words other limit g.rest rest g.limited limited).1 in
     none g.justice g.more (rw same at g.asked)
 
--- nor do words after these that fit none
+-- nor do words after these that are none
 pub fits_none : (words rest more : List (List ℕ)) (limit : ℕ) (a : Option Justice)
     → IsLimited words limit rest → AreJustice a rest more
-    → All (λ a. (g : Arguments) → ¬ Gives (name_of a) (form_of a) more g) ALL
+    → ((c : Command) (x : Arguments) → ¬ AreCommand more c x)
     → (other : ℕ) (c : Command) (paths further : List (List ℕ)) → ¬ IsCall words other c paths
     further
 fits_none words rest more limit a limited asked none other c paths further g =
     let words_are = one_limit words other limit g.rest rest g.limited limited in
     let justice = one_justice rest g.justice a g.more more (rw words_are.1 at g.asked) asked in
-    each (λ b. (x : Arguments) → ¬ Gives (name_of b) (form_of b) more x) none g.action g.arguments
-    (rw justice.1 at g.gives)
+    none g.usual g.arguments (rw justice.1 at g.gives)
 
--- nor where no justice property is asked about by what they fit
-pub unasked_none : (words rest more : List (List ℕ)) (limit : ℕ) (a : Option Justice) (b : Action)
-    (x : Arguments) → IsLimited words limit rest → AreJustice a rest more
-    → Gives (name_of b) (form_of b) more x
-    → command_by a (command_of b x.step x.distinct x.optimize) ≡ None
+-- nor where no justice property is asked about by what they are
+pub unasked_none : (words rest more : List (List ℕ)) (limit : ℕ) (a : Option Justice) (u : Command)
+    (x : Arguments) → IsLimited words limit rest → AreJustice a rest more → AreCommand more u x
+    → command_by a u ≡ None
     → (other : ℕ) (c : Command) (paths further : List (List ℕ)) → ¬ IsCall words other c paths
     further
-unasked_none words rest more limit a b x limited asked gives none other c paths further g =
-    let is = (given_is words rest more limit a b x limited asked gives other c paths further g).1 ∙
+unasked_none words rest more limit a u x limited asked gives none other c paths further g =
+    let is = (given_is words rest more limit a u x limited asked gives other c paths further g).1 ∙
     none in
     cc
 
@@ -198,7 +317,7 @@ no_command words q limit c paths further are g =
     let alone = asked_alone words g.rest q limit are g.limited in
     let rest = (no_justice (word_of q ∷ []) g.justice g.more (no_asked q) (rw alone at g.asked)).1
     in
-    no_question q g.action g.arguments (rw rest at g.gives)
+    no_question q g.usual g.arguments (rw rest at g.gives)
   where
     no_asked : (q : Question) (more : List (List ℕ)) → ¬ (word_of q ∷ [] ≡ codes "--justice" ∷ more)
     no_asked Usage more is =
@@ -208,11 +327,30 @@ no_command words q limit c paths further are g =
         let letter = ap (λ (words : List (List ℕ)). slice_index (slice_index_or words 0 []) 2) is in
         omega (arith, letter)
 
-    no_question : (q : Question) (a : Action) (x : Arguments)
+    no_form : (q : Question) (a : Action) (x : Arguments)
         → ¬ Gives (name_of a) (form_of a) (word_of q ∷ []) x
-    no_question Usage a x = apart.no_name name_of form_of ALL refl among (codes "--help") [] refl a x
-    no_question Version a x =
+    no_form Usage a x = apart.no_name name_of form_of ALL refl among (codes "--help") [] refl a x
+    no_form Version a x =
         apart.no_name name_of form_of ALL refl among (codes "--version") [] refl a x
+
+    no_last : (q : Question) (step : Bool) → ¬ (word_of q ≡ raw_word step)
+    no_last Usage true is =
+        let letter = ap (λ (word : List ℕ). slice_index word 0) is in
+        omega (arith, letter)
+    no_last Usage false is =
+        let letter = ap (λ (word : List ℕ). slice_index word 0) is in
+        omega (arith, letter)
+    no_last Version true is =
+        let letter = ap (λ (word : List ℕ). slice_index word 0) is in
+        omega (arith, letter)
+    no_last Version false is =
+        let letter = ap (λ (word : List ℕ). slice_index word 0) is in
+        omega (arith, letter)
+
+    no_question : (q : Question) (c : Command) (x : Arguments) → ¬ AreCommand (word_of q ∷ []) c x
+    no_question q c x (inl g) = no_form q g.action x g.gives
+    no_question q c x (inr g) =
+        no_raw_none (word_of q ∷ []) [] (word_of q) refl (no_last q) c x g.1
 
 -- a command that was run ends the program otherwise than words that give none
 pub never_none : {E : Type 0} (done : Result (Unit {0}) E) → ended done ≡ endings.NoCommand → ⊥

@@ -23,7 +23,7 @@ use Rattle.aig_checks.specs.Justice.{command_by, fair_command, lasso_command}
 use Rattle.aig_checks.proofs.Calling.{no_justice}
 use Rattle.aig_checks.specs.declared.tool.CheckError.TheVariants as errors
 use Rattle.aig_checks.specs.Running.{Answers, IsErrorOf, TellsOfGiven, error_status, file_verdict, shown_line, step_line, window_line}
-use Rattle.aig_command_line.specs.Arguments.{Gives, setting_words}
+use Rattle.aig_command_line.specs.Arguments.{Arguments, Gives, setting_words}
 use Rattle.aig_command_line.specs.Limits.{IsLimited}
 use Rattle.aig_checks.specs.declared.command.Action.{Action}
 use Rattle.aig_checks.specs.declared.command.Action.TheVariants as actions
@@ -33,7 +33,7 @@ use Rattle.aig_checks.specs.Pairs.{IsObligationsText, PairAnswers, RefusesPair, 
 use Rattle.aig_certificates.specs.declared.error.CertificateError.TheVariants as certificate
 use Rattle.aig_checks.specs.declared.command.FileCommand.TheVariants as commands
 use Rattle.aig_checks.specs.Comments.{comments_of, input_lines, literal_line}
-use Rattle.aig_checks.specs.Words.{Give, command_of, form_of, name_of}
+use Rattle.aig_checks.specs.Words.{AreCommand, Give, IsWhole, command_of, form_of, name_of, raw_alone}
 
 -- ---- words
 
@@ -63,7 +63,7 @@ no_fair a (asked.File (commands.RefutedTo k o)) d is = no_lasso a.rounds a.prope
 no_fair a (asked.File (commands.Inductive k form o)) d is = no_lasso a.rounds a.property _ d is
 no_fair a (asked.Pair (on_pair.Certified o)) d is = cc
 no_fair a (asked.Pair (on_pair.Obligations o)) d is = cc
-no_fair a (asked.Safe k form o) d is = cc
+no_fair a (asked.Safe k form o p) d is = cc
 no_fair a c d is = cc
 
 -- so it is asked of none
@@ -71,6 +71,18 @@ plain : (a : Option Justice) (c : Command) (d : FileCommand) → command_by a c 
     → asked.File d ≡ c
 plain None c d is = sym (same_Some _ _ is)
 plain (Some a) c d is = absurd (no_fair a c d is)
+
+-- no command on a file has raw clauses of one proof alone
+whole_of : (words : List (List ℕ)) (c : Command) (d : FileCommand) (x : Arguments)
+    → asked.File d ≡ c → AreCommand words c x → IsWhole words c x
+whole_of words c d x is (inl whole) = whole
+whole_of words c d x is (inr alone) =
+    absurd (never alone.1.step alone.1.usual (alone.1.command ∙ ap Some (sym is)))
+  where
+    never : (step : Bool) (c : Command) → ¬ (raw_alone step c ≡ Some (asked.File d))
+    never step (asked.Safe k form o p) is = cc
+    never step (asked.Pair (on_pair.AlwaysEqual k form o p)) is = cc
+    never step c is = cc
 
 -- words that do not begin with `--limit` stand alone
 no_limit : (words : List (List ℕ)) (limit : ℕ) (rest : List (List ℕ))
@@ -85,8 +97,7 @@ no_more_words : (file witness more : List ℕ)
 no_more_words file witness more give =
     let call = give.3 in
     let x = call.arguments in
-    let run = is_run call.action x.step x.distinct x.optimize (plain call.justice _ _ call.command)
-    in
+    let asked = plain call.justice _ _ call.command in
     let all = no_limit (codes "run" ∷ file ∷ witness ∷ more ∷ []) give.0 call.rest (λ further is.
     let letter = ap (λ (words : List (List ℕ)). slice_index (slice_index_or words 0 []) 0) is in
     omega (arith, letter)) call.limited in
@@ -94,8 +105,11 @@ no_more_words file witness more give =
     (λ further is.
     let letter = ap (λ (words : List (List ℕ)). slice_index (slice_index_or words 0 []) 0) is in
     omega (arith, letter)) (rw all at call.asked)).1 in
+    let whole = whole_of (codes "run" ∷ file ∷ witness ∷ more ∷ []) call.usual _ x asked
+    (rw every at call.gives) in
+    let run = is_run whole.action x.step x.distinct x.optimize (asked ∙ whole.command) in
     let gives = subst (λ a. Gives (name_of a) (form_of a) (codes "run" ∷ file ∷ witness ∷ more ∷ [])
-    x) run (rw every at call.gives) in
+    x) run whole.gives in
     let settings = setting_words x.distinct x.optimize in
     let count = ap length gives.spelled in
     let parts = length-append x.paths (gives.steps ++ (x.further ++ settings)) in
@@ -125,11 +139,13 @@ no_other_name file steps proof k optimize give =
     (λ further is.
     let letter = ap (λ (words : List (List ℕ)). slice_index (slice_index_or words 0 []) 0) is in
     omega (arith, letter)) (rw all at call.asked)).1 in
-    let gives = rw every at call.gives in
-    let is = is_witness call.action x.step k x.distinct x.optimize optimize
-    (plain call.justice _ _ call.command) in
+    let asked = plain call.justice _ _ call.command in
+    let whole = whole_of (codes "refuted" ∷ file ∷ steps ∷ proof ∷ []) call.usual _ x asked
+    (rw every at call.gives) in
+    let is = is_witness whole.action x.step k x.distinct x.optimize optimize (asked ∙ whole.command)
+    in
     let letter = ap (λ (words : List (List ℕ)). slice_index (slice_index_or words 0 []) 0)
-    gives.spelled in
+    whole.gives.spelled in
     let first = ap (λ a. slice_index (name_of a) 0) is in
     omega (arith, letter, first)
 

@@ -132,15 +132,15 @@ module _ {W : Type 0} (held : W → Option (List ℕ)) (write_failed : W → Boo
     safe_ended : {R P Q : Type 0} (left : R → Option (List ℕ)) (failed : R → Bool)
         (base_left : P → Option (List ℕ)) (base_failed : P → Bool)
         (step_left : Q → Option (List ℕ)) (step_failed : Q → Bool) (k : ℕ) (form : Window)
-        (optimize : Bool) (limit : ℕ) (r rest : R) (p used : P) (q spent : Q)
+        (base_optimize step_optimize : Bool) (limit : ℕ) (r rest : R) (p used : P) (q spent : Q)
         (done : Result Unit CheckError)
         → RunsSafe left failed base_left base_failed step_left step_failed held write_failed k form
-        optimize limit r p q w (Ok u) rest used spent made
+        base_optimize step_optimize limit r p q w (Ok u) rest used spent made
         → EndsBy (write_failed flat) done
         → RunsSafe left failed base_left base_failed step_left step_failed held write_failed k form
-        optimize limit r p q w done rest used spent flat
-    safe_ended left failed base_left base_failed step_left step_failed k form optimize limit r rest
-        p used q spent (Ok v) runs sound = record {
+        base_optimize step_optimize limit r p q w done rest used spent flat
+    safe_ended left failed base_left base_failed step_left step_failed k form base_optimize
+        step_optimize limit r rest p used q spent (Ok v) runs sound = record {
           verdict = runs.verdict;
           own = tt;
           safe = λ taken. runs.safe tt;
@@ -153,8 +153,8 @@ module _ {W : Type 0} (held : W → Option (List ℕ)) (write_failed : W → Boo
           base_stream = λ is. cc;
           step_stream = λ is. cc;
         }
-    safe_ended left failed base_left base_failed step_left step_failed k form optimize limit r rest
-        p used q spent (Err errors.Write) runs lost = record {
+    safe_ended left failed base_left base_failed step_left step_failed k form base_optimize
+        step_optimize limit r rest p used q spent (Err errors.Write) runs lost = record {
           verdict = runs.verdict;
           own = tt;
           safe = λ taken. runs.safe tt;
@@ -167,8 +167,8 @@ module _ {W : Type 0} (held : W → Option (List ℕ)) (write_failed : W → Boo
           base_stream = λ is. cc;
           step_stream = λ is. cc;
         }
-    safe_ended left failed base_left base_failed step_left step_failed k form optimize limit r rest
-        p used q spent (Err e) runs never = absurd never
+    safe_ended left failed base_left base_failed step_left step_failed k form base_optimize
+        step_optimize limit r rest p used q spent (Err e) runs never = absurd never
 
     module _ {R S C P Q : Type 0} (left : R → Option (List ℕ)) (failed : R → Bool)
         (left_of : S → Option (List ℕ)) (failed_of : S → Bool) (given : C → Option (List ℕ))
@@ -360,7 +360,8 @@ module _ {F W : Type 0} (opens : List ℕ → Result F OpenError → Type 0) (le
       (λ e no. let is = no.0 in cc) opens base)
       (λ e no. let is = no.0 in cc) opens certificate)
       (λ e no. let is = no.0 in cc) opens path acts
-  fair_ended limit a (fair.Safe k form optimize) (path ∷ []) (base ∷ step ∷ []) acts =
+  fair_ended limit a (fair.Safe k form base_optimize step_optimize) (path ∷ []) (base ∷ step ∷ [])
+      acts =
       opening_on _ _ _ _
       (λ r. opening_on _ _ _ _
       (λ p. opening_on _ _ _ _
@@ -371,9 +372,9 @@ module _ {F W : Type 0} (opens : List ℕ → Result F OpenError → Type 0) (le
         made_ended left failed limit a _ _ _ _ r so.0 _ u done ends
             (λ f text on. concludes_ended held write_failed w made flat keeps u (no_run_line
             a.property)
-            (¬ HasFairRun f a.property) (SavesText left failed left failed limit k form optimize p
-            so.1 q
-            so.2 text) done ends on) so.3,
+            (¬ HasFairRun f a.property) (SavesText left failed left failed limit k form
+            base_optimize
+            step_optimize p so.1 q so.2 text) done ends on) so.3,
       ))
       (λ e no. let is = no.0 in cc) opens step)
       (λ e no. let is = no.0 in cc) opens base)
@@ -409,7 +410,8 @@ module _ {F W : Type 0} (opens : List ℕ → Result F OpenError → Type 0) (le
       opening_on _ _ _ _
       (λ r. opening_on _ _ _ _ (λ s so. (so.0, so.1, proofs_ended limit c further r so.0 s so.1 so.2)) (λ e no. let is = no.0 in cc) opens beside)
       (λ e no. let is = no.0 in cc) opens path acts
-  acts_ended limit (commands.Safe k form optimize) (path ∷ []) (base ∷ step ∷ []) acts =
+  acts_ended limit (commands.Safe k form base_optimize step_optimize) (path ∷ []) (base ∷ step ∷
+      []) acts =
       opening_on _ _ _ _
       (λ r. opening_on _ _ _ _
       (λ p. opening_on _ _ _ _
@@ -418,7 +420,7 @@ module _ {F W : Type 0} (opens : List ℕ → Result F OpenError → Type 0) (le
         so.1,
         so.2,
         safe_ended held write_failed w made flat keeps u left failed left failed left failed k form
-            optimize limit r so.0 p so.1 q so.2 done so.3 ends,
+            base_optimize step_optimize limit r so.0 p so.1 q so.2 done so.3 ends,
       ))
       (λ e no. let is = no.0 in cc) opens step)
       (λ e no. let is = no.0 in cc) opens base)

@@ -136,14 +136,13 @@ shows_lasso runs_are (lassos.Inductive k form optimize) limit property f m p use
 
 -- proofs of its safety were taken
 pub saved_safe : {P Q : Type 0} {base_left : P → Option (List ℕ)} {base_failed : P → Bool}
-    {step_left : Q → Option (List ℕ)} {step_failed : Q → Bool} (k : ℕ) (form : Window) (optimize :
-    Bool) (limit : ℕ) (m : Circuit)
-    (p used : P) (q spent : Q)
+    {step_left : Q → Option (List ℕ)} {step_failed : Q → Bool} (k : ℕ) (form : Window)
+    (base_optimize step_optimize : Bool) (limit : ℕ) (m : Circuit) (p used : P) (q spent : Q)
     → IsReadAgain m (file_of Text m)
-    → SavesText base_left base_failed step_left step_failed limit k form optimize p used q spent
-    (text_of m) (Ok tt)
+    → SavesText base_left base_failed step_left step_failed limit k form base_optimize step_optimize
+    p used q spent (text_of m) (Ok tt)
     → (n : ℕ) → IsSafeTo (file_of Text m) n
-saved_safe k form optimize limit m p used q spent again on =
+saved_safe k form base_optimize step_optimize limit m p used q spent again on =
     let runs = on.2 in
     (read_back limit m (λ bytes g is. is.0.0) again (runs.verdict.whole tt).1 (runs.safe tt)).0
 
@@ -289,7 +288,7 @@ pub pair_never_unmade : (c : PairCommand) (e : CheckError) → IsErrorOfPair c e
 pair_never_unmade (on_pair.Certified o) (errors.Unmade e) own is = own
 pair_never_unmade (on_pair.Equal k o) (errors.Unmade e) own is = own
 pair_never_unmade (on_pair.Obligations o) (errors.Unmade e) own is = own
-pair_never_unmade (on_pair.AlwaysEqual k form o) (errors.Unmade e) own is = own
+pair_never_unmade (on_pair.AlwaysEqual k form o p) (errors.Unmade e) own is = own
 pair_never_unmade c e own is = is
 
 pub safe_never_unmade : (e : CheckError) → IsErrorOfSafe e → ¬ IsOfMaking e
@@ -324,10 +323,11 @@ runs_no_write e runs is = stops_never (runs.stopped (err_of e errors.Write is)).
 
 pub safe_no_write : {R P Q : Type 0} {left : R → Option (List ℕ)} {failed : R → Bool} {base_left :
     P → Option (List ℕ)} {base_failed : P → Bool} {step_left : Q → Option (List ℕ)} {step_failed :
-    Q → Bool} {k : ℕ} {form : Window} {optimize : Bool} {limit : ℕ} {r rest : R} {p used : P} {q
+    Q → Bool} {k : ℕ} {form : Window} {base_optimize step_optimize : Bool} {limit : ℕ} {r rest :
+    R} {p used : P} {q
     spent : Q} (e : CheckError)
     → RunsSafe left failed base_left base_failed step_left step_failed nothing_given nothing_fails
-    k form optimize limit r p q tt (Err e) rest used spent tt
+    k form base_optimize step_optimize limit r p q tt (Err e) rest used spent tt
     → e ≢ errors.Write
 safe_no_write e runs is = stops_never (runs.stopped (err_of e errors.Write is))
 
@@ -409,22 +409,26 @@ module _ {R : Type 0} {left : R → Option (List ℕ)} {failed : R → Bool} {r 
 
     pub safe_on_text : {P Q W : Type 0} {base_left : P → Option (List ℕ)} {base_failed : P → Bool}
         {step_left : Q → Option (List ℕ)} {step_failed : Q → Bool} {held : W → Option (List ℕ)}
-        {write_failed : W → Bool} {k : ℕ} {form : Window} {optimize : Bool} {limit : ℕ} {p used : P}
+        {write_failed : W → Bool} {k : ℕ} {form : Window} {base_optimize step_optimize : Bool}
+        {limit : ℕ} {p used : P}
         {q spent : Q} {w made : W} {result : Result (Unit {0}) CheckError}
         → left r ≡ Some text
         → RunsSafe left failed base_left base_failed step_left step_failed held write_failed k form
-        optimize limit r p q w result rest used spent made
+        base_optimize step_optimize limit r p q w result rest used spent made
         → OnText (λ left failed r rest. RunsSafe left failed base_left base_failed step_left
-        step_failed held write_failed k form optimize limit r p q w result rest used spent made)
+        step_failed held write_failed k form base_optimize step_optimize limit r p q w result rest
+        used spent made)
         text
     safe_on_text {base_left = base_left} {base_failed = base_failed} {step_left = step_left}
         {step_failed = step_failed} {held = held} {write_failed = write_failed} {k = k} {form =
-        form} {optimize = optimize} {limit = limit} {p = p} {used = used} {q = q} {spent = spent}
+        form} {base_optimize = base_optimize} {step_optimize = step_optimize} {limit = limit} {p =
+        p} {used = used} {q = q} {spent = spent}
         {w = w} {made = made} {result = result} is runs = (
           left rest,
           failed rest,
           subst (λ o. RunsSafe own_text (λ x. failed rest) base_left base_failed step_left
-              step_failed held write_failed k form optimize limit o p q w result (left rest) used
+              step_failed held write_failed k form base_optimize step_optimize limit o p q w
+              result (left rest) used
               spent made) is (record {
                 verdict = runs.verdict;
                 own = runs.own;
@@ -467,12 +471,13 @@ module _ {R W : Type 0} {left : R → Option (List ℕ)} {failed : R → Bool} {
   }
 
   pub safe_unwritten : {P Q : Type 0} {base_left : P → Option (List ℕ)} {base_failed : P → Bool}
-      {step_left : Q → Option (List ℕ)} {step_failed : Q → Bool} {k : ℕ} {form : Window} {optimize
-      : Bool} {limit : ℕ} {p used : P} {q spent : Q}
+      {step_left : Q → Option (List ℕ)} {step_failed : Q → Bool} {k : ℕ} {form : Window}
+      {base_optimize
+      step_optimize : Bool} {limit : ℕ} {p used : P} {q spent : Q}
       → RunsSafe left failed base_left base_failed step_left step_failed (λ x. None) (λ x. false) k
-      form optimize limit r p q w result rest used spent made
+      form base_optimize step_optimize limit r p q w result rest used spent made
       → RunsSafe left failed base_left base_failed step_left step_failed nothing_given
-      nothing_fails k form optimize limit r p q tt result rest used spent tt
+      nothing_fails k form base_optimize step_optimize limit r p q tt result rest used spent tt
   safe_unwritten runs = record {
     verdict = runs.verdict;
     own = runs.own;

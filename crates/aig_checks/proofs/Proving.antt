@@ -25,7 +25,8 @@ same_safety x y is = cc
 module _ {R P Q W : Type 0} {left : R → Option (List ℕ)} {read_failed : R → Bool}
     {base_left : P → Option (List ℕ)} {base_failed : P → Bool} {step_left : Q → Option (List ℕ)}
     {step_failed : Q → Bool} {held : W → Option (List ℕ)} {write_failed : W → Bool} {k : ℕ}
-    {form : Window} {optimize : Bool} {limit : ℕ} {r rest : R} {p used : P} {q spent : Q}
+    {form : Window} {base_optimize step_optimize : Bool} {limit : ℕ} {r rest : R} {p used : P} {q
+    spent : Q}
     {w made : W} where
   -- the file is refused, or a proof
   pub safe_refused : (e : SafetyError)
@@ -33,13 +34,14 @@ module _ {R P Q W : Type 0} {left : R → Option (List ℕ)} {read_failed : R �
       (safety.verdict_of e)
       → safety.IsOwn e → TellsOfSize limit k (left r) (left rest) e
       → (safety.verdict_of e ≡ Accepted → IsReadAs (IsAsked limit (k + 1))
-      (Shows base_left step_left k optimize form optimize p used q) (left r) (left rest) (Err e))
+      (Shows base_left step_left k base_optimize form step_optimize p used q) (left r) (left rest)
+      (Err e))
       → made ≡ w
       → (safety.LeavesBase (Err e) → used ≡ p) → (safety.LeavesStep (Err e) → spent ≡ q)
       → (e ≡ proving.Base (bounded.Refutation refutation.Stream) → IsTrue (base_failed used))
       → (e ≡ proving.Step (answers.Refutation refutation.Stream) → IsTrue (step_failed spent))
       → RunsSafe left read_failed base_left base_failed step_left step_failed held write_failed k
-      form optimize limit r p q w (Err (errors.Safe e)) rest used spent made
+      form base_optimize step_optimize limit r p q w (Err (errors.Safe e)) rest used spent made
   safe_refused e said own size shown same base step base_stream step_stream = record {
     verdict = said;
     own = own;
@@ -58,10 +60,11 @@ module _ {R P Q W : Type 0} {left : R → Option (List ℕ)} {read_failed : R �
   pub safe_answered : (v : Unit {0}) → Judges (window_verdict form limit k) limit (left r) (left rest) (read_failed rest)
       Accepted
       → IsReadAs (IsAsked limit (k + 1))
-      (Shows base_left step_left k optimize form optimize p used q) (left r) (left rest) (Ok tt)
+      (Shows base_left step_left k base_optimize form step_optimize p used q) (left r) (left rest)
+      (Ok tt)
       → Appends (held w) (held made) safe_line → write_failed made ≡ false
       → RunsSafe left read_failed base_left base_failed step_left step_failed held write_failed k
-      form optimize limit r p q w (Ok v) rest used spent made
+      form base_optimize step_optimize limit r p q w (Ok v) rest used spent made
   safe_answered v said shown written sound = record {
     verdict = said;
     own = tt;
@@ -80,10 +83,11 @@ module _ {R P Q W : Type 0} {left : R → Option (List ℕ)} {read_failed : R �
   pub safe_stopped : Judges (window_verdict form limit k) limit (left r) (left rest) (read_failed rest)
       Accepted
       → IsReadAs (IsAsked limit (k + 1))
-      (Shows base_left step_left k optimize form optimize p used q) (left r) (left rest) (Ok tt)
+      (Shows base_left step_left k base_optimize form step_optimize p used q) (left r) (left rest)
+      (Ok tt)
       → Stops (held w) (held made) (write_failed made) safe_line
       → RunsSafe left read_failed base_left base_failed step_left step_failed held write_failed k
-      form optimize limit r p q w (Err errors.Write) rest used spent made
+      form base_optimize step_optimize limit r p q w (Err errors.Write) rest used spent made
   safe_stopped said shown stops = record {
     verdict = said;
     own = tt;

@@ -16,18 +16,21 @@ use Rattle.aig_checks.proofs.Refusing.{read_as}
 module _ {R P Q W : Type 0} {left : R → Option (List ℕ)} {failed : R → Bool}
     {base_left : P → Option (List ℕ)} {base_failed : P → Bool}
     {step_left : Q → Option (List ℕ)} {step_failed : Q → Bool} {held : W → Option (List ℕ)}
-    {write_failed : W → Bool} {k : ℕ} {form : Window} {optimize : Bool} {limit : ℕ} {r rest : R}
+    {write_failed : W → Bool} {k : ℕ} {form : Window} {base_optimize step_optimize : Bool} {limit
+    : ℕ} {r rest : R}
     {p used : P} {q spent : Q} {w made : W} where
   tells_why : (e : CheckError)
       → RunsSafe left failed base_left base_failed step_left step_failed held write_failed k form
-      optimize limit r p q w (Err e) rest used spent made
+      base_optimize step_optimize limit r p q w (Err e) rest used spent made
       → verdict_of e ≡ Accepted
-      → IsReadAs (IsAsked limit (k + 1)) (RefusesSafe k form optimize) (left r) (left rest) e
+      → IsReadAs (IsAsked limit (k + 1)) (RefusesSafe k form base_optimize step_optimize) (left r)
+      (left rest) e
   tells_why (errors.Safe e) runs taken =
       read_as _ _ (λ f shown. (
         base_left p,
         step_left q,
-        shown_text base_left step_left limit k optimize form p used q (circuit_of f) (Err e) shown,
+        shown_text base_left step_left limit k base_optimize step_optimize form p used q
+            (circuit_of f) (Err e) shown,
       )) (runs.refusal.0 taken)
   tells_why errors.Write runs taken = read_as _ _ (λ f shown. tt) (runs.safe tt)
   tells_why e runs taken = absurd runs.own
@@ -35,10 +38,12 @@ module _ {R P Q W : Type 0} {left : R → Option (List ℕ)} {failed : R → Boo
   -- the command that is run again refuses it so
   pub refused_again : (again e : CheckError)
       → RunsSafe left failed base_left base_failed step_left step_failed held write_failed k form
-      optimize limit r p q w (Err again) rest used spent made
+      base_optimize step_optimize limit r p q w (Err again) rest used spent made
       → again ≡ e → verdict_of e ≡ Accepted
-      → IsReadAs (IsAsked limit (k + 1)) (RefusesSafe k form optimize) (left r) (left rest) e
+      → IsReadAs (IsAsked limit (k + 1)) (RefusesSafe k form base_optimize step_optimize) (left r)
+      (left rest) e
   refused_again again e runs same =
       subst (λ (x : CheckError). verdict_of x ≡ Accepted
-      → IsReadAs (IsAsked limit (k + 1)) (RefusesSafe k form optimize) (left r) (left rest) x) same
+      → IsReadAs (IsAsked limit (k + 1)) (RefusesSafe k form base_optimize step_optimize) (left r)
+      (left rest) x) same
       (tells_why again runs)

@@ -85,14 +85,15 @@ Acts {F} opens left failed held write_failed limit (commands.Pair c) (path ∷ b
     result rest other made)
     (λ e. (result ≡ Err e) × (made ≡ w)))
     (λ e. (result ≡ Err e) × (made ≡ w))
-Acts {F} opens left failed held write_failed limit (commands.Safe k form optimize) (path ∷ [])
-    (base ∷ step ∷ []) w result made =
+Acts {F} opens left failed held write_failed limit
+    (commands.Safe k form base_optimize step_optimize) (path ∷ []) (base ∷ step ∷ []) w result
+    made =
     Opening opens path
     (λ r. Opening opens base
     (λ p. Opening opens step
     (λ q. (rest : F) × (used : F) × (spent : F)
-    × RunsSafe left failed left failed left failed held write_failed k form optimize limit r p q w
-    result rest used spent made)
+    × RunsSafe left failed left failed left failed held write_failed k form base_optimize
+    step_optimize limit r p q w result rest used spent made)
     (λ e. (result ≡ Err e) × (made ≡ w)))
     (λ e. (result ≡ Err e) × (made ≡ w)))
     (λ e. (result ≡ Err e) × (made ≡ w))

@@ -82,20 +82,21 @@ pub record IsRefusedOnPair (limit : ℕ) (c : PairCommand) (file other known : O
       → AreReadAs limit (RefusesFor limit c) file rest other other_rest e
 
 -- why it isn't shown that a file's machine is safe, by some proofs
-abbrev pub RefusesSafe : ℕ → Window → Bool → File → CheckError → Type 0
-RefusesSafe k form optimize f (errors.Safe e) =
+abbrev pub RefusesSafe : ℕ → Window → Bool → Bool → File → CheckError → Type 0
+RefusesSafe k form base_optimize step_optimize f (errors.Safe e) =
     (base : Option (List ℕ)) × (step : Option (List ℕ))
-    × Shows own_text own_text k optimize form optimize base base step f (Err e)
-RefusesSafe k form optimize f e = Unit {0}
+    × Shows own_text own_text k base_optimize form step_optimize base base step f (Err e)
+RefusesSafe k form base_optimize step_optimize f e = Unit {0}
 
 -- a proof that a file's machine is safe was read up to this place, and refused so
-pub record IsRefusedOnSafe (limit k : ℕ) (form : Window) (optimize : Bool)
+pub record IsRefusedOnSafe (limit k : ℕ) (form : Window) (base_optimize step_optimize : Bool)
     (file known : Option (List ℕ)) (e : CheckError) (measure : Measure) (place : Place)
     : Type 0 where
   pub at : IsPlaceIn known measure place
   pub rest : Option (List ℕ)
   pub refused : verdict_of e ≡ Accepted
-      → IsReadAs (IsAsked limit (k + 1)) (RefusesSafe k form optimize) file rest e
+      → IsReadAs (IsAsked limit (k + 1)) (RefusesSafe k form base_optimize step_optimize) file rest
+      e
 
 -- why a certificate of these bytes, of which others are left, doesn't show that two files' machines
 -- are equal, by some proofs
@@ -127,10 +128,10 @@ IsRefusedBy {F} opens left limit (commands.File c) (path ∷ []) known e measure
 IsRefusedBy {F} opens left limit (commands.Pair c) (path ∷ beside ∷ []) known e measure place =
     (file : F) × (other : F) × opens path (Ok file) × opens beside (Ok other)
     × IsRefusedOnPair limit c (left file) (left other) known e measure place
-IsRefusedBy {F} opens left limit (commands.Safe k form optimize) (path ∷ []) known e measure
-    place =
+IsRefusedBy {F} opens left limit (commands.Safe k form base_optimize step_optimize) (path ∷ [])
+    known e measure place =
     (file : F) × opens path (Ok file)
-    × IsRefusedOnSafe limit k form optimize (left file) known e measure place
+    × IsRefusedOnSafe limit k form base_optimize step_optimize (left file) known e measure place
 IsRefusedBy {F} opens left limit (commands.EqualBy optimize) (path ∷ beside ∷ []) known e measure
     place =
     (file : F) × (other : F) × (certificate : F) × opens path (Ok file) × opens beside (Ok other)

@@ -73,7 +73,8 @@ fair_command a (commands.Pair (on_pair.Certified optimize)) =
     Some (commands.Fair a (fair.Certified optimize))
 fair_command a (commands.Pair (on_pair.Obligations optimize)) =
     Some (commands.Fair a (fair.Obligations optimize))
-fair_command a (commands.Safe k form optimize) = Some (commands.Fair a (fair.Safe k form optimize))
+fair_command a (commands.Safe k form base_optimize step_optimize) =
+    Some (commands.Fair a (fair.Safe k form base_optimize step_optimize))
 fair_command a c = None
 
 -- the command, where it is asked of a justice property

@@ -186,21 +186,23 @@ CertifiesMade left_of failed_of base_left base_failed step_left step_failed held
 
 -- what a check of its text by two proofs tells
 abbrev pub SavesText : {P Q : Type 0} → (P → Option (List ℕ)) → (P → Bool) → (Q → Option (List ℕ))
-    → (Q → Bool) → ℕ → ℕ → Window → Bool → P → P → Q → Q → List ℕ → Result Unit CheckError → Type 0
-SavesText base_left base_failed step_left step_failed limit k form optimize p used q spent text
-    result =
+    → (Q → Bool) → ℕ → ℕ → Window → Bool → Bool → P → P → Q → Q → List ℕ
+    → Result Unit CheckError → Type 0
+SavesText base_left base_failed step_left step_failed limit k form base_optimize step_optimize p
+    used q spent text result =
     OnText (λ left failed r rest. RunsSafe left failed base_left base_failed step_left step_failed
-    nothing_given nothing_fails k form optimize limit r p q tt result rest used spent tt) text
+    nothing_given nothing_fails k form base_optimize step_optimize limit r p q tt result rest used
+    spent tt) text
 
 -- two proofs of it are checked, of which it is told that there is no fair run
 abbrev pub SavesMade : {P Q W : Type 0} → (P → Option (List ℕ)) → (P → Bool)
     → (Q → Option (List ℕ)) → (Q → Bool) → (W → Option (List ℕ)) → (W → Bool) → ℕ → ℕ → ℕ
-    → Window → Bool → P → P → Q → Q → W → W → File → List ℕ → Result Unit CheckError → Type 0
+    → Window → Bool → Bool → P → P → Q → Q → W → W → File → List ℕ → Result Unit CheckError → Type 0
 SavesMade base_left base_failed step_left step_failed held write_failed limit property k form
-    optimize p used q spent w made f text =
+    base_optimize step_optimize p used q spent w made f text =
     Concludes held write_failed (no_run_line property) (¬ HasFairRun f property)
-    (SavesText base_left base_failed step_left step_failed limit k form optimize p used q spent
-    text) w made
+    (SavesText base_left base_failed step_left step_failed limit k form base_optimize step_optimize
+    p used q spent text) w made
 
 -- ---- commands
 
@@ -241,15 +243,15 @@ ActsFair {F} opens left failed held write_failed limit a (fair.Certified optimiz
     (λ e. (result ≡ Err e) × (made ≡ w)))
     (λ e. (result ≡ Err e) × (made ≡ w)))
     (λ e. (result ≡ Err e) × (made ≡ w))
-ActsFair {F} opens left failed held write_failed limit a (fair.Safe k form optimize) (path ∷ [])
-    (base ∷ step ∷ []) w result made =
+ActsFair {F} opens left failed held write_failed limit a
+    (fair.Safe k form base_optimize step_optimize) (path ∷ []) (base ∷ step ∷ []) w result made =
     Opening opens path
     (λ r. Opening opens base
     (λ p. Opening opens step
     (λ q. (rest : F) × (used : F) × (spent : F)
     × RunsMade left failed limit a
-    (SavesMade left failed left failed held write_failed limit a.property k form optimize p used q
-    spent w made)
+    (SavesMade left failed left failed held write_failed limit a.property k form base_optimize
+    step_optimize p used q spent w made)
     ((used ≡ p) × (spent ≡ q) × (made ≡ w)) r result rest)
     (λ e. (result ≡ Err e) × (made ≡ w)))
     (λ e. (result ≡ Err e) × (made ≡ w)))

@@ -21,7 +21,7 @@ use Rattle.aig_checks.specs.Words.{IsCall}
 abbrev pub regard_of : Command → Regard
 regard_of (commands.File on_file.Run) = record { leaves_out = false; compares = false }
 regard_of (commands.Pair (on_pair.Equal k optimize)) = record { leaves_out = true; compares = true }
-regard_of (commands.Pair (on_pair.AlwaysEqual k form optimize)) =
+regard_of (commands.Pair (on_pair.AlwaysEqual k form base_optimize step_optimize)) =
     record { leaves_out = true; compares = true }
 regard_of (commands.EqualBy optimize) = record { leaves_out = true; compares = true }
 regard_of (commands.Fair justice c) = record { leaves_out = false; compares = false }

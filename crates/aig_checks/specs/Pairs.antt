@@ -84,10 +84,10 @@ abbrev pub own_text : Option (List ℕ) → Option (List ℕ)
 own_text text = text
 
 -- the machines are equal at every step, or it is said why the proofs of these texts don't show so
-abbrev pub AlwaysEqualsBy : ℕ → ℕ → Window → Bool → Option (List ℕ) → Option (List ℕ) → File → File
-    → Result Unit EqualityError → Type 0
-AlwaysEqualsBy limit k form optimize base step =
-    AlwaysEquals own_text own_text limit k optimize form optimize base base step
+abbrev pub AlwaysEqualsBy : ℕ → ℕ → Window → Bool → Bool → Option (List ℕ) → Option (List ℕ) → File
+    → File → Result Unit EqualityError → Type 0
+AlwaysEqualsBy limit k form base_optimize step_optimize base step =
+    AlwaysEquals own_text own_text limit k base_optimize form step_optimize base base step
 
 -- What the command puts into its writer for FILE and the file beside it, which are of these bytes
 -- and whose counts fit, what is then so of their machines, and what the texts of BASE, or of the
@@ -100,8 +100,10 @@ PairAnswers (commands.Equal k optimize) limit base step bytes others f g text =
     (text ≡ equal_line k) × Equals limit k optimize base f g (Ok tt)
 PairAnswers (commands.Obligations optimize) limit base step bytes others f g text =
     IsObligationsText optimize bytes others f g text
-PairAnswers (commands.AlwaysEqual k form optimize) limit base step bytes others f g text =
-    (text ≡ always_line) × AlwaysEqualsBy limit k form optimize base step f g (Ok tt)
+PairAnswers (commands.AlwaysEqual k form base_optimize step_optimize) limit base step bytes others f
+    g text =
+    (text ≡ always_line)
+    × AlwaysEqualsBy limit k form base_optimize step_optimize base step f g (Ok tt)
 
 -- ---- errors
 
@@ -117,8 +119,9 @@ other_verdict_of e = Refused
 abbrev pub IsErrorOfPair : PairCommand → CheckError → Type 0
 IsErrorOfPair c errors.Write = Unit {0}
 IsErrorOfPair (commands.Obligations optimize) (errors.Certificate e) = certificates.IsOfClauses e
-IsErrorOfPair (commands.AlwaysEqual k form optimize) (errors.Certificate e) = ⊥
-IsErrorOfPair (commands.AlwaysEqual k form optimize) (errors.Equality e) = equality.IsOwn e
+IsErrorOfPair (commands.AlwaysEqual k form base_optimize step_optimize) (errors.Certificate e) = ⊥
+IsErrorOfPair (commands.AlwaysEqual k form base_optimize step_optimize) (errors.Equality e) =
+    equality.IsOwn e
 IsErrorOfPair c (errors.Certificate e) = certificates.IsOwn e
 IsErrorOfPair c e = ⊥
 
@@ -131,13 +134,13 @@ RefusesPair (commands.Equal k optimize) limit base step f g e =
     Equals limit k optimize base f g (Err e)
 RefusesPair (commands.Obligations optimize) limit base step f g e =
     Obliges limit optimize f g (Err e)
-RefusesPair (commands.AlwaysEqual k form optimize) limit base step f g e = ⊥
+RefusesPair (commands.AlwaysEqual k form base_optimize step_optimize) limit base step f g e = ⊥
 
 -- why it isn't shown that they are equal at every step
 abbrev pub RefusesAlways : PairCommand → ℕ → Option (List ℕ) → Option (List ℕ) → File → File
     → EqualityError → Type 0
-RefusesAlways (commands.AlwaysEqual k form optimize) limit base step f g e =
-    AlwaysEqualsBy limit k form optimize base step f g (Err e)
+RefusesAlways (commands.AlwaysEqual k form base_optimize step_optimize) limit base step f g e =
+    AlwaysEqualsBy limit k form base_optimize step_optimize base step f g (Err e)
 RefusesAlways c limit base step f g e = ⊥
 
 -- BASE, or the proof of `equal`, isn't read

@@ -57,7 +57,8 @@ TellsWhy Means limit k old new e = Unit {0}
 pub record RunsSafe {R P Q W : Type 0} (left : R → Option (List ℕ)) (read_failed : R → Bool)
     (base_left : P → Option (List ℕ)) (base_failed : P → Bool) (step_left : Q → Option (List ℕ))
     (step_failed : Q → Bool) (held : W → Option (List ℕ)) (write_failed : W → Bool)
-    (k : ℕ) (form : Window) (optimize : Bool) (limit : ℕ) (r : R) (p : P) (q : Q) (w : W)
+    (k : ℕ) (form : Window) (base_optimize step_optimize : Bool) (limit : ℕ) (r : R) (p : P) (q : Q)
+    (w : W)
     (result : Result Unit CheckError) (rest : R) (used : P) (spent : Q) (made : W) : Type 0 where
   -- what is said of the bytes of the file
   pub verdict : Judges (window_verdict form limit k) limit (left r) (left rest) (read_failed rest)
@@ -67,7 +68,8 @@ pub record RunsSafe {R P Q W : Type 0} (left : R → Option (List ℕ)) (read_fa
   -- where the proofs are taken, the machine of the file that was read reaches no bad state at any
   -- step, and they show so
   pub safe : TakesBoth result → IsReadAs (IsAsked limit (k + 1))
-      (Shows base_left step_left k optimize form optimize p used q) (left r) (left rest) (Ok tt)
+      (Shows base_left step_left k base_optimize form step_optimize p used q) (left r) (left rest)
+      (Ok tt)
   -- the line is written, and the writer has not failed
   pub ok : OnOk result (Appends (held w) (held made) safe_line × (write_failed made ≡ false))
   -- or a beginning of it is, and the writer has
@@ -77,8 +79,8 @@ pub record RunsSafe {R P Q W : Type 0} (left : R → Option (List ℕ)) (read_fa
   pub kept : IfErr result (λ e. e ≢ errors.Write → made ≡ w)
   -- and tells why
   pub refusal : IfErr result
-      (TellsWhy (Shows base_left step_left k optimize form optimize p used q) limit k (left r)
-      (left rest))
+      (TellsWhy (Shows base_left step_left k base_optimize form step_optimize p used q) limit k
+      (left r) (left rest))
   -- a proof is read only where what comes before it is taken
   pub base_unread : IfErr result (λ e. LeavesBase e → used ≡ p)
   pub step_unread : IfErr result (λ e. LeavesStep e → spent ≡ q)

@@ -1,6 +1,6 @@
 -- Part of what is promised.
 -- Which words give which command.
-use Rattle.std.specs.Prelude.{◌≡◌, ℕ, Bool, true, false, List, Option, Some, codes}
+use Rattle.std.specs.Prelude.{◌≡◌, ◌⊎◌, ◌++◌, ◌∷◌, [], ℕ, Bool, true, false, not, IsTrue, List, None, Option, Some, codes}
 use Rattle.aig_runs.specs.declared.window.Window.{Window}
 use Rattle.aig_runs.specs.declared.window.Window.TheVariants.{Plain, Distinct}
 use Rattle.aig_command_line.specs.declared.arguments.Form.{Form}
@@ -90,10 +90,46 @@ command_of actions.Obligations k distinct optimize = commands.Pair (on_pair.Obli
 command_of actions.Bounded k distinct optimize = commands.File (on_file.Bounded k optimize)
 command_of actions.RefutedTo k distinct optimize = commands.File (on_file.RefutedTo k optimize)
 command_of actions.WitnessTo k distinct optimize = commands.File (on_file.WitnessTo k optimize)
-command_of actions.Safe k distinct optimize = commands.Safe k (window_of distinct) optimize
+command_of actions.Safe k distinct optimize =
+    commands.Safe k (window_of distinct) optimize optimize
 command_of actions.AlwaysEqual k distinct optimize =
-    commands.Pair (on_pair.AlwaysEqual k (window_of distinct) optimize)
+    commands.Pair (on_pair.AlwaysEqual k (window_of distinct) optimize optimize)
 command_of actions.EqualBy k distinct optimize = commands.EqualBy optimize
+
+-- the word of raw clauses of BASE alone, where those of STEP are optimised, or of STEP alone
+abbrev pub raw_word : Bool → List ℕ
+raw_word true = codes "raw-base"
+raw_word false = codes "raw-step"
+
+-- the command, where the clauses of STEP alone are optimised, or those of BASE alone
+abbrev pub raw_alone : Bool → Command → Option Command
+raw_alone step (commands.Safe k form base_optimize step_optimize) =
+    Some (commands.Safe k form (not step) step)
+raw_alone step (commands.Pair (on_pair.AlwaysEqual k form base_optimize step_optimize)) =
+    Some (commands.Pair (on_pair.AlwaysEqual k form (not step) step))
+raw_alone step c = None
+
+-- the words fit the command, with one setting for all its proofs
+pub record IsWhole (words : List (List ℕ)) (c : Command) (a : Arguments) : Type 0 where
+  pub action : Action
+  pub gives : Gives (name_of action) (form_of action) words a
+  pub command : c ≡ command_of action a.step a.distinct a.optimize
+
+-- without the last, which says which clauses alone are raw, the words fit one, without `raw`
+pub record IsAlone (words : List (List ℕ)) (c : Command) (a : Arguments) : Type 0 where
+  pub plain : List (List ℕ)
+  pub step : Bool
+  pub spelled : words ≡ plain ++ raw_word step ∷ []
+  pub usual : Command
+  pub whole : IsWhole plain usual a
+  pub optimized : IsTrue a.optimize
+  pub command : raw_alone step usual ≡ Some c
+
+-- the words fit a command; or they fit none, and fit one without such a last word
+abbrev pub AreCommand : List (List ℕ) → Command → Arguments → Type 0
+AreCommand words c a =
+    IsWhole words c a
+    ⊎ (((d : Command) (b : Arguments) → ¬ IsWhole words d b) × IsAlone words c a)
 
 -- the words give the limit, then the justice property that is asked about, if there is one, and
 -- then the command, with its files and what is given beside them
@@ -104,12 +140,10 @@ pub record IsCall (words : List (List ℕ)) (limit : ℕ) (c : Command) (paths f
   pub justice : Option Justice
   pub more : List (List ℕ)
   pub asked : AreJustice justice rest more
-  pub action : Action
+  pub usual : Command
   pub arguments : Arguments
-  pub gives : Gives (name_of action) (form_of action) more arguments
-  pub command : command_by justice
-      (command_of action arguments.step arguments.distinct arguments.optimize)
-      ≡ Some c
+  pub gives : AreCommand more usual arguments
+  pub command : command_by justice usual ≡ Some c
   pub on : paths ≡ arguments.paths
   pub beside : further ≡ arguments.further
 
@@ -131,12 +165,12 @@ step_of (commands.File (on_file.Bounded k optimize)) = k
 step_of (commands.File (on_file.RefutedTo k optimize)) = k
 step_of (commands.File (on_file.WitnessTo k optimize)) = k
 step_of (commands.Pair (on_pair.Equal k optimize)) = k
-step_of (commands.Pair (on_pair.AlwaysEqual k form optimize)) = k
-step_of (commands.Safe k form optimize) = k
+step_of (commands.Pair (on_pair.AlwaysEqual k form base_optimize step_optimize)) = k
+step_of (commands.Safe k form base_optimize step_optimize) = k
 step_of (commands.Fair justice (fair.Print (prints.Clauses k optimize))) = k
 step_of (commands.Fair justice (fair.Print (prints.Window k form optimize))) = k
 step_of (commands.Fair justice (fair.Print (prints.Bounded k optimize))) = k
-step_of (commands.Fair justice (fair.Safe k form optimize)) = k
+step_of (commands.Fair justice (fair.Safe k form base_optimize step_optimize)) = k
 step_of (commands.Lasso property (lassos.Refuted k optimize)) = k
 step_of (commands.Lasso property (lassos.RefutedTo k optimize)) = k
 step_of (commands.Lasso property (lassos.Inductive k form optimize)) = k
@@ -146,12 +180,12 @@ step_of c = 0
 abbrev pub paths_of : Command → ℕ
 paths_of (commands.File c) = 1
 paths_of (commands.Pair c) = 2
-paths_of (commands.Safe k form optimize) = 1
+paths_of (commands.Safe k form base_optimize step_optimize) = 1
 paths_of (commands.EqualBy optimize) = 2
 paths_of (commands.Fair justice (fair.Print c)) = 1
 paths_of (commands.Fair justice (fair.Obligations optimize)) = 2
 paths_of (commands.Fair justice (fair.Certified optimize)) = 2
-paths_of (commands.Fair justice (fair.Safe k form optimize)) = 1
+paths_of (commands.Fair justice (fair.Safe k form base_optimize step_optimize)) = 1
 paths_of (commands.Lasso property c) = 1
 
 -- how many are given beside these
@@ -161,11 +195,11 @@ beside_of (commands.File (on_file.Window k form optimize)) = 0
 beside_of (commands.File (on_file.Bounded k optimize)) = 0
 beside_of (commands.Pair (on_pair.Certified optimize)) = 2
 beside_of (commands.Pair (on_pair.Obligations optimize)) = 0
-beside_of (commands.Pair (on_pair.AlwaysEqual k form optimize)) = 2
-beside_of (commands.Safe k form optimize) = 2
+beside_of (commands.Pair (on_pair.AlwaysEqual k form base_optimize step_optimize)) = 2
+beside_of (commands.Safe k form base_optimize step_optimize) = 2
 beside_of (commands.EqualBy optimize) = 3
 beside_of (commands.Fair justice (fair.Print c)) = 0
 beside_of (commands.Fair justice (fair.Obligations optimize)) = 0
 beside_of (commands.Fair justice (fair.Certified optimize)) = 2
-beside_of (commands.Fair justice (fair.Safe k form optimize)) = 2
+beside_of (commands.Fair justice (fair.Safe k form base_optimize step_optimize)) = 2
 beside_of c = 1

@@ -33,7 +33,8 @@ pub const USAGE: &str =
     refuted FILE K PROOF [raw], inductive FILE K PROOF [distinct] [raw], witness FILE K SOLUTION [raw], run FILE WITNESS, \
     certified FILE CERT BASE STEP [raw], equal FILE OTHER K PROOF [raw], obligations FILE CERT [raw], \
     bounded FILE K [raw], refuted FILE to K PROOF [raw], witness FILE to K SOLUTION [raw], \
-    safe FILE to K BASE STEP [distinct] [raw], equal FILE OTHER to K BASE STEP [distinct] [raw], \
+    safe FILE to K BASE STEP [distinct] [raw | raw-base | raw-step], \
+    equal FILE OTHER to K BASE STEP [distinct] [raw | raw-base | raw-step], \
     equal FILE OTHER by CERT BASE STEP [raw]";
 
 /// Its version.
@@ -156,9 +157,24 @@ pub(crate) fn run_proved<R: Source, S: Source, P: Source, Q: Source, W: Sink>(
         PairCommand::Certified { optimize } => {
             print_certified(alloc, limit, optimize, r, s, base, step, w)
         }
-        PairCommand::AlwaysEqual { k, form, optimize } => {
-            print_always_equal(alloc, limit, k, form, optimize, r, s, base, step, w)
-        }
+        PairCommand::AlwaysEqual {
+            k,
+            form,
+            base_optimize,
+            step_optimize,
+        } => print_always_equal(
+            alloc,
+            limit,
+            k,
+            form,
+            base_optimize,
+            step_optimize,
+            r,
+            s,
+            base,
+            step,
+            w,
+        ),
         PairCommand::Equal { .. } | PairCommand::Obligations { .. } => unreachable!(),
     }
 }
@@ -298,7 +314,8 @@ fn run_safe<F: Opens, W: Sink>(
     files: &F,
     k: usize,
     form: Window,
-    optimize: bool,
+    base_optimize: bool,
+    step_optimize: bool,
     path: &str,
     base: &str,
     step: &str,
@@ -307,14 +324,23 @@ fn run_safe<F: Opens, W: Sink>(
     requires limit { IsLimit limit }
     requires small { k < 2 ^ 32 }
     ensures { Acts (F.opens files.now) F.File.left F.File.failed W.held W.failed limit
-        (Command.Safe k form optimize) (path.now ∷ []) (base.now ∷ step.now ∷ []) w.old result
-        w.new }
+        (Command.Safe k form base_optimize step_optimize) (path.now ∷ [])
+        (base.now ∷ step.now ∷ []) w.old result w.new }
 {
     let mut file = files.open(path)?;
     let mut base = files.open(base)?;
     let mut step = files.open(step)?;
     print_safe(
-        alloc, limit, k, form, optimize, &mut file, &mut base, &mut step, w,
+        alloc,
+        limit,
+        k,
+        form,
+        base_optimize,
+        step_optimize,
+        &mut file,
+        &mut base,
+        &mut step,
+        w,
     )
 }
 
@@ -376,9 +402,26 @@ fn run<F: Opens, W: Sink>(
             let beside = call.paths[1].as_str();
             run_pair(alloc, limit, files, command, path, beside, call.further, w)
         }
-        Command::Safe { k, form, optimize } => {
+        Command::Safe {
+            k,
+            form,
+            base_optimize,
+            step_optimize,
+        } => {
             let (base, step) = (call.further[0].as_str(), call.further[1].as_str());
-            run_safe(alloc, limit, files, k, form, optimize, path, base, step, w)
+            run_safe(
+                alloc,
+                limit,
+                files,
+                k,
+                form,
+                base_optimize,
+                step_optimize,
+                path,
+                base,
+                step,
+                w,
+            )
         }
         Command::EqualBy { optimize } => {
             let beside = call.paths[1].as_str();

@@ -466,7 +466,15 @@ fn place_in_first<F: Reopens>(
                 alloc, call.limit, files, command, call.paths, base, step, error, measure,
             )
         }
-        (Command::Safe { k, form, optimize }, [base, step]) => {
+        (
+            Command::Safe {
+                k,
+                form,
+                base_optimize,
+                step_optimize,
+            },
+            [base, step],
+        ) => {
             let path = call.paths[0].as_str();
             place_of_safe_base(
                 alloc,
@@ -474,7 +482,8 @@ fn place_in_first<F: Reopens>(
                 files,
                 k,
                 form,
-                optimize,
+                base_optimize,
+                step_optimize,
                 path,
                 base.as_str(),
                 step.as_str(),
@@ -510,7 +519,15 @@ fn place_in_second<F: Reopens>(
                 alloc, call.limit, files, command, call.paths, base, step, error, measure,
             )
         }
-        (Command::Safe { k, form, optimize }, [base, step]) => {
+        (
+            Command::Safe {
+                k,
+                form,
+                base_optimize,
+                step_optimize,
+            },
+            [base, step],
+        ) => {
             let path = call.paths[0].as_str();
             place_of_safe_step(
                 alloc,
@@ -518,7 +535,8 @@ fn place_in_second<F: Reopens>(
                 files,
                 k,
                 form,
-                optimize,
+                base_optimize,
+                step_optimize,
                 path,
                 base.as_str(),
                 step.as_str(),

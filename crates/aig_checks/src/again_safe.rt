@@ -22,7 +22,8 @@ fn place_in_safe_base<R: Source + Drop, B: Origin>(
     limit: usize,
     k: usize,
     form: Window,
-    optimize: bool,
+    base_optimize: bool,
+    step_optimize: bool,
     mut file: R,
     base: R,
     mut step: R,
@@ -33,7 +34,8 @@ fn place_in_safe_base<R: Source + Drop, B: Origin>(
     requires small { k < 2 ^ 32 }
     requires origin { R.left base ≡ B.bytes }
     ensures { (result ≡ places.Whole)
-        ⊎ IsRefusedOnSafe limit k form optimize (R.left file) B.bytes error measure result }
+        ⊎ IsRefusedOnSafe limit k form base_optimize step_optimize (R.left file) B.bytes error
+        measure result }
 {
     let mut counted = Counted::<R, B>::new(base);
     match print_safe(
@@ -41,7 +43,8 @@ fn place_in_safe_base<R: Source + Drop, B: Origin>(
         limit,
         k,
         form,
-        optimize,
+        base_optimize,
+        step_optimize,
         &mut file,
         &mut counted,
         &mut step,
@@ -59,7 +62,8 @@ fn place_in_safe_step<R: Source + Drop, B: Origin>(
     limit: usize,
     k: usize,
     form: Window,
-    optimize: bool,
+    base_optimize: bool,
+    step_optimize: bool,
     mut file: R,
     mut base: R,
     step: R,
@@ -70,7 +74,8 @@ fn place_in_safe_step<R: Source + Drop, B: Origin>(
     requires small { k < 2 ^ 32 }
     requires origin { R.left step ≡ B.bytes }
     ensures { (result ≡ places.Whole)
-        ⊎ IsRefusedOnSafe limit k form optimize (R.left file) B.bytes error measure result }
+        ⊎ IsRefusedOnSafe limit k form base_optimize step_optimize (R.left file) B.bytes error
+        measure result }
 {
     let mut counted = Counted::<R, B>::new(step);
     match print_safe(
@@ -78,7 +83,8 @@ fn place_in_safe_step<R: Source + Drop, B: Origin>(
         limit,
         k,
         form,
-        optimize,
+        base_optimize,
+        step_optimize,
         &mut file,
         &mut base,
         &mut counted,
@@ -96,7 +102,8 @@ pub(crate) fn place_of_safe_base<F: Reopens>(
     files: &F,
     k: usize,
     form: Window,
-    optimize: bool,
+    base_optimize: bool,
+    step_optimize: bool,
     path: &str,
     base: &str,
     step: &str,
@@ -105,8 +112,9 @@ pub(crate) fn place_of_safe_base<F: Reopens>(
 ) -> Place
     requires limit { IsLimit limit }
     requires small { k < 2 ^ 32 }
-    ensures { IsRunPlace (F.opens files.now) F.File.left limit (Command.Safe k form optimize)
-        (path.now ∷ []) base.now error measure result }
+    ensures { IsRunPlace (F.opens files.now) F.File.left limit
+        (Command.Safe k form base_optimize step_optimize) (path.now ∷ []) base.now error measure
+        result }
 {
     let Some(Ok(file)) = files.reopen(path) else {
         return Place::Whole;
@@ -115,7 +123,17 @@ pub(crate) fn place_of_safe_base<F: Reopens>(
         return Place::Whole;
     };
     place_in_safe_base::<F::File, Brand>(
-        alloc, limit, k, form, optimize, file, base, step, error, measure,
+        alloc,
+        limit,
+        k,
+        form,
+        base_optimize,
+        step_optimize,
+        file,
+        base,
+        step,
+        error,
+        measure,
     )
 }
 
@@ -126,7 +144,8 @@ pub(crate) fn place_of_safe_step<F: Reopens>(
     files: &F,
     k: usize,
     form: Window,
-    optimize: bool,
+    base_optimize: bool,
+    step_optimize: bool,
     path: &str,
     base: &str,
     step: &str,
@@ -135,8 +154,9 @@ pub(crate) fn place_of_safe_step<F: Reopens>(
 ) -> Place
     requires limit { IsLimit limit }
     requires small { k < 2 ^ 32 }
-    ensures { IsRunPlace (F.opens files.now) F.File.left limit (Command.Safe k form optimize)
-        (path.now ∷ []) step.now error measure result }
+    ensures { IsRunPlace (F.opens files.now) F.File.left limit
+        (Command.Safe k form base_optimize step_optimize) (path.now ∷ []) step.now error measure
+        result }
 {
     let Some(Ok(file)) = files.reopen(path) else {
         return Place::Whole;
@@ -145,6 +165,16 @@ pub(crate) fn place_of_safe_step<F: Reopens>(
         return Place::Whole;
     };
     place_in_safe_step::<F::File, Brand>(
-        alloc, limit, k, form, optimize, file, base, step, error, measure,
+        alloc,
+        limit,
+        k,
+        form,
+        base_optimize,
+        step_optimize,
+        file,
+        base,
+        step,
+        error,
+        measure,
     )
 }

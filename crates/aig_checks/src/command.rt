@@ -1,13 +1,14 @@
 //! The commands, and the words that give them.
 
-ghost use Rattle.std.specs.Prelude.{◌≡◌, ◌↔◌, ◌<◌, ◌^◌, IfNone, IfSome, List, Some, ℕ, length, map, string_bytes};
+ghost use Rattle.std.specs.Prelude.{◌≡◌, ◌↔◌, ◌<◌, ◌^◌, Bool, IfNone, IfSome, List, Some, ℕ, length, map, string_bytes};
+ghost use Rattle.aig_command_line.specs.Arguments.{Arguments, seen};
 ghost use Rattle.aig_command_line.specs.Limits.{IsLimit};
-ghost use Rattle.aig_checks.specs.Words.{Give, IsCall, beside_of, command_of, form_of, name_of, on_certificate, on_step, paths_of, step_of, window_of};
+ghost use Rattle.aig_checks.specs.Words.{AreCommand, Give, IsAlone, IsCall, IsWhole, beside_of, command_of, form_of, name_of, on_certificate, on_step, paths_of, raw_alone, raw_word, step_of, window_of};
 ghost use Rattle.aig_checks.specs.declared.command.Command.{Command};
 
-use crate::justice::{FairCommand, Justice, LassoCommand, command_by, justice_first};
+use crate::justice::{FairCommand, Justice, LassoCommand, command_by, is_word, justice_first};
 use aig_answers::Window;
-use aig_command_line::{Form, HasForm, Step, find, limited};
+use aig_command_line::{Form, Given, HasForm, Step, find, limited};
 
 /// What the program is asked to do with a file.
 #[derive(Clone, Copy)]
@@ -102,8 +103,10 @@ pub enum PairCommand {
         k: usize,
         /// Which windows are looked at.
         form: Window,
-        /// Whether exclusive ors and choices have clauses of their own.
-        optimize: bool,
+        /// Whether exclusive ors and choices have clauses of their own in the question of BASE.
+        base_optimize: bool,
+        /// Whether they have in the question of STEP.
+        step_optimize: bool,
     },
 }
 
@@ -120,8 +123,10 @@ pub enum Command {
         k: usize,
         /// Which windows are looked at.
         form: Window,
-        /// Whether exclusive ors and choices have clauses of their own.
-        optimize: bool,
+        /// Whether exclusive ors and choices have clauses of their own in the question of BASE.
+        base_optimize: bool,
+        /// Whether they have in the question of STEP.
+        step_optimize: bool,
     },
     /// Check that a certificate of the miter shows that the machines of FILE and OTHER are equal at every step.
     EqualBy {
@@ -171,9 +176,9 @@ pub enum Action {
     RefutedTo,
     /// `witness FILE to K SOLUTION [raw]`.
     WitnessTo,
-    /// `safe FILE to K BASE STEP [distinct] [raw]`.
+    /// `safe FILE to K BASE STEP [distinct] [raw | raw-base | raw-step]`.
     Safe,
-    /// `equal FILE OTHER to K BASE STEP [distinct] [raw]`.
+    /// `equal FILE OTHER to K BASE STEP [distinct] [raw | raw-base | raw-step]`.
     AlwaysEqual,
     /// `equal FILE OTHER by CERT BASE STEP [raw]`.
     EqualBy,
@@ -284,7 +289,7 @@ impl Action {
         Action::EqualBy,
     ];
 
-    /// The command, with K and the settings.
+    /// The command, with K and the settings that its words give to each of its proofs.
     fn command(self, k: usize, distinct: bool, optimize: bool) -> Command
         ensures { result ≡ command_of self k distinct optimize }
     {
@@ -302,8 +307,18 @@ impl Action {
             Action::Bounded => Command::File(FileCommand::Bounded { k, optimize }),
             Action::RefutedTo => Command::File(FileCommand::RefutedTo { k, optimize }),
             Action::WitnessTo => Command::File(FileCommand::WitnessTo { k, optimize }),
-            Action::Safe => Command::Safe { k, form, optimize },
-            Action::AlwaysEqual => Command::Pair(PairCommand::AlwaysEqual { k, form, optimize }),
+            Action::Safe => Command::Safe {
+                k,
+                form,
+                base_optimize: optimize,
+                step_optimize: optimize,
+            },
+            Action::AlwaysEqual => Command::Pair(PairCommand::AlwaysEqual {
+                k,
+                form,
+                base_optimize: optimize,
+                step_optimize: optimize,
+            }),
             Action::EqualBy => Command::EqualBy { optimize },
         }
     }
@@ -322,8 +337,97 @@ pub struct Call<'a> {
     pub further: &'a [String],
 }
 
+/// Which of both proofs' clauses alone are raw, as a word says: whether STEP's are optimised, and so BASE's aren't.
+fn raw_word(word: &String) -> Option<bool>
+    ensures { (step : Bool) → (result ≡ Some step) ↔ (string_bytes word.now ≡ raw_word step) }
+{
+    if is_word(word, "raw-base") {
+        Some(true)
+    } else if is_word(word, "raw-step") {
+        Some(false)
+    } else {
+        None
+    }
+}
+
+/// The command, where the clauses of STEP alone are optimised, or those of BASE alone.
+fn raw_alone(step_optimize: bool, command: Command) -> Option<Command>
+    ensures exact { result ≡ raw_alone step_optimize command }
+    ensures paths { IfSome result (λ c. paths_of c ≡ paths_of command) }
+    ensures beside { IfSome result (λ c. beside_of c ≡ beside_of command) }
+    ensures step { IfSome result (λ c. step_of c ≡ step_of command) }
+{
+    let base_optimize = !step_optimize;
+    match command {
+        Command::Safe { k, form, .. } => Some(Command::Safe {
+            k,
+            form,
+            base_optimize,
+            step_optimize,
+        }),
+        Command::Pair(PairCommand::AlwaysEqual { k, form, .. }) => {
+            Some(Command::Pair(PairCommand::AlwaysEqual {
+                k,
+                form,
+                base_optimize,
+                step_optimize,
+            }))
+        }
+        _ => None,
+    }
+}
+
+/// The command that words fit, with one setting for all its proofs, and what they give it.
+fn whole_command(words: &[String]) -> Option<(Command, Given<'_>)>
+    ensures some { IfSome result (λ p. IsWhole (map string_bytes words.now) p.0 (seen p.1)) }
+    ensures none { IfNone result ((c : Command) (a : Arguments)
+        → ¬ IsWhole (map string_bytes words.now) c a) }
+    ensures paths { IfSome result (λ p. length p.1.paths.now ≡ paths_of p.0) }
+    ensures further { IfSome result (λ p. length p.1.further.now ≡ beside_of p.0) }
+    ensures small { IfSome result (λ p. step_of p.0 < 2 ^ 32) }
+{
+    let (action, given) = find(&Action::ALL, words)?;
+    let command = action.command(given.step, given.distinct, given.optimize);
+    Some((command, given))
+}
+
+/// The command that words fit without their last, which is `raw-base` or `raw-step`, and what they give it.
+fn alone_command(words: &[String]) -> Option<(Command, Given<'_>)>
+    ensures some { IfSome result (λ p. IsAlone (map string_bytes words.now) p.0 (seen p.1)) }
+    ensures none { IfNone result ((c : Command) (a : Arguments)
+        → ¬ IsAlone (map string_bytes words.now) c a) }
+    ensures paths { IfSome result (λ p. length p.1.paths.now ≡ paths_of p.0) }
+    ensures further { IfSome result (λ p. length p.1.further.now ≡ beside_of p.0) }
+    ensures small { IfSome result (λ p. step_of p.0 < 2 ^ 32) }
+{
+    let (last, plain) = words.split_last()?;
+    let step_optimize = raw_word(last)?;
+    let (usual, given) = whole_command(plain)?;
+    if !given.optimize {
+        return None;
+    }
+    let command = raw_alone(step_optimize, usual)?;
+    Some((command, given))
+}
+
+/// The command that words give, and what they give it.
+fn command_first(words: &[String]) -> Option<(Command, Given<'_>)>
+    ensures some { IfSome result (λ p. AreCommand (map string_bytes words.now) p.0 (seen p.1)) }
+    ensures none { IfNone result ((c : Command) (a : Arguments)
+        → ¬ AreCommand (map string_bytes words.now) c a) }
+    ensures paths { IfSome result (λ p. length p.1.paths.now ≡ paths_of p.0) }
+    ensures further { IfSome result (λ p. length p.1.further.now ≡ beside_of p.0) }
+    ensures small { IfSome result (λ p. step_of p.0 < 2 ^ 32) }
+{
+    match whole_command(words) {
+        Some(given) => Some(given),
+        None => alone_command(words),
+    }
+}
+
 /// What the words after the program's name give, or none where they are wrong: N of `--limit N`, or 2^24, then J of `--justice J`, and
-/// N of `--rounds N`, where these come, and then the command and what it takes. It takes no memory.
+/// N of `--rounds N`, where these come, and then the command and what it takes. Words that fit no command may end with `raw-base` or
+/// `raw-step` behind those of `safe` or of `equal` with `to`, without `raw`. It takes no memory.
 pub fn call_of(words: &[String]) -> Option<Call<'_>>
     ensures some { IfSome result (λ c. IsCall (map string_bytes words.now) c.limit c.command
         (map string_bytes c.paths.now) (map string_bytes c.further.now)) }
@@ -336,8 +440,7 @@ pub fn call_of(words: &[String]) -> Option<Call<'_>>
 {
     let (limit, rest) = limited(words)?;
     let (justice, rest) = justice_first(rest)?;
-    let (action, given) = find(&Action::ALL, rest)?;
-    let command = action.command(given.step, given.distinct, given.optimize);
+    let (command, given) = command_first(rest)?;
     Some(Call {
         limit,
         command: command_by(justice, command)?,
@@ -351,7 +454,9 @@ pub fn call_of(words: &[String]) -> Option<Call<'_>>
 /// The words `--limit` and N may come first, and then `--justice` and J, and then `--rounds` and N. The word after the command's name is FILE. The next is WITNESS of `run`, CERT of `certified`
 /// and `obligations`, and OTHER of `equal`. Then comes K, where the command has one, after the word `to` where it is on the steps up to K,
 /// and the words after that are PROOF of `refuted`, `inductive` and `equal`, SOLUTION of `witness`, and BASE and STEP of `certified`, `safe`
-/// and `equal` with `to`. Of `equal` with the word `by` it is CERT, BASE and STEP that come after that. It takes no memory.
+/// and `equal` with `to`. Of `equal` with the word `by` it is CERT, BASE and STEP that come after that. The words `distinct` and `raw` may
+/// come last, where the command may have them, and in place of `raw` the word `raw-base` or `raw-step` of `safe` and of `equal` with `to`:
+/// the clauses of BASE alone are then raw, or those of STEP alone. It takes no memory.
 pub fn parse(words: &[String]) -> Option<Command>
     ensures exact { (c : Command) → (result ≡ Some c) ↔ Give (map string_bytes words.now) c }
     ensures small { IfSome result (λ c. step_of c < 2 ^ 32) }

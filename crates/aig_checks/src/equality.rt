@@ -19,7 +19,8 @@ pub fn print_always_equal<R: Source, S: Source, P: Source, Q: Source, W: Sink>(
     limit: usize,
     k: usize,
     form: Window,
-    optimize: bool,
+    base_optimize: bool,
+    step_optimize: bool,
     file: &mut R,
     other: &mut S,
     base: &mut P,
@@ -28,13 +29,22 @@ pub fn print_always_equal<R: Source, S: Source, P: Source, Q: Source, W: Sink>(
 ) -> Result<(), CheckError>
     requires limit { IsLimit limit }
     requires small { k < 2 ^ 32 }
-    ensures { let command = PairCommand.AlwaysEqual k form optimize in
+    ensures { let command = PairCommand.AlwaysEqual k form base_optimize step_optimize in
         RunsPair R.left R.failed S.left S.failed P.left P.failed Q.left Q.failed W.held W.failed
         command limit file.old other.old base.old step.old w.old result
         file.new other.new base.new step.new w.new }
 {
     check_always_equal(
-        alloc, file, other, limit, k, optimize, base, form, optimize, step,
+        alloc,
+        file,
+        other,
+        limit,
+        k,
+        base_optimize,
+        base,
+        form,
+        step_optimize,
+        step,
     )?;
     Ok(write_text(w, b"equal at every step")?)
 }

@@ -69,8 +69,10 @@ pub enum FairCommand {
         k: usize,
         /// Which windows are looked at.
         form: Window,
-        /// Whether exclusive ors and choices have clauses of their own.
-        optimize: bool,
+        /// Whether exclusive ors and choices have clauses of their own in the question of BASE.
+        base_optimize: bool,
+        /// Whether they have in the question of STEP.
+        step_optimize: bool,
     },
 }
 
@@ -139,7 +141,7 @@ pub(crate) fn check_of(command: LassoCommand) -> FileCommand
 }
 
 /// Whether a word is this one.
-fn is_word(word: &String, text: &str) -> bool
+pub(crate) fn is_word(word: &String, text: &str) -> bool
     ensures { (result ≡ true) ↔ (string_bytes word.now ≡ text.now) }
 {
     word.as_str() == text
@@ -241,7 +243,17 @@ fn fair_command(justice: Justice, command: Command) -> Option<Command>
         Command::Pair(PairCommand::Obligations { optimize }) => {
             FairCommand::Obligations { optimize }
         }
-        Command::Safe { k, form, optimize } => FairCommand::Safe { k, form, optimize },
+        Command::Safe {
+            k,
+            form,
+            base_optimize,
+            step_optimize,
+        } => FairCommand::Safe {
+            k,
+            form,
+            base_optimize,
+            step_optimize,
+        },
         _ => return None,
     };
     Some(Command::Fair { justice, command })

@@ -175,7 +175,8 @@ fn safe_of_text<P: Source, Q: Source>(
     limit: usize,
     k: usize,
     form: Window,
-    optimize: bool,
+    base_optimize: bool,
+    step_optimize: bool,
     text: &[u8],
     base: &mut P,
     step: &mut Q,
@@ -183,8 +184,8 @@ fn safe_of_text<P: Source, Q: Source>(
     requires limit { IsLimit limit }
     requires small { k < 2 ^ 32 }
     ensures { OnText (λ left failed r rest. RunsSafe left failed P.left P.failed Q.left Q.failed
-        nothing_given nothing_fails k form optimize limit r base.old step.old tt result rest
-        base.new step.new tt) text.now }
+        nothing_given nothing_fails k form base_optimize step_optimize limit r base.old step.old
+        tt result rest base.new step.new tt) text.now }
 {
     let mut source = FromRead::new(text);
     print_safe(
@@ -192,7 +193,8 @@ fn safe_of_text<P: Source, Q: Source>(
         limit,
         k,
         form,
-        optimize,
+        base_optimize,
+        step_optimize,
         &mut source,
         base,
         step,
@@ -402,7 +404,8 @@ fn save_made<R: Source, P: Source, Q: Source, W: Sink>(
     justice: Justice,
     k: usize,
     form: Window,
-    optimize: bool,
+    base_optimize: bool,
+    step_optimize: bool,
     r: &mut R,
     base: &mut P,
     step: &mut Q,
@@ -412,12 +415,22 @@ fn save_made<R: Source, P: Source, Q: Source, W: Sink>(
     requires small { k < 2 ^ 32 }
     ensures { RunsMade R.left R.failed limit justice
         (SavesMade P.left P.failed Q.left Q.failed W.held W.failed limit justice.property k form
-        optimize base.old base.new step.old step.new w.old w.new)
+        base_optimize step_optimize base.old base.new step.old step.new w.old w.new)
         ((base.new ≡ base.old) × (step.new ≡ step.old) × (w.new ≡ w.old)) r.old result r.new }
 {
     fair_runs_are_lassos();
     let text = made_text(alloc, limit, justice, r)?;
-    safe_of_text(alloc, limit, k, form, optimize, text.as_slice(), base, step)?;
+    safe_of_text(
+        alloc,
+        limit,
+        k,
+        form,
+        base_optimize,
+        step_optimize,
+        text.as_slice(),
+        base,
+        step,
+    )?;
     Ok(write_line(w, b"no fair run of j", justice.property)?)
 }
 
@@ -505,7 +518,8 @@ fn save_at<F: Opens, W: Sink>(
     justice: Justice,
     k: usize,
     form: Window,
-    optimize: bool,
+    base_optimize: bool,
+    step_optimize: bool,
     path: &str,
     base: &str,
     step: &str,
@@ -514,13 +528,24 @@ fn save_at<F: Opens, W: Sink>(
     requires limit { IsLimit limit }
     requires small { k < 2 ^ 32 }
     ensures { ActsFair (F.opens files.now) F.File.left F.File.failed W.held W.failed limit justice
-        (fair.Safe k form optimize) (path.now ∷ []) (base.now ∷ step.now ∷ []) w.old result w.new }
+        (fair.Safe k form base_optimize step_optimize) (path.now ∷ []) (base.now ∷ step.now ∷ [])
+        w.old result w.new }
 {
     let mut file = files.open(path)?;
     let mut base = files.open(base)?;
     let mut step = files.open(step)?;
     save_made(
-        alloc, limit, justice, k, form, optimize, &mut file, &mut base, &mut step, w,
+        alloc,
+        limit,
+        justice,
+        k,
+        form,
+        base_optimize,
+        step_optimize,
+        &mut file,
+        &mut base,
+        &mut step,
+        w,
     )
 }
 
@@ -586,10 +611,26 @@ pub(crate) fn run_fair<F: Opens, W: Sink>(
                 w,
             )
         }
-        FairCommand::Safe { k, form, optimize } => {
+        FairCommand::Safe {
+            k,
+            form,
+            base_optimize,
+            step_optimize,
+        } => {
             let (base, step) = (further[0].as_str(), further[1].as_str());
             save_at(
-                alloc, limit, files, justice, k, form, optimize, path, base, step, w,
+                alloc,
+                limit,
+                files,
+                justice,
+                k,
+                form,
+                base_optimize,
+                step_optimize,
+                path,
+                base,
+                step,
+                w,
             )
         }
     }

@@ -18,7 +18,8 @@ pub fn print_safe<R: Source, P: Source, Q: Source, W: Sink>(
     limit: usize,
     k: usize,
     form: Window,
-    optimize: bool,
+    base_optimize: bool,
+    step_optimize: bool,
     r: &mut R,
     base: &mut P,
     step: &mut Q,
@@ -27,8 +28,19 @@ pub fn print_safe<R: Source, P: Source, Q: Source, W: Sink>(
     requires limit { IsLimit limit }
     requires small { k < 2 ^ 32 }
     ensures { RunsSafe R.left R.failed P.left P.failed Q.left Q.failed W.held W.failed k form
-        optimize limit r.old base.old step.old w.old result r.new base.new step.new w.new }
+        base_optimize step_optimize limit r.old base.old step.old w.old result r.new base.new
+        step.new w.new }
 {
-    check_safe(alloc, r, limit, k, optimize, base, form, optimize, step)?;
+    check_safe(
+        alloc,
+        r,
+        limit,
+        k,
+        base_optimize,
+        base,
+        form,
+        step_optimize,
+        step,
+    )?;
     Ok(write_text(w, b"no bad state at any step")?)
 }

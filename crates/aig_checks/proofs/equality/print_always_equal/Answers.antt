@@ -12,10 +12,13 @@ returns-in_err-check_always_equal g c =
     let told = c.in_err-check_always_equal.ensures in
     let e = c.in_err-check_always_equal.field-0.0 in
     let a = c.args in
-    rw (p.1, p.2) (refused_so (AlwaysEquals g.P.Source.left g.Q.Source.left a.limit a.k a.optimize
-    a.form a.optimize a.base.now _ a.step.now) e (errors.Equality e) (λ is. cc) told.reads refl refl
+    rw (p.1, p.2) (refused_so (AlwaysEquals g.P.Source.left g.Q.Source.left a.limit a.k
+    a.base_optimize
+    a.form a.step_optimize a.base.now _ a.step.now) e (errors.Equality e) (λ is. cc) told.reads
+    refl refl
     (λ own. own)
-    (why_of g.P.Source.left g.Q.Source.left a.limit a.k a.optimize a.form a.base.now _ a.step.now e)
+    (why_of g.P.Source.left g.Q.Source.left a.limit a.k a.base_optimize a.step_optimize a.form
+    a.base.now _ a.step.now e)
     refl told.base_unread told.step_unread
     (λ is. absurd (no_certificate e _ is)) (λ is. absurd (no_certificate e _ is))
     (λ is. told.base_stream (equality_error e _ is))
@@ -26,17 +29,21 @@ returns-in_err-write_text g c =
     let p = err_from_is_err_and c.from_residual-in_err-write_text.result
     c.from_residual-in_err-write_text.ensures.1 in
     let a = c.args in
-    rw (p.1, p.2) (pair_stopped (AlwaysEquals g.P.Source.left g.Q.Source.left a.limit a.k a.optimize
-    a.form a.optimize a.base.now _ a.step.now) tt always_line c.in_ok-check_always_equal.ensures.reads
-    (text_of g.P.Source.left g.Q.Source.left a.limit a.k a.optimize a.form a.base.now _ a.step.now)
+    rw (p.1, p.2) (pair_stopped (AlwaysEquals g.P.Source.left g.Q.Source.left a.limit a.k
+    a.base_optimize
+    a.form a.step_optimize a.base.now _ a.step.now) tt always_line
+    c.in_ok-check_always_equal.ensures.reads
+    (text_of g.P.Source.left g.Q.Source.left a.limit a.k a.base_optimize a.step_optimize a.form
+    a.base.now _ a.step.now)
     c.in_err-write_text.ensures.err)
 
 pub returns : goal.returns
 returns g c =
     let written = c.in_ok-write_text.ensures in
     let a = c.args in
-    pair_answered (AlwaysEquals g.P.Source.left g.Q.Source.left a.limit a.k a.optimize
-    a.form a.optimize a.base.now _ a.step.now) tt tt always_line
+    pair_answered (AlwaysEquals g.P.Source.left g.Q.Source.left a.limit a.k a.base_optimize
+    a.form a.step_optimize a.base.now _ a.step.now) tt tt always_line
     c.in_ok-check_always_equal.ensures.reads
-    (text_of g.P.Source.left g.Q.Source.left a.limit a.k a.optimize a.form a.base.now _ a.step.now)
+    (text_of g.P.Source.left g.Q.Source.left a.limit a.k a.base_optimize a.step_optimize a.form
+    a.base.now _ a.step.now)
     written.ok written.sound
