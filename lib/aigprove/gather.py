@@ -7,7 +7,7 @@ import re
 import shlex
 import stat
 
-from aigprove import aiger, witness
+from aigprove import aiger, endless, witness
 from aigprove.evidence import ABOVE
 from aigprove.files import NODE
 from aigprove.kept import PART
@@ -30,10 +30,10 @@ STEP, STEPS, RUN = map(
     ],
 )
 SAFE, NONE = "no bad state at any step", "no fair run of j{}"
-# The word that comes before the number of a justice property.
-JUSTICE, COUNT = "--justice", re.compile("[0-9]{1,9}")
-# The file of what is kept of assumptions, which are looked at anew.
-POSSIBLE = "possible.aag"
+# The words that come before the number of a justice property, and behind that before a number of rounds.
+JUSTICE, ROUNDS, COUNT = "--justice", "--rounds", re.compile("[0-9]{1,9}")
+# The files of what is kept of assumptions, which are looked at anew.
+ASSUMED = ("possible.aag", endless.NAME)
 
 
 def taken(path, limit):
@@ -74,11 +74,18 @@ def lines_of(folder, part, limit):
     return lines, made
 
 
+def setting_of(words, name):
+    """The first two words, where they are this name and a number, and the others."""
+    count = 2 * (words[:1] == [name] and COUNT.fullmatch("".join(words[1:2])) is not None)
+    return words[:count], words[count:]
+
+
 def shown(part, words, noted):
     """The line of these words, if it is about a file."""
     line, *words = words or [""]
-    setting = words[:2] if words[:1] == [JUSTICE] and COUNT.fullmatch("".join(words[1:2])) else []
-    words = words[len(setting):]
+    setting, words = setting_of(words, JUSTICE)
+    rounds, words = setting_of(words, ROUNDS) if setting else ([], words)
+    setting += rounds
     return Line(part, words[1], line, setting, words, noted) if len(words) > 1 else None
 
 
@@ -142,7 +149,7 @@ class Gathered:
             except Fault as why:
                 say(why)
                 continue
-            yield from ((line, made) for line in lines if not line.name.endswith(POSSIBLE))
+            yield from ((line, made) for line in lines if not line.name.endswith(ASSUMED))
 
     def take(self, jobs):
         """Has all lines checked, several at once, and puts what follows into the answers."""

@@ -1,5 +1,5 @@
 -- What the contracts of `aigcheck` and `aigedit` say of words and files that are known.
-use Rattle.aig_base.proofs.Words.{◌≡◌, ℕ, ◌^◌, Bool, true, false, List, [], ◌∷◌, inr, Option, None, Some, Result, Ok, Err, IfOk, refl, sym, ap, subst, ◌∙◌, ◌++◌, arith, ◌==◌, true≢false, codes}
+use Rattle.aig_base.proofs.Words.{◌≡◌, ℕ, ◌^◌, Bool, true, false, List, [], ◌∷◌, inl, inr, Option, None, Some, Result, Ok, Err, IfOk, refl, sym, ap, subst, ◌∙◌, ◌++◌, arith, ◌==◌, true≢false, codes}
 use Rattle.std.proofs.lemmas.Fmt.{decimal_digit}
 use Rattle.aig_change.specs.Changes.{CompressesBads}
 use Rattle.aig_circuit.specs.Circuit.{Circuit}
@@ -61,7 +61,7 @@ refuted_call words are = record {
   justice = None;
   more = words;
   asked = (λ more is. true≢false (ap (begins_with 114) (sym are ∙ is)), refl);
-  action = actions.Refuted;
+  usual = commands.File (on_file.Refuted 0 true);
   arguments = record {
     paths = codes "FILE" ∷ [];
     step = 0;
@@ -70,24 +70,28 @@ refuted_call words are = record {
         false;
     optimize = true;
   };
-  gives = record {
-    steps = codes "0" ∷ [];
-    spelled = are;
-    paths = refl;
-    step = (
-      codes "0",
-      refl,
-      record {
-        some = λ none. cc;
-        each = ((omega arith, omega arith), tt);
-        value = refl;
-        small = omega arith;
-      },
-    );
-    further = refl;
-    distinct = λ is. is;
-    raw = λ is. refl;
-  };
+  gives = inl (record {
+    action = actions.Refuted;
+    gives = record {
+      steps = codes "0" ∷ [];
+      spelled = are;
+      paths = refl;
+      step = (
+        codes "0",
+        refl,
+        record {
+          some = λ none. cc;
+          each = ((omega arith, omega arith), tt);
+          value = refl;
+          small = omega arith;
+        },
+      );
+      further = refl;
+      distinct = λ is. is;
+      raw = λ is. refl;
+    };
+    command = refl;
+  });
   command = refl;
   on = refl;
   beside = refl;
