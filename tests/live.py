@@ -8,7 +8,8 @@ the counts and the names that the command says. No step of the search knows how 
 all runs. What `aigcheck --justice` prints of clauses has to be what it prints of the printed file.
 
 Of the first ANSWERS files `aigprove --justice` has to say whether there is any fair lasso, and the lasso that it writes has to be one,
-with the loop that `aigcheck run` finds in it.
+with the loop that `aigcheck run` finds in it, from which on the dump marks it. What it tells of runs without end that meet the fairness has
+to be so.
 """
 import dataclasses
 import random
