@@ -37,9 +37,14 @@ pub(crate) const MOST_NODES: usize = 1 << 31;
 /// An edge is of a circuit where the circuit has a node of its number (`has_edge`). Calls that take memory take it from
 /// the allocator that `new`, `from_aiger` or `from_file` was given. A call that returns an error leaves the circuit as
 /// it was.
-#[derive(Drop)]
 pub struct Aig {
     pub(crate) lists: CircuitLists,
+}
+
+impl Drop for Aig {
+    fn drop(self) {
+        let Aig { lists: _ } = self;
+    }
 }
 
 impl Model for Aig {

@@ -8,7 +8,6 @@ use aig_base::MemoryError;
 use std::alloc::Global;
 
 /// The five lists of properties, of edges or of literals (AIGER 1.9, "Properties").
-#[derive(Drop)]
 pub struct Properties<E> {
     /// The outputs.
     pub outputs: Vec<E>,
@@ -20,6 +19,18 @@ pub struct Properties<E> {
     pub justice: Vec<Vec<E>>,
     /// The fairness constraints.
     pub fairness: Vec<E>,
+}
+
+impl<E: Drop> Drop for Properties<E> {
+    fn drop(self) {
+        let Properties {
+            outputs: _,
+            bads: _,
+            constraints: _,
+            justice: _,
+            fairness: _,
+        } = self;
+    }
 }
 
 impl<E: Copy + Drop> Properties<E> {

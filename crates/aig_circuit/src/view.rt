@@ -15,7 +15,6 @@ use std::collections::HashMap;
 use std::marker::Model;
 
 /// The lists of a circuit.
-#[derive(Drop)]
 pub struct CircuitLists {
     /// The nodes, each at the place of its number.
     pub nodes: Vec<AigNode>,
@@ -27,6 +26,18 @@ pub struct CircuitLists {
     pub properties: Properties<AigEdge>,
     /// The names of nodes, by their numbers.
     pub names: HashMap<usize, String>,
+}
+
+impl Drop for CircuitLists {
+    fn drop(self) {
+        let CircuitLists {
+            nodes: _,
+            inputs: _,
+            latchs: _,
+            properties: _,
+            names: _,
+        } = self;
+    }
 }
 
 /// A circuit that is borrowed, as the engines take it.

@@ -16,10 +16,15 @@ fn write_front(bytes: &mut [u8], piece: &[u8])
 }
 
 /// The bytes that came last, at most 2^14.
-#[derive(Drop)]
 pub(crate) struct Piece {
     bytes: [u8; MOST],
     len: usize,
+}
+
+impl Drop for Piece {
+    fn drop(self) {
+        let Piece { bytes: _, len: _ } = self;
+    }
 }
 
 impl Model for Piece {

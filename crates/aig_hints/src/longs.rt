@@ -21,12 +21,21 @@ enum Visit {
 ///
 /// A watch may be stale: of a clause that was removed, is of another kind now or watches other
 /// literals, or a second one of a clause. Where most of a list are stale they are dropped.
-#[derive(Drop)]
 pub(crate) struct Longs {
     kind: Kind,
     watches: Watches<Lit>,
     /// How many watches of each literal are stale at most.
     stale: Vec<u32>,
+}
+
+impl Drop for Longs {
+    fn drop(self) {
+        let Longs {
+            kind: _,
+            watches: _,
+            stale: _,
+        } = self;
+    }
 }
 
 impl Longs {

@@ -4,12 +4,17 @@ use aig_base::{Lit, MemoryError};
 use std::alloc::Global;
 
 /// A set of literals, which is cleared at the cost of those in it.
-#[derive(Drop)]
 pub(crate) struct Marked {
     /// Whether a literal is in the set, by its number.
     is: Vec<bool>,
     /// The literals in the set, in the order in which they came.
     lits: Vec<Lit>,
+}
+
+impl Drop for Marked {
+    fn drop(self) {
+        let Marked { is: _, lits: _ } = self;
+    }
 }
 
 impl Marked {

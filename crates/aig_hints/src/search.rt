@@ -24,7 +24,6 @@ const PERIOD: u32 = 200;
 /// time ago. Most hints of a clause are also hints of the clauses just before it.
 ///
 /// After an error it isn't used any more.
-#[derive(Drop)]
 pub struct Search {
     alloc: Global,
     clauses: Clauses,
@@ -52,6 +51,28 @@ pub struct Search {
     named: usize,
     /// The place of a clause whose literals are all false for good.
     conflict: Option<u32>,
+}
+
+impl Drop for Search {
+    fn drop(self) {
+        let Search {
+            alloc: _,
+            clauses: _,
+            shorts: _,
+            recent: _,
+            rest: _,
+            recent_places: _,
+            searches: _,
+            index: _,
+            trail: _,
+            marked: _,
+            needed: _,
+            chain: _,
+            units: _,
+            named: _,
+            conflict: _,
+        } = self;
+    }
 }
 
 /// The number of the clause that has a variable's literal alone, or 0.

@@ -23,7 +23,6 @@ fn put(weights: &mut [u8], lit: Lit, weight: u8, of_inverse: u8) {
 }
 
 /// Truth values of literals, in the order in which they came.
-#[derive(Drop)]
 pub(crate) struct Trail {
     /// How far each literal is from being false, by its number.
     weights: Vec<u8>,
@@ -35,6 +34,18 @@ pub(crate) struct Trail {
     reasons: Vec<u32>,
     /// How many literals are true.
     len: usize,
+}
+
+impl Drop for Trail {
+    fn drop(self) {
+        let Trail {
+            weights: _,
+            orders: _,
+            lits: _,
+            reasons: _,
+            len: _,
+        } = self;
+    }
 }
 
 impl Trail {

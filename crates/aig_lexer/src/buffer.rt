@@ -33,11 +33,20 @@ fn pull_front<R: Source>(r: &mut R, bytes: &mut [u8], count: usize) -> Result<us
 }
 
 /// Bytes of a source, in order, that were pulled and not yet taken.
-#[derive(Drop)]
 pub struct InputBuffer {
     bytes: [u8; SIZE],
     at: usize,
     end: usize,
+}
+
+impl Drop for InputBuffer {
+    fn drop(self) {
+        let InputBuffer {
+            bytes: _,
+            at: _,
+            end: _,
+        } = self;
+    }
 }
 
 impl Model for InputBuffer {

@@ -26,7 +26,6 @@ use std::alloc::Global;
 use std::marker::Model;
 
 /// The clauses of a formula that are still there, and those that were found to follow.
-#[derive(Drop)]
 pub(crate) struct Checker {
     numbered: Numbered,
     marks: Marks,
@@ -40,6 +39,20 @@ pub(crate) struct Checker {
     led: Vec<Lit>,
     /// What follows of the clause at hand and another one.
     resolvent: Resolvent,
+}
+
+impl Drop for Checker {
+    fn drop(self) {
+        let Checker {
+            numbered: _,
+            marks: _,
+            variables: _,
+            hints: _,
+            kept: _,
+            led: _,
+            resolvent: _,
+        } = self;
+    }
 }
 
 impl Model for Checker {

@@ -25,7 +25,6 @@ const DELETED: u32 = u32::MAX;
 ///
 /// A deleted clause stays until `reclaim`, so the memory is that of the clauses that numbers name,
 /// at most about twice, and four bytes for each number.
-#[derive(Drop)]
 pub(crate) struct Numbered {
     alloc: Global,
     clauses: LitVvec,
@@ -39,6 +38,20 @@ pub(crate) struct Numbered {
     live: usize,
     /// How many literals have those that were deleted.
     deleted: usize,
+}
+
+impl Drop for Numbered {
+    fn drop(self) {
+        let Numbered {
+            alloc: _,
+            clauses: _,
+            numbers: _,
+            places: _,
+            added: _,
+            live: _,
+            deleted: _,
+        } = self;
+    }
 }
 
 impl Model for Numbered {

@@ -105,12 +105,17 @@ fn skip_line<R: Source>(buffer: &mut InputBuffer, r: &mut R) -> Result<bool, Ref
 }
 
 /// The text of a proof, from which words are taken.
-#[derive(Drop)]
 pub(crate) struct Words {
     /// The bytes that are held.
     pub(crate) buffer: InputBuffer,
     /// How the line ended whose words were taken, if it did.
     end: Option<End>,
+}
+
+impl Drop for Words {
+    fn drop(self) {
+        let Words { buffer: _, end: _ } = self;
+    }
 }
 
 impl Model for Words {

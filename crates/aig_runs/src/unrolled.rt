@@ -15,11 +15,20 @@ use std::alloc::Global;
 use std::marker::Model;
 
 /// A circuit, and the circuit with further steps.
-#[derive(Drop)]
 pub struct Unrolled {
     circuit: CircuitLists,
     steps: usize,
     further: Option<CircuitLists>,
+}
+
+impl Drop for Unrolled {
+    fn drop(self) {
+        let Unrolled {
+            circuit: _,
+            steps: _,
+            further: _,
+        } = self;
+    }
 }
 
 impl Model for Unrolled {

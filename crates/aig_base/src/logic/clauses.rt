@@ -25,10 +25,15 @@ enum Place {
 /// Up to 4 clauses with up to 12 literals together, as an and of two, an exclusive or and an if-then-else have, stand
 /// in the list itself and take no memory. With the first clause beyond these all clauses move to memory. A call that
 /// returns an error leaves the list as it was.
-#[derive(Drop)]
 pub struct LitVvec {
     place: Place,
     alloc: Global,
+}
+
+impl Drop for LitVvec {
+    fn drop(self) {
+        let LitVvec { place: _, alloc: _ } = self;
+    }
 }
 
 impl Model for LitVvec {

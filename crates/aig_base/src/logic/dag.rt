@@ -16,10 +16,18 @@ const MOST_CLAUSES: usize = 1 << 63;
 ///
 /// There is one variable at least, and 2^31 at most. Every literal is of a variable that is there. A call that returns
 /// an error leaves the clauses as they were.
-#[derive(Drop)]
 pub struct DagCnf {
     relations: Vec<LitVvec>,
     clauses: usize,
+}
+
+impl Drop for DagCnf {
+    fn drop(self) {
+        let DagCnf {
+            relations: _,
+            clauses: _,
+        } = self;
+    }
 }
 
 impl Model for DagCnf {

@@ -11,10 +11,18 @@ use std::marker::Model;
 /// Clauses in two vectors: their literals one after another, and where each clause ends.
 ///
 /// A call that returns an error leaves them as they were.
-#[derive(Drop)]
 pub(crate) struct FarClauses {
     literals: Vec<Lit>,
     ends: Vec<usize>,
+}
+
+impl Drop for FarClauses {
+    fn drop(self) {
+        let FarClauses {
+            literals: _,
+            ends: _,
+        } = self;
+    }
 }
 
 impl Model for FarClauses {

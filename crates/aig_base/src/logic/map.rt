@@ -11,9 +11,14 @@ use std::collections::HashMap;
 use std::marker::Model;
 
 /// A map from variables to variables.
-#[derive(Drop)]
 pub struct VarVMap {
     entries: HashMap<u32, Var>,
+}
+
+impl Drop for VarVMap {
+    fn drop(self) {
+        let VarVMap { entries: _ } = self;
+    }
 }
 
 impl Model for VarVMap {

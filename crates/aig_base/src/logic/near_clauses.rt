@@ -16,12 +16,22 @@ const MOST_LITERALS: usize = 12;
 /// Up to 4 clauses with up to 12 literals: their literals one after another, and where each clause ends.
 ///
 /// It takes no memory beside its own value. Places without a clause or a literal hold anything.
-#[derive(Drop)]
 pub(crate) struct NearClauses {
     literals: [Lit; MOST_LITERALS],
     ends: [u8; MOST_CLAUSES],
     clauses: u8,
     used: u8,
+}
+
+impl Drop for NearClauses {
+    fn drop(self) {
+        let NearClauses {
+            literals: _,
+            ends: _,
+            clauses: _,
+            used: _,
+        } = self;
+    }
 }
 
 impl Model for NearClauses {
