@@ -23,7 +23,6 @@ use aig_runs::push_units;
 use std::alloc::Global;
 
 /// The clauses of a bounded check.
-#[derive(Drop)]
 pub struct BoundedClauses {
     /// The question.
     pub question: Question,
@@ -33,6 +32,17 @@ pub struct BoundedClauses {
     pub clauses: DagCnf,
     /// The clause that its output is true.
     pub further: LitVvec,
+}
+
+impl Drop for BoundedClauses {
+    fn drop(self) {
+        let BoundedClauses {
+            question: _,
+            named: _,
+            clauses: _,
+            further: _,
+        } = self;
+    }
 }
 
 impl BoundedClauses {

@@ -18,7 +18,6 @@ use aig_runs::Unrolled;
 use std::alloc::Global;
 
 /// What the clauses are written from that the proofs of `check_certified` are of.
-#[derive(Drop)]
 pub struct Obligations {
     /// The joint circuit, with no further step.
     pub joint: Unrolled,
@@ -28,6 +27,17 @@ pub struct Obligations {
     pub stepped: CircuitLists,
     /// What the clauses of the joint circuit's plain window of two steps are written from beside it.
     pub step: ClauseParts,
+}
+
+impl Drop for Obligations {
+    fn drop(self) {
+        let Obligations {
+            joint: _,
+            base: _,
+            stepped: _,
+            step: _,
+        } = self;
+    }
 }
 
 /// What the clauses of a joint circuit's query for step 0 and of its window of two steps are written from.

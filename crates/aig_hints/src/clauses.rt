@@ -163,13 +163,22 @@ fn look_at(words: &mut [u32], lit: Lit, kind: Kind, trail: &Trail) -> Look {
 
 /// Clauses, each a header and its literals, by the places of their first words. The first two
 /// literals of a clause are watched.
-#[derive(Drop)]
 pub(crate) struct Clauses {
     words: Vec<u32>,
     /// How many clauses are there.
     count: usize,
     /// How many words are of removed clauses.
     removed: usize,
+}
+
+impl Drop for Clauses {
+    fn drop(self) {
+        let Clauses {
+            words: _,
+            count: _,
+            removed: _,
+        } = self;
+    }
 }
 
 impl Clauses {

@@ -8,7 +8,6 @@ const BITS: usize = 64;
 
 /// A set of true literals, by where they stand in their order. The last one is the first to be
 /// found.
-#[derive(Drop)]
 pub(crate) struct Needed {
     /// A bit for each literal.
     words: Vec<u64>,
@@ -16,6 +15,16 @@ pub(crate) struct Needed {
     start: usize,
     /// How many of the words may have one, with those before it.
     end: usize,
+}
+
+impl Drop for Needed {
+    fn drop(self) {
+        let Needed {
+            words: _,
+            start: _,
+            end: _,
+        } = self;
+    }
 }
 
 impl Needed {

@@ -70,12 +70,17 @@ fn last_of(edges: &[AigEdge]) -> AigEdge
 }
 
 /// The edges of a circuit that counts rounds.
-#[derive(Drop)]
 pub(crate) struct Counted {
     /// The next edge of the latch of each edge and then of each round.
     pub(crate) nexts: Vec<AigEdge>,
     /// All rounds ended.
     pub(crate) bad: AigEdge,
+}
+
+impl Drop for Counted {
+    fn drop(self) {
+        let Counted { nexts: _, bad: _ } = self;
+    }
 }
 
 /// Adds the leaves and gates of a circuit that counts so many rounds.

@@ -156,7 +156,6 @@ pub(crate) fn push_latches(
 }
 
 /// The edges of a live circuit.
-#[derive(Drop)]
 pub(crate) struct Parts {
     /// A state is or was saved.
     pub(crate) active: AigEdge,
@@ -166,6 +165,17 @@ pub(crate) struct Parts {
     pub(crate) seen: Vec<AigEdge>,
     /// A fair lasso ends.
     pub(crate) bad: AigEdge,
+}
+
+impl Drop for Parts {
+    fn drop(self) {
+        let Parts {
+            active: _,
+            starts: _,
+            seen: _,
+            bad: _,
+        } = self;
+    }
 }
 
 /// Adds the leaves and gates of a live circuit.

@@ -104,7 +104,6 @@ fn push_group(groups: &mut Vec<Number>, number: u32, hints: &[u32]) -> Result<()
 }
 
 /// What follows of a clause and another one, and the hints for it.
-#[derive(Drop)]
 pub(crate) struct Resolvent {
     /// Its literals.
     clause: Vec<Lit>,
@@ -114,6 +113,17 @@ pub(crate) struct Resolvent {
     places: Vec<usize>,
     /// For each place where the hints for its clause begin, among those of a step.
     starts: Vec<usize>,
+}
+
+impl Drop for Resolvent {
+    fn drop(self) {
+        let Resolvent {
+            clause: _,
+            hints: _,
+            places: _,
+            starts: _,
+        } = self;
+    }
 }
 
 impl Resolvent {

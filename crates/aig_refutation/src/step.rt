@@ -16,7 +16,6 @@ use std::alloc::Global;
 /// A step of a proof: a line `N L.. 0 H.. 0`, where `-M H..` may stand before the last 0, for each of
 /// some clauses, or `N d M.. 0` of an LRAT file, or `L.. 0` or `d L.. 0` of a DRAT file, text or
 /// binary. Its lists are used again for the next one.
-#[derive(Drop)]
 pub(crate) struct Step {
     /// Whether clauses are named by numbers, as in an LRAT file.
     pub(crate) is_numbered: bool,
@@ -30,6 +29,19 @@ pub(crate) struct Step {
     pub(crate) numbers: Vec<u32>,
     /// The numbers of a line from the first that is negative on, `-M H..`, as often as there are.
     pub(crate) groups: Vec<Number>,
+}
+
+impl Drop for Step {
+    fn drop(self) {
+        let Step {
+            is_numbered: _,
+            deletes: _,
+            number: _,
+            clause: _,
+            numbers: _,
+            groups: _,
+        } = self;
+    }
 }
 
 /// The number of a clause.

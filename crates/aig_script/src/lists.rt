@@ -10,12 +10,22 @@ use std::alloc::Global;
 use std::io::Print;
 
 /// What these steps work on: a list of clauses, clauses by variable, and a map of variables.
-#[derive(Drop)]
 pub(crate) struct Lists {
     alloc: Global,
     clauses: LitVvec,
     relations: DagCnf,
     map: VarVMap,
+}
+
+impl Drop for Lists {
+    fn drop(self) {
+        let Lists {
+            alloc: _,
+            clauses: _,
+            relations: _,
+            map: _,
+        } = self;
+    }
 }
 
 impl Lists {

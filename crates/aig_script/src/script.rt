@@ -46,11 +46,20 @@ impl From<MemoryError> for Refusal {
 }
 
 /// What steps work on: a circuit, and another that was kept.
-#[derive(Drop)]
 pub(crate) struct Script {
     pub(crate) alloc: Global,
     pub(crate) circuit: Aig,
     pub(crate) kept: Aig,
+}
+
+impl Drop for Script {
+    fn drop(self) {
+        let Script {
+            alloc: _,
+            circuit: _,
+            kept: _,
+        } = self;
+    }
 }
 
 impl Script {

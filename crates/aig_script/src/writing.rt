@@ -104,10 +104,15 @@ fn put<R: Print>(rt: &R, script: &Script, ascii: bool, numbers: &[usize]) {
 }
 
 /// Room for so many bytes, and the text that came. A piece that is longer is refused.
-#[derive(Drop)]
 struct Room {
     left: usize,
     text: String,
+}
+
+impl Drop for Room {
+    fn drop(self) {
+        let Room { left: _, text: _ } = self;
+    }
 }
 
 impl fmt::Write for Room {
