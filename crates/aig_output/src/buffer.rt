@@ -19,15 +19,10 @@ const DIGITS: usize = 20;
 
 /// Bytes that wait for a sink, in order, until 32,768 are there. A text that is written waits here, or goes to the sink
 /// after what waited.
+#[derive(Drop)]
 pub struct OutputBuffer {
     bytes: [u8; SIZE],
     len: usize,
-}
-
-impl Drop for OutputBuffer {
-    fn drop(self) {
-        let OutputBuffer { bytes: _, len: _ } = self;
-    }
 }
 
 impl Model for OutputBuffer {
