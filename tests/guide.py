@@ -5,7 +5,7 @@ In docs/COMMANDS.md a block of the kind `console` holds commands, each after `$ 
 prints, to both streams. They are run in order, by sh, in a new folder with links to the repository's. A block `console needs NAME
 ..` is run where these programs are found, those of others only with --tools, and else passed over. In docs/FORMAT.md a row that
 begins with bytes in a code span is a file, and its second cell what `aigtool text` prints: the same bytes, other ones, or the
-text of a refusal. Each command of a table of docs/COMMANDS.md has to stand in a block.
+text of a refusal. Each command that a list of docs/COMMANDS.md has has to stand in a block.
 
 Programs are looked for in each FOLDER, then in crates/NAME/out, where `rt run` in crates/NAME builds them, then where the system
 looks.
@@ -25,7 +25,7 @@ ROWS = "FORMAT.md"
 PROGRAMS = ["aigtool", "aigedit", "aigcheck"]
 BLOCK = re.compile(r"^```console(?: needs ([^\n]*))?\n(.*?)^```$", re.DOTALL | re.MULTILINE)
 ROW = re.compile(r"^\| `(a[ai]g [^`]*)` \| ([^|]*) \|", re.MULTILINE)
-COMMAND = re.compile(r"^\| `(aig(?:tool|edit|check) \w+)", re.MULTILINE)
+COMMAND = re.compile(r"^- `(aig(?:tool|edit|check) \w+) [^`]*`: ", re.MULTILINE)
 KINDS = ("aag ", "aig ")
 
 
