@@ -3,8 +3,8 @@
 
 In docs/COMMANDS.md a block of the kind `console` holds commands, each after `$ ` and going on after `> `, and below each what it
 prints, to both streams. They are run in order, by sh, in a new folder with links to the repository's. A block `console needs NAME
-..` is run where these programs are found, those of others only with --tools, and else passed over. In docs/FORMAT.md a row that
-begins with bytes in a code span is a file, and its second cell what `aigtool text` prints: the same bytes, other ones, or the
+..` is run where these programs are found, those of others only with --tools, and else passed over. In docs/FORMAT.md an item
+that begins with bytes in a code span is a file, and behind it stands what `aigtool text` prints: the same bytes, other ones, or the
 text of a refusal. Each command that a list of docs/COMMANDS.md has has to stand in a block.
 
 Programs are looked for in each FOLDER, then in crates/NAME/out, where `rt run` in crates/NAME builds them, then where the system
@@ -24,7 +24,7 @@ PAGES = ["COMMANDS.md"]
 ROWS = "FORMAT.md"
 PROGRAMS = ["aigtool", "aigedit", "aigcheck"]
 BLOCK = re.compile(r"^```console(?: needs ([^\n]*))?\n(.*?)^```$", re.DOTALL | re.MULTILINE)
-ROW = re.compile(r"^\| `(a[ai]g [^`]*)` \| ([^|]*) \|", re.MULTILINE)
+ROW = re.compile(r"^- `(a[ai]g [^`]*)`: (the same|`[^`]*`), ", re.MULTILINE)
 COMMAND = re.compile(r"^- `(aig(?:tool|edit|check) \w+) [^`]*`: ", re.MULTILINE)
 KINDS = ("aag ", "aig ")
 
@@ -43,9 +43,9 @@ def commands(block):
         yield lines[0] + "".join(line[2:] for line in lines[1:count]), "".join(lines[count:])
 
 
-def printed_by(cell, given):
-    """The bytes that the second cell of a row says: the given file, another one, or a refusal."""
-    span = given if cell == "the same" else cell.strip("`")
+def printed_by(told, given):
+    """The bytes that an item tells: the given file, another one, or a refusal."""
+    span = given if told == "the same" else told.strip("`")
     return spelled(span) if span.startswith(KINDS) else f"aigtool: {span}\n".encode()
 
 
@@ -80,10 +80,10 @@ class Pages:
             self.tally.wants(f"{name}: an example of {command}", True, re.search(rf"\b{command}\b", blocks) is not None)
 
     def read_rows(self, name):
-        """Reads the files of a page's tables."""
-        for bytes_span, cell in ROW.findall(page(name)):
+        """Reads the files of a page's lists."""
+        for bytes_span, told in ROW.findall(page(name)):
             (self.folder / "row").write_bytes(spelled(bytes_span))
-            self.compare(f"{name}: {bytes_span}", printed_by(cell, bytes_span), ["aigtool", "text", "row"])
+            self.compare(f"{name}: {bytes_span}", printed_by(told, bytes_span), ["aigtool", "text", "row"])
 
 
 def main():
