@@ -17,7 +17,8 @@ from pathlib import Path
 import harness
 from aiger import machine_of
 from harness import CHECK, EDIT, numbers, output
-from random_machines import Files, counted, deep_machine, random_machine, told
+from machines import deep_machine, random_machine
+from trials import Files, counted, told
 
 LAST = 12
 # How many inputs a question may have of which all values are tried.

@@ -73,11 +73,13 @@ class Pages:
             if not all(self.has(tool) for tool in (block[1] or "").split()):
                 print(f"{name}:{line}: passed over, needs {block[1]}{'' if self.with_tools else ' and --tools'}")
                 continue
-            for command, printed in commands(block[2]):
-                self.compare(f"{name}:{line}: {command.strip()}", printed.encode(), ["sh", "-c", command])
+            with self.tally.test(f"{name}:{line}"):
+                for command, printed in commands(block[2]):
+                    self.compare(f"{name}:{line}: {command.strip()}", printed.encode(), ["sh", "-c", command])
         blocks = "".join(block[2] for block in BLOCK.finditer(text))
-        for command in dict.fromkeys(COMMAND.findall(text)):
-            self.tally.wants(f"{name}: an example of {command}", True, re.search(rf"\b{command}\b", blocks) is not None)
+        with self.tally.test(f"{name}: examples of all commands"):
+            for command in dict.fromkeys(COMMAND.findall(text)):
+                self.tally.wants(f"{name}: an example of {command}", True, re.search(rf"\b{command}\b", blocks) is not None)
 
     def read_rows(self, name):
         """Reads the files of a page's lists."""
@@ -98,7 +100,8 @@ def main():
         pages = Pages(folder, os.pathsep.join(places), given.tools, tally)
         for page_name in PAGES:
             pages.read_page(page_name)
-        pages.read_rows(ROWS)
+        with tally.test(ROWS):
+            pages.read_rows(ROWS)
     return tally.end()
 
 

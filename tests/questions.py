@@ -14,7 +14,8 @@ import random
 import harness
 from aiger import machine_of
 from harness import EDIT, numbers, output
-from random_machines import Files, counted, deep_machine, random_machine, told
+from machines import deep_machine, random_machine
+from trials import Files, counted, told
 
 LAST = 8
 
