@@ -57,12 +57,15 @@ MISFITS = (
 ADVICE = b"aigcheck: it may be a proof of other clauses: of another K, another file, or the other setting (raw)\n"
 
 
-def parser(doc, *programs):
-    """The words of a script, with an option for the path of each of these programs, as `--aigtool PATH`: that which `rt run` builds."""
+def parser(doc, *programs, **numbers):
+    """The words of a script, with an option for the path of each of these programs, as `--aigtool PATH`: that which `rt run` builds; and with
+    these numbers, of which any at the end may be left out."""
     made = argparse.ArgumentParser(description=doc, formatter_class=argparse.RawDescriptionHelpFormatter)
     path = lambda word: pathlib.Path(word).resolve()
     for name in programs:
         made.add_argument(f"--{name}", metavar="PATH", type=path, default=TOP / "crates" / name / "out" / name, help="the built program")
+    for name, default in numbers.items():
+        made.add_argument(name, nargs="?", type=int, default=default)
     return made
 
 
@@ -201,9 +204,7 @@ def files(path):
 
 def numbers(*defaults):
     """The numbers of the command line, and those of these that stand behind as many."""
-    made = parser(sys.modules["__main__"].__doc__)
-    for place, default in enumerate(defaults, 1):
-        made.add_argument(f"NUMBER{place}", nargs="?", type=int, default=default)
+    made = parser(sys.modules["__main__"].__doc__, **{f"NUMBER{place}": default for place, default in enumerate(defaults, 1)})
     return list(vars(made.parse_args()).values())
 
 

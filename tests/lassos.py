@@ -187,10 +187,7 @@ class Runs:
 
 
 def main():
-    parser = harness.parser(__doc__, "aigcheck")
-    parser.add_argument("files", nargs="?", type=int, default=100)
-    parser.add_argument("seed", nargs="?", type=int, default=1)
-    given, tally = parser.parse_args(), harness.Tally()
+    given, tally = harness.parser(__doc__, "aigcheck", files=100, seed=1).parse_args(), harness.Tally()
     rng = random.Random(given.seed)
     with harness.new_folder() as folder:
         runs = Runs(given.aigcheck, folder, tally)

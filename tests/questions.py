@@ -7,15 +7,13 @@ that what the output reaches. `aigedit question FILE K` of FILES (500) random ma
 
 It ends with the first that differs, and else prints one line. It is no part of tests/run.
 """
-import concurrent.futures
 import itertools
 import random
 
-import harness
 from aiger import machine_of
 from harness import EDIT, numbers, output
 from machines import deep_machine, random_machine
-from trials import Files, counted, told
+from trials import Files, run_files
 
 LAST = 8
 
@@ -121,10 +119,7 @@ class Trial(Files):
 
 
 def main():
-    files, seed = numbers(500, 1)
-    with harness.new_folder() as folder, concurrent.futures.ProcessPoolExecutor() as pool:
-        counts = counted(pool, Trial, [(f"{seed} {i}", folder / str(i)) for i in range(files)])
-    print(f"seed {seed}: {files} files agree ({told(counts)})")
+    run_files(Trial, *numbers(500, 1))
 
 
 if __name__ == "__main__":

@@ -101,10 +101,7 @@ class Rounds:
 
 
 def main():
-    parser = harness.parser(__doc__, "aigedit")
-    parser.add_argument("files", nargs="?", type=int, default=200)
-    parser.add_argument("seed", nargs="?", type=int, default=1)
-    given, tally = parser.parse_args(), harness.Tally()
+    given, tally = harness.parser(__doc__, "aigedit", files=200, seed=1).parse_args(), harness.Tally()
     rng = random.Random(given.seed)
     with harness.new_folder() as folder:
         rounds = Rounds(given.aigedit, folder, tally)

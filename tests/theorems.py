@@ -12,6 +12,7 @@ import os
 import re
 import sys
 
+import harness
 import promises
 
 PAGE = promises.TOP / "docs" / "PROMISES.md"
@@ -94,19 +95,20 @@ def quotation_faults(text):
 
 
 def main():
-    option, *names = sys.argv[1:] or [""]
-    if option not in ("", "--write", "--list") or len(names) != (option == "--list"):
-        sys.exit(__doc__)
+    options = (parser := harness.parser(__doc__)).add_mutually_exclusive_group()
+    options.add_argument("--write", action="store_true", help="write the tables")
+    options.add_argument("--list", metavar="NAME", help="print a call or law")
+    given = parser.parse_args()
     text, specs, code = PAGE.read_text(), promises.Specs(), promises.Code()
     calls, needed = calls_of(code)
-    if option == "--list":
-        print("\n".join(contract_of(calls, specs, *names)))
+    if given.list:
+        print("\n".join(contract_of(calls, specs, given.list)))
         return
     told = rows_of(text, calls)
     words = {f"{crate} {item}": told.get(item, set()) | told.get(own, set()) for crate, item, own in needed}
     clauses = {f"{crate} {item}": f"{crate} {item}\t{' '.join(clause for part in calls[own] for clause in part.ensures)}"
         for crate, item, own in needed}
-    if option == "--write":
+    if given.write:
         CLAUSES.write_text("".join(f"{clauses[key]}\n" for key in sorted(clauses)))
         ROWS.write_text("".join("\t".join([key, *sorted(words[key])]) + "\n" for key in sorted(words)))
     known = {line.partition("\t")[0]: line for line in CLAUSES.read_text().splitlines()}

@@ -1,5 +1,6 @@
 """Trials, each with a folder of its own for files, which run side by side and end at the first fault; what they count is added up."""
 import collections
+import concurrent.futures
 import functools
 import signal
 import sys
@@ -54,3 +55,10 @@ def counts_of(trial, words):
 def counted(pool, trial, words):
     """What is counted of trials with these words, side by side."""
     return sum(pool.map(functools.partial(counts_of, trial), words), collections.Counter())
+
+
+def run_files(trial, files, seed):
+    """Runs trials of so many files, each by a seed and a folder of its own, and prints what they count."""
+    with harness.new_folder() as folder, concurrent.futures.ProcessPoolExecutor() as pool:
+        counts = counted(pool, trial, [(f"{seed} {i}", folder / str(i)) for i in range(files)])
+    print(f"seed {seed}: {files} files agree ({told(counts)})")
