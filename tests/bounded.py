@@ -10,7 +10,6 @@ them for both, nor by that of a window where the first is refused.
 
 It ends with the first that differs, and else prints one line. It needs cadical, and is no part of tests/run."""
 import itertools
-import random
 from pathlib import Path
 
 import harness
@@ -28,8 +27,7 @@ class Trial(Files):
     """A random machine, and a step up to which it is asked."""
 
     def __init__(self, seed, folder):
-        super().__init__(folder)
-        self.rng = random.Random(seed)
+        super().__init__(folder, seed)
         self.machine = self.rng.choice([random_machine, deep_machine])(self.rng)
         self.first, self.step = self.machine.first_bad(), self.rng.randint(0, LAST)
         self.file = self.put("made.aag", self.machine.text())

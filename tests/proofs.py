@@ -10,7 +10,6 @@ It ends with the first that differs, and else prints one line. It is no part of 
 import collections
 import concurrent.futures
 import itertools
-import random
 from pathlib import Path
 
 import harness
@@ -295,8 +294,7 @@ class Trial(Files):
     """A random machine, a step at which it is safe, and proofs of that."""
 
     def __init__(self, seed, folder):
-        super().__init__(folder)
-        self.rng = random.Random(seed)
+        super().__init__(folder, seed)
         while True:
             of_clauses = self.rng.random() < 0.5
             machine = machine_of_clauses(*random_clauses(self.rng)) if of_clauses else random_machine(self.rng)

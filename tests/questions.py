@@ -8,7 +8,6 @@ that what the output reaches. `aigedit question FILE K` of FILES (500) random ma
 It ends with the first that differs, and else prints one line. It is no part of tests/run.
 """
 import itertools
-import random
 
 from aiger import machine_of
 from harness import EDIT, numbers, output
@@ -102,8 +101,7 @@ class Trial(Files):
     """A random machine, and a step up to which it is asked."""
 
     def __init__(self, seed, folder):
-        super().__init__(folder)
-        self.rng = random.Random(seed)
+        super().__init__(folder, seed)
         self.machine = self.rng.choice([random_machine, deep_machine])(self.rng)
         self.step = self.rng.randint(0, LAST)
         self.file = self.put("made.aag", self.machine.text())

@@ -2,6 +2,7 @@
 import collections
 import concurrent.futures
 import functools
+import random
 import signal
 import sys
 from pathlib import Path
@@ -11,10 +12,10 @@ from harness import CHECK, output
 
 
 class Files:
-    """A folder of its own for files, what programs say of them, and what is counted."""
+    """A folder of its own for files, what programs say of them, what is counted, and what is random, by a seed."""
 
-    def __init__(self, folder):
-        self.folder, self.counts = Path(folder), collections.Counter()
+    def __init__(self, folder, seed=None):
+        self.folder, self.counts, self.rng = Path(folder), collections.Counter(), random.Random(seed)
         self.folder.mkdir()
 
     def put(self, name, data):
