@@ -323,8 +323,8 @@ def main():
         if given.tools:
             has_cpp = shutil.which("g++") and pathlib.Path("/usr/include/cadical.hpp").is_file()
             checks = [clients.check_rust] * bool(shutil.which("rustc")) + [clients.check_cpp] * bool(has_cpp)
-            passed_over = {"check_rust", "check_cpp"} - {check.__name__ for check in checks}
-            print("\n".join(f"passed over: {name}" for name in sorted(passed_over)))
+            for name in {"check_rust", "check_cpp"} - {check.__name__ for check in checks}:
+                print(f"passed over: {name}")
         for check in checks:
             with tally.test(check.__name__):
                 check()
