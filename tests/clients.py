@@ -319,7 +319,8 @@ def main():
         else:
             subprocess.run([TESTS / "archive.py", folder], check=True)
         clients = Clients(folder, tally)
-        checks = [clients.check_header, clients.check_statuses, clients.check_c, clients.check_memory, clients.check_python, clients.check_page]
+        checks = [clients.check_header, clients.check_statuses, clients.check_c, clients.check_memory, clients.check_python]
+        checks.append(clients.check_page)
         if given.tools:
             has_cpp = shutil.which("g++") and pathlib.Path("/usr/include/cadical.hpp").is_file()
             checks = [clients.check_rust] * bool(shutil.which("rustc")) + [clients.check_cpp] * bool(has_cpp)

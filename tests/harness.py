@@ -58,8 +58,8 @@ ADVICE = b"aigcheck: it may be a proof of other clauses: of another K, another f
 
 
 def parser(doc, *programs, **numbers):
-    """The words of a script, with an option for the path of each of these programs, as `--aigtool PATH`: that which `rt run` builds; and with
-    these numbers, of which any at the end may be left out."""
+    """The words of a script, with an option for the path of each of these programs, as `--aigtool PATH`: that which `rt run` builds; and
+    with these numbers, of which any at the end may be left out."""
     made = argparse.ArgumentParser(description=doc, formatter_class=argparse.RawDescriptionHelpFormatter)
     path = lambda word: pathlib.Path(word).resolve()
     for name in programs:

@@ -234,7 +234,8 @@ def main():
                 files = both_forms(given.aigtool, folder)
                 for name in PROGRAMS:
                     program = Program(shim, name, getattr(given, name), folder)
-                    running += [pool.submit(timed, f"{name} {case[0][0]}", program.check, i, *case) for i, case in enumerate(cases(name, files))]
+                    for i, (words, given_files) in enumerate(cases(name, files)):
+                        running.append(pool.submit(timed, f"{name} {words[0]}", program.check, i, words, given_files))
                 with tally.test("sizes"):
                     sizes(shim, given.aigtool, folder, tally)
         for name, seconds, (count, wrong) in (run.result() for run in running):
