@@ -104,9 +104,9 @@ def drawing():
 
 
 def main():
-    if sys.argv[1:] not in ([], ["--check"]):
-        sys.exit(__doc__)
-    if not sys.argv[1:]:
+    parser = harness.parser(__doc__)
+    parser.add_argument("--check", action="store_true", help="write nothing, and fail where the drawing is another")
+    if not parser.parse_args().check:
         DRAWING.write_text(drawing())
     elif not DRAWING.exists() or DRAWING.read_text() != drawing():
         sys.exit("docs/house.svg is another drawing: run docs/house.py")

@@ -1,7 +1,7 @@
 #!/usr/bin/env python3
 """Writes the man pages of the programs into a folder: man.py FOLDER
 
-Their source is the table of commands of docs/COMMANDS.md, its limits, and what aigprove --help says."""
+Their source is the lists of commands of docs/COMMANDS.md, and what aigprove --help says."""
 import argparse
 import os
 import pathlib
@@ -20,7 +20,7 @@ ABOUT = {
     "aigcheck": "checks proofs and witnesses about AIGER files",
     "aigprove": "asks whether a design can reach a bad state, and has each answer checked",
 }
-ROW = re.compile(r"^\| `(aig\w+) ([^`]*)` \| (.*) \|$", re.MULTILINE)
+ITEM = re.compile(r"^- `(aig\w+) ([^`]*)`: (.*)$", re.MULTILINE)
 STATUSES = "0: it was printed, written or shown. 1: a refusal, a failure, or nothing shown. 2: wrong words."
 FILES = "FILE is in AIGER form, text or binary; K is a number of steps, and PROOF is in LRAT or DRAT. docs/COMMANDS.md of the repository " \
     "describes files of the other forms."
@@ -40,11 +40,11 @@ def item(words, what):
     return [".TP", f".B {plain(words)}", plain(what)]
 
 
-def of_table(program, table):
-    """The page of a program whose commands stand in the table."""
-    rows = [(words, what) for name, words, what in ROW.findall(table) if name == program]
+def of_lists(program, text):
+    """The page of a program whose commands stand in the lists of a text."""
+    items = [(words, what) for name, words, what in ITEM.findall(text) if name == program]
     lines = [*head(program), f".B {program}", ".I COMMAND FILE ..", ".SH DESCRIPTION", plain(FILES), ".SH COMMANDS"]
-    lines += [line for words, what in rows for line in item(words, f"Prints {what}.")]
+    lines += [line for words, what in items for line in item(words, f"Prints {what}.")]
     return [*lines, ".SH EXIT STATUS", plain(STATUSES)]
 
 
@@ -64,10 +64,10 @@ def of_parser():
 def main():
     if len(sys.argv) != 2:
         sys.exit("usage: man.py FOLDER")
-    folder, table = pathlib.Path(sys.argv[1]), (TOP / "docs" / "COMMANDS.md").read_text(encoding="utf-8")
+    folder, text = pathlib.Path(sys.argv[1]), (TOP / "docs" / "COMMANDS.md").read_text(encoding="utf-8")
     folder.mkdir(parents=True, exist_ok=True)
     for program in ABOUT:
-        lines = of_parser() if program == "aigprove" else of_table(program, table)
+        lines = of_parser() if program == "aigprove" else of_lists(program, text)
         lines += [".SH SEE ALSO", ", ".join(f".BR {other} (1)"[4:].replace(" (1)", "(1)") for other in ABOUT if other != program)]
         (folder / f"{program}.1").write_text("\n".join(lines) + "\n", encoding="ascii")
 

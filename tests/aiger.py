@@ -4,6 +4,7 @@ Literals are those of the text form. A latch is its own literal, the next one an
 latch begins with either value.
 """
 import dataclasses
+import functools
 import itertools
 
 # Which finds the package of aigprove.
@@ -141,9 +142,17 @@ class Gates(list):
         super().__init__()
         self.first = 2 * (leaves + 1)
 
+    def end(self):
+        """The literal of the next gate."""
+        return self.first + 2 * len(self)
+
     def both(self, left, right):
-        self.append((self.first + 2 * len(self), max(left, right), min(left, right)))
+        self.append((self.end(), max(left, right), min(left, right)))
         return self[-1][0]
+
+    def all(self, literals):
+        """A literal that is true where all of these are."""
+        return functools.reduce(self.both, literals) if literals else 1
 
 
 def joined(lines):

@@ -194,9 +194,12 @@ def main():
     with harness.new_folder() as folder:
         answers = Answers(programs, folder, tally)
         for table, form in TABLES.items():
-            answers.check_table(TESTS / table, form)
-        answers.check_places(TESTS / "answers/places.tsv")
-        answers.check_made()
+            with tally.test(table):
+                answers.check_table(TESTS / table, form)
+        with tally.test("answers/places.tsv"):
+            answers.check_places(TESTS / "answers/places.tsv")
+        with tally.test("made files"):
+            answers.check_made()
     return tally.end()
 
 

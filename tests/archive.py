@@ -17,7 +17,7 @@ import subprocess
 import sys
 
 import kit
-from harness import TOP, new_folder
+from harness import TOP, new_folder, parser
 
 CRATE = TOP / "crates" / "aig_calls"
 HEADER = TOP / "include" / "aig.h"
@@ -58,7 +58,9 @@ def build(crate, folder):
 
 
 def main():
-    folder = pathlib.Path(sys.argv[1]).resolve() if len(sys.argv) > 1 else None
+    words = parser(__doc__)
+    words.add_argument("folder", nargs="?", type=pathlib.Path)
+    folder = words.parse_args().folder
     crate, out = kit.crate(CRATE, TOP), CRATE / "out"
     crate.out = sys.stderr
     out.mkdir(exist_ok=True)

@@ -19,7 +19,7 @@ import sys
 import harness
 from aiger import Machine, machine_of
 from harness import PROVE, TESTS, TOOL, numbers, output
-from random_machines import random_machine
+from machines import random_machine
 
 SECONDS = 60
 DESIGNS = ["count_wrap", "gray", "johnson", "msi", "peterson", "two_phase"]

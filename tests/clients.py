@@ -8,7 +8,6 @@ together, with the words of each status (clients/statuses.tsv), and the names th
 
 C and Python are run everywhere; with --tools C++ and Rust too, where there are g++ and cadical's header, and rustc.
 """
-import ctypes
 import importlib
 import os
 import pathlib
@@ -320,17 +319,16 @@ def main():
         else:
             subprocess.run([TESTS / "archive.py", folder], check=True)
         clients = Clients(folder, tally)
-        if not given.tools:
-            clients.check_header()
-            clients.check_statuses()
-            clients.check_c()
-            clients.check_memory()
-            clients.check_python()
-            clients.check_page()
-        else:
+        checks = [clients.check_header, clients.check_statuses, clients.check_c, clients.check_memory, clients.check_python]
+        checks.append(clients.check_page)
+        if given.tools:
             has_cpp = shutil.which("g++") and pathlib.Path("/usr/include/cadical.hpp").is_file()
-            for has_tools, check in [(shutil.which("rustc"), clients.check_rust), (has_cpp, clients.check_cpp)]:
-                check() if has_tools else print(f"passed over: {check.__name__}")
+            checks = [clients.check_rust] * bool(shutil.which("rustc")) + [clients.check_cpp] * bool(has_cpp)
+            for name in {"check_rust", "check_cpp"} - {check.__name__ for check in checks}:
+                print(f"passed over: {name}")
+        for check in checks:
+            with tally.test(check.__name__):
+                check()
     return tally.end()
 
 

@@ -241,7 +241,7 @@ def odd_faults(folder):
 
 
 def main():
-    tally, seconds = harness.Tally(), (sys.argv[1:] or ["60"])[0]
+    tally, seconds = harness.Tally(), str(*harness.numbers(60))
     with harness.new_folder() as folder:
         for design, answer in rows(DESIGNS / "answers.tsv"):
             tally.wants(design, [], list(file_faults(design, answer, folder / design, seconds)))

@@ -10,13 +10,13 @@ over all clauses until nothing more is true. The one of proofs.py says the same.
 It ends with the first that differs, and else prints one line. It is no part of tests/run."""
 import collections
 import concurrent.futures
-import random
 
 import harness
 import proofs
 import rat
 from harness import numbers
-from random_machines import counted, mangled, text_of, told
+from mangling import binary_of, lines_of, mangled, text_of
+from trials import counted, told
 
 # How often a proof is mangled.
 MANGLED = 6
@@ -87,20 +87,6 @@ class Steps:
             live.clauses.append(tuple(clause))
         return live.is_in_conflict([]), counts
 
-    def text(self):
-        return "".join(f"{'d ' * deletes}{' '.join(map(str, [*clause, 0]))}\n" for deletes, clause in self.steps).encode()
-
-    def binary(self):
-        return b"".join((b"d" if deletes else b"a") + b"".join(map(code, clause)) + b"\0" for deletes, clause in self.steps)
-
-
-def code(literal):
-    """The bytes of a literal: groups of seven bits, the lowest first."""
-    value, made = 2 * abs(literal) + (literal < 0), []
-    while value > 127:
-        made.append(value & 127 | 128)
-        value >>= 7
-    return bytes([*made, value])
 
 
 def without_hints(formula, lines):
@@ -161,8 +147,7 @@ def spoilt(rng, formula, steps):
         return another_first(rng, steps)
     if change == 1:
         return deleted_before(rng, formula, steps)
-    lines = [["d"] * deletes + list(map(str, clause)) + ["0"] for deletes, clause in steps]
-    lines = [line for line in mangled(rng, lines, 1) if line[-1:] == ["0"] and "0" not in line[:-1]]
+    lines = [line for line in mangled(rng, lines_of(steps), 1) if line[-1:] == ["0"] and "0" not in line[:-1]]
     return [(line[0] == "d", tuple(map(int, line[line[0] == "d" : -1]))) for line in lines if line.count("d") == (line[0] == "d")]
 
 
@@ -183,7 +168,7 @@ class Trial(rat.Trial):
         self.counts[f"{kind}{'taken' if taken else 'refused'}"] += 1
         self.counts["with RAT steps, taken"] += taken and counts["RAT"] > 0
         self.counts["RAT steps"] += counts["RAT"]
-        for data in [steps.text(), steps.binary()]:
+        for data in [text_of(lines_of(steps.steps)).encode(), binary_of(steps.steps)]:
             self.compare_bytes(data, taken)
 
     def compare_bytes(self, data, taken):

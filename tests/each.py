@@ -23,6 +23,7 @@ import xml.etree.ElementTree as xml
 import harness
 import live
 from harness import PROVE, TESTS
+from machines import live_machine
 from twins import Design
 
 from aigprove import gather
@@ -400,7 +401,7 @@ def spread_faults(tally, folder):
 
 def fair_machine(rng):
     """A random machine with justice properties, whose properties have names."""
-    machine = live.random_machine(rng)
+    machine = live_machine(rng)
     places = [f"{letter}{i}" for letter, own in [("b", machine.bads), ("j", machine.justice)] for i in range(len(own))]
     machine.names = {place: f"is_{place}" for place in places}
     return machine

@@ -10,30 +10,13 @@ import random
 import sys
 
 import harness
-from aiger import Machine, machine_of
+from aiger import machine_of
+from machines import small_machine
 
 EXAMPLES = sorted((harness.TOP / "examples").glob("*.aag"))
 LAST = 6
 # The last step that files are unrolled to.
 UNROLLED = 3
-
-
-def literals(rng, most, count):
-    return [rng.randint(0, most) for _ in range(count)]
-
-
-def random_machine(rng):
-    """A machine of a few leaves and gates, with all lists but justice."""
-    inputs, latches, gates = rng.randint(0, 2), rng.randint(0, 3), rng.randint(0, 6)
-    leaves = [2 * v for v in range(1, inputs + latches + 1)]
-    made = []
-    for place in range(gates):
-        below = 2 * (len(leaves) + place) + 1
-        made.append([2 * (len(leaves) + place + 1), *sorted(literals(rng, below, 2), reverse=True)])
-    most = 2 * (len(leaves) + gates) + 1
-    states = [[leaf, rng.randint(0, most), rng.choice([0, 1, leaf])] for leaf in leaves[inputs:]]
-    lists = (literals(rng, most, rng.randint(0, count)) for count in (3, 3, 2))
-    return Machine(leaves[:inputs], states, *lists, fairness=literals(rng, most, rng.randint(0, 1)), gates=made)
 
 
 def reached(machine, asked):
@@ -100,50 +83,66 @@ class Edits:
             self.compare(f"the rest of {command} {number}", dataclasses.replace(machine, bads=[bad]).text(), made.text())
         self.refuses(b"no such bad state property", "property", "file", str(len(machine.bads)))
 
-    def check(self, machine, other):
-        """Checks each command on a file, and the one that merges it with another."""
-        (self.folder / "file").write_text(machine.text())
-        (self.folder / "other").write_text(other.text())
-        bads = reached(machine, machine.bads)
-        is_movable = not machine.constraints or len(machine.bads) <= 1
+    def check_alike(self, machine):
+        """Checks the commands whose files are as safe as the one that they read."""
+        bads, is_movable = reached(machine, machine.bads), not machine.constraints or len(machine.bads) <= 1
         for command in ["refine", "reencode", "compress", "reduce", *["move"] * is_movable]:
             made = self.edited(command, "file")
             self.compare(command, bads, reached(made, made.bads))
         if not is_movable:
             self.refuses(b"several bad state properties", "move", "file")
+
+    def check_steps(self, machine):
+        """Checks the commands that take a number of steps."""
+        first = min(reached(machine, machine.bads), default=LAST)
         for k in range(UNROLLED + 1):
             made = self.edited("unroll", "file", str(k))
             self.compare(f"unroll {k}", reached_by(machine, k), 0 in reached(made, made.bads))
             if machine.bads:
                 made = self.edited("question", "file", str(k))
-                self.compare(f"question {k}", min(bads, default=LAST) <= k, 0 in reached(made, made.outputs))
+                self.compare(f"question {k}", first <= k, 0 in reached(made, made.outputs))
+
+    def check_outputs(self, machine):
+        """Checks the commands that ask about outputs."""
         if not machine.bads:
             made = self.edited("bads", "file")
             self.compare("bads", reached(machine, machine.outputs), reached(made, made.bads))
-        self.check_bads(machine)
-        self.compare("info", counts(machine), self.printed("info", "file"))
         for n, output in enumerate(machine.outputs):
             made = self.edited("cone", "file", str(n))
             self.compare(f"cone {n}", (reached(machine, [output]), 1), (reached(made, made.outputs), len(made.outputs)))
+
+    def check_counts(self, machine):
+        self.compare("info", counts(machine), self.printed("info", "file"))
+
+    def check_merge(self, machine, other):
+        """Checks the file of two machines side by side."""
         runs = [reached(one, [1]) for one in (machine, other)]
         made = self.edited("merge", "file", "other")
-        self.compare("merge", bads & runs[1] | runs[0] & reached(other, other.bads), reached(made, made.bads))
+        wanted = reached(machine, machine.bads) & runs[1] | runs[0] & reached(other, other.bads)
+        self.compare("merge", wanted, reached(made, made.bads))
+
+    def check(self, machine, other):
+        """Checks each command on a file, and the one that merges it with another."""
+        (self.folder / "file").write_text(machine.text())
+        (self.folder / "other").write_text(other.text())
+        for check in [self.check_alike, self.check_steps, self.check_outputs, self.check_bads, self.check_counts]:
+            with self.tally.test(check.__name__):
+                check(machine)
+        with self.tally.test("check_merge"):
+            self.check_merge(machine, other)
 
 
 def main():
-    parser = harness.parser(__doc__, "aigedit")
-    parser.add_argument("files", nargs="?", type=int, default=300)
-    parser.add_argument("seed", nargs="?", type=int, default=1)
-    given, tally = parser.parse_args(), harness.Tally()
+    given, tally = harness.parser(__doc__, "aigedit", files=300, seed=1).parse_args(), harness.Tally()
     rng = random.Random(given.seed)
     with harness.new_folder() as folder:
         edits = Edits(given.aigedit, folder, tally)
         for path in EXAMPLES:
             machine = machine_of(path.read_text().split("\nc\n")[0])
             if len(machine.inputs) + len(machine.latches) <= 6:
-                edits.check(machine, random_machine(rng))
+                edits.check(machine, small_machine(rng))
         for _ in range(given.files):
-            edits.check(random_machine(rng), random_machine(rng))
+            edits.check(small_machine(rng), small_machine(rng))
     return tally.end()
 
 

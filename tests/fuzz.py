@@ -20,6 +20,8 @@ import time
 
 import harness
 from aiger import Machine
+from machines import named, small_machine
+from mangling import damaged_bytes, damaged_lines
 
 SECTIONS = ["inputs", "latches", "outputs", "bads", "constraints", "justice", "fairness", "gates"]
 TEXTS = {
@@ -32,27 +34,13 @@ MEMORY = 64 << 20
 OF_A_BYTE = 200
 OF_A_VARIABLE = 200
 
+# Names of places, and bytes that are put into files.
+NAMES = ["", "a", "a b", "0", "é", "i0 x"]
+PIECES = [b"\n", b" ", b"0", b"c", b"-", b"\r\n", b"\xff", b"\0"]
 # Files that are tried first.
 ROWS = list(harness.files(harness.TESTS / "fuzz" / "rows.tsv").values())
 
 # ---- files
-
-
-def made_machine(rng):
-    """A machine of random gates, whose literals are 2, 4, .. in the order of a binary file, with names for some places, in any order."""
-    inputs, latches, gates = rng.randint(0, 4), rng.randint(0, 4), rng.randint(0, 12)
-    leaves, end = inputs + latches, 2 * (inputs + latches + gates) + 2
-    some = lambda *counts: [rng.randrange(end) for _ in range(rng.choice(counts))]
-    ands = [[own, *sorted((rng.randrange(own), rng.randrange(own)), reverse=True)] for own in range(2 * leaves + 2, end, 2)]
-    states = [[2 * v, *some(1), *rng.choice([[], [0], [1], [2 * v]])] for v in range(inputs + 1, leaves + 1)]
-    outputs, bads, constraints = (some(0, 0, 1, 2) for _ in range(3))
-    justice = [some(0, 1, 2) for _ in range(rng.choice([0, 0, 1, 2]))]
-    made = Machine([2 * v for v in range(1, inputs + 1)], states, outputs, bads, constraints, justice, some(0, 0, 1), ands)
-    lists = [made.inputs, states, outputs, bads, constraints, justice]
-    places = [f"{letter}{i}" for letter, one in zip("ilobcj", lists) for i in range(len(one)) if rng.random() < 0.3]
-    rng.shuffle(places)
-    made.names = {place: rng.choice(["", "a", "a b", "0", "é", "i0 x"]) for place in places}
-    return made
 
 
 def renumbered(rng, machine):
@@ -68,7 +56,9 @@ def renumbered(rng, machine):
 
 def undamaged(rng):
     """A file of either form, perhaps with a comment."""
-    machine, most, all_counts = made_machine(rng), None, rng.random() < 0.5
+    machine, most, all_counts = small_machine(rng, (4, 4, 12), (0, 2)), None, rng.random() < 0.5
+    machine = named(rng, machine, NAMES, "ilobcj", 0.3)
+    machine.latches = [row[: rng.choice([2, 3, 3, 3])] for row in machine.latches]
     if rng.random() < 0.5:
         data = machine.binary(all_counts=all_counts)
     else:
@@ -76,14 +66,6 @@ def undamaged(rng):
             machine, most = renumbered(rng, machine)
         data = machine.text(most=most, all_counts=all_counts).encode()
     return data + rng.choice([b"", b"", b"c", b"comment\ni0 x\n"])
-
-
-def damaged_bytes(rng, data):
-    """The bytes with one run of them changed, left out, doubled or moved."""
-    i = rng.randrange(len(data) + 1)
-    j = min(len(data), i + rng.choice([0, 1, 1, 2, 8]))
-    piece = rng.choice([b"\n", b" ", b"0", b"c", b"-", b"\r\n", b"\xff", b"\0"])
-    return data[:i] + rng.choice([b"", b"", rng.randbytes(1), data[i:j] * 2, piece]) + data[j:]
 
 
 def damaged_number(rng, data):
@@ -97,27 +79,15 @@ def damaged_number(rng, data):
     return data[: one.start()] + b"0" * rng.choice([0, 0, 0, 1, 40]) + b"%d" % rng.choice(near + borders) + data[one.end() :]
 
 
-def damaged_lines(rng, data):
-    """The bytes with a line left out, doubled, or moved, or cut off."""
-    lines = data.splitlines(keepends=True) or [b""]
-    i, j = rng.randrange(len(lines)), rng.randrange(len(lines))
-    change = rng.randrange(4)
-    if change == 0:
-        del lines[i]
-    elif change == 1:
-        lines.insert(j, lines[i])
-    elif change == 2:
-        lines[i], lines[j] = lines[j], lines[i]
-    else:
-        lines = lines[: i + 1]
-    return b"".join(lines)
-
-
 def made_file(rng):
     """A file, damaged a few times or not at all."""
     data = undamaged(rng)
     for _ in range(rng.choice([0, 1, 1, 1, 2, 3])):
-        data = rng.choice([damaged_bytes, damaged_number, damaged_lines])(rng, data)
+        data = rng.choice([
+            damaged_number(rng, data),
+            damaged_bytes(rng, data, PIECES),
+            b"".join(damaged_lines(rng, data.splitlines(keepends=True))),
+        ])
     return data
 
 
@@ -255,7 +225,8 @@ def main():
     for fault in itertools.chain(*faults):
         tally.check(False, fault)
     tally.passed += sum(accepted + refused)
-    print(f"seed {given.seed}: {sum(accepted)} files accepted, {sum(refused)} refused")
+    for kind, counts in [("accepted", accepted), ("refused", refused)]:
+        tally.add(f"files {kind}, of seed {given.seed}", sum(counts), given.seconds)
     return tally.end()
 
 

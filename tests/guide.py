@@ -3,9 +3,9 @@
 
 In docs/COMMANDS.md a block of the kind `console` holds commands, each after `$ ` and going on after `> `, and below each what it
 prints, to both streams. They are run in order, by sh, in a new folder with links to the repository's. A block `console needs NAME
-..` is run where these programs are found, those of others only with --tools, and else passed over. In docs/FORMAT.md a row that
-begins with bytes in a code span is a file, and its second cell what `aigtool text` prints: the same bytes, other ones, or the
-text of a refusal. Each command of a table of docs/COMMANDS.md has to stand in a block.
+..` is run where these programs are found, those of others only with --tools, and else passed over. In docs/FORMAT.md an item
+that begins with bytes in a code span is a file, and behind it stands what `aigtool text` prints: the same bytes, other ones, or the
+text of a refusal. Each command that a list of docs/COMMANDS.md has has to stand in a block.
 
 Programs are looked for in each FOLDER, then in crates/NAME/out, where `rt run` in crates/NAME builds them, then where the system
 looks.
@@ -24,8 +24,8 @@ PAGES = ["COMMANDS.md"]
 ROWS = "FORMAT.md"
 PROGRAMS = ["aigtool", "aigedit", "aigcheck"]
 BLOCK = re.compile(r"^```console(?: needs ([^\n]*))?\n(.*?)^```$", re.DOTALL | re.MULTILINE)
-ROW = re.compile(r"^\| `(a[ai]g [^`]*)` \| ([^|]*) \|", re.MULTILINE)
-COMMAND = re.compile(r"^\| `(aig(?:tool|edit|check) \w+)", re.MULTILINE)
+ROW = re.compile(r"^- `(a[ai]g [^`]*)`: (the same|`[^`]*`), ", re.MULTILINE)
+COMMAND = re.compile(r"^- `(aig(?:tool|edit|check) \w+) [^`]*`: ", re.MULTILINE)
 KINDS = ("aag ", "aig ")
 
 
@@ -43,9 +43,9 @@ def commands(block):
         yield lines[0] + "".join(line[2:] for line in lines[1:count]), "".join(lines[count:])
 
 
-def printed_by(cell, given):
-    """The bytes that the second cell of a row says: the given file, another one, or a refusal."""
-    span = given if cell == "the same" else cell.strip("`")
+def printed_by(told, given):
+    """The bytes that an item tells: the given file, another one, or a refusal."""
+    span = given if told == "the same" else told.strip("`")
     return spelled(span) if span.startswith(KINDS) else f"aigtool: {span}\n".encode()
 
 
@@ -73,17 +73,19 @@ class Pages:
             if not all(self.has(tool) for tool in (block[1] or "").split()):
                 print(f"{name}:{line}: passed over, needs {block[1]}{'' if self.with_tools else ' and --tools'}")
                 continue
-            for command, printed in commands(block[2]):
-                self.compare(f"{name}:{line}: {command.strip()}", printed.encode(), ["sh", "-c", command])
+            with self.tally.test(f"{name}:{line}"):
+                for command, printed in commands(block[2]):
+                    self.compare(f"{name}:{line}: {command.strip()}", printed.encode(), ["sh", "-c", command])
         blocks = "".join(block[2] for block in BLOCK.finditer(text))
-        for command in dict.fromkeys(COMMAND.findall(text)):
-            self.tally.wants(f"{name}: an example of {command}", True, re.search(rf"\b{command}\b", blocks) is not None)
+        with self.tally.test(f"{name}: examples of all commands"):
+            for command in dict.fromkeys(COMMAND.findall(text)):
+                self.tally.wants(f"{name}: an example of {command}", True, re.search(rf"\b{command}\b", blocks) is not None)
 
     def read_rows(self, name):
-        """Reads the files of a page's tables."""
-        for bytes_span, cell in ROW.findall(page(name)):
+        """Reads the files of a page's lists."""
+        for bytes_span, told in ROW.findall(page(name)):
             (self.folder / "row").write_bytes(spelled(bytes_span))
-            self.compare(f"{name}: {bytes_span}", printed_by(cell, bytes_span), ["aigtool", "text", "row"])
+            self.compare(f"{name}: {bytes_span}", printed_by(told, bytes_span), ["aigtool", "text", "row"])
 
 
 def main():
@@ -98,7 +100,8 @@ def main():
         pages = Pages(folder, os.pathsep.join(places), given.tools, tally)
         for page_name in PAGES:
             pages.read_page(page_name)
-        pages.read_rows(ROWS)
+        with tally.test(ROWS):
+            pages.read_rows(ROWS)
     return tally.end()
 
 

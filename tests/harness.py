@@ -1,5 +1,6 @@
 """What the scripts of this folder stand on: where the programs are, how one is run, spelled bytes, and checks that are counted."""
 import argparse
+import collections
 import contextlib
 import hashlib
 import os
@@ -12,6 +13,7 @@ import signal
 import subprocess
 import sys
 import tempfile
+import time
 
 TESTS = pathlib.Path(__file__).resolve().parent
 TOP = TESTS.parent
@@ -55,20 +57,35 @@ MISFITS = (
 ADVICE = b"aigcheck: it may be a proof of other clauses: of another K, another file, or the other setting (raw)\n"
 
 
-def parser(doc, *programs):
-    """The words of a script, with an option for the path of each of these programs, as `--aigtool PATH`: that which `rt run` builds."""
+def parser(doc, *programs, **numbers):
+    """The words of a script, with an option for the path of each of these programs, as `--aigtool PATH`: that which `rt run` builds; and
+    with these numbers, of which any at the end may be left out."""
     made = argparse.ArgumentParser(description=doc, formatter_class=argparse.RawDescriptionHelpFormatter)
     path = lambda word: pathlib.Path(word).resolve()
     for name in programs:
         made.add_argument(f"--{name}", metavar="PATH", type=path, default=TOP / "crates" / name / "out" / name, help="the built program")
+    for name, default in numbers.items():
+        made.add_argument(name, nargs="?", type=int, default=default)
     return made
 
 
 class Tally:
-    """Counts checks, and prints those that fail."""
+    """Counts checks, prints those that fail, and keeps how many each test made in which time."""
 
     def __init__(self):
         self.passed = self.failed = 0
+        self.checks, self.seconds = collections.Counter(), collections.Counter()
+
+    @contextlib.contextmanager
+    def test(self, name):
+        """Counts what is checked as a test of this name, or as more of it."""
+        before, begun = self.passed + self.failed, time.monotonic()
+        yield
+        self.add(name, self.passed + self.failed - before, time.monotonic() - begun)
+
+    def add(self, name, checks, seconds):
+        self.checks[name] += checks
+        self.seconds[name] += seconds
 
     def check(self, holds, what):
         """Counts whether something holds."""
@@ -82,7 +99,9 @@ class Tally:
         self.check(given == wanted, f"{what}\n  wanted {wanted}\n  given  {given}")
 
     def end(self):
-        """Prints the counts, and gives the exit status: 1 where a check failed or none was made."""
+        """Prints each test and the counts, and gives the exit status: 1 where a check failed or none was made."""
+        for name, checks in self.checks.items():
+            print(f"  {name}: {checks} checks, {self.seconds[name]:.1f} s")
         print(f"{self.passed} passed, {self.failed} failed")
         return 0 if self.passed and not self.failed else 1
 
@@ -185,7 +204,8 @@ def files(path):
 
 def numbers(*defaults):
     """The numbers of the command line, and those of these that stand behind as many."""
-    return [*map(int, sys.argv[1:]), *defaults[len(sys.argv) - 1 :]]
+    made = parser(sys.modules["__main__"].__doc__, **{f"NUMBER{place}": default for place, default in enumerate(defaults, 1)})
+    return list(vars(made.parse_args()).values())
 
 
 @contextlib.contextmanager

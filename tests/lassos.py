@@ -12,7 +12,7 @@ import random
 import sys
 
 import harness
-import live
+from machines import live_machine
 
 # How many lassos of a property are looked at, and how many mangled ones of each.
 LASSOS, MANGLED = 3, 5
@@ -179,21 +179,20 @@ class Runs:
         for j, own in enumerate(machine.justice):
             found = list(lassos(machine, own + machine.fairness))
             for start, rows in rng.sample(found, min(len(found), LASSOS)):
-                self.tally.check(self.check(machine, j, start, rows), f"a lasso is taken: {machine.text()}")
-                for _ in range(MANGLED):
-                    self.check(machine, *mangled(rng, j, start, rows))
+                with self.tally.test("lassos"):
+                    self.tally.check(self.check(machine, j, start, rows), f"a lasso is taken: {machine.text()}")
+                with self.tally.test("mangled"):
+                    for _ in range(MANGLED):
+                        self.check(machine, *mangled(rng, j, start, rows))
 
 
 def main():
-    parser = harness.parser(__doc__, "aigcheck")
-    parser.add_argument("files", nargs="?", type=int, default=100)
-    parser.add_argument("seed", nargs="?", type=int, default=1)
-    given, tally = parser.parse_args(), harness.Tally()
+    given, tally = harness.parser(__doc__, "aigcheck", files=100, seed=1).parse_args(), harness.Tally()
     rng = random.Random(given.seed)
     with harness.new_folder() as folder:
         runs = Runs(given.aigcheck, folder, tally)
         for _ in range(given.files):
-            runs.check_machine(live.random_machine(rng), rng)
+            runs.check_machine(live_machine(rng), rng)
     return tally.end()
 
 

@@ -11,14 +11,13 @@ Of the first ANSWERS files `aigprove --justice` has to say whether there is any 
 with the loop that `aigcheck run` finds in it, from which on the dump marks it. What it tells of runs without end that meet the fairness has
 to be so.
 """
-import dataclasses
 import random
 import re
 import sys
 
-import edited
 import harness
 from aiger import machine_of
+from machines import live_machine, named
 
 LAST = 6
 ANSWERS = 20
@@ -31,20 +30,6 @@ LOOP = re.compile("from step ([0-9]+) to ([0-9]+)$", re.M)
 # A line of a name, in a text file; and names that signals are given, which are among those that the made files have.
 NAME = re.compile("^([il][0-9]+) (.*)$", re.M)
 NAMES = ["a", "a b", "", "save", "saved", "saved a", "seen 0", "met 0", "round 1"]
-
-
-def random_machine(rng):
-    """A machine of a few leaves and gates, with justice properties."""
-    machine = edited.random_machine(rng)
-    most = 2 * (len(machine.inputs) + len(machine.latches) + len(machine.gates)) + 1
-    machine.justice = [edited.literals(rng, most, rng.randint(0, 2)) for _ in range(rng.randint(1, 2))]
-    return machine
-
-
-def named(machine, rng):
-    """The machine with names of some of its inputs and latches, which may be the same."""
-    places = [f"{letter}{i}" for letter, own in [("i", machine.inputs), ("l", machine.latches)] for i in range(len(own))]
-    return dataclasses.replace(machine, names={place: rng.choice(NAMES) for place in places if rng.random() < 0.7})
 
 
 def live_names(machine, count):
@@ -208,23 +193,23 @@ class Lives:
         """Checks each justice property of a file, and the number past the last."""
         (self.folder / "file").write_text(machine.text())
         if is_asked:
-            self.check_answer(machine, 0)
+            with self.tally.test("aigprove --justice"):
+                self.check_answer(machine, 0)
         for j in range(len(machine.justice)):
-            self.check_property(machine, j)
-        status, out, said = self.run(len(machine.justice))
-        self.tally.wants("no property", (1, b"", True), (status, out, b"no such justice property" in said))
+            with self.tally.test("live"):
+                self.check_property(machine, j)
+        with self.tally.test("no property"):
+            status, out, said = self.run(len(machine.justice))
+            self.tally.wants("no property", (1, b"", True), (status, out, b"no such justice property" in said))
 
 
 def main():
-    parser = harness.parser(__doc__, "aigedit")
-    parser.add_argument("files", nargs="?", type=int, default=200)
-    parser.add_argument("seed", nargs="?", type=int, default=1)
-    given, tally = parser.parse_args(), harness.Tally()
+    given, tally = harness.parser(__doc__, "aigedit", files=200, seed=1).parse_args(), harness.Tally()
     rng = random.Random(given.seed)
     with harness.new_folder() as folder:
         lives = Lives(given.aigedit, folder, tally)
         for place in range(given.files):
-            lives.check(named(random_machine(rng), rng), place < ANSWERS)
+            lives.check(named(rng, live_machine(rng), NAMES), place < ANSWERS)
     return tally.end()
 
 

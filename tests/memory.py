@@ -18,6 +18,7 @@ import itertools
 import os
 import shutil
 import sys
+import time
 
 import harness
 from aiger import AND
@@ -212,6 +213,13 @@ def sizes(shim, tool, folder, tally):
         tally.check(ended.sum <= ASKED_FOR_LITTLE, f"{data}: asks for {ended.sum} bytes, {ended.greatest} at once")
 
 
+def timed(name, check, *given):
+    """The name of a check, the seconds that it took, and what it gives."""
+    begun = time.monotonic()
+    found = check(*given)
+    return name, time.monotonic() - begun, found
+
+
 def main():
     parser = harness.parser(__doc__, "aig_script", *PROGRAMS)
     parser.add_argument("names", nargs="*", help="the steps to take (all, and the commands)")
@@ -220,14 +228,18 @@ def main():
         shim = Shim(folder)
         steps, calls = Steps(shim, given.aig_script, folder), [Case(*row) for row in harness.rows(TABLES / "calls.tsv")]
         with concurrent.futures.ThreadPoolExecutor(os.cpu_count()) as pool:
-            running = [pool.submit(steps.check, case) for case in calls if not given.names or case.step.split()[0] in given.names]
+            running = [pool.submit(timed, case.step.split()[0], steps.check, case) for case in calls
+                       if not given.names or case.step.split()[0] in given.names]
             if not given.names:
                 files = both_forms(given.aigtool, folder)
                 for name in PROGRAMS:
                     program = Program(shim, name, getattr(given, name), folder)
-                    running += [pool.submit(program.check, i, *case) for i, case in enumerate(cases(name, files))]
-                sizes(shim, given.aigtool, folder, tally)
-        for count, wrong in (run.result() for run in running):
+                    for i, (words, given_files) in enumerate(cases(name, files)):
+                        running.append(pool.submit(timed, f"{name} {words[0]}", program.check, i, words, given_files))
+                with tally.test("sizes"):
+                    sizes(shim, given.aigtool, folder, tally)
+        for name, seconds, (count, wrong) in (run.result() for run in running):
+            tally.add(name, count, seconds)
             tally.passed += count - len(wrong)
             tally.failed += len(wrong)
             for line in wrong[:3]:

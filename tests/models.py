@@ -252,11 +252,14 @@ def displays_whole(program):
 def main():
     program, tally = harness.parser(__doc__, "aig_script").parse_args().aig_script, harness.Tally()
     for row, name in itertools.product(RUNS, ("query", "query_raw")):
-        check_runs(tally, program, row, name)
-    for seed in range(40):
-        tally.check(hashes(program, seed, 14), f"hashing the circuit of {seed}")
+        with tally.test(name):
+            check_runs(tally, program, row, name)
+    with tally.test("strash"):
+        for seed in range(40):
+            tally.check(hashes(program, seed, 14), f"hashing the circuit of {seed}")
     for holds_so in (refines_deep, reads_falling, leaves_beginnings, writes_long, displays_whole):
-        tally.check(holds_so(program), holds_so.__doc__)
+        with tally.test(holds_so.__name__):
+            tally.check(holds_so(program), holds_so.__doc__)
     return tally.end()
 
 

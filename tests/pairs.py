@@ -25,7 +25,8 @@ import harness
 from aiger import Machine, machine_of
 from designs import inverted
 from harness import CHECK, EDIT, PROVE, TOOL, numbers, output
-from random_machines import Files, random_machine, told
+from machines import random_machine
+from trials import Files, told
 
 from aigprove.aiger import Circuit, Lines
 from aigprove.plain import Plain
@@ -62,8 +63,7 @@ def is_inductive(machine):
 
 def with_outputs(rng):
     machine = random_machine(rng)
-    literals = [0, *machine.inputs, *(row[0] for row in [*machine.latches, *machine.gates])]
-    machine.outputs = [rng.choice(literals) + rng.randrange(2) for _ in range(rng.randint(1, 3))]
+    machine.outputs = [rng.randrange(machine.gates.end()) for _ in range(rng.randint(1, 3))]
     return machine
 
 

@@ -13,6 +13,7 @@ import sys
 import harness
 from aiger import Gates, Machine
 from harness import CHECK, EDIT, TOOL, Tally, output, run
+from mangling import binary_of, lines_of, text_of
 from proofs import Clauses, Formula, is_taken, numbered
 
 FILES = harness.TESTS / "answers"
@@ -84,34 +85,15 @@ def refutation(formula):
         decisions[-1], turned[-1] = -decisions[-1], True
 
 
-def lines_of(found):
-    """The words of lines in DRAT."""
-    return [[*map(str, clause), "0"] for clause in found]
-
-
-def text_of(lines):
-    return "".join(f"{' '.join(line)}\n" for line in lines).encode()
-
-
-def binary_number(value):
-    """A number in groups of seven bits, the lowest first."""
-    return bytes([value | 128]) + binary_number(value >> 7) if (low := value & 127) != value else bytes([low])
-
-
-def binary_of(found):
-    """The bytes of a binary DRAT proof."""
-    literals = lambda clause: b"".join(binary_number(2 * abs(literal) + (literal < 0)) for literal in clause)
-    return b"".join(b"a" + literals(clause) + b"\0" for clause in found)
-
-
 def proofs_of(text):
     """The proofs of a formula in each form, and one without a step, each with whether it has to be taken."""
     formula = Formula(text)
     found = refutation(formula)
     if found is None:
         sys.exit(f"these clauses can be satisfied:\n{text}")
-    lines = lines_of(found)
-    made = [text_of(lines), text_of(numbered(formula, lines)), binary_of(found)]
+    steps = [(False, clause) for clause in found]
+    lines = lines_of(steps)
+    made = [text_of(lines).encode(), text_of(numbered(formula, lines)).encode(), binary_of(steps)]
     return [(proof, True) for proof in made] + [(b"", is_taken(formula, b""))]
 
 
@@ -126,7 +108,7 @@ def solved(folder, text):
             sys.exit(f"cadical ends with status {status}: {printed}, of\n{text}")
         made.append(proof.read_bytes())
     lines = [line.split() for line in made[0].decode().splitlines()]
-    made.insert(1, text_of(numbered(Formula(text), lines)))
+    made.insert(1, text_of(numbered(Formula(text), lines)).encode())
     return [(proof, True) for proof in made]
 
 
@@ -208,9 +190,11 @@ def main():
         (folder / "miter.aag").write_text(output([EDIT, "miter", one, other]))
         for words, taking, after, line in questions(miter, one, other):
             for setting in [[], ["raw"]]:
-                compare(tally, folder, [*words, *setting], taking, [*after, *setting], line)
+                with tally.test(words[1]):
+                    compare(tally, folder, [*words, *setting], taking, [*after, *setting], line)
         if given.solver:
-            check_solver(tally, folder)
+            with tally.test("by cadical"):
+                check_solver(tally, folder)
     return tally.end()
 
 

@@ -332,10 +332,11 @@ def main():
         faults = harness.shim("outs/faults.c", folder)
         for test in tests():
             if not given.names or test.__name__ in given.names:
-                try:
-                    test(Room(programs, faults, folder / test.__name__, tally))
-                except OSError as error:
-                    tally.check(False, f"{test.__name__}: {error}")
+                with tally.test(test.__name__):
+                    try:
+                        test(Room(programs, faults, folder / test.__name__, tally))
+                    except OSError as error:
+                        tally.check(False, f"{test.__name__}: {error}")
     return tally.end()
 
 

@@ -327,25 +327,26 @@ def told(title, specs, words):
 
 
 def main():
-    option = (sys.argv[1:] or [""])[0]
-    if option not in ("", "--list", "--mark"):
-        sys.exit(__doc__)
+    options = (parser := harness.parser(__doc__)).add_mutually_exclusive_group()
+    options.add_argument("--list", action="store_true", help="print every definition")
+    options.add_argument("--mark", action="store_true", help="write the lines")
+    given = parser.parse_args()
     specs, code, found = layers()
     for title, words, std in found:
         print(f"{told(title, specs, words)}, over {len(std):2} words of std")
     print(told("all", specs, specs.lines))
     _, everything, std = found[-1]
-    if option == "--list":
+    if given.list:
         for file in sorted(files_of(everything)):
             print(f"{specs.paths[file].relative_to(TOP)}: {' '.join(sorted(word.name for word in everything if word[:2] == file))}")
         print("std: " + " ".join(sorted({word.name for word in std})))
     wrong = [it for it in wanted_texts(specs, code, found) if it[0].read_text() != it[1]]
     for path, text, why in wrong:
-        if option == "--mark":
+        if given.mark:
             path.write_text(text)
         else:
             print(f"{path.relative_to(TOP)}: {why}")
-    sys.exit(1 if wrong and option != "--mark" else 0)
+    sys.exit(1 if wrong and not given.mark else 0)
 
 
 if __name__ == "__main__":

@@ -10,16 +10,17 @@ It ends with the first that differs, and else prints one line. It is no part of 
 import collections
 import concurrent.futures
 import itertools
-import random
 from pathlib import Path
 
 import harness
-from aiger import Gates, Machine
 from harness import CHECK, numbers, output
-from random_machines import Files, counted, mangled, random_machine, text_of, told
+from machines import machine_of_clauses, random_clauses, random_machine
+from mangling import damaged_bytes, mangled, text_of
+from trials import Files, counted, told
 
-# How often a proof is mangled.
+# How often a proof is mangled, and which bytes are put into a binary one.
 MANGLED = 2
+PIECES = [b"\0", b"\1", b"a", b"d", b"\x80"]
 # How many variables that the clauses don't have the first step may name; each later one may name one more.
 NEW = 1 << 16
 SETTINGS = [[], ["--plain"], ["--unsat"], ["--sat"], ["--no-elim"], ["--no-probe"], ["--decompose=0"], ["--reduceint=10"], ["--seed=7"]]
@@ -266,13 +267,6 @@ def is_taken(formula, data):
         return False
 
 
-def mangled_bytes(rng, data):
-    """A binary proof with a byte changed, left out or put in, or cut."""
-    at = rng.randrange(len(data))
-    some = bytes([rng.choice([0, 1, 97, 100, 128, rng.randrange(256)])])
-    return rng.choice([data[:at] + some + data[at + 1 :], data[:at] + data[at + 1 :], data[:at] + some + data[at:], data[:at]])
-
-
 def numbered(formula, lines):
     """The lines of an LRAT file that say what those of a DRAT file do, with deletions of clauses alone that are there and fix nothing."""
     clauses, number, made, fixed = Clauses(formula.clauses), len(formula.clauses), [], set()
@@ -296,25 +290,15 @@ def numbered(formula, lines):
     return made
 
 
-def random_formula(rng):
-    """A machine without latches that is bad where random clauses of three literals are all true, most often nowhere."""
-    inputs = rng.randint(4, 9)
-    gates, bad = Gates(inputs), 1
-    for _ in range(round(inputs * rng.uniform(5, 6))):
-        a, b, c = (2 * variable + rng.randrange(2) for variable in rng.sample(range(1, inputs + 1), 3))
-        bad = gates.both(bad, gates.both(gates.both(a, b), c) ^ 1)
-    return Machine(list(range(2, gates.first, 2)), bads=[bad], gates=gates)
-
-
 class Trial(Files):
     """A random machine, a step at which it is safe, and proofs of that."""
 
     def __init__(self, seed, folder):
-        super().__init__(folder)
-        self.rng = random.Random(seed)
+        super().__init__(folder, seed)
         while True:
-            machine, self.step = self.rng.choice([(random_formula, 0), (random_machine, self.rng.randint(0, 4))])
-            machine = machine(self.rng)
+            of_clauses = self.rng.random() < 0.5
+            machine = machine_of_clauses(*random_clauses(self.rng)) if of_clauses else random_machine(self.rng)
+            self.step = 0 if of_clauses else self.rng.randint(0, 4)
             self.file = self.put("made.aag", machine.text())
             clauses = output([CHECK, "clauses", self.file, str(self.step)])
             self.formula, self.clauses = Formula(clauses), self.put("clauses.cnf", clauses)
@@ -362,7 +346,7 @@ class Trial(Files):
             return self
         self.compare_lines("hints", numbered(self.formula, lines))
         binary = self.proof("--binary")
-        self.compare("binary", binary, lambda: mangled_bytes(self.rng, binary))
+        self.compare("binary", binary, lambda: damaged_bytes(self.rng, binary, PIECES))
         return self
 
 

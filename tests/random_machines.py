@@ -13,18 +13,19 @@ no part of tests/run."""
 import collections
 import concurrent.futures
 import dataclasses
-import functools
 import itertools
 import json
 import random
 import re
 import signal
-import sys
 from pathlib import Path
 
 import harness
-from aiger import Gates, Machine, machine_of
-from harness import CHECK, PROVE, TOOL, TOP, numbers, output
+from aiger import machine_of
+from harness import PROVE, TOOL, TOP, numbers, output
+from machines import deep_machine
+from mangling import mangled, text_of
+from trials import Files, told
 
 from aigprove.aiger import Lines
 from aigprove.witness import Witness, read
@@ -35,7 +36,6 @@ BOUND = 6
 BY_STEPS = ["steps", "steps,windows", "steps,windows,bmc3,pdr", "bounded"]
 # Engines whose runs need not be the shortest.
 LATER = ["pdr", "windows", "steps,windows,bmc3,pdr"]
-NAMES = ["a", "a", "a b", "a=1", "i0", "l1", "b0", '"a"', "é", "a\\b", "x[0]", "\t", "i0:a", "d[0]", "d[0]", "d[1]", "d[1]", "d[2]", "d"]
 # A signal as it is printed, and its value: its place, a word, or a JSON string that may stand behind the place.
 SIGNAL = re.compile(r'((?:[il]\d+:)?"(?:[^"\\]|\\.)*"|[^\s"=]+)=(?:([01-])|(\d+)\'(?:h([0-9a-f]+)|b([01-]+)))(?: |$)')
 STEPS_LINE = re.compile(r"steps (\d+) to (\d+):")
@@ -67,65 +67,6 @@ def turned(witness):
             lines = [witness.start, *witness.steps]
             lines[i] = bits[:j] + "10"[int(bit)] + bits[j + 1 :]
             yield Witness(witness.bad, lines[0], lines[1:])
-
-
-def random_machine(rng):
-    """A machine of random gates, with constraints that hold for most inputs."""
-    inputs, latches, gates = rng.randint(0, 3), rng.randint(1, 5), rng.randint(3, 20)
-    made = Gates(inputs + latches)
-    leaves, literal = list(range(2, made.first, 2)), lambda: rng.randrange(made.first + 2 * len(made))
-    for _ in range(gates):
-        made.both(max(literal(), 2), max(literal(), 2))
-    rng.shuffle(leaves)
-    states = leaves[inputs:]
-    resets = [(leaf, literal(), rng.choice([0, 0, 1, 1, leaf])) for leaf in states]
-    constraints = [made.both(literal(), literal()) ^ 1 for _ in range(rng.choice([0, 0, 1, 2]))]
-    # Some states are bad, and now and then a literal.
-    bads = [functools.reduce(lambda bad, leaf: made.both(bad, leaf + rng.randrange(2)), states, 1) for _ in range(rng.choice([1, 1, 2, 3]))]
-    bads += [literal() for _ in range(rng.choice([0] * 7 + [1]))]
-    places = [f"{letter}{i}" for letter, count in [("i", inputs), ("l", latches), ("b", len(bads))] for i in range(count)]
-    names = {place: rng.choice(NAMES) for place in places if rng.random() < 0.7}
-    return Machine(leaves[:inputs], resets, bads=bads, constraints=constraints, gates=made, names=names)
-
-
-def deep_machine(rng):
-    """A machine of random gates: few that are bad in a first state or the next, and not too many that never are."""
-    while True:
-        machine = random_machine(rng)
-        if rng.random() < {0: 0.05, 1: 0.2, None: 0.3}.get(machine.first_bad(), 1):
-            return machine
-
-
-class Files:
-    """A folder of its own for files, what programs say of them, and what is counted."""
-
-    def __init__(self, folder):
-        self.folder, self.counts = Path(folder), collections.Counter()
-        self.folder.mkdir()
-
-    def put(self, name, data):
-        """Writes a file, and gives its path."""
-        (self.folder / name).write_bytes(data if isinstance(data, bytes) else data.encode())
-        return str(self.folder / name)
-
-    def fail(self, why):
-        sys.exit(f"{why}\n" + "\n".join(f"{path.name}:\n{path.read_text()}" for path in self.folder.glob("*.aag")))
-
-    def proof(self, text, name):
-        """The path of cadical's proof that clauses have no solution; None where they have one."""
-        clauses, proof = self.put("clauses.cnf", text), str(self.folder / name)
-        return proof if harness.run(["cadical", "-q", "--no-binary", clauses, proof])[0] == 20 else None
-
-    def takes(self, line, *words):
-        """Whether aigcheck prints a line."""
-        printed = output([CHECK, *words], [0, 1])
-        if printed not in ["", line + "\n"]:
-            self.fail(f"aigcheck {words[0]} prints {printed}")
-        return printed != ""
-
-    def abc(self, commands):
-        """What ABC prints, which ends by a failed assertion of its own now and then."""
-        return output(["berkeley-abc", "-q", commands], [0, -signal.SIGABRT])
 
 
 class Trial(Files):
@@ -300,38 +241,6 @@ class Trial(Files):
         return Witness(bad, start, [line[:count] for line in lines])
 
 
-def mangled(rng, lines, count, others=()):
-    """Lines of a proof, which are lists of words, with so many dropped, turned, swapped, cut, doubled, or put in from others."""
-    lines = [list(line) for line in lines]
-    for _ in range(count):
-        if not lines:
-            break
-        i, j = rng.randrange(len(lines)), rng.randrange(len(lines))
-        change = rng.choice(["drop", "turn", "turn", "swap", "cut", "double", "word"] + ["take"] * len(others[:2]))
-        place = rng.randrange(len(lines[i]))
-        if change == "drop":
-            del lines[i]
-        elif change == "swap":
-            lines[i], lines[j] = lines[j], lines[i]
-        elif change == "cut":
-            del lines[i:]
-        elif change == "double":
-            lines.insert(j, list(lines[i]))
-        elif change == "take":
-            lines[i:i] = map(list, rng.choice(others)[: j + 1])
-        elif change == "word":
-            del lines[i][place]
-            lines = [line for line in lines if line]
-        elif lines[i][place] not in ["0", "d"]:
-            word = int(lines[i][place])
-            lines[i][place] = str(-word if rng.random() < 0.7 else word + rng.choice([-1, 1]))
-    return lines
-
-
-def text_of(lines):
-    return "".join(" ".join(line) + "\n" for line in lines)
-
-
 class Mangler:
     """Proofs of clauses, mangled, for steps at which a bad state is reached."""
 
@@ -359,21 +268,6 @@ class Mangler:
         if trial.takes(f"no bad state at step {trial.first}", "refuted", trial.text, str(trial.first), proof):
             trial.fail(f"a proof is taken:\n{text_of(lines)}")
         return len(lines)
-
-
-def told(counts):
-    """Counts as they are printed."""
-    return ", ".join(f"{counts[what]} {what}" for what in sorted(counts))
-
-
-def counts_of(trial, words):
-    """What is counted of a trial."""
-    return trial(*words).run().counts
-
-
-def counted(pool, trial, words):
-    """What is counted of trials with these words, side by side."""
-    return sum(pool.map(functools.partial(counts_of, trial), words), collections.Counter())
 
 
 def main():

@@ -18,10 +18,11 @@ import re
 from pathlib import Path
 
 import harness
-from aiger import Gates, Machine
 from harness import CHECK, numbers, output
+from machines import machine_of_clauses, random_clauses
+from mangling import mangled, text_of
 from proofs import NEW, Clauses, Formula, is_taken, numbered
-from random_machines import Files, counted, mangled, text_of, told
+from trials import Files, counted, told
 
 # How often a proof is mangled.
 MANGLED = 4
@@ -141,30 +142,11 @@ def renamed(line, names, more):
     return [head, *line[1 : end + 1], *map(name, line[end + 1 : -1]), "0"]
 
 
-def all_of(gates, literals):
-    """A literal that is true where all of these are."""
-    return functools.reduce(gates.both, literals) if literals else 1
-
-
-def machine_of(count, clauses, spare):
-    """A machine without latches that is bad where clauses over its first inputs are all true, with spare ones."""
-    gates = Gates(count + spare)
-    bad = all_of(gates, [all_of(gates, [2 * abs(number) + (number > 0) for number in clause]) ^ 1 for clause in clauses])
-    return Machine(list(range(2, gates.first, 2)), bads=[bad], gates=gates)
-
-
-def random_clauses(rng):
-    """A count of variables, and clauses of three literals, most often without a solution."""
-    count = rng.randint(4, 8)
-    some = lambda: [variable * rng.choice([-1, 1]) for variable in rng.sample(range(1, count + 1), 3)]
-    return count, [some() for _ in range(round(count * rng.uniform(5, 7)))]
-
-
 class Question(Files):
     """Clauses of a machine that is never bad, given by clauses and spare variables, and proofs of that."""
 
     def ask(self, count, clauses, spare):
-        self.file = self.put("made.aag", machine_of(count, clauses, spare).text())
+        self.file = self.put("made.aag", machine_of_clauses(count, clauses, spare).text())
         text = output([CHECK, "clauses", self.file, "0"])
         self.formula, literals = Formula(text), {int(i): int(literal) for i, literal in INPUT.findall(text)}
         self.literals = [literals[i] for i in range(count)]

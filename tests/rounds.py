@@ -15,7 +15,8 @@ import sys
 
 import harness
 from aiger import machine_of
-from live import LAST, NAME, Steps, bad_steps, check_clauses, has_lasso, named, random_machine
+from live import LAST, NAME, NAMES, Steps, bad_steps, check_clauses, has_lasso
+from machines import live_machine, named
 
 # How many rounds are counted; and how many that a fair lasso has to end.
 COUNTS, MANY = range(4), 5
@@ -89,23 +90,23 @@ class Rounds:
         (self.folder / "file").write_text(machine.text())
         for j, own in enumerate(machine.justice):
             for count in COUNTS:
-                self.check_property(machine, j, count)
-            if has_lasso(machine, own + machine.fairness):
-                self.tally.check(can_end(machine, own + machine.fairness, MANY), f"a fair lasso without {MANY} rounds: {machine.text()}")
-        status, out, said = self.run(len(machine.justice), 1)
-        self.tally.wants("no property", (1, b"", True), (status, out, b"no such justice property" in said))
+                with self.tally.test(f"{count} rounds"):
+                    self.check_property(machine, j, count)
+            with self.tally.test("rounds of lassos"):
+                if has_lasso(machine, own + machine.fairness):
+                    self.tally.check(can_end(machine, own + machine.fairness, MANY), f"a fair lasso without {MANY} rounds: {machine.text()}")
+        with self.tally.test("no property"):
+            status, out, said = self.run(len(machine.justice), 1)
+            self.tally.wants("no property", (1, b"", True), (status, out, b"no such justice property" in said))
 
 
 def main():
-    parser = harness.parser(__doc__, "aigedit")
-    parser.add_argument("files", nargs="?", type=int, default=200)
-    parser.add_argument("seed", nargs="?", type=int, default=1)
-    given, tally = parser.parse_args(), harness.Tally()
+    given, tally = harness.parser(__doc__, "aigedit", files=200, seed=1).parse_args(), harness.Tally()
     rng = random.Random(given.seed)
     with harness.new_folder() as folder:
         rounds = Rounds(given.aigedit, folder, tally)
         for _ in range(given.files):
-            rounds.check(named(random_machine(rng), rng))
+            rounds.check(named(rng, live_machine(rng), NAMES))
     return tally.end()
 
 

@@ -139,7 +139,8 @@ def main():
     parser.add_argument("names", nargs="*", help="the files to take (all)")
     words, tally = parser.parse_args(), harness.Tally()
     for name in words.names or sorted(path.stem for path in (harness.TESTS / "scripts").glob("*.steps")):
-        check(tally, harness.TESTS / "scripts" / f"{name}.steps", words.aig_script)
+        with tally.test(name):
+            check(tally, harness.TESTS / "scripts" / f"{name}.steps", words.aig_script)
     return tally.end()
 
 

@@ -6,7 +6,6 @@ is wanted: the exit status, the lines of standard output and standard error (its
 left in the temporary folder, and no program that was started by an engine runs."""
 import contextlib
 import gzip
-import itertools
 import os
 import pty
 import re
@@ -327,8 +326,10 @@ def main():
     signal.signal(signal.SIGINT, signal.default_int_handler)
     tally = harness.Tally()
     parts = [answers, files, fed, worded, faulty, kept, limited, hung, together, closed, ended, killed, missing, installed]
-    for what, wanted, given in itertools.chain.from_iterable(part() for part in parts):
-        tally.wants(what, wanted, given)
+    for part in parts:
+        with tally.test(part.__name__):
+            for what, wanted, given in part():
+                tally.wants(what, wanted, given)
     return tally.end()
 
 

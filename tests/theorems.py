@@ -3,7 +3,7 @@
 
 Each call that is exported and each law has to stand in a row, and each name of a row has to be one of them. tests/theorems.tsv has
 the clauses that their rows tell: a call with another clause fails, until its row tells that one too and --write has written it.
-tests/rows.tsv has the words of code of their rows: one that stands in no row of the call any more, nor outside the tables, fails, until
+tests/rows.tsv has the words of code of their rows: one that stands in no row of the call any more, nor outside the rows, fails, until
 --write has written it. A definition that the page quotes has to stand so in the file that the link before it leads to. --list prints
 the docstring of a call or law, its crate and clauses, and the words of specs/ that these cite, each with a link to its file.
 """
@@ -12,12 +12,15 @@ import os
 import re
 import sys
 
+import harness
 import promises
 
 PAGE = promises.TOP / "docs" / "PROMISES.md"
 CLAUSES = promises.TOP / "tests" / "theorems.tsv"
 ROWS = promises.TOP / "tests" / "rows.tsv"
 NAMED = re.compile(r"`([^`]+)`")
+# A row, an item of a list: names of calls or laws, and what is told of them. Behind `of` stands the crate whose names they are.
+ROW = re.compile(r"^- ((?:`[^`]+`(?:, )?)+)(?: of `(\w+)`)?: (.*)$", re.MULTILINE)
 BLOCK = re.compile(r"^```.*?^```$", re.DOTALL | re.MULTILINE)
 QUOTED = re.compile(r"\]\(([^)\s]+\.antt)\)[^\n]*\n\n?```antt\n(.*?)```", re.DOTALL)
 
@@ -61,23 +64,19 @@ def contract_of(calls, specs, item):
 
 
 def rows_of(text, calls):
-    """The names of the rows, each with the words of code of what is told: the names of a row that ends with `of` and a crate are that
-    crate's."""
+    """The names of the rows, each with the words of code of what is told: the names of a row that has `of` and a crate behind them are
+    that crate's."""
     told = collections.defaultdict(set)
-    for line in text.split("\n"):
-        cells = [cell.strip() for cell in line.split("|")[1:-1]]
-        names = NAMED.findall(cells[0]) if len(cells) == 2 else []
-        if names and re.search(r"` of `\w+`$", cells[0]):
-            crate = names.pop()
-            names = [own if (own := f"{crate}::{name}") in calls else name for name in names]
-        for name in names:
-            told[name] |= set(NAMED.findall(cells[1]))
+    for cell, crate, what in ROW.findall(text):
+        for name in NAMED.findall(cell):
+            own = f"{crate}::{name}"
+            told[own if own in calls else name] |= set(NAMED.findall(what))
     return told
 
 
 def lost_words(text, words):
-    """The words of code that the row of a call told, and that stand in its row no more, nor outside the tables."""
-    outside = set(NAMED.findall(re.sub(r"^\|.*\n", "", BLOCK.sub("", text), flags=re.MULTILINE)))
+    """The words of code that the row of a call told, and that stand in its row no more, nor outside the rows."""
+    outside = set(NAMED.findall(ROW.sub("", BLOCK.sub("", text))))
     for line in ROWS.read_text().splitlines():
         key, *known = line.split("\t")
         for word in known:
@@ -96,19 +95,20 @@ def quotation_faults(text):
 
 
 def main():
-    option, *names = sys.argv[1:] or [""]
-    if option not in ("", "--write", "--list") or len(names) != (option == "--list"):
-        sys.exit(__doc__)
+    options = (parser := harness.parser(__doc__)).add_mutually_exclusive_group()
+    options.add_argument("--write", action="store_true", help="write the tables")
+    options.add_argument("--list", metavar="NAME", help="print a call or law")
+    given = parser.parse_args()
     text, specs, code = PAGE.read_text(), promises.Specs(), promises.Code()
     calls, needed = calls_of(code)
-    if option == "--list":
-        print("\n".join(contract_of(calls, specs, *names)))
+    if given.list:
+        print("\n".join(contract_of(calls, specs, given.list)))
         return
     told = rows_of(text, calls)
     words = {f"{crate} {item}": told.get(item, set()) | told.get(own, set()) for crate, item, own in needed}
     clauses = {f"{crate} {item}": f"{crate} {item}\t{' '.join(clause for part in calls[own] for clause in part.ensures)}"
         for crate, item, own in needed}
-    if option == "--write":
+    if given.write:
         CLAUSES.write_text("".join(f"{clauses[key]}\n" for key in sorted(clauses)))
         ROWS.write_text("".join("\t".join([key, *sorted(words[key])]) + "\n" for key in sorted(words)))
     known = {line.partition("\t")[0]: line for line in CLAUSES.read_text().splitlines()}

@@ -37,9 +37,8 @@ def deep_scopes():
         return (0, dump.encode(), b""), run([folder / "file", folder / "witness"])
 
 
-def main():
-    tally = harness.Tally()
-    tally.wants("a name of 5,000 scopes", *deep_scopes())
+def check_rows(tally):
+    """Checks what is printed, or written, for each row."""
     for words, printed in harness.rows(FOLDER / "rows.tsv"):
         if printed.startswith("waves: "):
             tally.wants(words, (1, b"", printed.encode() + b"\n"), run(words.split()))
@@ -49,10 +48,20 @@ def main():
         with harness.new_folder() as folder:
             out = folder / "out.vcd"
             tally.wants(f"{words} OUT", ((0, b"", b""), wanted), (run([*words.split(), out]), out.read_bytes()))
-    for words in WRONG_WORDS:
-        status, out, fault = run(words.split())
-        tally.wants(words, (2, b"", True), (status, out, fault.startswith(b"usage: waves.py ")))
-    tally.wants("a full device", (1, b""), run(["named.aag", "named.txt", "/dev/full"])[:2])
+
+
+def main():
+    tally = harness.Tally()
+    with tally.test("a name of 5,000 scopes"):
+        tally.wants("its dump", *deep_scopes())
+    with tally.test("rows.tsv"):
+        check_rows(tally)
+    with tally.test("wrong words"):
+        for words in WRONG_WORDS:
+            status, out, fault = run(words.split())
+            tally.wants(words, (2, b"", True), (status, out, fault.startswith(b"usage: waves.py ")))
+    with tally.test("a full device"):
+        tally.wants("its status", (1, b""), run(["named.aag", "named.txt", "/dev/full"])[:2])
     return tally.end()
 
 
