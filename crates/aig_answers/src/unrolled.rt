@@ -7,7 +7,7 @@ ghost use Rattle.aig_runs.specs.declared.window.Window.TheVariants.{Plain};
 ghost use Rattle.aig_unroll.specs.Unroll.{UnrollsTo};
 
 use crate::clauses::induction_between;
-use crate::windows::WindowClauses;
+use crate::windows::{WindowClauses, tell_relations};
 use aig_base::MemoryError;
 use aig_circuit::CircuitView;
 use aig_cnf::encode;
@@ -47,6 +47,7 @@ pub fn plain_window(
         (λ made. AsksWindow Plain circuit.now k optimize made.clauses made.further) }
 {
     let clauses = encode(alloc, unrolled, optimize)?;
+    tell_relations(&clauses);
     let further = induction_between(alloc, circuit, k, unrolled)?;
     Ok(WindowClauses { clauses, further })
 }

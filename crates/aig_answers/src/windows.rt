@@ -2,7 +2,7 @@
 
 ghost use Rattle.std.specs.Prelude.{◌≡◌, ◌≢◌, ◌+◌, ◌*◌, ◌≤◌, ◌<◌, ◌^◌, ◌↔◌, ◌++◌, [], IfErr, IfOk, IsErrOf, IsTrue, OnOk, false, length, map, replicate, ℕ};
 ghost use Rattle.aig_answers.specs.Answers.{IsAsked, IsCircuitOf, IsOfInduction, IsOfWindow, IsSaidBy, TellsOfCircuitWindow, TellsOfWindow, circuit_window_verdict, verdict_of, window_size, window_verdict};
-ghost use Rattle.aig_base.specs.Clauses.{AreBelow};
+ghost use Rattle.aig_base.specs.Clauses.{AreBelow, AreRelations};
 ghost use Rattle.aig_runs.specs.Induction.{IsKInductive};
 ghost use Rattle.aig_runs.specs.WindowClauses.{AsksWindow, count_free, states_clauses, watched};
 ghost use Rattle.aig_circuit.specs.Circuit.{Circuit, IsCircuit, latch_leaves};
@@ -36,6 +36,13 @@ pub struct WindowClauses {
     pub clauses: DagCnf,
     /// The window clauses, or those of the query.
     pub further: LitVvec,
+}
+
+/// Tells that clauses that are given to variables are of those that are there.
+pub(crate) fn tell_relations(clauses: &DagCnf)
+    ensures { AreRelations clauses.now }
+{
+    let _variables = clauses.num_vars();
 }
 
 /// The edges of the leaves of latches.
@@ -129,6 +136,7 @@ fn clauses_of(
         → AsksWindow form c k optimize made.clauses made.further) }
 {
     let clauses = encode(alloc, unrolled, optimize)?;
+    tell_relations(&clauses);
     let further = induction_between(alloc, circuit, k, unrolled)?;
     let mut made = WindowClauses { clauses, further };
     tell_apart(alloc, &mut made, circuit, k, unrolled, form)?;

@@ -1,6 +1,5 @@
-use Rattle.std.proofs.Common.{sym, subst, ◌∙◌}
+use Rattle.std.proofs.Common.{sym, ◌∙◌}
 use Rattle.std.proofs.lemmas.List.{append-nil}
-use Rattle.aig_base.specs.Clauses.{AreRelations}
 use Rattle.aig_runs.specs.WindowClauses.{induction_clauses}
 use Rattle.aig_runs.specs.declared.window.Window.TheVariants.{Plain}
 use Rattle.aig_answers.proofs.Asking.{asks}
@@ -12,5 +11,5 @@ returns c =
     let u = c.args.unrolled.now in
     let lists = c.in_ok-clauses.clauses in
     let made = c.in_ok-clauses.ensures in
-    asks c.args.circuit.now k c.args.optimize u lists lists c.in_ok-further.further c.in_ok-further.ensures.circuit made.clauses made.fixes made.satisfied (subst AreRelations c.clauses.view_is c.clauses.invariant.0) Plain c.requires.unrolls
+    asks c.args.circuit.now k c.args.optimize u lists lists c.in_ok-further.further c.in_ok-further.ensures.circuit made.clauses made.fixes made.satisfied c.tell_relations.ensures Plain c.requires.unrolls
     (sym (append-nil lists)) (c.in_ok-further.ensures.exact ∙ sym (append-nil (induction_clauses c.args.circuit.now k u)))

@@ -1,5 +1,4 @@
 use Rattle.std.proofs.Common.{◌+◌, ◌*◌, ◌++◌, [], replicate, length, sym, ap, subst, ◌∙◌, arith}
-use Rattle.aig_base.specs.Clauses.{AreRelations}
 use Rattle.aig_circuit.specs.Circuit.{Circuit}
 use Rattle.aig_unroll.specs.Unroll.{UnrollsTo}
 use Rattle.aig_runs.specs.WindowClauses.{count_free, induction_clauses, states_clauses}
@@ -27,4 +26,4 @@ returns c =
     let steps = subst (λ w. UnrollsTo w (k + 1) u) now c.requires.unrolls in
     let exact = apart.clauses ∙ ap (λ w. lists ++ replicate (count_free form w k) []) now in
     let further = apart.further ∙ ap (λ all. all ++ states_clauses form (length lists) c.args.circuit.now k u) c.in_ok-further.ensures.exact ∙ ap (λ w. induction_clauses w k u ++ states_clauses form (length lists) w k u) now in
-    asks source k c.args.optimize u lists _ _ c.in_ok-further.ensures.circuit made.clauses made.fixes made.satisfied (subst AreRelations c.clauses.view_is c.clauses.invariant.0) form steps exact further
+    asks source k c.args.optimize u lists _ _ c.in_ok-further.ensures.circuit made.clauses made.fixes made.satisfied c.tell_relations.ensures form steps exact further

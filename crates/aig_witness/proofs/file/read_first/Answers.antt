@@ -4,7 +4,7 @@ use Rattle.aig_witness.specs.Witness.{said_by}
 use Rattle.aig_lexer.proofs.Faults.{tells-weaker}
 use Rattle.aig_witness.specs.Faults.{witness_cause}
 use Rattle.aig_witness.specs.Reading.{parse_next}
-use Rattle.aig_witness.proofs.Nexts.{ends_none, has_fault, takes_next}
+use Rattle.aig_witness.proofs.Nexts.{has_fault, takes_next}
 use Rattle.aig_witness.proofs.file.read_first.Goals as goal
 
 pub returns-in_err-witness-clause-err : goal.returns-in_err-witness-clause-err
@@ -20,7 +20,3 @@ returns-in-Some-clause-ok g c =
     (said_by c.in-Some.witness) (rw (c.in-Some.is, c.new-buffer.ensures) at
     c.in_ok-witness.ensures)
 
-pub returns-in-None-clause-err : goal.returns-in-None-clause-err
-returns-in-None-clause-err g c =
-    ends_none g.W.Source.left g.W.Source.failed g.W.Source.pulls parse_next c.args.w.now _
-    (rw (c.in-None.is, c.new-buffer.ensures) at c.in_ok-witness.ensures)

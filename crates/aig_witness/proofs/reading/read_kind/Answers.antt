@@ -1,8 +1,8 @@
-use Rattle.std.proofs.Common.{None, Some, refl, sym, ◌∙◌, ◌∷◌}
+use Rattle.std.proofs.Common.{None, sym, ◌∙◌}
 use Rattle.aig_lexer.specs.Takes.{feed}
-use Rattle.aig_lexer.proofs.Going.{goes_byte, goes_done, goes_end, goes_nowhere, goes_same, goes_start}
+use Rattle.aig_lexer.proofs.Going.{goes_byte, goes_end, goes_nowhere, goes_start}
 use Rattle.aig_witness.specs.Reading.{parse_kind}
-use Rattle.aig_witness.proofs.Going.{kind_none, kind_read, kind_wrong}
+use Rattle.aig_witness.proofs.Going.{kind_none, kind_wrong}
 use Rattle.aig_witness.proofs.reading.read_kind.Goals as goal
 
 pub returns-in_default : goal.returns-in_default
