@@ -245,11 +245,11 @@ made_status (safety.Base e) = base_status e
 made_status (safety.Step e) = step_status e
 
 -- a justice property isn't shown to have no fair lasso, or no fair run
-abbrev pub liveness_status : LivenessError → ℕ
-liveness_status (liveness.Live e) = edit_status e
-liveness_status (liveness.Query e) = flagged 512 (answer_status e)
-liveness_status (liveness.Question e) = base_status e
-liveness_status (liveness.Safety e) = made_status e
+abbrev pub live_status : LivenessError → ℕ
+live_status (liveness.Live e) = edit_status e
+live_status (liveness.Query e) = flagged 512 (answer_status e)
+live_status (liveness.Question e) = base_status e
+live_status (liveness.Safety e) = made_status e
 
 -- ---- two files
 

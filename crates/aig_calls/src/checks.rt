@@ -46,7 +46,8 @@ fn refute_to(
     optimize: bool,
     proof: &[u8],
 ) -> Result<(), CheckError>
-    ensures { Unseen (RunsOn LIMIT (commands.RefutedTo k optimize) file.now (Some proof.now) result) }
+    ensures { let command = commands.RefutedTo k optimize in
+        Unseen (RunsOn LIMIT command file.now (Some proof.now) result) }
 {
     let mut source = FromRead::new(file);
     let mut lines = FromRead::new(proof);

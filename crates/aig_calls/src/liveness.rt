@@ -2,7 +2,7 @@
 
 ghost use Rattle.std.specs.Prelude.{◌<◌, ◌^◌};
 ghost use Rattle.aig_calls.specs.Calls.{ChecksAt, ChecksLasso, ChecksLassos, ChecksRuns, form_of};
-ghost use Rattle.aig_calls.specs.Statuses.{liveness_status};
+ghost use Rattle.aig_calls.specs.Statuses.{live_status};
 
 use crate::status::status_of;
 use crate::steps::{step_of, window_form};
@@ -88,7 +88,7 @@ pub extern "C" fn aig_check_no_lasso(
     optimize: bool,
     proof: &[u8],
 ) -> u32
-    ensures { ChecksAt k liveness_status (ChecksLasso LIMIT j k optimize file.now proof.now) result }
+    ensures { ChecksAt k live_status (ChecksLasso LIMIT j k optimize file.now proof.now) result }
 {
     match step_of(k) {
         Ok(k) => status_of(refute_lasso(alloc, file, j, k, optimize, proof)),
@@ -108,7 +108,7 @@ pub extern "C" fn aig_check_no_lasso_to(
     optimize: bool,
     proof: &[u8],
 ) -> u32
-    ensures { ChecksAt k liveness_status (ChecksLassos LIMIT j k optimize file.now proof.now) result }
+    ensures { ChecksAt k live_status (ChecksLassos LIMIT j k optimize file.now proof.now) result }
 {
     match step_of(k) {
         Ok(k) => status_of(refute_lassos(alloc, file, j, k, optimize, proof)),
@@ -130,7 +130,7 @@ pub extern "C" fn aig_check_no_fair_run(
     step_optimize: bool,
     step: &[u8],
 ) -> u32
-    ensures { ChecksAt k liveness_status (ChecksRuns LIMIT j k (form_of distinct) base_optimize
+    ensures { ChecksAt k live_status (ChecksRuns LIMIT j k (form_of distinct) base_optimize
         step_optimize file.now base.now step.now) result }
 {
     match step_of(k) {

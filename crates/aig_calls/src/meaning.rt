@@ -142,10 +142,8 @@ fn text_of(alloc: Global, status: u32) -> Result<Vec<u8>, MemoryError> {
 /// What a status says, in words: those of the programs. The one error is refused memory.
 #[unsafe(no_mangle)]
 pub extern "C" fn aig_message(alloc: Global, status: u32, out: &mut [u8], needed: &mut usize) -> u32
-    ensures answer { result < 2
-        → (text : List ℕ) × IsGiven result text out.old out.new needed.new }
-    ensures kept { 2 ≤ result
-        → (result ≡ 2) × (out.new ≡ out.old) × (needed.new ≡ needed.old) }
+    ensures answer { result < 2 → (text : List ℕ) × IsGiven result text out.old out.new needed.new }
+    ensures kept { 2 ≤ result → (result ≡ 2) × (out.new ≡ out.old) × (needed.new ≡ needed.old) }
 {
     put(text_of(alloc, status), out, needed)
 }

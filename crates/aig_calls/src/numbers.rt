@@ -52,8 +52,8 @@ fn push_clause(numbers: &mut Vec<i32>, clause: &[Lit]) -> Result<(), MemoryError
 /// Appends the numbers of each clause of a list.
 fn push_list(numbers: &mut Vec<i32>, clauses: &LitVvec) -> Result<(), MemoryError>
     requires { AreBelow (2 ^ 31 - 1) clauses.now }
-    ensures { OnOk result
-        (numbers.new.items ≡ numbers.old.items ++ flat_map clause_numbers clauses.now) }
+    ensures { OnOk result (numbers.new.items ≡ numbers.old.items ++ flat_map clause_numbers
+        clauses.now) }
 {
     for i in 0..clauses.len() {
         push_clause(numbers, clauses.clause(i))?;
@@ -64,8 +64,8 @@ fn push_list(numbers: &mut Vec<i32>, clauses: &LitVvec) -> Result<(), MemoryErro
 /// Appends the numbers of each clause of each variable.
 fn push_lists(numbers: &mut Vec<i32>, clauses: &DagCnf) -> Result<(), MemoryError>
     requires { length clauses.now < 2 ^ 31 }
-    ensures { OnOk result
-        (numbers.new.items ≡ numbers.old.items ++ flat_map (flat_map clause_numbers) clauses.now) }
+    ensures { OnOk result (numbers.new.items ≡ numbers.old.items ++ flat_map (flat_map
+        clause_numbers) clauses.now) }
 {
     for v in 0..clauses.num_vars() {
         push_list(numbers, clauses.clauses_of(Var::new(v)))?;
@@ -141,11 +141,10 @@ pub extern "C" fn aig_query_numbers(
     variables: &mut usize,
     clauses_len: &mut usize,
 ) -> u32
-    ensures { let kept = (out.new ≡ out.old) × (needed.new ≡ needed.old)
-        × (variables.new ≡ variables.old) × (clauses_len.new ≡ clauses_len.old) in
-        AtStep k result kept ((listed : Result Listing AnswerError)
-        × On (Some file.now) (λ r rest. Lists LIMIT k optimize r rest listed)
-        × GivesListing listed result out.old out.new needed.old needed.new variables.old
+    ensures { let kept = (out.new ≡ out.old) × (needed.new ≡ needed.old) × (variables.new ≡
+        variables.old) × (clauses_len.new ≡ clauses_len.old) in AtStep k result kept ((listed :
+        Result Listing AnswerError) × On (Some file.now) (λ r rest. Lists LIMIT k optimize r rest
+        listed) × GivesListing listed result out.old out.new needed.old needed.new variables.old
         variables.new clauses_len.old clauses_len.new) }
 {
     match step_of(k) {

@@ -65,8 +65,8 @@ pub extern "C" fn aig_cnf(
     out: &mut [u8],
     needed: &mut usize,
 ) -> u32
-    ensures { GivesAt k tool_status (Prints (RunsTool LIMIT (commands.Cnf k optimize) file.now)) result
-        out.old out.new needed.old needed.new }
+    ensures { GivesAt k tool_status (Prints (RunsTool LIMIT (commands.Cnf k optimize) file.now))
+        result out.old out.new needed.old needed.new }
 {
     match step_of(k) {
         Ok(k) => print(alloc, Command::Cnf { k, optimize }, file, out, needed),
@@ -85,8 +85,8 @@ pub extern "C" fn aig_query(
     out: &mut [u8],
     needed: &mut usize,
 ) -> u32
-    ensures { GivesAt k tool_status (Prints (RunsTool LIMIT (commands.Query k optimize) file.now)) result
-        out.old out.new needed.old needed.new }
+    ensures { GivesAt k tool_status (Prints (RunsTool LIMIT (commands.Query k optimize) file.now))
+        result out.old out.new needed.old needed.new }
 {
     match step_of(k) {
         Ok(k) => print(alloc, Command::Query { k, optimize }, file, out, needed),

@@ -1,7 +1,7 @@
 //! The numbers by which calls say how they ended.
 
 ghost use Rattle.std.specs.Prelude.{◌≡◌, ◌<◌, ◌≤◌, ℕ};
-ghost use Rattle.aig_calls.specs.Statuses.{answer_status, base_status, bounded_status, certificate_status, check_status, claim_status, edit_status, encode_status, equality_status, fault_status, flagged, lasso_status, liveness_status, made_status, memory, miter_status, pair_status, read_status, refutation_status, safety_status, section_number, show_status, solution_status, status_by, step_status, tool_status, witness_status};
+ghost use Rattle.aig_calls.specs.Statuses.{answer_status, base_status, bounded_status, certificate_status, check_status, claim_status, edit_status, encode_status, equality_status, fault_status, flagged, lasso_status, live_status, made_status, memory, miter_status, pair_status, read_status, refutation_status, safety_status, section_number, show_status, solution_status, status_by, step_status, tool_status, witness_status};
 
 use aig::ReadError;
 use aig_answers::AnswerError;
@@ -379,7 +379,7 @@ fn of_miter(error: MiterError) -> u32
 
 /// The status of a file of whose justice property something isn't shown.
 fn of_liveness(error: LivenessError) -> u32
-    ensures { result ≡ liveness_status error }
+    ensures { result ≡ live_status error }
 {
     match error {
         LivenessError::Live(error) => of_edit(error),
@@ -509,7 +509,7 @@ impl HasNumber for CheckError {
 }
 
 impl HasNumber for LivenessError {
-    ghost number = { liveness_status };
+    ghost number = { live_status };
 
     fn number(self) -> u32 {
         of_liveness(self)
