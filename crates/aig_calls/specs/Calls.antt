@@ -1,54 +1,55 @@
 -- Part of what is promised.
--- What a call does, by the bytes that it is given: what it leaves in its caller's memory, and what
--- its status says.
-use Rattle.std.specs.Prelude.{◌≡◌, ◌⊎◌, ℕ, ◌<◌, ◌≤◌, ◌++◌, if◌then◌else◌, Bool, true, false, IsTrue, List, length, drop, Option, Some, IfSome, Result, Ok, Err}
-use Rattle.aig_runs.specs.declared.window.Window.{Window}
-use Rattle.aig_runs.specs.declared.window.Window.TheVariants.{Distinct, Plain}
-use Rattle.aig_circuit.specs.Circuit.{Circuit}
-use Rattle.aig_answers.specs.Answers.{TellsOfCircuit, TellsOfCircuitWindow, TellsOfStep}
-use Rattle.aig_answers.specs.declared.error.AnswerError.TheVariants as answers
-use Rattle.aig_bounded.specs.Question.{question_size}
-use Rattle.aig_bounded_answers.specs.Asking.{AsksOfBads, IsSettled, RefusesSolution, ShowsProof, bounded_verdict}
-use Rattle.aig_bounded_answers.specs.declared.clauses.BoundedClauses.{BoundedClauses}
-use Rattle.aig_bounded_answers.specs.declared.error.BoundedAnswerError.{BoundedAnswerError}
-use Rattle.aig_bounded_answers.specs.declared.error.BoundedAnswerError.TheVariants as bounded
-use Rattle.aig_checks.specs.Bounded.{IsBoundedText, IsSettledTo}
-use Rattle.aig_checks.specs.Running.{RefusesAnswer}
-use Rattle.aig_edits.specs.Edits.{IsEditRefusal, IsWrittenEdit}
-use Rattle.aig_edits.specs.Lives.{IsLiveFile}
-use Rattle.aig_edits.specs.Questions.{IsQuestionOf}
-use Rattle.aig_edits.specs.Reductions.{IsReductionOf}
-use Rattle.aig_edits.specs.Rounds.{IsRoundsFile}
+-- What a call does, by the bytes that it is given: what the program's command, or the library's
+-- call, of the same name does with them, a status for its result, and what is left in the caller's
+-- memory.
+use Rattle.std.specs.Prelude.{◌≡◌, ℕ, ◌<◌, ◌≤◌, ◌^◌, ◌++◌, if◌then◌else◌, Bool, List, length, drop, Option, Some, Result, Ok, Err, IfErr, IfOk, Vec, ℤ}
+use Rattle.std.specs.declared.alloc.Global.{Global}
+use Rattle.aig_answers.specs.Answers as answering
+use Rattle.aig_answers.specs.Answers.{IsAsked, asked_verdict}
+use Rattle.aig_answers.specs.declared.error.AnswerError.{AnswerError}
+use Rattle.aig_checks.specs.Comparing.{RunsComparing}
+use Rattle.aig_checks.specs.Pairs.{RunsPair}
+use Rattle.aig_checks.specs.Running.{Runs}
+use Rattle.aig_checks.specs.Safe.{RunsSafe}
+use Rattle.aig_checks.specs.declared.command.FileCommand.{FileCommand}
+use Rattle.aig_checks.specs.declared.command.PairCommand.{PairCommand}
+use Rattle.aig_checks.specs.declared.tool.CheckError.{CheckError}
+use Rattle.aig_commands.specs.Running as tool
+use Rattle.aig_commands.specs.declared.command.Command.{Command}
+use Rattle.aig_commands.specs.declared.tool.ToolError.{ToolError}
+use Rattle.aig_edits.specs.Edits.{IsEditOwn, PrintsEdit, ReadsFile, edit_verdict}
+use Rattle.aig_edits.specs.Info.{PrintsInfo}
+use Rattle.aig_edits.specs.Joints.{IsOwn, PrintsJoint, first_verdict, second_verdict}
+use Rattle.aig_edits.specs.Lives.{PrintsLive}
+use Rattle.aig_edits.specs.Pairs.{ReadsPair}
+use Rattle.aig_edits.specs.Questions.{PrintsQuestion}
+use Rattle.aig_edits.specs.Reductions.{PrintsReduction}
+use Rattle.aig_edits.specs.Rounds.{PrintsRounds}
 use Rattle.aig_edits.specs.declared.edit.Edit.{Edit}
-use Rattle.aig_edits.specs.declared.edit.Edit.TheVariants as edits
 use Rattle.aig_edits.specs.declared.edit_error.EditError.{EditError}
-use Rattle.aig_edits.specs.declared.edit_error.EditError.TheVariants as edit_errors
-use Rattle.aig_encode.specs.Encoding.{encoded_verdict}
-use Rattle.aig_edits.specs.Joints.{DoFit, IsJointOf, IsRefusalOf}
-use Rattle.aig_edits.specs.declared.error.PairError.TheVariants.{TooLarge}
+use Rattle.aig_edits.specs.declared.error.PairError.{PairError}
 use Rattle.aig_edits.specs.declared.pairing.Pairing.{Pairing}
-use Rattle.aig_edits.specs.declared.pairing.Pairing.TheVariants.{Certificate, Miter}
-use Rattle.aig_certificates.specs.Certificates.{joint_verdict}
-use Rattle.aig_format.specs.declared.FileKind.TheVariants.{Text}
-use Rattle.aig_format.specs.Circuit.{circuit_of, file_of, text_of}
-use Rattle.aig_format.specs.File.{File}
-use Rattle.aig_format.specs.Fits.{Accepts}
-use Rattle.aig_reader.specs.Verdicts.{Accepted, Verdict}
-use Rattle.aig_refutation.specs.declared.error.RefutationError.{RefutationError}
-use Rattle.aig_solutions.specs.declared.error.SolutionError.{SolutionError}
-use Rattle.aig_fair.specs.Files.{FailsClaim, HasNoClaim}
+use Rattle.aig_fair.specs.Files as claiming
+use Rattle.aig_fair.specs.Files.{ShowsClaim}
 use Rattle.aig_fair.specs.declared.file.ClaimError.{ClaimError}
-use Rattle.aig_fair.specs.declared.file.ClaimError.TheVariants as claims
 use Rattle.aig_fair.specs.declared.file.ShownProperty.{ShownProperty}
 use Rattle.aig_fair.specs.declared.file.ShownProperty.TheVariants as properties
-use Rattle.aig_witness.specs.Files.{FailsNext, HasNoNext, IsNext}
-use Rattle.aig_witness.specs.Reading.{parse_next_claim}
-use Rattle.aig_witness.specs.Witness.{Claim}
-use Rattle.aig_witness.specs.declared.witness.PropertyKind.TheVariants as kinds
+use Rattle.aig_format.specs.File.{File}
+use Rattle.aig_format.specs.Fits.{Accepts}
+use Rattle.aig_liveness.specs.Liveness as living
+use Rattle.aig_liveness.specs.Liveness.{HasNoLasso, HasNoLassoTo, HasNoRun, verdict_of}
+use Rattle.aig_liveness.specs.declared.error.LivenessError.{LivenessError}
+use Rattle.aig_reader.specs.Reading.{IsReadAs}
+use Rattle.aig_reader.specs.Verdicts.{Accepted, Judges, Verdict, verdict_by}
+use Rattle.aig_runs.specs.declared.window.Window.{Window}
+use Rattle.aig_runs.specs.declared.window.Window.TheVariants.{Distinct, Plain}
+use Rattle.aig_witness.specs.Files as showing
+use Rattle.aig_witness.specs.Files.{ShowsNext}
 use Rattle.aig_witness.specs.declared.file.ShowError.{ShowError}
-use Rattle.aig_witness.specs.declared.file.ShowError.TheVariants as shows
 use Rattle.aig_witness.specs.declared.file.Shown.{Shown}
-use Rattle.aig_calls.specs.Statuses.{IsOfPair, SaysClaim, SaysFault, SaysSolution, Tells, done, has_bads, is_lasso_fault, is_solution_fault, is_witness_fault, large_base, large_question, many_bads, misfit, no_bad, no_justice, no_output, said_by, said_of_other, said_of_proof, said_of_query, said_of_query_proof, said_of_window, said_of_window_proof, certified_status, settled, small, unwritable}
+use Rattle.aig_calls.specs.Numbers.{IsListing, Listing}
+use Rattle.aig_calls.specs.Memory.{Memory, On, Unseen, Into, bytes_of, has_failed}
+use Rattle.aig_calls.specs.Statuses.{answer_status, claim_status, done, many_steps, show_status, small, status_by, witness_bad}
 
 -- ---- words
 
@@ -56,22 +57,149 @@ use Rattle.aig_calls.specs.Statuses.{IsOfPair, SaysClaim, SaysFault, SaysSolutio
 abbrev pub form_of : Bool → Window
 form_of distinct = if distinct then Distinct else Plain
 
--- this bad state property is shown at this step
-abbrev pub shown_at : ℕ → ℕ → Shown
-shown_at bad step = record { bad = bad; step = step }
+-- ---- what is done with bytes
 
--- ---- files
+-- a command of `aigtool` was run on these bytes
+abbrev pub RunsTool : ℕ → Command → List ℕ → Result Unit ToolError → Memory → Memory → Type 0
+RunsTool limit c file result w made =
+    On (Some file) (λ r rest.
+    tool.Runs bytes_of has_failed bytes_of has_failed c limit r w result rest made)
 
--- the bytes are a file of which this holds
-abbrev pub IsFileWith : ℕ → List ℕ → (File → Type 0) → Type 0
-IsFileWith limit bytes Holds = (f : File) × Accepts bytes limit f × Holds f
+-- a command of `aigcheck` was, and on those that are given beside them, if there are any
+abbrev pub RunsOn : ℕ → FileCommand → List ℕ → Option (List ℕ) → Result Unit CheckError → Memory
+    → Memory → Type 0
+RunsOn limit c file given result w made =
+    On (Some file) (λ r rest. On given (λ p used.
+    Runs bytes_of has_failed bytes_of has_failed bytes_of has_failed c limit r p w result rest used
+    made))
 
--- these and those bytes are two files of which this holds
-abbrev pub AreFilesWith : ℕ → List ℕ → List ℕ → (File → File → Type 0) → Type 0
-AreFilesWith limit bytes others Holds =
-    IsFileWith limit bytes (λ f. IsFileWith limit others (Holds f))
+-- so on the bytes of two files, and on those of two proofs, if there are any
+abbrev pub RunsOnPair : ℕ → PairCommand → List ℕ → List ℕ → Option (List ℕ) → Option (List ℕ)
+    → Result Unit CheckError → Memory → Memory → Type 0
+RunsOnPair limit c file other base step result w made =
+    On (Some file) (λ r rest. On (Some other) (λ s left. On base (λ p used. On step (λ q spent.
+    RunsPair bytes_of has_failed bytes_of has_failed bytes_of has_failed bytes_of has_failed
+    bytes_of has_failed c limit r s p q w result rest left used spent made))))
 
--- ---- memory
+-- `safe` was run on those of a file and of two proofs
+abbrev pub RunsOnSafe : ℕ → ℕ → Window → Bool → Bool → List ℕ → List ℕ → List ℕ
+    → Result Unit CheckError → Memory → Memory → Type 0
+RunsOnSafe limit k form base_optimize step_optimize file base step result w made =
+    On (Some file) (λ r rest. On (Some base) (λ p used. On (Some step) (λ q spent.
+    RunsSafe bytes_of has_failed bytes_of has_failed bytes_of has_failed bytes_of has_failed k form
+    base_optimize step_optimize limit r p q w result rest used spent made)))
+
+-- `equal` with `by` was run on those of two files, a certificate and two proofs
+abbrev pub RunsOnMiter : ℕ → Bool → List ℕ → List ℕ → List ℕ → List ℕ → List ℕ
+    → Result Unit CheckError → Memory → Memory → Type 0
+RunsOnMiter limit optimize file other certificate base step result w made =
+    On (Some file) (λ r rest. On (Some other) (λ s left. On (Some certificate) (λ c tried.
+    On (Some base) (λ p used. On (Some step) (λ q spent.
+    RunsComparing bytes_of has_failed bytes_of has_failed bytes_of has_failed bytes_of has_failed
+    bytes_of has_failed bytes_of has_failed optimize limit r s c p q w result rest left tried used
+    spent made)))))
+
+-- a call was made that reads these bytes as a file
+abbrev pub Reads : {T E : Type 0} → ℕ → (File → Result T E → Type 0) → (E → Verdict)
+    → (E → Type 0) → List ℕ → Result T E → Type 0
+Reads limit Means said Own file result =
+    On (Some file) (λ r rest.
+    ReadsFile bytes_of has_failed limit Means said Own r result rest)
+
+-- or these and those as two files
+abbrev pub ReadsBoth : {T E : Type 0} → ℕ → (File → File → Result T E → Type 0) → (E → Verdict)
+    → (E → Verdict) → (E → Type 0) → List ℕ → List ℕ → Result T E → Type 0
+ReadsBoth limit Means first second Own file other result =
+    On (Some file) (λ r rest. On (Some other) (λ s left.
+    ReadsPair bytes_of has_failed bytes_of has_failed limit Means first second Own r s result rest
+    left))
+
+-- something was made of a file, and its text was written
+abbrev pub Makes : ℕ → (Memory → Memory → File → Result Unit EditError → Type 0) → List ℕ
+    → Result Unit EditError → Memory → Memory → Type 0
+Makes limit Writes file result w made =
+    Reads limit (Writes w made) edit_verdict IsEditOwn file result
+
+abbrev pub MakesEdit : ℕ → Edit → List ℕ → Result Unit EditError → Memory → Memory → Type 0
+MakesEdit limit edit = Makes limit (PrintsEdit bytes_of has_failed edit limit)
+
+abbrev pub MakesReduction : ℕ → List ℕ → Result Unit EditError → Memory → Memory → Type 0
+MakesReduction limit = Makes limit (PrintsReduction bytes_of has_failed)
+
+abbrev pub MakesQuestion : ℕ → ℕ → List ℕ → Result Unit EditError → Memory → Memory → Type 0
+MakesQuestion limit k = Makes limit (PrintsQuestion bytes_of has_failed k limit)
+
+abbrev pub MakesInfo : ℕ → List ℕ → Result Unit EditError → Memory → Memory → Type 0
+MakesInfo limit = Makes limit (PrintsInfo bytes_of has_failed)
+
+abbrev pub MakesLive : ℕ → ℕ → List ℕ → Result Unit EditError → Memory → Memory → Type 0
+MakesLive limit j = Makes limit (PrintsLive bytes_of has_failed j)
+
+abbrev pub MakesRounds : ℕ → ℕ → ℕ → List ℕ → Result Unit EditError → Memory → Memory → Type 0
+MakesRounds limit j count = Makes limit (PrintsRounds bytes_of has_failed j count)
+
+-- so of two files
+abbrev pub MakesJoint : ℕ → Pairing → List ℕ → List ℕ → Result Unit PairError → Memory → Memory
+    → Type 0
+MakesJoint limit pairing file other result w made =
+    ReadsBoth limit (PrintsJoint bytes_of has_failed pairing w made) first_verdict second_verdict
+    IsOwn file other result
+
+-- what was checked of a justice property, by the bytes of one proof or of two
+abbrev pub ChecksLasso : ℕ → ℕ → ℕ → Bool → List ℕ → List ℕ → Result Unit LivenessError → Type 0
+ChecksLasso limit j k optimize file proof =
+    Reads limit (HasNoLasso limit j k optimize (Some proof)) verdict_of living.IsOwn file
+
+abbrev pub ChecksLassos : ℕ → ℕ → ℕ → Bool → List ℕ → List ℕ → Result Unit LivenessError → Type 0
+ChecksLassos limit j k optimize file proof result =
+    On (Some proof) (λ p used.
+    Reads limit (HasNoLassoTo bytes_of limit j k optimize p used) verdict_of living.IsOwn file
+    result)
+
+abbrev pub ChecksRuns : ℕ → ℕ → ℕ → Window → Bool → Bool → List ℕ → List ℕ → List ℕ
+    → Result Unit LivenessError → Type 0
+ChecksRuns limit j k form base_optimize step_optimize file base step result =
+    On (Some base) (λ p used. On (Some step) (λ q spent.
+    Reads limit (HasNoRun bytes_of bytes_of limit j k base_optimize form step_optimize p used q)
+    verdict_of living.IsOwn file result))
+
+-- ---- witnesses
+
+-- what a witness shows of a file's machine, or why it shows nothing: of a bad state
+pub record ShowsBad (limit : ℕ) (r rest w : Memory) (used : Memory)
+    (result : Result Shown ShowError) : Type 0 where
+  pub answer : IfOk result
+      (IsReadAs (λ bytes. Accepts bytes limit) (ShowsNext (bytes_of w)) (bytes_of r)
+      (bytes_of rest))
+  pub verdict : Judges (λ _. Accepted) limit (bytes_of r) (bytes_of rest) (has_failed rest)
+      (verdict_by showing.verdict_of result)
+  pub refusal : IfErr result
+      (showing.Refuses limit (bytes_of r) (bytes_of rest) (bytes_of w) (has_failed used))
+
+-- or of what it says
+pub record ShowsEither (limit : ℕ) (r rest w : Memory) (used : Memory)
+    (result : Result ShownProperty ClaimError) : Type 0 where
+  pub answer : IfOk result
+      (IsReadAs (λ bytes. Accepts bytes limit) (ShowsClaim (bytes_of w)) (bytes_of r)
+      (bytes_of rest))
+  pub verdict : Judges (λ _. Accepted) limit (bytes_of r) (bytes_of rest) (has_failed rest)
+      (verdict_by claiming.verdict_of result)
+  pub refusal : IfErr result
+      (claiming.RefusesClaim limit (bytes_of r) (bytes_of rest) (bytes_of w) (has_failed used))
+
+-- the clauses of a file's query were listed
+pub record Lists (limit k : ℕ) (optimize : Bool) (r rest : Memory)
+    (result : Result Listing AnswerError) : Type 0 where
+  pub answer : IfOk result
+      (IsReadAs (IsAsked limit k) (IsListing k optimize) (bytes_of r) (bytes_of rest))
+  pub verdict : Judges (asked_verdict limit k) limit (bytes_of r) (bytes_of rest)
+      (has_failed rest) (verdict_by answering.verdict_of result)
+
+-- ---- what is told
+
+-- something was done whose result the status says
+abbrev pub Checks : {T E : Type 0} → (E → ℕ) → (Result T E → Type 0) → ℕ → Type 0
+Checks of Does status = (result : Result _ _) × Does result × (status ≡ status_by of result)
 
 -- What an answer of these items leaves in its caller's memory: they are put at its front, and else,
 -- where they don't fit, it stays as it was. `needed` says in both cases how many there are.
@@ -81,320 +209,67 @@ pub record IsGiven {X : Type 0} (status : ℕ) (items old new : List X) (needed 
   pub short : status ≡ small → (length old < length items) × (new ≡ old)
   pub only : status < 2
 
--- ---- one file
+-- the items that a result has
+abbrev pub items_in : {X E : Type 0} → Result (Vec X Global) E → Result (List X) E
+items_in (Ok made) = Ok made.items
+items_in (Err e) = Err e
 
--- What a call that gives an answer about a file does: without one its caller's memory stays as it
--- was.
-pub record Gives {X : Type 0} (of : File → Verdict) (limit : ℕ) (Means : File → List X → Type 0)
-    (IsOwn : ℕ → Type 0) (bytes : List ℕ) (status : ℕ) (old new : List X) (before needed : ℕ)
-    : Type 0 where
-  pub said : Tells of limit bytes (said_by status)
-  pub own : IsOwn status
-  pub answer : status < 2 → (items : List X) × IsFileWith limit bytes (λ f. Means f items)
-      × IsGiven status items old new needed
-  pub kept : 2 ≤ status → (new ≡ old) × (needed ≡ before)
-
--- what a call that checks something of a file says: status 0 only where this holds of the file
-pub record Checks (of : File → Verdict) (limit : ℕ) (Holds : File → Type 0) (IsOwn : ℕ → Type 0)
-    (bytes : List ℕ) (status : ℕ) : Type 0 where
-  pub said : Tells of limit bytes (said_by status)
-  pub own : IsOwn status
-  pub answer : status ≡ done → IsFileWith limit bytes Holds
-
--- ---- proofs
-
--- what the bytes of a proof show of the clauses of the file's query for step k
-abbrev pub ShowsStep : ℕ → Bool → List ℕ → File → Result (Unit {0}) RefutationError → Type 0
-ShowsStep k optimize proof f (Ok taken) = TellsOfStep k optimize (Some proof) f (Ok tt)
-ShowsStep k optimize proof f (Err e) =
-    TellsOfStep k optimize (Some proof) f (Err (answers.Refutation e))
-
--- of those of a circuit's window
-abbrev pub ShowsCircuitWindow : Window → ℕ → Bool → List ℕ → Circuit
-    → Result (Unit {0}) RefutationError → Type 0
-ShowsCircuitWindow form k optimize proof m (Ok taken) =
-    TellsOfCircuitWindow form k optimize (Some proof) m (Ok tt)
-ShowsCircuitWindow form k optimize proof m (Err e) =
-    TellsOfCircuitWindow form k optimize (Some proof) m (Err (answers.Refutation e))
-
--- of those of the file's
-abbrev pub ShowsWindow : Window → ℕ → Bool → List ℕ → File → Result (Unit {0}) RefutationError
+-- the items are given; without an answer the memory stays as it was
+abbrev pub GivesItems : {X E : Type 0} → (E → ℕ) → Result (List X) E → ℕ → List X → List X → ℕ → ℕ
     → Type 0
-ShowsWindow form k optimize proof f = ShowsCircuitWindow form k optimize proof (circuit_of f)
+GivesItems of (Ok items) status old new before needed = IsGiven status items old new needed
+GivesItems of (Err e) status old new before needed =
+    (status ≡ of e) × (new ≡ old) × (needed ≡ before)
 
--- The circuit has a question. One that is settled needs no proof, and of any other it is told what
--- the bytes of the proof show of its clauses; so of the clauses of each.
-pub record TellsOfQuestion (k : ℕ) (optimize : Bool) (proof : List ℕ) (m : Circuit)
-    (result : Result Unit BoundedAnswerError) : Type 0 where
-  pub made : BoundedClauses
-  pub asks : AsksOfBads m k optimize made
-  pub settled : (other : BoundedClauses) → AsksOfBads m k optimize other → IsSettled other
-      → result ≡ Ok tt
-  pub shown : (other : BoundedClauses) → AsksOfBads m k optimize other → ¬ IsSettled other
-      → ShowsProof other (Some proof) result
+-- something was done whose result is given
+abbrev pub Gives : {X E : Type 0} → (E → ℕ) → (Result (List X) E → Type 0) → ℕ → List X → List X
+    → ℕ → ℕ → Type 0
+Gives {X} of Does status old new before needed =
+    (result : Result (List X) _) × Does result × GivesItems of result status old new before needed
 
--- of those of a circuit's question
-abbrev pub ShowsQuestion : ℕ → Bool → List ℕ → Circuit → Result (Unit {0}) RefutationError
+-- which bad state is shown, and at which step; else both numbers stay
+abbrev pub TellsBad : Result Shown ShowError → ℕ → ℕ → ℕ → ℕ → ℕ → Type 0
+TellsBad (Ok shown) status had bad before step =
+    (status ≡ done) × (bad ≡ shown.bad) × (step ≡ shown.step)
+TellsBad (Err e) status had bad before step =
+    (status ≡ show_status e) × (bad ≡ had) × (step ≡ before)
+
+-- of which justice property a lasso is shown, and between which steps its loop is; else the numbers
+-- stay
+abbrev pub TellsLasso : Result ShownProperty ClaimError → ℕ → ℕ → ℕ → ℕ → ℕ → ℕ → ℕ → Type 0
+TellsLasso (Ok (properties.Lasso shown)) status had justice before start at last =
+    (status ≡ done) × (justice ≡ shown.justice) × (start ≡ shown.start) × (last ≡ shown.last)
+TellsLasso (Ok (properties.Bad shown)) status had justice before start at last =
+    (status ≡ witness_bad) × (justice ≡ had) × (start ≡ before) × (last ≡ at)
+TellsLasso (Err e) status had justice before start at last =
+    (status ≡ claim_status e) × (justice ≡ had) × (start ≡ before) × (last ≡ at)
+
+-- the numbers that are listed are given, how many variables there are, and how many of the numbers
+-- are those of the clauses
+abbrev pub GivesListing : Result Listing AnswerError → ℕ → List ℤ → List ℤ → ℕ → ℕ → ℕ → ℕ → ℕ → ℕ
     → Type 0
-ShowsQuestion k optimize proof m (Ok taken) = TellsOfQuestion k optimize proof m (Ok tt)
-ShowsQuestion k optimize proof m (Err e) =
-    TellsOfQuestion k optimize proof m (Err (bounded.Refutation e))
+GivesListing (Ok listed) status old new before needed had variables had_len clauses_len =
+    IsGiven status listed.numbers old new needed × (variables ≡ listed.variables)
+    × (clauses_len ≡ listed.clauses_len)
+GivesListing (Err e) status old new before needed had variables had_len clauses_len =
+    (status ≡ answer_status e) × (new ≡ old) × (needed ≡ before) × (variables ≡ had)
+    × (clauses_len ≡ had_len)
 
--- and of those of the file's
-abbrev pub ShowsBounded : ℕ → Bool → List ℕ → File → Result (Unit {0}) RefutationError → Type 0
-ShowsBounded k optimize proof f = ShowsQuestion k optimize proof (circuit_of f)
+-- the text that a writer holds then that held nothing, where there is no error
+abbrev pub Prints : {E : Type 0} → (Result Unit E → Memory → Memory → Type 0)
+    → Result (List ℕ) E → Type 0
+Prints Does (Ok text) = Into text (Does (Ok tt))
+Prints Does (Err e) = Unseen (Does (Err e))
 
--- what is said of a proof is what its bytes show
-abbrev pub TellsProofBy : (File → Result (Unit {0}) RefutationError → Type 0) → ℕ → List ℕ
-    → Option (Result (Unit {0}) RefutationError) → Type 0
-TellsProofBy Shows limit bytes said =
-    IfSome said (λ r. IsFileWith limit bytes (λ f. Shows f r))
+-- a call for step K refuses a K of 2^32 or more, and then changes nothing
+abbrev pub AtStep : ℕ → ℕ → Type 0 → Type 0 → Type 0
+AtStep k status Kept Does = (2 ^ 32 ≤ k → (status ≡ many_steps) × Kept) × (k < 2 ^ 32 → Does)
 
--- of the one that a status says something of
-abbrev pub TellsProofOf : (File → Result (Unit {0}) RefutationError → Type 0) → ℕ → List ℕ → ℕ
-    → Type 0
-TellsProofOf Shows limit bytes status = TellsProofBy Shows limit bytes (said_of_proof status)
+abbrev pub ChecksAt : {T E : Type 0} → ℕ → (E → ℕ) → (Result T E → Type 0) → ℕ → Type 0
+ChecksAt k of Does status = AtStep k status (Unit {0}) (Checks of Does status)
 
--- ---- witnesses and solvers' answers
-
--- why the bytes of a witness show no bad state of the file's machine
-abbrev pub FailsToShow : List ℕ → File → ShowError → Type 0
-FailsToShow text f (shows.File e) = ⊥
-FailsToShow text f (shows.Check fault) = FailsNext (Some text) f fault
-FailsToShow text f e = HasNoNext (Some text) false e
-
--- a status that refuses a witness says why
-abbrev pub TellsFault : ℕ → List ℕ → List ℕ → ℕ → Type 0
-TellsFault limit bytes text status = IsTrue (is_witness_fault status)
-    → (e : ShowError) × SaysFault status e × IsFileWith limit bytes (λ f. FailsToShow text f e)
-
--- this fair lasso is shown
-abbrev pub lasso_at : ℕ → ℕ → ℕ → ShownProperty
-lasso_at justice start last =
-    properties.Lasso (record { justice = justice; start = start; last = last })
-
--- why the bytes of a witness show no fair lasso of the file's machine
-abbrev pub FailsToLasso : List ℕ → File → ClaimError → Type 0
-FailsToLasso text f (claims.Show (shows.File e)) = ⊥
-FailsToLasso text f (claims.Show (shows.Check fault)) = ⊥
-FailsToLasso text f (claims.Show e) = HasNoClaim (Some text) false e
-FailsToLasso text f (claims.Lasso fault) = FailsClaim (Some text) f (claims.Lasso fault)
-
--- a status that refuses a witness of a justice property says why
-abbrev pub TellsLasso : ℕ → List ℕ → List ℕ → ℕ → Type 0
-TellsLasso limit bytes text status = IsTrue (is_lasso_fault status)
-    → (e : ClaimError) × SaysClaim status e × IsFileWith limit bytes (λ f. FailsToLasso text f e)
-
--- the next witness of the text is of a bad state property
-abbrev pub IsOfBadState : List ℕ → Type 0
-IsOfBadState text =
-    (claim : Claim) × IsNext (parse_next_claim true) (Some text) claim
-    × (claim.kind ≡ kinds.Bad)
-
--- why the bytes of a solver's answer to the file's query say no witness
-abbrev pub FailsStep : ℕ → Bool → List ℕ → File → SolutionError → Type 0
-FailsStep k optimize text f e = RefusesAnswer (Some text) false k optimize f e
-
--- or those of one to its question
-abbrev pub FailsBounded : ℕ → Bool → List ℕ → File → SolutionError → Type 0
-FailsBounded k optimize text f e = RefusesSolution (Some text) false k optimize f e
-
--- a status that refuses a solver's answer says why
-abbrev pub TellsSolution : (File → SolutionError → Type 0) → ℕ → List ℕ → ℕ → Type 0
-TellsSolution Fails limit bytes status = IsTrue (is_solution_fault status)
-    → (e : SolutionError) × SaysSolution status e × IsFileWith limit bytes (λ f. Fails f e)
-
--- ---- what is made of one file
-
--- the verdict on a file that is edited: its further steps may pass the limit, or it is taken
-abbrev pub edited_verdict : Edit → ℕ → File → Verdict
-edited_verdict (edits.Unroll k) limit f = encoded_verdict limit k f
-edited_verdict edit limit f = Accepted
-
--- the text is that of the circuit that the edit makes
-abbrev pub IsEditText : Edit → ℕ → File → List ℕ → Type 0
-IsEditText edit limit f text =
-    (m : Circuit) × IsWrittenEdit edit limit f m × (text ≡ text_of m)
-
--- it is that of what the file's query needs
-abbrev pub IsReductionText : File → List ℕ → Type 0
-IsReductionText f text = (m : Circuit) × IsReductionOf f m × (text ≡ text_of m)
-
--- it is that of the question whether a bad state is reached up to step k
-abbrev pub IsQuestionText : ℕ → ℕ → File → List ℕ → Type 0
-IsQuestionText k limit f text = (m : Circuit) × IsQuestionOf k limit f m × (text ≡ text_of m)
-
--- it is that of the live circuit of justice property j
-abbrev pub IsLiveText : ℕ → File → List ℕ → Type 0
-IsLiveText j f text = (m : Circuit) × IsLiveFile j f m × (text ≡ text_of m)
-
--- it is that of the circuit that counts so many rounds of it
-abbrev pub IsRoundsText : ℕ → ℕ → File → List ℕ → Type 0
-IsRoundsText j count f text = (m : Circuit) × IsRoundsFile j count f m × (text ≡ text_of m)
-
--- what is said of the live circuit of justice property j is the verdict on it
-abbrev pub TellsOfLive : ℕ → (Circuit → Verdict) → ℕ → List ℕ → Option Verdict → Type 0
-TellsOfLive j of limit bytes said =
-    IfSome said (λ v. IsFileWith limit bytes (λ f. (m : Circuit) × IsLiveFile j f m × (v ≡ of m)))
-
--- what is said of a proof about it is what its bytes show of the circuit's clauses
-abbrev pub TellsLiveProof : ℕ → (Circuit → Result (Unit {0}) RefutationError → Type 0) → ℕ
-    → List ℕ → Option (Result (Unit {0}) RefutationError) → Type 0
-TellsLiveProof j Shows limit bytes said =
-    IfSome said (λ r. IsFileWith limit bytes (λ f. (m : Circuit) × IsLiveFile j f m × Shows m r))
-
--- its question is too large only where its bound passes the limit
-abbrev pub TellsOfLiveBase : ℕ → ℕ → ℕ → List ℕ → ℕ → Type 0
-TellsOfLiveBase j k limit bytes status = status ≡ large_base
-    → IsFileWith limit bytes
-    (λ f. (m : Circuit) × IsLiveFile j f m × (limit < question_size m k))
-
--- why nothing is made for a justice property of a file
-pub record TellsLive (Refuses : File → EditError → Type 0) (limit : ℕ) (bytes : List ℕ)
-    (status : ℕ) : Type 0 where
-  pub justice : status ≡ no_justice
-      → IsFileWith limit bytes (λ f. Refuses f edit_errors.NoJustice)
-  pub format : status ≡ unwritable
-      → IsFileWith limit bytes (λ f. Refuses f edit_errors.TooLarge)
-
--- why a file isn't edited
-pub record TellsEdit (edit : Edit) (limit : ℕ) (bytes : List ℕ) (status : ℕ) : Type 0 where
-  pub several : status ≡ many_bads
-      → IsFileWith limit bytes (λ f. IsEditRefusal edit limit f edit_errors.ManyBads)
-  pub bads : status ≡ has_bads
-      → IsFileWith limit bytes (λ f. IsEditRefusal edit limit f edit_errors.HasBads)
-  pub output : status ≡ no_output
-      → IsFileWith limit bytes (λ f. IsEditRefusal edit limit f edit_errors.NoOutput)
-  pub bad : status ≡ no_bad
-      → IsFileWith limit bytes (λ f. IsEditRefusal edit limit f edit_errors.NoBad)
-  pub format : status ≡ unwritable
-      → IsFileWith limit bytes (λ f. IsEditRefusal edit limit f edit_errors.TooLarge)
-
--- what a call that gives the text of an edited file does
-pub record GivesEdit (edit : Edit) (limit : ℕ) (IsOwn : ℕ → Type 0) (bytes : List ℕ) (status : ℕ)
-    (old new : List ℕ) (before needed : ℕ) : Type 0 where
-  pub gives : Gives (edited_verdict edit limit) limit (IsEditText edit limit) IsOwn bytes status old
-      new before needed
-  pub refusal : TellsEdit edit limit bytes status
-
--- ---- bounded checks
-
--- a question is too large only where the bound of what is made for the steps 0 to k passes the
--- limit
-abbrev pub TellsOfSize : ℕ → ℕ → List ℕ → ℕ → Type 0
-TellsOfSize k limit bytes status = status ≡ large_question
-    → IsFileWith limit bytes (λ f. limit < question_size (circuit_of f) k)
-
--- so of first steps, of a call with two proofs
-abbrev pub TellsOfBase : ℕ → ℕ → List ℕ → ℕ → Type 0
-TellsOfBase k limit bytes status = status ≡ large_base
-    → IsFileWith limit bytes (λ f. limit < question_size (circuit_of f) k)
-
--- what a call that gives the clauses of a question does: they are told to be settled only where no
--- bad state is reached
-pub record GivesBounded (k : ℕ) (optimize : Bool) (limit : ℕ) (IsOwn : ℕ → Type 0)
-    (bytes : List ℕ) (status : ℕ) (old new : List ℕ) (before needed : ℕ) : Type 0 where
-  pub gives : Gives bounded_verdict limit (λ f text. IsBoundedText (Some bytes) f k optimize text)
-      IsOwn bytes status old new before needed
-  pub safe : status ≡ settled → IsFileWith limit bytes (IsSettledTo k optimize)
-
--- ---- two files
-
--- what a status says of the bytes of two files: of the second one's, where the first one is taken
-pub record TellsOfPair (limit : ℕ) (bytes others : List ℕ) (status : ℕ) : Type 0 where
-  pub first : Tells (λ _. Accepted) limit bytes (said_by status)
-  pub second : said_by status ≡ Some Accepted
-      → Tells (λ _. Accepted) limit others (said_of_other status)
-
--- why there is no circuit of two files
-pub record TellsMisfit (pairing : Pairing) (limit : ℕ) (bytes others : List ℕ) (status : ℕ) : Type 0
-  where
-    pub counts : status ≡ misfit
-        → AreFilesWith limit bytes others (λ f g. ¬ DoFit pairing f g)
-    pub format : status ≡ unwritable
-        → AreFilesWith limit bytes others (λ f g. IsRefusalOf pairing f g TooLarge)
-
--- what is said of the circuit of two files is the verdict on it
-abbrev pub TellsJoint : Pairing → (Circuit → Verdict) → ℕ → List ℕ → List ℕ → Option Verdict
-    → Type 0
-TellsJoint pairing of limit bytes others said =
-    IfSome said (λ v. AreFilesWith limit bytes others
-    (λ f g. (m : Circuit) × IsJointOf pairing f g m × (v ≡ of m)))
-
--- what the bytes of a proof show of the clauses of a joint circuit's query for step k
-abbrev pub ShowsQuery : ℕ → Bool → List ℕ → Circuit → Result (Unit {0}) RefutationError → Type 0
-ShowsQuery k optimize proof m (Ok taken) = TellsOfCircuit k optimize (Some proof) m (Ok tt)
-ShowsQuery k optimize proof m (Err e) =
-    TellsOfCircuit k optimize (Some proof) m (Err (answers.Refutation e))
-
--- and of those of its plain window of two steps
-abbrev pub ShowsTwo : Bool → List ℕ → Circuit → Result (Unit {0}) RefutationError → Type 0
-ShowsTwo = ShowsCircuitWindow Plain 0
-
--- what is said of a proof about two files is what its bytes show of their circuit's clauses
-abbrev pub TellsJointProof : Pairing → (Circuit → Result (Unit {0}) RefutationError → Type 0) → ℕ
-    → List ℕ → List ℕ → Option (Result (Unit {0}) RefutationError) → Type 0
-TellsJointProof pairing Shows limit bytes others said =
-    IfSome said (λ r. AreFilesWith limit bytes others
-    (λ f g. (m : Circuit) × IsJointOf pairing f g m × Shows m r))
-
--- the question of the joint circuit is too large only where its bound passes the limit
-abbrev pub TellsOfJointBase : Pairing → ℕ → ℕ → List ℕ → List ℕ → ℕ → Type 0
-TellsOfJointBase pairing k limit bytes others status = status ≡ large_base
-    → AreFilesWith limit bytes others
-    (λ f g. (m : Circuit) × IsJointOf pairing f g m × (limit < question_size m k))
-
--- what a call that gives an answer about two files does
-pub record GivesPair (pairing : Pairing) (limit : ℕ) (Means : File → File → List ℕ → Type 0)
-    (IsOwn : ℕ → Type 0) (bytes others : List ℕ) (status : ℕ) (old new : List ℕ)
-    (before needed : ℕ) : Type 0 where
-  pub said : TellsOfPair limit bytes others status
-  pub own : IsOwn status
-  pub misfit : TellsMisfit pairing limit bytes others status
-  pub answer : status < 2
-      → (text : List ℕ) × AreFilesWith limit bytes others (λ f g. Means f g text)
-      × IsGiven status text old new needed
-  pub kept : 2 ≤ status → (new ≡ old) × (needed ≡ before)
-
--- the text is that of the circuit of the two files
-abbrev pub IsJointText : Pairing → File → File → List ℕ → Type 0
-IsJointText pairing f g text = (m : Circuit) × IsJointOf pairing f g m × (text ≡ text_of m)
-
--- what a call that gives the text of the circuit of two files does
-abbrev pub Joins : Pairing → ℕ → List ℕ → List ℕ → ℕ → List ℕ → List ℕ → ℕ → ℕ → Type 0
-Joins pairing limit = GivesPair pairing limit (IsJointText pairing) IsOfPair
-
--- what a call that checks something of two files says: status 0 only where this holds of them
-pub record ChecksPair (pairing : Pairing) (limit : ℕ) (Holds : File → File → Type 0)
-    (IsOwn : ℕ → Type 0) (bytes others : List ℕ) (status : ℕ) : Type 0 where
-  pub said : TellsOfPair limit bytes others status
-  pub own : IsOwn status
-  pub misfit : TellsMisfit pairing limit bytes others status
-  pub answer : status ≡ done → AreFilesWith limit bytes others Holds
-
--- What the status of `aig_check_certified` says of a certificate of the file h, by its bytes and
--- those of two proofs.
-pub record TellsCertified (limit : ℕ) (optimize : Bool) (base step : List ℕ) (h : File)
-    (certificate : List ℕ) (status : ℕ) : Type 0 where
-  pub said : said_by status ≡ Some Accepted
-      → Tells (λ _. Accepted) limit certificate (said_of_other status)
-  pub counts : status ≡ misfit → IsFileWith limit certificate (λ g. ¬ DoFit Certificate h g)
-  pub format : status ≡ unwritable
-      → IsFileWith limit certificate (λ g. IsRefusalOf Certificate h g TooLarge)
-  pub query : IfSome (said_of_query status) (λ v. IsFileWith limit certificate
-      (λ g. (b : Circuit) × IsJointOf Certificate h g b × (v ≡ joint_verdict limit 0 b)))
-  pub window : IfSome (said_of_window status) (λ v. IsFileWith limit certificate
-      (λ g. (b : Circuit) × IsJointOf Certificate h g b × (v ≡ joint_verdict limit 1 b)))
-  pub base_proof : IfSome (said_of_query_proof status) (λ r. IsFileWith limit certificate
-      (λ g. (b : Circuit) × IsJointOf Certificate h g b × ShowsQuery 0 optimize base b r))
-  pub step_proof : IfSome (said_of_window_proof status) (λ r. IsFileWith limit certificate
-      (λ g. (b : Circuit) × IsJointOf Certificate h g b × ShowsTwo optimize step b r))
-
--- what a status says of the certificate of two files' miter it says of the file that the miter's
--- text is
-abbrev pub TellsMiter : ℕ → Bool → List ℕ → List ℕ → List ℕ → List ℕ → List ℕ → ℕ → Type 0
-TellsMiter limit optimize base step bytes others certificate status =
-    (status ≡ done ⊎ 8192 ≤ status) → AreFilesWith limit bytes others
-    (λ f g. (m : Circuit) × IsJointOf Miter f g m
-    × TellsCertified limit optimize base step (file_of Text m) certificate
-    (certified_status status))
+abbrev pub GivesAt : {X E : Type 0} → ℕ → (E → ℕ) → (Result (List X) E → Type 0) → ℕ → List X
+    → List X → ℕ → ℕ → Type 0
+GivesAt k of Does status old new before needed =
+    AtStep k status ((new ≡ old) × (needed ≡ before))
+    (Gives of Does status old new before needed)

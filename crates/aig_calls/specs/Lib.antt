@@ -1,4 +1,5 @@
+pub mod Memory
 pub mod Statuses
+pub mod Numbers
 pub mod Calls
 pub mod Parts
-pub mod Numbers

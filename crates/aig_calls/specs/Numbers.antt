@@ -54,7 +54,13 @@ pub record AreNumbersOf (q : Query) (k variables clauses_len : ℕ) (numbers : L
   pub clauses : clauses_len ≡ length (query_numbers q)
   pub exact : numbers ≡ query_numbers q ++ map_numbers q k
 
+-- how many variables there are, how many of the numbers are those of the clauses, and the numbers
+pub record Listing : Type 0 where
+  pub variables : ℕ
+  pub clauses_len : ℕ
+  pub numbers : List ℤ
+
 -- they are those of the file's query for step k
-abbrev pub IsListed : ℕ → Bool → ℕ → ℕ → File → List ℤ → Type 0
-IsListed k optimize variables clauses_len f numbers =
-    (q : Query) × IsQuery k optimize f q × AreNumbersOf q k variables clauses_len numbers
+abbrev pub IsListing : ℕ → Bool → File → Listing → Type 0
+IsListing k optimize f l =
+    (q : Query) × IsQuery k optimize f q × AreNumbersOf q k l.variables l.clauses_len l.numbers

@@ -1,16 +1,44 @@
 -- Part of what is promised.
--- What a status says: the number by which a call says how it ended.
-use Rattle.std.specs.Prelude.{◌≡◌, ◌≢◌, ◌⊎◌, ℕ, ◌+◌, ◌<◌, ◌≤◌, ◌^◌, ◌-◌, ◌==◌, ◌&&◌, ◌||◌, nat_le, nat_lt, if◌then◌else◌, Bool, IsTrue, List, [], ◌∷◌, Option, None, Some, IfSome, Result, Ok, Err, option_map, slice_get}
-use Rattle.aig_format.specs.File.{File}
-use Rattle.aig_reader.specs.Verdicts.{Accepted, Crowded, IsVerdictOn, NoBads, Refused, TooLarge, TooMany, Verdict}
-use Rattle.aig_refutation.specs.declared.error.RefutationError.{RefutationError}
-use Rattle.aig_refutation.specs.declared.error.RefutationError.TheVariants as faults
-use Rattle.aig_solutions.specs.declared.error.SolutionError.{SolutionError}
-use Rattle.aig_solutions.specs.declared.error.SolutionError.TheVariants as solution
+-- The number by which a call says how it ended: 0, 1 where the answer doesn't fit the caller's
+-- memory, and else that of its error. `include/aig.h` has them in words.
+use Rattle.std.specs.Prelude.{ℕ, ◌+◌, nat_lt, if◌then◌else◌, Result, Ok, Err}
+use Rattle.aig_answers.specs.declared.error.AnswerError.{AnswerError}
+use Rattle.aig_answers.specs.declared.error.AnswerError.TheVariants as answers
+use Rattle.aig_bounded.specs.declared.error.BoundedError.TheVariants as questions
+use Rattle.aig_bounded_answers.specs.declared.error.BoundedAnswerError.{BoundedAnswerError}
+use Rattle.aig_bounded_answers.specs.declared.error.BoundedAnswerError.TheVariants as bounded
+use Rattle.aig_certificates.specs.declared.compare_error.MiterError.{MiterError}
+use Rattle.aig_certificates.specs.declared.compare_error.MiterError.TheVariants as miter
+use Rattle.aig_certificates.specs.declared.error.CertificateError.{CertificateError}
+use Rattle.aig_certificates.specs.declared.error.CertificateError.TheVariants as certificate
+use Rattle.aig_checks.specs.declared.tool.CheckError.{CheckError}
+use Rattle.aig_checks.specs.declared.tool.CheckError.TheVariants as checks
+use Rattle.aig_commands.specs.declared.tool.ToolError.{ToolError}
+use Rattle.aig_commands.specs.declared.tool.ToolError.TheVariants as tool
+use Rattle.aig_edits.specs.declared.edit_error.EditError.{EditError}
+use Rattle.aig_edits.specs.declared.edit_error.EditError.TheVariants as edit
+use Rattle.aig_edits.specs.declared.error.PairError.{PairError}
+use Rattle.aig_edits.specs.declared.error.PairError.TheVariants as pair
+use Rattle.aig_encode.specs.declared.error.EncodeError.{EncodeError}
+use Rattle.aig_encode.specs.declared.error.EncodeError.TheVariants as encode
+use Rattle.aig_equality.specs.declared.error.EqualityError.{EqualityError}
+use Rattle.aig_equality.specs.declared.error.EqualityError.TheVariants as equality
 use Rattle.aig_fair.specs.declared.fault.LassoFault.{LassoFault}
-use Rattle.aig_fair.specs.declared.fault.LassoFault.TheVariants as lassos
+use Rattle.aig_fair.specs.declared.fault.LassoFault.TheVariants as lasso
 use Rattle.aig_fair.specs.declared.file.ClaimError.{ClaimError}
 use Rattle.aig_fair.specs.declared.file.ClaimError.TheVariants as claims
+use Rattle.aig_liveness.specs.declared.error.LivenessError.{LivenessError}
+use Rattle.aig_liveness.specs.declared.error.LivenessError.TheVariants as liveness
+use Rattle.aig_reader.specs.declared.error.ReadError.{ReadError}
+use Rattle.aig_reader.specs.declared.error.ReadError.TheVariants as read
+use Rattle.aig_reader.specs.declared.error.Section.{Section}
+use Rattle.aig_reader.specs.declared.error.Section.TheVariants as section
+use Rattle.aig_refutation.specs.declared.error.RefutationError.{RefutationError}
+use Rattle.aig_refutation.specs.declared.error.RefutationError.TheVariants as refutation
+use Rattle.aig_safety.specs.declared.error.SafetyError.{SafetyError}
+use Rattle.aig_safety.specs.declared.error.SafetyError.TheVariants as safety
+use Rattle.aig_solutions.specs.declared.error.SolutionError.{SolutionError}
+use Rattle.aig_solutions.specs.declared.error.SolutionError.TheVariants as solution
 use Rattle.aig_witness.specs.declared.error.WitnessError.{WitnessError}
 use Rattle.aig_witness.specs.declared.error.WitnessError.TheVariants as witness
 use Rattle.aig_witness.specs.declared.fault.WitnessFault.{WitnessFault}
@@ -20,7 +48,7 @@ use Rattle.aig_witness.specs.declared.file.ShowError.TheVariants as shows
 
 -- ---- names
 
--- done
+-- the call has done what it is for
 abbrev pub done : ℕ
 done = 0
 
@@ -36,130 +64,93 @@ memory = 2
 abbrev pub many_steps : ℕ
 many_steps = 4
 
--- the counts of two files don't fit
-abbrev pub misfit : ℕ
-misfit = 8
+-- a status with a flag, which says of what it is; one that says nothing has none
+abbrev pub flagged : ℕ → ℕ → ℕ
+flagged flag status = if nat_lt status 4 then status else flag + status
 
--- the circuit that is made is too large for the format
-abbrev pub unwritable : ℕ
-unwritable = 9
+-- how a call ends that has this result
+abbrev pub status_by : {T E : Type 0} → (E → ℕ) → Result T E → ℕ
+status_by of (Ok x) = done
+status_by of (Err e) = of e
 
--- the question of a bounded check is settled: no bad state is reached
-abbrev pub settled : ℕ
-settled = 32
+-- ---- one file
 
--- outputs would become bad literals, and there are some
-abbrev pub has_bads : ℕ
-has_bads = 33
+-- the sections, in the order of the header's counts from 1.9 on, and the gates at last
+abbrev pub section_number : Section → ℕ
+section_number section.Inputs = 0
+section_number section.Latches = 1
+section_number section.Outputs = 2
+section_number section.Bads = 3
+section_number section.Constraints = 4
+section_number section.Justice = 5
+section_number section.Fairness = 6
+section_number section.Gates = 7
 
--- there is no output of this number
-abbrev pub no_output : ℕ
-no_output = 34
+-- a file is refused; no path is opened, and no read of memory fails
+abbrev pub read_status : ReadError → ℕ
+read_status read.Memory = memory
+read_status read.Stream = memory
+read_status read.Open = 10
+read_status read.Header = 10
+read_status read.TooMany = 11
+read_status read.Delta = 12
+read_status read.Name = 13
+read_status (read.Syntax s) = 16 + section_number s
+read_status (read.Literal s) = 24 + section_number s
 
--- the question of a bounded check passes the limit while it is made
-abbrev pub large_question : ℕ
-large_question = 35
+-- it has no clauses
+abbrev pub encode_status : EncodeError → ℕ
+encode_status (encode.Read e) = read_status e
+encode_status encode.Memory = memory
+encode_status encode.TooLarge = 5
 
--- and that of first steps, of a call with two proofs
-abbrev pub large_base : ℕ
-large_base = 2083
+-- a command of `aigtool` has no answer
+abbrev pub tool_status : ToolError → ℕ
+tool_status (tool.Read e) = read_status e
+tool_status (tool.Encode e) = encode_status e
+tool_status tool.Memory = memory
+tool_status (tool.Write e) = memory
 
--- constraints would be joined to the first of several bad literals alone
-abbrev pub many_bads : ℕ
-many_bads = 36
+-- nothing is made of a file
+abbrev pub edit_status : EditError → ℕ
+edit_status (edit.Read e) = read_status e
+edit_status edit.Memory = memory
+edit_status edit.Write = memory
+edit_status edit.PassesLimit = 5
+edit_status edit.NoBads = 6
+edit_status edit.TooLarge = 9
+edit_status edit.HasBads = 33
+edit_status edit.NoOutput = 34
+edit_status edit.QuestionTooLarge = 35
+edit_status edit.ManyBads = 36
+edit_status edit.NoBad = 37
+edit_status edit.NoJustice = 38
 
--- there is no bad literal of this number
-abbrev pub no_bad : ℕ
-no_bad = 37
+-- ---- proofs, witnesses and solvers' answers
 
--- there is no justice property of this number
-abbrev pub no_justice : ℕ
-no_justice = 38
+-- a proof is refused
+abbrev pub refutation_status : RefutationError → ℕ
+refutation_status refutation.Memory = memory
+refutation_status refutation.Stream = memory
+refutation_status refutation.Variable = 40
+refutation_status refutation.Line = 41
+refutation_status refutation.Literal = 42
+refutation_status refutation.Unnamed = 43
+refutation_status refutation.Twice = 44
+refutation_status refutation.Large = 45
+refutation_status refutation.Step = 46
+refutation_status refutation.Asymmetry = 47
+refutation_status refutation.Binary = 48
+refutation_status refutation.Unfinished = 49
 
--- ---- what is said of a file's bytes
+-- a question of a file has no answer
+abbrev pub answer_status : AnswerError → ℕ
+answer_status (answers.Encode e) = encode_status e
+answer_status answers.NoBads = 6
+answer_status answers.TooLarge = 7
+answer_status (answers.Refutation e) = refutation_status e
 
--- what a status says of the bytes of the file, of two files the first one, if anything
-abbrev pub said_by : ℕ → Option Verdict
-said_by status =
-    if nat_lt status 2 then Some Accepted
-    else if nat_lt status 5 then None
-    else if status == 5 then Some TooLarge
-    else if status == 6 then Some NoBads
-    else if status == 7 then Some Crowded
-    else if status == 11 then Some TooMany
-    else if nat_le 10 status && nat_lt status 32 then Some Refused
-    else Some Accepted
-
--- one of a call on two files of the second one's, where the first one is taken
-abbrev pub said_of_other : ℕ → Option Verdict
-said_of_other status =
-    if nat_le 256 status && nat_lt status 512 then said_by (status - 256)
-    else if nat_lt status 5 then said_by status
-    else Some Accepted
-
--- one with a flag of what the flag stands for
-abbrev pub said_of_flagged : ℕ → ℕ → Option Verdict
-said_of_flagged flag status =
-    if nat_le flag status && nat_lt status (flag + 256) then said_by (status - flag) else None
-
--- one of the circuit that is made of files, of which the query is asked
-abbrev pub said_of_query : ℕ → Option Verdict
-said_of_query = said_of_flagged 512
-
--- or the window
-abbrev pub said_of_window : ℕ → Option Verdict
-said_of_window = said_of_flagged 1024
-
--- one of a call with a certificate of a miter: that which `aig_check_certified` has of the miter's
--- file and the certificate, and memory's where it says nothing of these
-abbrev pub certified_status : ℕ → ℕ
-certified_status status =
-    if status == 0 then 0 else if nat_le 8192 status then status - 8192 else memory
-
--- where something is said, it is the verdict on these bytes
-abbrev pub Tells : (File → Verdict) → ℕ → List ℕ → Option Verdict → Type 0
-Tells of limit bytes said = IfSome said (IsVerdictOn of limit bytes)
-
--- ---- what is said of a proof
-
--- why a proof is refused, by the statuses from 40 on
-abbrev pub proof_faults : List RefutationError
-proof_faults =
-    faults.Variable ∷ faults.Line ∷ faults.Literal ∷ faults.Unnamed ∷ faults.Twice ∷ faults.Large
-    ∷ faults.Step ∷ faults.Asymmetry ∷ faults.Binary ∷ faults.Unfinished ∷ []
-
--- that a proof is taken, or why it is refused, if a status says something of one
-abbrev pub said_of_proof : ℕ → Option (Result (Unit {0}) RefutationError)
-said_of_proof status =
-    if status == 0 then Some (Ok tt)
-    else if nat_lt status 40 then None else option_map Err (slice_get proof_faults (status - 40))
-
--- so of the proof that a flag stands for
-abbrev pub said_of_flagged_proof : ℕ → ℕ → Option (Result (Unit {0}) RefutationError)
-said_of_flagged_proof flag status =
-    if status == 0 then Some (Ok tt)
-    else if nat_le (flag + 40) status && nat_lt status (flag + 60)
-    then said_of_proof (status - flag) else None
-
--- of the proof of the query of a circuit that is made of files
-abbrev pub said_of_query_proof : ℕ → Option (Result (Unit {0}) RefutationError)
-said_of_query_proof = said_of_flagged_proof 512
-
--- and of that of its window
-abbrev pub said_of_window_proof : ℕ → Option (Result (Unit {0}) RefutationError)
-said_of_window_proof = said_of_flagged_proof 1024
-
--- of a call with proofs of first steps and of a window, of the one
-abbrev pub said_of_base_proof : ℕ → Option (Result (Unit {0}) RefutationError)
-said_of_base_proof = said_of_flagged_proof 2048
-
--- and of the other
-abbrev pub said_of_step_proof : ℕ → Option (Result (Unit {0}) RefutationError)
-said_of_step_proof = said_of_flagged_proof 4096
-
--- ---- what is said of a witness and of a solver's answer
-
--- the status of a fault of a witness; which step it is isn't told
+-- a witness shows no bad state; which step it is isn't told
 abbrev pub fault_status : WitnessFault → ℕ
 fault_status shown.Memory = memory
 fault_status shown.Latches = 70
@@ -170,7 +161,7 @@ fault_status shown.Start = 74
 fault_status (shown.Constraint step) = 75
 fault_status shown.Bad = 76
 
--- of a witness that isn't read
+-- a witness isn't read
 abbrev pub witness_status : WitnessError → ℕ
 witness_status witness.Memory = memory
 witness_status witness.Stream = memory
@@ -178,7 +169,33 @@ witness_status witness.Status = 60
 witness_status witness.Property = 61
 witness_status witness.Values = 62
 
--- of a solver's answer that is refused
+-- a file and a witness show no bad state
+abbrev pub show_status : ShowError → ℕ
+show_status (shows.File e) = read_status e
+show_status (shows.Witness e) = witness_status e
+show_status shows.NoWitness = 63
+show_status (shows.Check fault) = fault_status fault
+
+-- a witness of a justice property shows no fair lasso; which step or literal it is isn't told
+abbrev pub lasso_status : LassoFault → ℕ
+lasso_status (lasso.Run fault) = fault_status fault
+lasso_status lasso.NoJustice = 100
+lasso_status lasso.NoLoop = 101
+lasso_status (lasso.Literal n) = 102
+lasso_status (lasso.Fairness n) = 103
+
+-- the witness is of a bad state property
+abbrev pub witness_bad : ℕ
+witness_bad = 64
+
+-- a file and a witness show no fair lasso
+abbrev pub claim_status : ClaimError → ℕ
+claim_status (claims.Show (shows.Check shown.Memory)) = memory
+claim_status (claims.Show (shows.Check fault)) = witness_bad
+claim_status (claims.Show e) = show_status e
+claim_status (claims.Lasso fault) = lasso_status fault
+
+-- a solver's answer is refused
 abbrev pub solution_status : SolutionError → ℕ
 solution_status solution.Memory = memory
 solution_status solution.Stream = memory
@@ -193,191 +210,89 @@ solution_status solution.Unfinished = 87
 solution_status solution.NoBad = 88
 solution_status (solution.Check fault) = fault_status fault
 
--- a status says that this is why a witness shows no bad state: one below 60 that the file is
--- refused
-abbrev pub SaysFault : ℕ → ShowError → Type 0
-SaysFault status (shows.File e) = status < 60
-SaysFault status (shows.Witness e) = status ≡ witness_status e
-SaysFault status shows.NoWitness = status ≡ 63
-SaysFault status (shows.Check fault) = status ≡ fault_status fault
+-- a question up to a step has no answer
+abbrev pub bounded_status : BoundedAnswerError → ℕ
+bounded_status (bounded.Read e) = read_status e
+bounded_status bounded.NoBads = 6
+bounded_status (bounded.Question questions.TooLarge) = 35
+bounded_status (bounded.Question questions.Memory) = memory
+bounded_status (bounded.Refutation e) = refutation_status e
+bounded_status (bounded.Solution e) = solution_status e
 
--- or that a solver's answer is refused so
-abbrev pub SaysSolution : ℕ → SolutionError → Type 0
-SaysSolution status e = status ≡ solution_status e
+-- ---- first steps and a window
 
--- the witness is of a bad state property
-abbrev pub witness_bad : ℕ
-witness_bad = 64
+-- the question of the first steps is too large, or its proof is refused
+abbrev pub base_status : BoundedAnswerError → ℕ
+base_status (bounded.Question questions.TooLarge) = 2083
+base_status (bounded.Refutation e) = flagged 2048 (refutation_status e)
+base_status e = memory
 
--- the status of a fault of a witness of a justice property
-abbrev pub lasso_status : LassoFault → ℕ
-lasso_status (lassos.Run fault) = fault_status fault
-lasso_status lassos.NoJustice = 100
-lasso_status lassos.NoLoop = 101
-lasso_status (lassos.Literal n) = 102
-lasso_status (lassos.Fairness n) = 103
+-- the proof of the window is
+abbrev pub step_status : AnswerError → ℕ
+step_status (answers.Refutation e) = flagged 4096 (refutation_status e)
+step_status e = memory
 
--- a status says that this is why a witness shows no fair lasso: one below 60 that the file is
--- refused
-abbrev pub SaysClaim : ℕ → ClaimError → Type 0
-SaysClaim status (claims.Show (shows.Check shown.Memory)) = status ≡ memory
-SaysClaim status (claims.Show (shows.Check fault)) = status ≡ witness_bad
-SaysClaim status (claims.Show e) = SaysFault status e
-SaysClaim status (claims.Lasso fault) = status ≡ lasso_status fault
+-- a file's machine isn't shown to be safe
+abbrev pub safety_status : SafetyError → ℕ
+safety_status (safety.File e) = answer_status e
+safety_status (safety.Base e) = base_status e
+safety_status (safety.Step e) = step_status e
 
--- ---- which statuses a call has
+-- nor that of what is made of files, whose window may be refused
+abbrev pub made_status : SafetyError → ℕ
+made_status (safety.File e) = flagged 1024 (answer_status e)
+made_status (safety.Base e) = base_status e
+made_status (safety.Step e) = step_status e
 
--- the file is refused, or memory was
-abbrev pub is_refusal : ℕ → Bool
-is_refusal status =
-    status == memory || nat_le 5 status && nat_lt status 8
-    || nat_le 10 status && nat_lt status 32
+-- a justice property isn't shown to have no fair lasso, or no fair run
+abbrev pub live_status : LivenessError → ℕ
+live_status (liveness.Live e) = edit_status e
+live_status (liveness.Query e) = flagged 512 (answer_status e)
+live_status (liveness.Question e) = base_status e
+live_status (liveness.Safety e) = made_status e
 
--- the file isn't edited
-abbrev pub is_edit_fault : ℕ → Bool
-is_edit_fault status =
-    status == unwritable || nat_le 33 status && nat_lt status 35 || status == many_bads
-    || status == no_bad
+-- ---- two files
 
--- a circuit isn't made for a justice property
-abbrev pub is_live_fault : ℕ → Bool
-is_live_fault status = status == unwritable || status == no_justice
+-- no circuit is made of two files
+abbrev pub pair_status : PairError → ℕ
+pair_status (pair.Read e) = read_status e
+pair_status (pair.Other e) = flagged 256 (read_status e)
+pair_status (pair.Misfit m) = 8
+pair_status pair.TooLarge = 9
+pair_status pair.Memory = memory
+pair_status pair.Write = memory
 
--- a proof is refused
-abbrev pub is_proof_fault : ℕ → Bool
-is_proof_fault status = nat_le 40 status && nat_lt status 60
+-- the query of their circuit has no answer, or its window
+abbrev pub certificate_status : CertificateError → ℕ
+certificate_status (certificate.Pair e) = pair_status e
+certificate_status (certificate.Query e) = flagged 512 (answer_status e)
+certificate_status (certificate.Window e) = flagged 1024 (answer_status e)
 
--- a witness is, or it shows no bad state
-abbrev pub is_witness_fault : ℕ → Bool
-is_witness_fault status = nat_le 60 status && nat_lt status 80
+-- their machines aren't shown to be equal at every step
+abbrev pub equality_status : EqualityError → ℕ
+equality_status (equality.Pair e) = pair_status e
+equality_status (equality.Miter e) = made_status e
 
--- a witness of a justice property is, or it shows no fair lasso
-abbrev pub is_lasso_fault : ℕ → Bool
-is_lasso_fault status =
-    nat_le 60 status && nat_lt status 64 || nat_le 70 status && nat_lt status 80
-    || nat_le 100 status && nat_lt status 110
+-- nor by a certificate of their miter
+abbrev pub miter_status : MiterError → ℕ
+miter_status (miter.Pair e) = pair_status e
+miter_status (miter.Certificate e) = flagged 8192 (certificate_status e)
 
--- a solver's answer is, or its witness shows no bad state
-abbrev pub is_solution_fault : ℕ → Bool
-is_solution_fault status = nat_le 70 status && nat_lt status 100
+-- ---- commands of `aigcheck`
 
--- a solver's answer alone is
-abbrev pub is_answer_fault : ℕ → Bool
-is_answer_fault status = nat_le 80 status && nat_lt status 100
-
--- the statuses of a call that gives an answer about a file
-abbrev pub IsOfText : ℕ → Type 0
-IsOfText status = IsTrue (nat_lt status 2 || is_refusal status)
-
--- or about a file and a solver's answer
-abbrev pub IsOfSolution : ℕ → Type 0
-IsOfSolution status = IsTrue (nat_lt status 2 || (is_refusal status || is_solution_fault status))
-
--- or what an edit makes of one
-abbrev pub IsOfEdit : ℕ → Type 0
-IsOfEdit status = IsTrue (nat_lt status 2 || (is_refusal status || is_edit_fault status))
-
--- or what is made for a justice property
-abbrev pub IsOfLive : ℕ → Type 0
-IsOfLive status = IsTrue (nat_lt status 2 || (is_refusal status || is_live_fault status))
-
--- or the question of a bounded check
-abbrev pub IsOfQuestion : ℕ → Type 0
-IsOfQuestion status =
-    IsTrue (nat_lt status 2 || (is_refusal status || status == large_question))
-
--- or its clauses
-abbrev pub IsOfBounded : ℕ → Type 0
-IsOfBounded status =
-    IsTrue (status == settled
-    || (nat_lt status 2 || (is_refusal status || status == large_question)))
-
--- or an answer about it and a solver's answer
-abbrev pub IsOfBoundedSolution : ℕ → Type 0
-IsOfBoundedSolution status =
-    IsTrue (is_answer_fault status
-    || (nat_lt status 2 || (is_refusal status || status == large_question)))
-
--- and of one that checks a proof
-abbrev pub IsOfProof : ℕ → Type 0
-IsOfProof status = IsTrue (status == 0 || (is_refusal status || is_proof_fault status))
-
--- or a proof about a question
-abbrev pub IsOfBoundedProof : ℕ → Type 0
-IsOfBoundedProof status =
-    IsTrue (status == large_question
-    || (status == 0 || (is_refusal status || is_proof_fault status)))
-
--- of a call with two proofs: first steps are refused, or their proof
-abbrev pub IsOfBase : ℕ → Type 0
-IsOfBase status = (status ≡ large_base) ⊎ ((2088 ≤ status) × (status < 2108))
-
--- or the proof of the window
-abbrev pub IsOfStep : ℕ → Type 0
-IsOfStep status = (4136 ≤ status) × (status < 4156)
-
--- of one that checks two proofs about a file
-abbrev pub IsOfSafety : ℕ → Type 0
-IsOfSafety status =
-    IsTrue (status == 0 || is_refusal status) ⊎ IsOfBase status ⊎ IsOfStep status
-
--- or a witness
-abbrev pub IsOfWitness : ℕ → Type 0
-IsOfWitness status = IsTrue (status == 0 || (is_refusal status || is_witness_fault status))
-
--- or one of a justice property
-abbrev pub IsOfLasso : ℕ → Type 0
-IsOfLasso status =
-    IsTrue (status == 0
-    || (is_refusal status || is_lasso_fault status || status == witness_bad))
-
--- of one that gives the text of two files' circuit: one of the files is refused, or they are
-abbrev pub IsOfPair : ℕ → Type 0
-IsOfPair status =
-    (status < 3) ⊎ ((8 ≤ status) × (status < 32)) ⊎ ((264 ≤ status) × (status < 288))
-
--- and of one that gives the clauses of their circuit's query and window: or one of these is
-abbrev pub IsOfObligations : ℕ → Type 0
-IsOfObligations status =
-    IsOfPair status ⊎ ((516 ≤ status) × (status < 544)) ⊎ ((1028 ≤ status) × (status < 1056))
-
--- and of one that checks proofs about them: or the circuit's query, its window, or a proof is
-abbrev pub IsOfPairProof : ℕ → Type 0
-IsOfPairProof status =
-    (status ≢ small)
-    × (IsOfPair status ⊎ ((516 ≤ status) × (status < 572)) ⊎ ((1028 ≤ status) × (status < 1084)))
-
--- or two proofs about their miter: or its window is refused
-abbrev pub IsOfAlways : ℕ → Type 0
-IsOfAlways status =
-    (status ≢ small)
-    × (IsOfPair status ⊎ ((1028 ≤ status) × (status < 1056)) ⊎ IsOfBase status
-    ⊎ IsOfStep status)
-
--- or of proofs about their miter and its certificate: or this is refused, or what is made of both
-abbrev pub IsOfMiter : ℕ → Type 0
-IsOfMiter status =
-    (status ≢ small)
-    × (IsOfPair status ⊎ ((8192 ≤ status) × IsOfPairProof (status - 8192)))
-
--- of one that checks a proof about the live circuit of a justice property: nothing is made, or
--- the circuit's query is refused, or its proof
-abbrev pub IsOfNoLasso : ℕ → Type 0
-IsOfNoLasso status =
-    IsTrue (status == 0 || (is_refusal status || is_live_fault status))
-    ⊎ ((516 ≤ status) × (status < 572))
-
--- or its question is
-abbrev pub IsOfNoLassoTo : ℕ → Type 0
-IsOfNoLassoTo status =
-    IsTrue (status == 0 || (is_refusal status || is_live_fault status)) ⊎ IsOfBase status
-
--- or its window, or one of two proofs
-abbrev pub IsOfNoRun : ℕ → Type 0
-IsOfNoRun status =
-    IsTrue (status == 0 || (is_refusal status || is_live_fault status))
-    ⊎ ((1028 ≤ status) × (status < 1056)) ⊎ IsOfBase status ⊎ IsOfStep status
-
--- a call for step K refuses a K of 2^32 or more, and has else one of these statuses
-abbrev pub AtStep : ℕ → (ℕ → Type 0) → ℕ → Type 0
-AtStep k IsOwn status = (2 ^ 32 ≤ k → status ≡ many_steps) × (k < 2 ^ 32 → IsOwn status)
+-- a command has no answer
+abbrev pub check_status : CheckError → ℕ
+check_status checks.Open = 10
+check_status checks.Memory = memory
+check_status checks.Write = memory
+check_status (checks.Settled k) = 32
+check_status (checks.Answer e) = answer_status e
+check_status (checks.Solution e) = solution_status e
+check_status (checks.Show e) = show_status e
+check_status (checks.Lasso e) = lasso_status e
+check_status (checks.Bounded e) = bounded_status e
+check_status (checks.Safe e) = safety_status e
+check_status (checks.Certificate e) = certificate_status e
+check_status (checks.Equality e) = equality_status e
+check_status (checks.Miter e) = miter_status e
+check_status (checks.Unmade e) = edit_status e

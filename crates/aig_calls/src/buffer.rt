@@ -1,10 +1,9 @@
 //! Memory of the caller.
 
 ghost use Rattle.std.specs.Prelude.{◌≡◌};
-ghost use Rattle.aig_calls.specs.Calls.{IsGiven};
-ghost use Rattle.aig_calls.specs.Parts.{Puts};
+ghost use Rattle.aig_calls.specs.Calls.{GivesItems, IsGiven, items_in};
 
-use crate::status::{DONE, SMALL};
+use crate::status::{DONE, HasNumber, SMALL};
 
 /// Copies items to the front of the caller's memory, where they fit, and says how many there are.
 pub(crate) fn give<T: Copy>(items: &[T], out: &mut [T], needed: &mut usize) -> u32
@@ -20,11 +19,15 @@ pub(crate) fn give<T: Copy>(items: &[T], out: &mut [T], needed: &mut usize) -> u
 }
 
 /// Gives what was made, if anything.
-pub(crate) fn put<T: Copy>(made: Result<Vec<T>, u32>, out: &mut [T], needed: &mut usize) -> u32
-    ensures { Puts made result out.old out.new needed.old needed.new }
+pub(crate) fn put<T: Copy, E: HasNumber>(
+    made: Result<Vec<T>, E>,
+    out: &mut [T],
+    needed: &mut usize,
+) -> u32
+    ensures { GivesItems E.number (items_in made) result out.old out.new needed.old needed.new }
 {
     match made {
         Ok(items) => give(items.as_slice(), out, needed),
-        Err(status) => status,
+        Err(error) => error.number(),
     }
 }

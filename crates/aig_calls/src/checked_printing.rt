@@ -1,32 +1,27 @@
 //! Calls that give what a command of `aigcheck` prints of a file.
 
-ghost use Rattle.std.specs.Prelude.{◌≡◌, ◌<◌, ◌^◌, None, Some, IfErr};
-ghost use Rattle.aig_answers.specs.Answers.{asked_verdict, window_verdict};
-ghost use Rattle.aig_checks.specs.Running.{IsClausesText, IsWindowText, IsWitnessText};
+ghost use Rattle.std.specs.Prelude.{◌<◌, ◌^◌, None, Some};
 ghost use Rattle.aig_checks.specs.declared.command.FileCommand.TheVariants as commands;
-ghost use Rattle.aig_calls.specs.Calls.{FailsStep, Gives, TellsSolution, form_of};
-ghost use Rattle.aig_calls.specs.Parts.{MakesChecked};
-ghost use Rattle.aig_calls.specs.Statuses.{AtStep, IsOfSolution, IsOfText};
+ghost use Rattle.aig_calls.specs.Calls.{GivesAt, Prints, RunsOn, form_of, items_in};
+ghost use Rattle.aig_calls.specs.Statuses.{check_status};
 
 use crate::buffer::put;
-use crate::status::of_check;
 use crate::steps::{step_of, window_form};
 use aig_answers::Window;
 use aig_base::{FromRead, ToWrite};
+use aig_checks::CheckError;
 use aig_commands::LIMIT;
 use std::alloc::Global;
 
 /// The clauses of a file's query, with its comments.
-fn clauses_text(alloc: Global, file: &[u8], k: usize, optimize: bool) -> Result<Vec<u8>, u32>
+fn clauses_text(alloc: Global, file: &[u8], k: usize, optimize: bool) -> Result<Vec<u8>, CheckError>
     requires { k < 2 ^ 32 }
-    ensures { MakesChecked LIMIT (commands.Clauses k optimize) None file.now result }
+    ensures { Prints (RunsOn LIMIT (commands.Clauses k optimize) file.now None) (items_in result) }
 {
     let source = FromRead::new(file);
     let mut sink = ToWrite::new(Vec::new(alloc));
-    match aig_checks::print_clauses(alloc, LIMIT, k, optimize, source, &mut sink) {
-        Ok(()) => Ok(sink.into_inner()),
-        Err(error) => Err(of_check(error)),
-    }
+    aig_checks::print_clauses(alloc, LIMIT, k, optimize, source, &mut sink)?;
+    Ok(sink.into_inner())
 }
 
 /// The clauses of a window of a file's machine.
@@ -36,16 +31,25 @@ fn window_text(
     k: usize,
     form: Window,
     optimize: bool,
-) -> Result<Vec<u8>, u32>
+) -> Result<Vec<u8>, CheckError>
     requires { k < 2 ^ 32 }
-    ensures { MakesChecked LIMIT (commands.Window k form optimize) None file.now result }
+    ensures { Prints (RunsOn LIMIT (commands.Window k form optimize) file.now None) (items_in
+        result) }
 {
     let source = FromRead::new(file);
     let mut sink = ToWrite::new(Vec::new(alloc));
-    match aig_checks::print_window(alloc, LIMIT, k, form, optimize, source, &mut sink) {
-        Ok(()) => Ok(sink.into_inner()),
-        Err(error) => Err(of_check(error)),
-    }
+    aig_checks::print_window(alloc, LIMIT, k, form, optimize, source, &mut sink)?;
+    Ok(sink.into_inner())
+}
+
+/// The clauses of a question, with its comments.
+fn bounded_text(alloc: Global, file: &[u8], k: usize, optimize: bool) -> Result<Vec<u8>, CheckError>
+    ensures { Prints (RunsOn LIMIT (commands.Bounded k optimize) file.now None) (items_in result) }
+{
+    let source = FromRead::new(file);
+    let mut sink = ToWrite::new(Vec::new(alloc));
+    aig_checks::print_bounded(alloc, LIMIT, k, optimize, source, &mut sink)?;
+    Ok(sink.into_inner())
 }
 
 /// The witness that a solver's answer to a file's query says.
@@ -55,17 +59,15 @@ fn witness_text(
     k: usize,
     optimize: bool,
     solution: &[u8],
-) -> Result<Vec<u8>, u32>
+) -> Result<Vec<u8>, CheckError>
     requires { k < 2 ^ 32 }
-    ensures makes { let given = Some solution.now in
-        MakesChecked LIMIT (commands.Witness k optimize) given file.now result }
-    ensures refusal { IfErr result
-        (TellsSolution (FailsStep k optimize solution.now) LIMIT file.now) }
+    ensures { Prints (RunsOn LIMIT (commands.Witness k optimize) file.now (Some solution.now))
+        (items_in result) }
 {
     let mut source = FromRead::new(file);
     let mut answer = FromRead::new(solution);
     let mut sink = ToWrite::new(Vec::new(alloc));
-    match aig_checks::print_witness(
+    aig_checks::print_witness(
         alloc,
         LIMIT,
         k,
@@ -73,10 +75,34 @@ fn witness_text(
         &mut source,
         &mut answer,
         &mut sink,
-    ) {
-        Ok(()) => Ok(sink.into_inner()),
-        Err(error) => Err(of_check(error)),
-    }
+    )?;
+    Ok(sink.into_inner())
+}
+
+/// The witness that a solver's answer to a question says.
+fn witness_to_text(
+    alloc: Global,
+    file: &[u8],
+    k: usize,
+    optimize: bool,
+    solution: &[u8],
+) -> Result<Vec<u8>, CheckError>
+    ensures { Prints (RunsOn LIMIT (commands.WitnessTo k optimize) file.now (Some solution.now))
+        (items_in result) }
+{
+    let mut source = FromRead::new(file);
+    let mut answer = FromRead::new(solution);
+    let mut sink = ToWrite::new(Vec::new(alloc));
+    aig_checks::print_witness_to(
+        alloc,
+        LIMIT,
+        k,
+        optimize,
+        &mut source,
+        &mut answer,
+        &mut sink,
+    )?;
+    Ok(sink.into_inner())
 }
 
 /// The clauses of the query of a file for step `k`, in DIMACS form. Before them stand their title, with the SHA-256 sum of the file, and
@@ -90,9 +116,8 @@ pub extern "C" fn aig_clauses(
     out: &mut [u8],
     needed: &mut usize,
 ) -> u32
-    ensures { Gives (asked_verdict LIMIT k) LIMIT
-        (λ f text. IsClausesText (Some file.now) f k optimize text) (AtStep k IsOfText) file.now
-        result out.old out.new needed.old needed.new }
+    ensures { GivesAt k check_status (Prints (RunsOn LIMIT (commands.Clauses k optimize) file.now
+        None)) result out.old out.new needed.old needed.new }
 {
     match step_of(k) {
         Ok(k) => put(clauses_text(alloc, file, k, optimize), out, needed),
@@ -112,15 +137,34 @@ pub extern "C" fn aig_window(
     out: &mut [u8],
     needed: &mut usize,
 ) -> u32
-    ensures { Gives (window_verdict (form_of distinct) LIMIT k) LIMIT
-        (λ f text. IsWindowText (Some file.now) (form_of distinct) f k optimize text)
-        (AtStep k IsOfText) file.now result out.old out.new needed.old needed.new }
+    ensures { GivesAt k check_status (Prints (RunsOn LIMIT (commands.Window k (form_of distinct)
+        optimize) file.now None)) result out.old out.new needed.old needed.new }
 {
     match step_of(k) {
         Ok(k) => {
             let form = window_form(distinct);
             put(window_text(alloc, file, k, form, optimize), out, needed)
         }
+        Err(status) => status,
+    }
+}
+
+/// The clauses, in DIMACS form, that ask for a bad state of a file's machine at a step up to `k`, and before them comments that say
+/// what each input of the question is. Where the question is settled no bad state is reached, and nothing is given.
+#[unsafe(no_mangle)]
+pub extern "C" fn aig_bounded(
+    alloc: Global,
+    file: &[u8],
+    k: u64,
+    optimize: bool,
+    out: &mut [u8],
+    needed: &mut usize,
+) -> u32
+    ensures { GivesAt k check_status (Prints (RunsOn LIMIT (commands.Bounded k optimize) file.now
+        None)) result out.old out.new needed.old needed.new }
+{
+    match step_of(k) {
+        Ok(k) => put(bounded_text(alloc, file, k, optimize), out, needed),
         Err(status) => status,
     }
 }
@@ -137,14 +181,37 @@ pub extern "C" fn aig_witness(
     out: &mut [u8],
     needed: &mut usize,
 ) -> u32
-    ensures gives { let given = Some solution.now in
-        Gives (asked_verdict LIMIT k) LIMIT (λ f text. IsWitnessText given f k optimize text)
-        (AtStep k IsOfSolution) file.now result out.old out.new needed.old needed.new }
-    ensures refusal { TellsSolution (FailsStep k optimize solution.now) LIMIT file.now result }
+    ensures { GivesAt k check_status (Prints (RunsOn LIMIT (commands.Witness k optimize) file.now
+        (Some solution.now))) result out.old out.new needed.old needed.new }
 {
     match step_of(k) {
         Ok(k) => put(
             witness_text(alloc, file, k, optimize, solution),
+            out,
+            needed,
+        ),
+        Err(status) => status,
+    }
+}
+
+/// The witness that a solver's answer to the clauses of a file's question up to step `k` says, up to the first step with a bad state.
+/// It was checked: nothing of the answer is trusted, and a status of an answer that is refused says why.
+#[unsafe(no_mangle)]
+pub extern "C" fn aig_witness_to(
+    alloc: Global,
+    file: &[u8],
+    k: u64,
+    optimize: bool,
+    solution: &[u8],
+    out: &mut [u8],
+    needed: &mut usize,
+) -> u32
+    ensures { GivesAt k check_status (Prints (RunsOn LIMIT (commands.WitnessTo k optimize) file.now
+        (Some solution.now))) result out.old out.new needed.old needed.new }
+{
+    match step_of(k) {
+        Ok(k) => put(
+            witness_to_text(alloc, file, k, optimize, solution),
             out,
             needed,
         ),

@@ -1,35 +1,124 @@
-//! Calls that check a proof or a witness.
+//! Calls that check proofs about a file.
 
-ghost use Rattle.std.specs.Prelude.{◌≡◌, ◌≤◌, ◌<◌, ◌^◌, ℕ, Some};
-ghost use Rattle.aig_answers.specs.Answers.{asked_verdict, window_verdict};
-ghost use Rattle.aig_runs.specs.Safety.{IsSafeAt};
-ghost use Rattle.aig_reader.specs.Verdicts.{Accepted};
-ghost use Rattle.aig_runs.specs.Queries.{IsSafeTo};
-ghost use Rattle.aig_witness.specs.Files.{ShowsNext};
-ghost use Rattle.aig_calls.specs.Calls.{Checks, ShowsStep, ShowsWindow, TellsFault, TellsProofOf, form_of, shown_at};
-ghost use Rattle.aig_calls.specs.Statuses.{AtStep, IsOfProof, IsOfWitness};
+ghost use Rattle.std.specs.Prelude.{◌<◌, ◌^◌, Some};
+ghost use Rattle.aig_checks.specs.declared.command.FileCommand.TheVariants as commands;
+ghost use Rattle.aig_calls.specs.Calls.{ChecksAt, RunsOn, RunsOnSafe, form_of};
+ghost use Rattle.aig_calls.specs.Memory.{Unseen};
+ghost use Rattle.aig_calls.specs.Statuses.{check_status};
 
-use crate::status::{DONE, of_answer, of_show};
+use crate::status::status_of;
 use crate::steps::{step_of, window_form};
-use aig_answers::{Window, check_step, check_window};
+use aig_answers::Window;
 use aig_base::FromRead;
+use aig_checks::{CheckError, print_inductive, print_refuted, print_refuted_to, print_safe};
+use aig_command_line::Discarded;
 use aig_commands::LIMIT;
-use aig_runs::inductive_windows_are_safe;
-use aig_witness::check_witness;
 use std::alloc::Global;
 
-/// Checks a proof that no bad state is reached at step `k`, which is below 2^32.
-fn refute_step(alloc: Global, file: &[u8], k: usize, optimize: bool, proof: &[u8]) -> u32
-    ensures checks { Checks (asked_verdict LIMIT k) LIMIT (λ f. IsSafeAt f k) IsOfProof file.now
-        result }
-    ensures shown { TellsProofOf (ShowsStep k optimize proof.now) LIMIT file.now result }
+/// Checks a proof that no bad state is reached at step `k`.
+fn refute(
+    alloc: Global,
+    file: &[u8],
+    k: usize,
+    optimize: bool,
+    proof: &[u8],
+) -> Result<(), CheckError>
+    ensures { Unseen (RunsOn LIMIT (commands.Refuted k optimize) file.now (Some proof.now) result) }
 {
     let mut source = FromRead::new(file);
     let mut lines = FromRead::new(proof);
-    match check_step(alloc, &mut source, LIMIT, k, optimize, &mut lines) {
-        Ok(()) => DONE,
-        Err(error) => of_answer(error),
-    }
+    print_refuted(
+        alloc,
+        LIMIT,
+        k,
+        optimize,
+        &mut source,
+        &mut lines,
+        &mut Discarded,
+    )
+}
+
+/// Checks a proof that none is up to step `k`.
+fn refute_to(
+    alloc: Global,
+    file: &[u8],
+    k: usize,
+    optimize: bool,
+    proof: &[u8],
+) -> Result<(), CheckError>
+    ensures { let command = commands.RefutedTo k optimize in
+        Unseen (RunsOn LIMIT command file.now (Some proof.now) result) }
+{
+    let mut source = FromRead::new(file);
+    let mut lines = FromRead::new(proof);
+    print_refuted_to(
+        alloc,
+        LIMIT,
+        k,
+        optimize,
+        &mut source,
+        &mut lines,
+        &mut Discarded,
+    )
+}
+
+/// Checks a proof that no window of `k + 2` steps has a bad state first at its end.
+fn refute_window(
+    alloc: Global,
+    file: &[u8],
+    k: usize,
+    form: Window,
+    optimize: bool,
+    proof: &[u8],
+) -> Result<(), CheckError>
+    requires { k < 2 ^ 32 }
+    ensures { Unseen (RunsOn LIMIT (commands.Inductive k form optimize) file.now (Some proof.now)
+        result) }
+{
+    let mut source = FromRead::new(file);
+    let mut lines = FromRead::new(proof);
+    print_inductive(
+        alloc,
+        LIMIT,
+        k,
+        form,
+        optimize,
+        &mut source,
+        &mut lines,
+        &mut Discarded,
+    )
+}
+
+/// Checks proofs that no bad state is ever reached: up to step `k`, and in a window of `k + 2` steps.
+fn show_safe(
+    alloc: Global,
+    file: &[u8],
+    k: usize,
+    form: Window,
+    base_optimize: bool,
+    base: &[u8],
+    step_optimize: bool,
+    step: &[u8],
+) -> Result<(), CheckError>
+    requires { k < 2 ^ 32 }
+    ensures { Unseen (RunsOnSafe LIMIT k form base_optimize step_optimize file.now base.now step.now
+        result) }
+{
+    let mut source = FromRead::new(file);
+    let mut base_lines = FromRead::new(base);
+    let mut step_lines = FromRead::new(step);
+    print_safe(
+        alloc,
+        LIMIT,
+        k,
+        form,
+        base_optimize,
+        step_optimize,
+        &mut source,
+        &mut base_lines,
+        &mut step_lines,
+        &mut Discarded,
+    )
 }
 
 /// Checks a proof, in LRAT or DRAT, that the clauses of a file's query for step `k` can't be satisfied: then no run of its machine
@@ -42,36 +131,31 @@ pub extern "C" fn aig_check_refuted(
     optimize: bool,
     proof: &[u8],
 ) -> u32
-    ensures checks { Checks (asked_verdict LIMIT k) LIMIT (λ f. IsSafeAt f k) (AtStep k IsOfProof)
-        file.now result }
-    ensures shown { TellsProofOf (ShowsStep k optimize proof.now) LIMIT file.now result }
+    ensures { ChecksAt k check_status (λ done. Unseen (RunsOn LIMIT (commands.Refuted k optimize)
+        file.now (Some proof.now) done)) result }
 {
     match step_of(k) {
-        Ok(k) => refute_step(alloc, file, k, optimize, proof),
+        Ok(k) => status_of(refute(alloc, file, k, optimize, proof)),
         Err(status) => status,
     }
 }
 
-/// Checks a proof that no window of `k + 2` steps has a bad state first at its end.
-fn refute_window(
+/// Checks a proof, in LRAT or DRAT, that the clauses of a file's question up to step `k` can't be satisfied: then no run of its
+/// machine reaches a bad state at a step from 0 to `k`. A question that is settled needs no proof.
+#[unsafe(no_mangle)]
+pub extern "C" fn aig_check_refuted_to(
     alloc: Global,
     file: &[u8],
-    k: usize,
-    form: Window,
+    k: u64,
     optimize: bool,
     proof: &[u8],
 ) -> u32
-    requires { k < 2 ^ 32 }
-    ensures checks { Checks (window_verdict form LIMIT k) LIMIT
-        (λ f. IsSafeTo f k → (n : ℕ) → IsSafeTo f n) IsOfProof file.now result }
-    ensures shown { TellsProofOf (ShowsWindow form k optimize proof.now) LIMIT file.now result }
+    ensures { ChecksAt k check_status (λ done. Unseen (RunsOn LIMIT (commands.RefutedTo k optimize)
+        file.now (Some proof.now) done)) result }
 {
-    inductive_windows_are_safe();
-    let mut source = FromRead::new(file);
-    let mut lines = FromRead::new(proof);
-    match check_window(alloc, &mut source, LIMIT, k, optimize, form, &mut lines) {
-        Ok(()) => DONE,
-        Err(error) => of_answer(error),
+    match step_of(k) {
+        Ok(k) => status_of(refute_to(alloc, file, k, optimize, proof)),
+        Err(status) => status,
     }
 }
 
@@ -86,41 +170,48 @@ pub extern "C" fn aig_check_inductive(
     optimize: bool,
     proof: &[u8],
 ) -> u32
-    ensures checks { Checks (window_verdict (form_of distinct) LIMIT k) LIMIT
-        (λ f. IsSafeTo f k → (n : ℕ) → IsSafeTo f n) (AtStep k IsOfProof) file.now result }
-    ensures shown { TellsProofOf (ShowsWindow (form_of distinct) k optimize proof.now) LIMIT
-        file.now result }
+    ensures { ChecksAt k check_status (λ done. Unseen (RunsOn LIMIT (commands.Inductive k (form_of
+        distinct) optimize) file.now (Some proof.now) done)) result }
 {
     match step_of(k) {
-        Ok(k) => refute_window(alloc, file, k, window_form(distinct), optimize, proof),
+        Ok(k) => {
+            let form = window_form(distinct);
+            status_of(refute_window(alloc, file, k, form, optimize, proof))
+        }
         Err(status) => status,
     }
 }
 
-/// Checks that a witness shows a bad state of a file's machine, and says which bad state property that is and at which step.
-/// Else both numbers are as they were, and a status of a witness that is refused says why.
+/// Checks proofs, in LRAT or DRAT, that no bad state of a file's machine is ever reached: `base`, that the clauses of its question up
+/// to step `k` can't be satisfied, and `step`, that those of its window of `k + 2` steps can't, each with its own setting.
 #[unsafe(no_mangle)]
-pub extern "C" fn aig_check_run(
+pub extern "C" fn aig_check_safe(
     alloc: Global,
     file: &[u8],
-    witness: &[u8],
-    bad: &mut usize,
-    step: &mut usize,
+    k: u64,
+    distinct: bool,
+    base_optimize: bool,
+    base: &[u8],
+    step_optimize: bool,
+    step: &[u8],
 ) -> u32
-    ensures shows { Checks (λ _. Accepted) LIMIT
-        (λ f. ShowsNext (Some witness.now) f (shown_at bad.new step.new)) IsOfWitness file.now
-        result }
-    ensures refusal { TellsFault LIMIT file.now witness.now result }
-    ensures kept { 1 ≤ result → (bad.new ≡ bad.old) × (step.new ≡ step.old) }
+    ensures { ChecksAt k check_status (λ done. Unseen (RunsOnSafe LIMIT k (form_of distinct)
+        base_optimize step_optimize file.now base.now step.now done)) result }
 {
-    let mut source = FromRead::new(file);
-    let mut values = FromRead::new(witness);
-    match check_witness(alloc, &mut source, LIMIT, &mut values) {
-        Ok(shown) => {
-            *bad = shown.bad;
-            *step = shown.step;
-            DONE
+    match step_of(k) {
+        Ok(k) => {
+            let form = window_form(distinct);
+            status_of(show_safe(
+                alloc,
+                file,
+                k,
+                form,
+                base_optimize,
+                base,
+                step_optimize,
+                step,
+            ))
         }
-        Err(error) => of_show(error),
+        Err(status) => status,
     }
 }

@@ -1,78 +1,60 @@
 //! Calls that give what is made of one file.
 
-ghost use Rattle.std.specs.Prelude.{◌≡◌, ◌<◌, ◌^◌, IfErr};
-ghost use Rattle.aig_bounded_answers.specs.Asking.{bounded_verdict};
-ghost use Rattle.aig_edits.specs.Info.{IsInfo};
 ghost use Rattle.aig_edits.specs.declared.edit.Edit.TheVariants as edits;
-ghost use Rattle.aig_reader.specs.Verdicts.{Accepted};
-ghost use Rattle.aig_calls.specs.Calls.{Gives, GivesEdit, IsQuestionText, IsReductionText, TellsOfSize};
-ghost use Rattle.aig_calls.specs.Parts.{Makes, MakesEdit};
-ghost use Rattle.aig_calls.specs.Statuses.{AtStep, IsOfEdit, IsOfQuestion, IsOfText};
+ghost use Rattle.aig_calls.specs.Calls.{Gives, GivesAt, MakesEdit, MakesInfo, MakesQuestion, MakesReduction, Prints, items_in};
+ghost use Rattle.aig_calls.specs.Statuses.{edit_status};
 
 use crate::buffer::put;
-use crate::status::of_edit;
 use crate::steps::step_of;
 use aig_base::{FromRead, ToWrite};
 use aig_commands::LIMIT;
-use aig_edits::Edit;
+use aig_edits::{Edit, EditError};
 use std::alloc::Global;
 
 /// The text of what an edit makes of a file.
-fn edit_text(alloc: Global, edit: &Edit, file: &[u8]) -> Result<Vec<u8>, u32>
-    ensures { MakesEdit edit.now LIMIT file.now result }
+fn edit_text(alloc: Global, edit: &Edit, file: &[u8]) -> Result<Vec<u8>, EditError>
+    ensures { Prints (MakesEdit LIMIT edit.now file.now) (items_in result) }
 {
     let mut source = FromRead::new(file);
     let mut sink = ToWrite::new(Vec::new(alloc));
-    match aig_edits::print_edit(alloc, edit, &mut source, LIMIT, &mut sink) {
-        Ok(()) => Ok(sink.into_inner()),
-        Err(error) => Err(of_edit(error)),
-    }
+    aig_edits::print_edit(alloc, edit, &mut source, LIMIT, &mut sink)?;
+    Ok(sink.into_inner())
 }
 
 /// The text of what of a file its query needs.
-fn reduction_text(alloc: Global, file: &[u8]) -> Result<Vec<u8>, u32>
-    ensures { Makes (λ _. Accepted) LIMIT (λ f made. IsReductionText f made.items) IsOfText file.now
-        result }
+fn reduction_text(alloc: Global, file: &[u8]) -> Result<Vec<u8>, EditError>
+    ensures { Prints (MakesReduction LIMIT file.now) (items_in result) }
 {
     let mut source = FromRead::new(file);
     let mut sink = ToWrite::new(Vec::new(alloc));
-    match aig_edits::print_reduction(alloc, &mut source, LIMIT, &mut sink) {
-        Ok(()) => Ok(sink.into_inner()),
-        Err(error) => Err(of_edit(error)),
-    }
+    aig_edits::print_reduction(alloc, &mut source, LIMIT, &mut sink)?;
+    Ok(sink.into_inner())
 }
 
 /// The text of the question whether a bad state of a file's machine is reached up to step `k`.
-fn question_text(alloc: Global, file: &[u8], k: usize) -> Result<Vec<u8>, u32>
-    ensures makes { Makes bounded_verdict LIMIT (λ f made. IsQuestionText k LIMIT f made.items)
-        IsOfQuestion file.now result }
-    ensures large { IfErr result (TellsOfSize k LIMIT file.now) }
+fn question_text(alloc: Global, file: &[u8], k: usize) -> Result<Vec<u8>, EditError>
+    ensures { Prints (MakesQuestion LIMIT k file.now) (items_in result) }
 {
     let mut source = FromRead::new(file);
     let mut sink = ToWrite::new(Vec::new(alloc));
-    match aig_edits::print_question(alloc, k, &mut source, LIMIT, &mut sink) {
-        Ok(()) => Ok(sink.into_inner()),
-        Err(error) => Err(of_edit(error)),
-    }
+    aig_edits::print_question(alloc, k, &mut source, LIMIT, &mut sink)?;
+    Ok(sink.into_inner())
 }
 
 /// The text of a file's counts.
-fn info_text(alloc: Global, file: &[u8]) -> Result<Vec<u8>, u32>
-    ensures { Makes (λ _. Accepted) LIMIT (λ f made. IsInfo f made.items) IsOfText file.now
-        result }
+fn info_text(alloc: Global, file: &[u8]) -> Result<Vec<u8>, EditError>
+    ensures { Prints (MakesInfo LIMIT file.now) (items_in result) }
 {
     let mut source = FromRead::new(file);
     let mut sink = ToWrite::new(Vec::new(alloc));
-    match aig_edits::print_info(alloc, &mut source, LIMIT, &mut sink) {
-        Ok(()) => Ok(sink.into_inner()),
-        Err(error) => Err(of_edit(error)),
-    }
+    aig_edits::print_info(alloc, &mut source, LIMIT, &mut sink)?;
+    Ok(sink.into_inner())
 }
 
 /// Gives the text form of the circuit that an edit makes of a file's circuit.
 fn print_edit(alloc: Global, edit: &Edit, file: &[u8], out: &mut [u8], needed: &mut usize) -> u32
-    ensures { GivesEdit edit.now LIMIT IsOfEdit file.now result out.old out.new needed.old
-        needed.new }
+    ensures { Gives edit_status (Prints (MakesEdit LIMIT edit.now file.now)) result out.old out.new
+        needed.old needed.new }
 {
     put(edit_text(alloc, edit, file), out, needed)
 }
@@ -80,8 +62,8 @@ fn print_edit(alloc: Global, edit: &Edit, file: &[u8], out: &mut [u8], needed: &
 /// The text form of a file's circuit, cut to its cone of influence.
 #[unsafe(no_mangle)]
 pub extern "C" fn aig_refine(alloc: Global, file: &[u8], out: &mut [u8], needed: &mut usize) -> u32
-    ensures { GivesEdit edits.Refine LIMIT IsOfEdit file.now result out.old out.new needed.old
-        needed.new }
+    ensures { Gives edit_status (Prints (MakesEdit LIMIT edits.Refine file.now)) result out.old
+        out.new needed.old needed.new }
 {
     print_edit(alloc, &Edit::Refine, file, out, needed)
 }
@@ -94,8 +76,8 @@ pub extern "C" fn aig_reencode(
     out: &mut [u8],
     needed: &mut usize,
 ) -> u32
-    ensures { GivesEdit edits.Reencode LIMIT IsOfEdit file.now result out.old out.new needed.old
-        needed.new }
+    ensures { Gives edit_status (Prints (MakesEdit LIMIT edits.Reencode file.now)) result out.old
+        out.new needed.old needed.new }
 {
     print_edit(alloc, &Edit::Reencode, file, out, needed)
 }
@@ -109,8 +91,8 @@ pub extern "C" fn aig_move_constraints(
     out: &mut [u8],
     needed: &mut usize,
 ) -> u32
-    ensures { GivesEdit edits.Move LIMIT IsOfEdit file.now result out.old out.new needed.old
-        needed.new }
+    ensures { Gives edit_status (Prints (MakesEdit LIMIT edits.Move file.now)) result out.old
+        out.new needed.old needed.new }
 {
     print_edit(alloc, &Edit::Move, file, out, needed)
 }
@@ -123,8 +105,8 @@ pub extern "C" fn aig_compress_bads(
     out: &mut [u8],
     needed: &mut usize,
 ) -> u32
-    ensures { GivesEdit edits.Compress LIMIT IsOfEdit file.now result out.old out.new needed.old
-        needed.new }
+    ensures { Gives edit_status (Prints (MakesEdit LIMIT edits.Compress file.now)) result out.old
+        out.new needed.old needed.new }
 {
     print_edit(alloc, &Edit::Compress, file, out, needed)
 }
@@ -137,8 +119,8 @@ pub extern "C" fn aig_outputs_as_bads(
     out: &mut [u8],
     needed: &mut usize,
 ) -> u32
-    ensures { GivesEdit edits.Bads LIMIT IsOfEdit file.now result out.old out.new needed.old
-        needed.new }
+    ensures { Gives edit_status (Prints (MakesEdit LIMIT edits.Bads file.now)) result out.old
+        out.new needed.old needed.new }
 {
     print_edit(alloc, &Edit::Bads, file, out, needed)
 }
@@ -152,8 +134,8 @@ pub extern "C" fn aig_property_alone(
     out: &mut [u8],
     needed: &mut usize,
 ) -> u32
-    ensures { GivesEdit (edits.Property n) LIMIT IsOfEdit file.now result out.old out.new needed.old
-        needed.new }
+    ensures { Gives edit_status (Prints (MakesEdit LIMIT (edits.Property n) file.now)) result
+        out.old out.new needed.old needed.new }
 {
     print_edit(alloc, &Edit::Property(n), file, out, needed)
 }
@@ -166,8 +148,8 @@ pub extern "C" fn aig_possible(
     out: &mut [u8],
     needed: &mut usize,
 ) -> u32
-    ensures { GivesEdit edits.Possible LIMIT IsOfEdit file.now result out.old out.new needed.old
-        needed.new }
+    ensures { Gives edit_status (Prints (MakesEdit LIMIT edits.Possible file.now)) result out.old
+        out.new needed.old needed.new }
 {
     print_edit(alloc, &Edit::Possible, file, out, needed)
 }
@@ -181,8 +163,8 @@ pub extern "C" fn aig_cone(
     out: &mut [u8],
     needed: &mut usize,
 ) -> u32
-    ensures { GivesEdit (edits.Cone n) LIMIT IsOfEdit file.now result out.old out.new needed.old
-        needed.new }
+    ensures { Gives edit_status (Prints (MakesEdit LIMIT (edits.Cone n) file.now)) result out.old
+        out.new needed.old needed.new }
 {
     print_edit(alloc, &Edit::Cone(n), file, out, needed)
 }
@@ -196,8 +178,8 @@ pub extern "C" fn aig_unroll(
     out: &mut [u8],
     needed: &mut usize,
 ) -> u32
-    ensures { GivesEdit (edits.Unroll k) LIMIT (AtStep k IsOfEdit) file.now result out.old out.new
-        needed.old needed.new }
+    ensures { GivesAt k edit_status (Prints (MakesEdit LIMIT (edits.Unroll k) file.now)) result
+        out.old out.new needed.old needed.new }
 {
     match step_of(k) {
         Ok(k) => print_edit(alloc, &Edit::Unroll(k), file, out, needed),
@@ -208,7 +190,7 @@ pub extern "C" fn aig_unroll(
 /// The text form of what of a file's circuit its query needs.
 #[unsafe(no_mangle)]
 pub extern "C" fn aig_reduce(alloc: Global, file: &[u8], out: &mut [u8], needed: &mut usize) -> u32
-    ensures { Gives (λ _. Accepted) LIMIT IsReductionText IsOfText file.now result out.old out.new
+    ensures { Gives edit_status (Prints (MakesReduction LIMIT file.now)) result out.old out.new
         needed.old needed.new }
 {
     put(reduction_text(alloc, file), out, needed)
@@ -223,9 +205,8 @@ pub extern "C" fn aig_question(
     out: &mut [u8],
     needed: &mut usize,
 ) -> u32
-    ensures gives { Gives bounded_verdict LIMIT (IsQuestionText k LIMIT) (AtStep k IsOfQuestion)
-        file.now result out.old out.new needed.old needed.new }
-    ensures large { TellsOfSize k LIMIT file.now result }
+    ensures { GivesAt k edit_status (Prints (MakesQuestion LIMIT k file.now)) result out.old out.new
+        needed.old needed.new }
 {
     match step_of(k) {
         Ok(k) => put(question_text(alloc, file, k), out, needed),
@@ -236,8 +217,8 @@ pub extern "C" fn aig_question(
 /// The counts of a file's circuit, a line each.
 #[unsafe(no_mangle)]
 pub extern "C" fn aig_info(alloc: Global, file: &[u8], out: &mut [u8], needed: &mut usize) -> u32
-    ensures { Gives (λ _. Accepted) LIMIT IsInfo IsOfText file.now result out.old out.new needed.old
-        needed.new }
+    ensures { Gives edit_status (Prints (MakesInfo LIMIT file.now)) result out.old out.new
+        needed.old needed.new }
 {
     put(info_text(alloc, file), out, needed)
 }

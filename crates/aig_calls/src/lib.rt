@@ -4,22 +4,18 @@
 //! of what it points to. A status is a number, so that C can be told it; `status` says which.
 #![tactic(auto)]
 
-mod bounded;
 mod buffer;
-mod certificates;
 mod checked_printing;
 mod checks;
-mod compared;
 mod edits;
-mod equality;
 mod fair;
 mod liveness;
 mod mapping;
 mod meaning;
 mod numbers;
+mod pair_checks;
 mod pairs;
 mod printing;
-mod proving;
-mod safety;
 mod status;
 mod steps;
+mod witnesses;

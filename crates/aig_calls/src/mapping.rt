@@ -50,10 +50,9 @@ fn push_steps(
     requires few { let place = place_at asked.now.encoded.circuit asked.now.encoded.unrolled in
         (t : ℕ) → t ≤ k → All (λ n. place t n < 2 ^ 31 - 1) asked.now.encoded.circuit.inputs }
     requires small { k < 2 ^ 32 }
-    ensures { let added = flat_map
-        (input_numbers asked.now.encoded.circuit asked.now.encoded.unrolled)
-        (range_with_len 0 (k + 1)) in
-        OnOk result (numbers.new.items ≡ numbers.old.items ++ added) }
+    ensures { let added = flat_map (input_numbers asked.now.encoded.circuit
+        asked.now.encoded.unrolled) (range_with_len 0 (k + 1)) in OnOk result (numbers.new.items ≡
+        numbers.old.items ++ added) }
 {
     for t in 0..k + 1 {
         push_inputs(numbers, asked, places, t)?;
@@ -64,8 +63,8 @@ fn push_steps(
 /// Appends the numbers of the latches at step 0.
 fn push_latchs(numbers: &mut Vec<i32>, latchs: &[AigLatch]) -> Result<(), MemoryError>
     requires { All (λ latch. latch.input < 2 ^ 31 - 1) latchs.now }
-    ensures { let added = map variable_number (latch_leaves latchs.now) in
-        OnOk result (numbers.new.items ≡ numbers.old.items ++ added) }
+    ensures { let added = map variable_number (latch_leaves latchs.now) in OnOk result
+        (numbers.new.items ≡ numbers.old.items ++ added) }
 {
     for latch in latchs {
         numbers.push(number_of(Var::new(latch.input()).lit()))?;
@@ -76,8 +75,8 @@ fn push_latchs(numbers: &mut Vec<i32>, latchs: &[AigLatch]) -> Result<(), Memory
 /// Appends the numbers of the bad edges of a step.
 fn push_bads(numbers: &mut Vec<i32>, bads: &[AigEdge]) -> Result<(), MemoryError>
     requires { All (λ e. e.node_id < 2 ^ 31 - 1) bads.now }
-    ensures { let added = map edge_number bads.now in
-        OnOk result (numbers.new.items ≡ numbers.old.items ++ added) }
+    ensures { let added = map edge_number bads.now in OnOk result (numbers.new.items ≡
+        numbers.old.items ++ added) }
 {
     for e in bads {
         numbers.push(number_of(e.to_lit()))?;

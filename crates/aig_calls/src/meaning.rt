@@ -1,10 +1,11 @@
 //! What a status says, in words.
 
-ghost use Rattle.std.specs.Prelude.{◌≡◌, ◌<◌, ◌≤◌, IfErr, List, ℕ};
+ghost use Rattle.std.specs.Prelude.{◌≡◌, ◌<◌, ◌≤◌, List, ℕ};
 ghost use Rattle.aig_calls.specs.Calls.{IsGiven};
 
 use crate::buffer::put;
-use crate::status::{BASE, CERTIFICATE, MEMORY, OTHER, PROOF, QUERY, STEP, WINDOW};
+use crate::status::{BASE, CERTIFICATE, OTHER, PROOF, QUERY, STEP, WINDOW};
+use aig_base::MemoryError;
 use std::alloc::Global;
 
 /// What is said before the words of a status with a flag.
@@ -129,32 +130,20 @@ fn words_of(status: u32) -> &'static [u8] {
     }
 }
 
-/// What a status says, in words. The one error is refused memory.
-fn text_of(alloc: Global, status: u32) -> Result<Vec<u8>, u32>
-    ensures { IfErr result (λ error. error ≡ 2) }
-{
+/// What a status says, in words.
+fn text_of(alloc: Global, status: u32) -> Result<Vec<u8>, MemoryError> {
     let mut text = Vec::new(alloc);
-    match text.extend_from_slice(lead_of(status)) {
-        Ok(()) => {}
-        Err(_) => return Err(MEMORY),
-    }
-    match text.extend_from_slice(prefix_of(status % CERTIFICATE)) {
-        Ok(()) => {}
-        Err(_) => return Err(MEMORY),
-    }
-    match text.extend_from_slice(words_of(status)) {
-        Ok(()) => Ok(text),
-        Err(_) => Err(MEMORY),
-    }
+    text.extend_from_slice(lead_of(status))?;
+    text.extend_from_slice(prefix_of(status % CERTIFICATE))?;
+    text.extend_from_slice(words_of(status))?;
+    Ok(text)
 }
 
 /// What a status says, in words: those of the programs. The one error is refused memory.
 #[unsafe(no_mangle)]
 pub extern "C" fn aig_message(alloc: Global, status: u32, out: &mut [u8], needed: &mut usize) -> u32
-    ensures answer { result < 2
-        → (text : List ℕ) × IsGiven result text out.old out.new needed.new }
-    ensures kept { 2 ≤ result
-        → (result ≡ 2) × (out.new ≡ out.old) × (needed.new ≡ needed.old) }
+    ensures answer { result < 2 → (text : List ℕ) × IsGiven result text out.old out.new needed.new }
+    ensures kept { 2 ≤ result → (result ≡ 2) × (out.new ≡ out.old) × (needed.new ≡ needed.old) }
 {
     put(text_of(alloc, status), out, needed)
 }

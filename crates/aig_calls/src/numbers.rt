@@ -1,20 +1,20 @@
 //! A call that gives the clauses of a query as numbers, and which literals stand for what.
 
-ghost use Rattle.std.specs.Prelude.{◌≡◌, ◌-◌, ◌<◌, ◌≤◌, ◌++◌, ◌^◌, All, IfOk, OnOk, length};
+ghost use Rattle.std.specs.Prelude.{◌≡◌, ◌-◌, ◌<◌, ◌≤◌, ◌++◌, ◌^◌, All, IfOk, OnOk, Result, Some, length};
 ghost use Rattle.std.specs.List.{flat_map};
-ghost use Rattle.aig_answers.specs.Answers.{asked_verdict};
+ghost use Rattle.aig_answers.specs.declared.error.AnswerError.{AnswerError};
 ghost use Rattle.aig_base.specs.Clauses.{AreBelow, variable_of};
 ghost use Rattle.aig_unroll.specs.Unroll.{UnrollsTo};
-ghost use Rattle.aig_calls.specs.Calls.{Gives};
-ghost use Rattle.aig_calls.specs.Numbers.{AreNumbersOf, IsListed, clause_numbers, dimacs_number};
-ghost use Rattle.aig_calls.specs.Parts.{Makes, PutsList};
-ghost use Rattle.aig_calls.specs.Statuses.{AtStep, IsOfText};
+ghost use Rattle.aig_calls.specs.Calls.{AtStep, GivesListing, Lists};
+ghost use Rattle.aig_calls.specs.Memory.{On};
+ghost use Rattle.aig_calls.specs.Numbers.{AreNumbersOf, Listing, clause_numbers, dimacs_number};
+ghost use Rattle.aig_calls.specs.Parts.{listing_in};
 
 use crate::buffer::give;
 use crate::mapping::push_map;
-use crate::status::{MEMORY, of_answer};
+use crate::status::HasNumber;
 use crate::steps::step_of;
-use aig_answers::asked_query;
+use aig_answers::{AnswerError, asked_query};
 use aig_base::{DagCnf, FromRead, Lit, LitVvec, MemoryError, Var};
 use aig_commands::LIMIT;
 use aig_encode::Query;
@@ -52,8 +52,8 @@ fn push_clause(numbers: &mut Vec<i32>, clause: &[Lit]) -> Result<(), MemoryError
 /// Appends the numbers of each clause of a list.
 fn push_list(numbers: &mut Vec<i32>, clauses: &LitVvec) -> Result<(), MemoryError>
     requires { AreBelow (2 ^ 31 - 1) clauses.now }
-    ensures { OnOk result
-        (numbers.new.items ≡ numbers.old.items ++ flat_map clause_numbers clauses.now) }
+    ensures { OnOk result (numbers.new.items ≡ numbers.old.items ++ flat_map clause_numbers
+        clauses.now) }
 {
     for i in 0..clauses.len() {
         push_clause(numbers, clauses.clause(i))?;
@@ -64,8 +64,8 @@ fn push_list(numbers: &mut Vec<i32>, clauses: &LitVvec) -> Result<(), MemoryErro
 /// Appends the numbers of each clause of each variable.
 fn push_lists(numbers: &mut Vec<i32>, clauses: &DagCnf) -> Result<(), MemoryError>
     requires { length clauses.now < 2 ^ 31 }
-    ensures { OnOk result
-        (numbers.new.items ≡ numbers.old.items ++ flat_map (flat_map clause_numbers) clauses.now) }
+    ensures { OnOk result (numbers.new.items ≡ numbers.old.items ++ flat_map (flat_map
+        clause_numbers) clauses.now) }
 {
     for v in 0..clauses.num_vars() {
         push_list(numbers, clauses.clauses_of(Var::new(v)))?;
@@ -97,33 +97,25 @@ fn list(alloc: Global, asked: &Query, k: usize) -> Result<Listed, MemoryError>
 }
 
 /// Lists the clauses and the map of the query of a file for step `k`.
-fn ask(alloc: Global, file: &[u8], k: usize, optimize: bool) -> Result<Listed, u32>
+fn ask(alloc: Global, file: &[u8], k: usize, optimize: bool) -> Result<Listed, AnswerError>
     requires { k < 2 ^ 32 }
-    ensures { Makes (asked_verdict LIMIT k) LIMIT
-        (λ f made. IsListed k optimize made.variables made.clauses_len f made.numbers.items)
-        IsOfText file.now result }
+    ensures { On (Some file.now) (λ r rest. Lists LIMIT k optimize r rest (listing_in result)) }
 {
     let mut source = FromRead::new(file);
-    let asked = match asked_query(alloc, &mut source, LIMIT, k, optimize) {
-        Ok(asked) => asked,
-        Err(error) => return Err(of_answer(error)),
-    };
-    match list(alloc, &asked, k) {
-        Ok(listed) => Ok(listed),
-        Err(_) => Err(MEMORY),
-    }
+    let asked = asked_query(alloc, &mut source, LIMIT, k, optimize)?;
+    Ok(list(alloc, &asked, k)?)
 }
 
 /// Gives the numbers that are listed, how many variables there are, and how many of the numbers are those of the clauses.
 fn give_list(
-    listed: Result<Listed, u32>,
+    listed: Result<Listed, AnswerError>,
     out: &mut [i32],
     needed: &mut usize,
     variables: &mut usize,
     clauses_len: &mut usize,
 ) -> u32
-    ensures { PutsList listed result out.old out.new needed.old needed.new variables.old
-        variables.new clauses_len.old clauses_len.new }
+    ensures { GivesListing (listing_in listed) result out.old out.new needed.old needed.new
+        variables.old variables.new clauses_len.old clauses_len.new }
 {
     match listed {
         Ok(listed) => {
@@ -131,7 +123,7 @@ fn give_list(
             *clauses_len = listed.clauses_len;
             give(listed.numbers.as_slice(), out, needed)
         }
-        Err(status) => status,
+        Err(error) => error.number(),
     }
 }
 
@@ -149,11 +141,11 @@ pub extern "C" fn aig_query_numbers(
     variables: &mut usize,
     clauses_len: &mut usize,
 ) -> u32
-    ensures gives { Gives (asked_verdict LIMIT k) LIMIT
-        (IsListed k optimize variables.new clauses_len.new) (AtStep k IsOfText) file.now result
-        out.old out.new needed.old needed.new }
-    ensures kept { 2 ≤ result
-        → (variables.new ≡ variables.old) × (clauses_len.new ≡ clauses_len.old) }
+    ensures { let kept = (out.new ≡ out.old) × (needed.new ≡ needed.old) × (variables.new ≡
+        variables.old) × (clauses_len.new ≡ clauses_len.old) in AtStep k result kept ((listed :
+        Result Listing AnswerError) × On (Some file.now) (λ r rest. Lists LIMIT k optimize r rest
+        listed) × GivesListing listed result out.old out.new needed.old needed.new variables.old
+        variables.new clauses_len.old clauses_len.new) }
 {
     match step_of(k) {
         Ok(k) => {

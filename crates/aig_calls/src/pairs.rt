@@ -1,31 +1,32 @@
 //! Calls that give the text of a circuit made of two files, or of its clauses.
 
-ghost use Rattle.std.specs.Prelude.{IfErr};
-ghost use Rattle.aig_certificates.specs.Certificates.{joint_verdict};
-ghost use Rattle.aig_checks.specs.Pairs.{IsObligationsText};
+ghost use Rattle.std.specs.Prelude.{None};
+ghost use Rattle.aig_checks.specs.declared.command.PairCommand.TheVariants as commands;
 ghost use Rattle.aig_edits.specs.declared.pairing.Pairing.TheVariants.{Certificate, Merge, Miter};
-ghost use Rattle.aig_calls.specs.Calls.{GivesPair, IsJointText, Joins, TellsJoint};
-ghost use Rattle.aig_calls.specs.Parts.{MakesOfPair};
-ghost use Rattle.aig_calls.specs.Statuses.{IsOfObligations, IsOfPair, said_of_query, said_of_window};
+ghost use Rattle.aig_calls.specs.Calls.{Gives, MakesJoint, Prints, RunsOnPair, items_in};
+ghost use Rattle.aig_calls.specs.Statuses.{check_status, pair_status};
 
 use crate::buffer::put;
-use crate::status::{of_obligations, of_pair};
 use aig_base::{FromRead, ToWrite};
+use aig_checks::{CheckError, print_obligations};
 use aig_commands::LIMIT;
-use aig_edits::{Pairing, print_joint};
+use aig_edits::{PairError, Pairing, print_joint};
 use std::alloc::Global;
 
 /// The text of the circuit of two files.
-fn joint_text(alloc: Global, pairing: Pairing, file: &[u8], other: &[u8]) -> Result<Vec<u8>, u32>
-    ensures { MakesOfPair pairing LIMIT (IsJointText pairing) IsOfPair file.now other.now result }
+fn joint_text(
+    alloc: Global,
+    pairing: Pairing,
+    file: &[u8],
+    other: &[u8],
+) -> Result<Vec<u8>, PairError>
+    ensures { Prints (MakesJoint LIMIT pairing file.now other.now) (items_in result) }
 {
     let mut first = FromRead::new(file);
     let mut second = FromRead::new(other);
     let mut sink = ToWrite::new(Vec::new(alloc));
-    match print_joint(alloc, pairing, &mut first, &mut second, LIMIT, &mut sink) {
-        Ok(()) => Ok(sink.into_inner()),
-        Err(error) => Err(of_pair(error)),
-    }
+    print_joint(alloc, pairing, &mut first, &mut second, LIMIT, &mut sink)?;
+    Ok(sink.into_inner())
 }
 
 /// Gives the text form of the circuit of two files: their miter, the first one beside its certificate, or both side
@@ -38,7 +39,8 @@ fn print_pair(
     out: &mut [u8],
     needed: &mut usize,
 ) -> u32
-    ensures { Joins pairing LIMIT file.now other.now result out.old out.new needed.old needed.new }
+    ensures { Gives pair_status (Prints (MakesJoint LIMIT pairing file.now other.now)) result
+        out.old out.new needed.old needed.new }
 {
     put(joint_text(alloc, pairing, file, other), out, needed)
 }
@@ -52,7 +54,8 @@ pub extern "C" fn aig_miter(
     out: &mut [u8],
     needed: &mut usize,
 ) -> u32
-    ensures { Joins Miter LIMIT file.now other.now result out.old out.new needed.old needed.new }
+    ensures { Gives pair_status (Prints (MakesJoint LIMIT Miter file.now other.now)) result out.old
+        out.new needed.old needed.new }
 {
     print_pair(alloc, Pairing::Miter, file, other, out, needed)
 }
@@ -66,8 +69,8 @@ pub extern "C" fn aig_join(
     out: &mut [u8],
     needed: &mut usize,
 ) -> u32
-    ensures { Joins Certificate LIMIT file.now certificate.now result out.old out.new needed.old
-        needed.new }
+    ensures { Gives pair_status (Prints (MakesJoint LIMIT Certificate file.now certificate.now))
+        result out.old out.new needed.old needed.new }
 {
     print_pair(alloc, Pairing::Certificate, file, certificate, out, needed)
 }
@@ -81,7 +84,8 @@ pub extern "C" fn aig_merge(
     out: &mut [u8],
     needed: &mut usize,
 ) -> u32
-    ensures { Joins Merge LIMIT file.now other.now result out.old out.new needed.old needed.new }
+    ensures { Gives pair_status (Prints (MakesJoint LIMIT Merge file.now other.now)) result out.old
+        out.new needed.old needed.new }
 {
     print_pair(alloc, Pairing::Merge, file, other, out, needed)
 }
@@ -92,22 +96,15 @@ fn obligations_text(
     file: &[u8],
     certificate: &[u8],
     optimize: bool,
-) -> Result<Vec<u8>, u32>
-    ensures makes { MakesOfPair Certificate LIMIT
-        (IsObligationsText optimize (Some file.now) (Some certificate.now)) IsOfObligations
-        file.now certificate.now result }
-    ensures query { IfErr result (λ status. TellsJoint Certificate (joint_verdict LIMIT 0) LIMIT
-        file.now certificate.now (said_of_query status)) }
-    ensures window { IfErr result (λ status. TellsJoint Certificate (joint_verdict LIMIT 1)
-        LIMIT file.now certificate.now (said_of_window status)) }
+) -> Result<Vec<u8>, CheckError>
+    ensures { Prints (RunsOnPair LIMIT (commands.Obligations optimize) file.now certificate.now None
+        None) (items_in result) }
 {
     let first = FromRead::new(file);
     let second = FromRead::new(certificate);
     let mut sink = ToWrite::new(Vec::new(alloc));
-    match aig_checks::print_obligations(alloc, LIMIT, optimize, first, second, &mut sink) {
-        Ok(()) => Ok(sink.into_inner()),
-        Err(error) => Err(of_obligations(error)),
-    }
+    print_obligations(alloc, LIMIT, optimize, first, second, &mut sink)?;
+    Ok(sink.into_inner())
 }
 
 /// The clauses, in DIMACS form, that the proofs of `aig_check_certified` are of, behind their title, with the SHA-256 sums of both files:
@@ -121,13 +118,8 @@ pub extern "C" fn aig_obligations(
     out: &mut [u8],
     needed: &mut usize,
 ) -> u32
-    ensures gives { GivesPair Certificate LIMIT
-        (IsObligationsText optimize (Some file.now) (Some certificate.now)) IsOfObligations
-        file.now certificate.now result out.old out.new needed.old needed.new }
-    ensures query { TellsJoint Certificate (joint_verdict LIMIT 0) LIMIT file.now certificate.now
-        (said_of_query result) }
-    ensures window { TellsJoint Certificate (joint_verdict LIMIT 1) LIMIT file.now
-        certificate.now (said_of_window result) }
+    ensures { Gives check_status (Prints (RunsOnPair LIMIT (commands.Obligations optimize) file.now
+        certificate.now None None)) result out.old out.new needed.old needed.new }
 {
     put(
         obligations_text(alloc, file, certificate, optimize),

@@ -1,36 +1,29 @@
 //! Calls that give what a command of `aigtool` prints of a file.
 
-ghost use Rattle.std.specs.Prelude.{None, Some};
-ghost use Rattle.aig_commands.specs.Running.{Answers, file_verdict, steps_of};
 ghost use Rattle.aig_commands.specs.declared.command.Command.TheVariants as commands;
-ghost use Rattle.aig_calls.specs.Calls.{Gives};
-ghost use Rattle.aig_calls.specs.Parts.{Makes};
-ghost use Rattle.aig_calls.specs.Statuses.{AtStep, IsOfText};
+ghost use Rattle.aig_calls.specs.Calls.{Gives, GivesAt, Prints, RunsTool, items_in};
+ghost use Rattle.aig_calls.specs.Statuses.{tool_status};
 
 use crate::buffer::put;
-use crate::status::of_tool;
 use crate::steps::step_of;
 use aig_base::{FromRead, ToWrite};
-use aig_commands::{Command, LIMIT, run};
+use aig_commands::{Command, LIMIT, ToolError, run};
 use std::alloc::Global;
 
 /// The text that a command of `aigtool` puts into its writer.
-fn text(alloc: Global, c: Command, file: &[u8]) -> Result<Vec<u8>, u32>
-    ensures { Makes (file_verdict (steps_of c) LIMIT) LIMIT (λ f made. Answers c f made.items)
-        IsOfText file.now result }
+fn text(alloc: Global, c: Command, file: &[u8]) -> Result<Vec<u8>, ToolError>
+    ensures { Prints (RunsTool LIMIT c file.now) (items_in result) }
 {
     let mut source = FromRead::new(file);
     let mut sink = ToWrite::new(Vec::new(alloc));
-    match run(alloc, c, &mut source, &mut sink) {
-        Ok(()) => Ok(sink.into_inner()),
-        Err(error) => Err(of_tool(error)),
-    }
+    run(alloc, c, &mut source, &mut sink)?;
+    Ok(sink.into_inner())
 }
 
 /// Gives what a command of `aigtool` puts into its writer.
 fn print(alloc: Global, c: Command, file: &[u8], out: &mut [u8], needed: &mut usize) -> u32
-    ensures { Gives (file_verdict (steps_of c) LIMIT) LIMIT (Answers c) IsOfText file.now
-        result out.old out.new needed.old needed.new }
+    ensures { Gives tool_status (Prints (RunsTool LIMIT c file.now)) result out.old out.new
+        needed.old needed.new }
 {
     put(text(alloc, c, file), out, needed)
 }
@@ -38,8 +31,8 @@ fn print(alloc: Global, c: Command, file: &[u8], out: &mut [u8], needed: &mut us
 /// The text form of a file's circuit.
 #[unsafe(no_mangle)]
 pub extern "C" fn aig_text(alloc: Global, file: &[u8], out: &mut [u8], needed: &mut usize) -> u32
-    ensures { Gives (file_verdict None LIMIT) LIMIT (Answers commands.Text) IsOfText file.now
-        result out.old out.new needed.old needed.new }
+    ensures { Gives tool_status (Prints (RunsTool LIMIT commands.Text file.now)) result out.old
+        out.new needed.old needed.new }
 {
     print(alloc, Command::Text, file, out, needed)
 }
@@ -47,8 +40,8 @@ pub extern "C" fn aig_text(alloc: Global, file: &[u8], out: &mut [u8], needed: &
 /// The binary form of a file's circuit.
 #[unsafe(no_mangle)]
 pub extern "C" fn aig_binary(alloc: Global, file: &[u8], out: &mut [u8], needed: &mut usize) -> u32
-    ensures { Gives (file_verdict None LIMIT) LIMIT (Answers commands.Binary) IsOfText file.now
-        result out.old out.new needed.old needed.new }
+    ensures { Gives tool_status (Prints (RunsTool LIMIT commands.Binary file.now)) result out.old
+        out.new needed.old needed.new }
 {
     print(alloc, Command::Binary, file, out, needed)
 }
@@ -56,8 +49,8 @@ pub extern "C" fn aig_binary(alloc: Global, file: &[u8], out: &mut [u8], needed:
 /// The text form of a file's circuit after structural hashing.
 #[unsafe(no_mangle)]
 pub extern "C" fn aig_strash(alloc: Global, file: &[u8], out: &mut [u8], needed: &mut usize) -> u32
-    ensures { Gives (file_verdict None LIMIT) LIMIT (Answers commands.Strash) IsOfText file.now
-        result out.old out.new needed.old needed.new }
+    ensures { Gives tool_status (Prints (RunsTool LIMIT commands.Strash file.now)) result out.old
+        out.new needed.old needed.new }
 {
     print(alloc, Command::Strash, file, out, needed)
 }
@@ -72,8 +65,8 @@ pub extern "C" fn aig_cnf(
     out: &mut [u8],
     needed: &mut usize,
 ) -> u32
-    ensures { Gives (file_verdict (Some k) LIMIT) LIMIT (Answers (commands.Cnf k optimize))
-        (AtStep k IsOfText) file.now result out.old out.new needed.old needed.new }
+    ensures { GivesAt k tool_status (Prints (RunsTool LIMIT (commands.Cnf k optimize) file.now))
+        result out.old out.new needed.old needed.new }
 {
     match step_of(k) {
         Ok(k) => print(alloc, Command::Cnf { k, optimize }, file, out, needed),
@@ -92,8 +85,8 @@ pub extern "C" fn aig_query(
     out: &mut [u8],
     needed: &mut usize,
 ) -> u32
-    ensures { Gives (file_verdict (Some k) LIMIT) LIMIT (Answers (commands.Query k optimize))
-        (AtStep k IsOfText) file.now result out.old out.new needed.old needed.new }
+    ensures { GivesAt k tool_status (Prints (RunsTool LIMIT (commands.Query k optimize) file.now))
+        result out.old out.new needed.old needed.new }
 {
     match step_of(k) {
         Ok(k) => print(alloc, Command::Query { k, optimize }, file, out, needed),

@@ -1,39 +1,24 @@
 //! The numbers by which calls say how they ended.
 
-ghost use Rattle.std.specs.Prelude.{◌≡◌, ◌≢◌, ◌⊎◌, ◌<◌, ◌≤◌, ◌||◌, ℕ, Bool, IsTrue, Some};
-ghost use Rattle.aig_answers.specs.Answers as answering;
-ghost use Rattle.aig_answers.specs.Answers.{IsOfWindow};
-ghost use Rattle.aig_bounded_answers.specs.Asking as bounding;
-ghost use Rattle.aig_checks.specs.Running as checking;
-ghost use Rattle.aig_checks.specs.Running.{IsErrorOf};
-ghost use Rattle.aig_checks.specs.Pairs as checking_pairs;
-ghost use Rattle.aig_checks.specs.Pairs.{IsErrorOfPair};
-ghost use Rattle.aig_checks.specs.declared.command.FileCommand.{FileCommand};
-ghost use Rattle.aig_checks.specs.declared.command.PairCommand.TheVariants as pair_commands;
-ghost use Rattle.aig_checks.specs.declared.tool.CheckError.TheVariants as checks;
-ghost use Rattle.aig_certificates.specs.Certificates.{IsOfClauses, first_verdict, second_verdict};
-ghost use Rattle.aig_certificates.specs.declared.error.CertificateError.TheVariants as certificate;
-ghost use Rattle.aig_commands.specs.Running as running;
-ghost use Rattle.aig_edits.specs.Joints as pairs;
-ghost use Rattle.aig_edits.specs.declared.error.PairError.TheVariants as pair;
-ghost use Rattle.aig_encode.specs.Encoding as encoding;
-ghost use Rattle.aig_reader.specs.Verdicts as reading;
-ghost use Rattle.aig_reader.specs.Verdicts.{Refused};
-ghost use Rattle.aig_witness.specs.Files as showing;
-ghost use Rattle.aig_calls.specs.Parts.{IsEditStatus, IsOfAsking, IsOfCounts, IsOfCountsBy, IsOfCountsIn, IsOfEditing, IsOfLiving, IsOfMaking, IsOwnOf, IsPairStatus, SaysAnswer, SaysBounded, SaysJoint, SaysObliged, SaysOnly, SaysProof, SaysQueryProof, SaysWindowProof, flagged, told_as};
-ghost use Rattle.aig_calls.specs.Statuses.{IsOfBounded, IsOfBoundedProof, IsOfBoundedSolution, IsOfObligations, IsOfPair, IsOfPairProof, IsOfQuestion, SaysFault, SaysSolution, fault_status, is_edit_fault, is_live_fault, is_proof_fault, is_refusal, is_solution_fault, is_witness_fault, large_question, said_by, settled, witness_status};
+ghost use Rattle.std.specs.Prelude.{◌≡◌, ◌<◌, ◌≤◌, ℕ};
+ghost use Rattle.aig_calls.specs.Statuses.{answer_status, base_status, bounded_status, certificate_status, check_status, claim_status, edit_status, encode_status, equality_status, fault_status, flagged, lasso_status, live_status, made_status, memory, miter_status, pair_status, read_status, refutation_status, safety_status, section_number, show_status, solution_status, status_by, step_status, tool_status, witness_status};
 
 use aig::ReadError;
 use aig_answers::AnswerError;
+use aig_base::MemoryError;
 use aig_bounded::BoundedError;
 use aig_bounded_answers::BoundedAnswerError;
-use aig_certificates::CertificateError;
+use aig_certificates::{CertificateError, MiterError};
 use aig_checks::CheckError;
 use aig_commands::ToolError;
 use aig_edits::{EditError, PairError};
 use aig_encode::EncodeError;
+use aig_equality::EqualityError;
+use aig_fair::{ClaimError, LassoFault};
+use aig_liveness::LivenessError;
 use aig_reader::Section;
 use aig_refutation::RefutationError;
+use aig_safety::SafetyError;
 use aig_solutions::SolutionError;
 use aig_witness::{ShowError, WitnessError, WitnessFault};
 
@@ -74,7 +59,7 @@ const HAS_BADS: u32 = 33;
 /// The file has no output of the number.
 const NO_OUTPUT: u32 = 34;
 /// The question of a bounded check passes the limit while it is made.
-pub(crate) const LARGE_QUESTION: u32 = 35;
+const LARGE_QUESTION: u32 = 35;
 /// Constraints would be joined to the first of several bad literals alone.
 const MANY_BADS: u32 = 36;
 /// The file has no bad literal of the number.
@@ -84,13 +69,15 @@ const NO_JUSTICE: u32 = 38;
 /// A proof is refused. The fault's number is added.
 pub(crate) const PROOF: u32 = 40;
 /// A witness is refused. The fault's number is added.
-pub(crate) const WITNESS: u32 = 60;
+const WITNESS: u32 = 60;
+/// A witness is of a bad state property.
+pub(crate) const WITNESS_BAD: u32 = 64;
 /// A witness shows no bad state. The fault's number is added.
 const SHOW: u32 = 70;
 /// A solver's answer is refused. The fault's number is added.
 const SOLUTION: u32 = 80;
 /// A witness shows no fair lasso. The fault's number is added.
-pub(crate) const LASSO: u32 = 100;
+const LASSO: u32 = 100;
 
 /// It is the second of two files that is refused so.
 pub(crate) const OTHER: u32 = 256;
@@ -107,7 +94,8 @@ pub(crate) const CERTIFICATE: u32 = 8192;
 
 /// The number of a section, in the order of the header's counts from 1.9 on, and of the gates at last.
 fn section_number(section: Section) -> u32
-    ensures { result < 8 }
+    ensures exact { result ≡ section_number section }
+    ensures few { result < 8 }
 {
     match section {
         Section::Inputs => 0,
@@ -123,11 +111,8 @@ fn section_number(section: Section) -> u32
 
 /// The status of a file that is refused. `Open` is never asked for, and no read of bytes in memory fails.
 fn of_read(error: ReadError) -> u32
-    ensures said { SaysOnly (said_by result) (reading.verdict_of error) }
-    ensures own { IsTrue (is_refusal result) }
+    ensures exact { result ≡ read_status error }
     ensures few { result < 60 }
-    ensures least { 2 ≤ result }
-    ensures pair { (result < 3) ⊎ ((8 ≤ result) × (result < 32)) }
 {
     match error {
         ReadError::Memory | ReadError::Stream => MEMORY,
@@ -142,10 +127,8 @@ fn of_read(error: ReadError) -> u32
 
 /// The status of a file without clauses.
 fn of_encode(error: EncodeError) -> u32
-    ensures said { SaysOnly (said_by result) (encoding.verdict_of error) }
-    ensures own { IsTrue (is_refusal result) }
+    ensures exact { result ≡ encode_status error }
     ensures few { result < 60 }
-    ensures least { 2 ≤ result }
 {
     match error {
         EncodeError::Read(error) => of_read(error),
@@ -155,13 +138,8 @@ fn of_encode(error: EncodeError) -> u32
 }
 
 /// The status of a file of which nothing is made. What is written to memory stops only where memory is refused.
-pub(crate) fn of_edit(error: EditError) -> u32
-    ensures said { IsEditStatus error result }
-    ensures editing { IsOfEditing error → IsTrue (is_refusal result || is_edit_fault result) }
-    ensures asking { IsOfAsking error → IsOfQuestion result }
-    ensures living { IsOfLiving error → IsTrue (is_refusal result || is_live_fault result) }
-    ensures making { IsOfMaking error → IsTrue (is_refusal result) }
-    ensures large { result ≡ large_question → error ≡ EditError.QuestionTooLarge }
+fn of_edit(error: EditError) -> u32
+    ensures exact { result ≡ edit_status error }
 {
     match error {
         EditError::Read(error) => of_read(error),
@@ -179,10 +157,8 @@ pub(crate) fn of_edit(error: EditError) -> u32
 }
 
 /// The status of a command of `aigtool` that has no answer. What is written to memory stops only where memory is refused.
-pub(crate) fn of_tool(error: ToolError) -> u32
-    ensures said { SaysOnly (said_by result) (running.verdict_of error) }
-    ensures own { IsTrue (is_refusal result) }
-    ensures least { 2 ≤ result }
+fn of_tool(error: ToolError) -> u32
+    ensures exact { result ≡ tool_status error }
 {
     match error {
         ToolError::Read(error) => of_read(error),
@@ -192,13 +168,9 @@ pub(crate) fn of_tool(error: ToolError) -> u32
 }
 
 /// The status of a proof that is refused.
-pub(crate) fn of_refutation(error: RefutationError) -> u32
-    ensures said { SaysOnly (said_by result) (answering.verdict_of (AnswerError.Refutation error)) }
-    ensures proof { SaysProof result (λ e. e ≡ error) }
-    ensures own { IsTrue (is_refusal result || is_proof_fault result) }
-    ensures apart { (result ≡ 2) ⊎ (40 ≤ result) }
+fn of_refutation(error: RefutationError) -> u32
+    ensures exact { result ≡ refutation_status error }
     ensures few { result < 60 }
-    ensures least { 2 ≤ result }
 {
     match error {
         RefutationError::Memory | RefutationError::Stream => MEMORY,
@@ -216,13 +188,9 @@ pub(crate) fn of_refutation(error: RefutationError) -> u32
 }
 
 /// The status of a question that has no answer.
-pub(crate) fn of_answer(error: AnswerError) -> u32
-    ensures said { SaysOnly (said_by result) (answering.verdict_of error) }
-    ensures proof { SaysProof result (λ e. error ≡ AnswerError.Refutation e) }
-    ensures own { IsTrue (is_refusal result || is_proof_fault result) }
-    ensures file { IsOfWindow error → IsTrue (is_refusal result) }
+fn of_answer(error: AnswerError) -> u32
+    ensures exact { result ≡ answer_status error }
     ensures few { result < 60 }
-    ensures least { 2 ≤ result }
 {
     match error {
         AnswerError::Encode(error) => of_encode(error),
@@ -233,12 +201,8 @@ pub(crate) fn of_answer(error: AnswerError) -> u32
 }
 
 /// The status of a witness that shows no bad state. Which step it is isn't told.
-pub(crate) fn of_fault(fault: WitnessFault) -> u32
-    ensures said { SaysOnly (said_by result) (showing.verdict_of (ShowError.Check fault)) }
+fn of_fault(fault: WitnessFault) -> u32
     ensures exact { result ≡ fault_status fault }
-    ensures own { IsTrue (is_refusal result || is_witness_fault result) }
-    ensures solution { IsTrue (is_refusal result || is_solution_fault result) }
-    ensures least { 2 ≤ result }
 {
     match fault {
         WitnessFault::Memory => MEMORY,
@@ -254,10 +218,7 @@ pub(crate) fn of_fault(fault: WitnessFault) -> u32
 
 /// The status of a witness that is refused.
 fn of_witness(error: WitnessError) -> u32
-    ensures said { SaysOnly (said_by result) (showing.verdict_of (ShowError.Witness error)) }
     ensures exact { result ≡ witness_status error }
-    ensures own { IsTrue (is_refusal result || is_witness_fault result) }
-    ensures least { 2 ≤ result }
 {
     match error {
         WitnessError::Memory | WitnessError::Stream => MEMORY,
@@ -268,11 +229,8 @@ fn of_witness(error: WitnessError) -> u32
 }
 
 /// The status of a file and a witness that show no bad state.
-pub(crate) fn of_show(error: ShowError) -> u32
-    ensures said { SaysOnly (said_by result) (showing.verdict_of error) }
-    ensures fault { SaysFault result error }
-    ensures own { IsTrue (is_refusal result || is_witness_fault result) }
-    ensures least { 2 ≤ result }
+fn of_show(error: ShowError) -> u32
+    ensures exact { result ≡ show_status error }
 {
     match error {
         ShowError::File(error) => of_read(error),
@@ -284,12 +242,7 @@ pub(crate) fn of_show(error: ShowError) -> u32
 
 /// The status of a solver's answer that is refused.
 fn of_solution(error: SolutionError) -> u32
-    ensures said { SaysOnly (said_by result) (checking.verdict_of (CheckError.Solution error)) }
-    ensures exact { SaysSolution result error }
-    ensures own { IsTrue (is_refusal result || is_solution_fault result) }
-    ensures answer { bounding.IsOfWitness (BoundedAnswerError.Solution error)
-        → IsOfBoundedSolution result }
-    ensures least { 2 ≤ result }
+    ensures exact { result ≡ solution_status error }
 {
     match error {
         SolutionError::Memory | SolutionError::Stream => MEMORY,
@@ -307,18 +260,8 @@ fn of_solution(error: SolutionError) -> u32
 }
 
 /// The status of a question up to a step that has no answer.
-pub(crate) fn of_bounded(error: BoundedAnswerError) -> u32
-    ensures said { SaysOnly (said_by result) (told_as (bounding.verdict_of error)) }
-    ensures question { bounding.IsOfQuestion error → IsOfBounded result }
-    ensures check { bounding.IsOfCheck error → IsOfBoundedProof result }
-    ensures proof { bounding.IsOfCheck error
-        → SaysProof result (λ e. error ≡ BoundedAnswerError.Refutation e) }
-    ensures large { result ≡ large_question
-        → error ≡ BoundedAnswerError.Question BoundedError.TooLarge }
-    ensures solution { SaysBounded result error }
-    ensures answer { bounding.IsOfWitness error → IsOfBoundedSolution result }
-    ensures least { 2 ≤ result }
-    ensures unsettled { result ≢ settled }
+fn of_bounded(error: BoundedAnswerError) -> u32
+    ensures exact { result ≡ bounded_status error }
 {
     match error {
         BoundedAnswerError::Read(error) => of_read(error),
@@ -330,34 +273,8 @@ pub(crate) fn of_bounded(error: BoundedAnswerError) -> u32
     }
 }
 
-/// The status of a command of `aigcheck` that has no answer. What is written to memory stops only where memory is refused.
-pub(crate) fn of_check(error: CheckError) -> u32
-    ensures said { SaysOnly (said_by result) (told_as (checking.verdict_of error)) }
-    ensures own { (c : FileCommand) → IsErrorOf c error → IsOwnOf c result }
-    ensures settled { result ≡ settled → (k : ℕ) × (error ≡ checks.Settled k) }
-    ensures large { result ≡ large_question
-        → error ≡ checks.Bounded (BoundedAnswerError.Question BoundedError.TooLarge) }
-    ensures solution { SaysAnswer result error }
-    ensures least { 2 ≤ result }
-{
-    match error {
-        CheckError::Open => HEADER,
-        CheckError::Memory | CheckError::Write => MEMORY,
-        // No call has an error of proofs that a machine is safe, or that two are equal at every step.
-        CheckError::Safe(_) | CheckError::Equality(_) | CheckError::Miter(_) => MEMORY,
-        CheckError::Answer(error) => of_answer(error),
-        CheckError::Solution(error) => of_solution(error),
-        CheckError::Show(error) => of_show(error),
-        CheckError::Certificate(error) => of_certificate(error),
-        CheckError::Bounded(error) => of_bounded(error),
-        CheckError::Settled(_) => SETTLED,
-        // Nor one about a justice property.
-        CheckError::Lasso(_) | CheckError::Unmade(_) => MEMORY,
-    }
-}
-
 /// The status with a flag, which one that says nothing hasn't.
-pub(crate) fn flagged(flag: u32, status: u32) -> u32
+fn flagged(flag: u32, status: u32) -> u32
     requires flag { flag ≤ 8192 }
     requires few { status < 2048 }
     ensures { result ≡ flagged flag status }
@@ -369,24 +286,14 @@ pub(crate) fn flagged(flag: u32, status: u32) -> u32
     }
 }
 
-/// The status of the second of two files that is refused.
-fn of_other(error: ReadError) -> u32
-    ensures said { IsPairStatus pairs.first_verdict pairs.second_verdict IsOfCounts pair.TooLarge
-        (pair.Other error) result }
-    ensures own { IsOfPair result }
-{
-    flagged(OTHER, of_read(error))
-}
-
 /// The status of two files that no circuit is made of. What is written to memory stops only where memory is refused.
-pub(crate) fn of_pair(error: PairError) -> u32
-    ensures said { IsPairStatus pairs.first_verdict pairs.second_verdict IsOfCounts pair.TooLarge
-        error result }
-    ensures own { IsOfPair result }
+fn of_pair(error: PairError) -> u32
+    ensures exact { result ≡ pair_status error }
+    ensures few { result < 512 }
 {
     match error {
         PairError::Read(error) => of_read(error),
-        PairError::Other(error) => of_other(error),
+        PairError::Other(error) => flagged(OTHER, of_read(error)),
         PairError::Misfit(_) => MISFIT,
         PairError::TooLarge => UNWRITABLE,
         PairError::Memory | PairError::Write => MEMORY,
@@ -394,14 +301,9 @@ pub(crate) fn of_pair(error: PairError) -> u32
 }
 
 /// The status of two files of which something isn't shown.
-pub(crate) fn of_certificate(error: CertificateError) -> u32
-    ensures said { IsPairStatus first_verdict second_verdict IsOfCountsIn
-        (certificate.Pair pair.TooLarge) error result }
-    ensures own { IsOfPairProof result }
-    ensures joint { SaysJoint result error }
-    ensures query { SaysQueryProof result error }
-    ensures window { SaysWindowProof result error }
-    ensures clauses { IsOfClauses error → IsOfObligations result }
+fn of_certificate(error: CertificateError) -> u32
+    ensures exact { result ≡ certificate_status error }
+    ensures few { result < 2048 }
 {
     match error {
         CertificateError::Pair(error) => of_pair(error),
@@ -410,17 +312,216 @@ pub(crate) fn of_certificate(error: CertificateError) -> u32
     }
 }
 
-/// The status of two files whose clauses aren't printed. What is written to memory stops only where memory is refused.
-pub(crate) fn of_obligations(error: CheckError) -> u32
-    ensures said { IsPairStatus checking.verdict_of checking_pairs.other_verdict_of
-        IsOfCountsBy
-        (checks.Certificate (certificate.Pair pair.TooLarge)) error result }
-    ensures joint { SaysObliged result error }
-    ensures own { (optimize : Bool) → IsErrorOfPair (pair_commands.Obligations optimize) error
-        → IsOfObligations result }
+/// The status of first steps that aren't shown to be safe: their question is too large, or their proof is refused.
+fn of_base(error: BoundedAnswerError) -> u32
+    ensures { result ≡ base_status error }
 {
     match error {
-        CheckError::Certificate(error) => of_certificate(error),
+        BoundedAnswerError::Question(BoundedError::TooLarge) => BASE + LARGE_QUESTION,
+        BoundedAnswerError::Refutation(error) => flagged(BASE, of_refutation(error)),
+        // First steps have no other error but that memory ran out.
         _ => MEMORY,
+    }
+}
+
+/// The status of a window that isn't shown to be without a bad state first at its end: its proof is refused.
+fn of_step(error: AnswerError) -> u32
+    ensures { result ≡ step_status error }
+{
+    match error {
+        AnswerError::Refutation(error) => flagged(STEP, of_refutation(error)),
+        // A window that there is room for has no other error but that memory ran out.
+        _ => MEMORY,
+    }
+}
+
+/// The status of a file whose machine isn't shown to be safe.
+fn of_safety(error: SafetyError) -> u32
+    ensures { result ≡ safety_status error }
+{
+    match error {
+        SafetyError::File(error) => of_answer(error),
+        SafetyError::Base(error) => of_base(error),
+        SafetyError::Step(error) => of_step(error),
+    }
+}
+
+/// The status of what is made of files, where it isn't shown to be safe.
+fn of_made(error: SafetyError) -> u32
+    ensures { result ≡ made_status error }
+{
+    match error {
+        SafetyError::File(error) => flagged(WINDOW, of_answer(error)),
+        SafetyError::Base(error) => of_base(error),
+        SafetyError::Step(error) => of_step(error),
+    }
+}
+
+/// The status of two files whose machines aren't shown to be equal at every step.
+fn of_equality(error: EqualityError) -> u32
+    ensures { result ≡ equality_status error }
+{
+    match error {
+        EqualityError::Pair(error) => of_pair(error),
+        EqualityError::Miter(error) => of_made(error),
+    }
+}
+
+/// The status of two files whose machines aren't shown to be so by a certificate of their miter.
+fn of_miter(error: MiterError) -> u32
+    ensures { result ≡ miter_status error }
+{
+    match error {
+        MiterError::Pair(error) => of_pair(error),
+        MiterError::Certificate(error) => flagged(CERTIFICATE, of_certificate(error)),
+    }
+}
+
+/// The status of a file of whose justice property something isn't shown.
+fn of_liveness(error: LivenessError) -> u32
+    ensures { result ≡ live_status error }
+{
+    match error {
+        LivenessError::Live(error) => of_edit(error),
+        LivenessError::Query(error) => flagged(QUERY, of_answer(error)),
+        LivenessError::Question(error) => of_base(error),
+        LivenessError::Safety(error) => of_made(error),
+    }
+}
+
+/// The status of a witness of a justice property that shows no fair lasso. Which step or literal it is isn't told.
+fn of_lasso(fault: LassoFault) -> u32
+    ensures { result ≡ lasso_status fault }
+{
+    match fault {
+        LassoFault::Run(fault) => of_fault(fault),
+        LassoFault::NoJustice => LASSO,
+        LassoFault::NoLoop => LASSO + 1,
+        LassoFault::Literal(_) => LASSO + 2,
+        LassoFault::Fairness(_) => LASSO + 3,
+    }
+}
+
+/// The status of a file and a witness that show no fair lasso.
+fn of_claim(error: ClaimError) -> u32
+    ensures { result ≡ claim_status error }
+{
+    match error {
+        ClaimError::Show(ShowError::Check(WitnessFault::Memory)) => MEMORY,
+        ClaimError::Show(ShowError::Check(_)) => WITNESS_BAD,
+        ClaimError::Show(error) => of_show(error),
+        ClaimError::Lasso(fault) => of_lasso(fault),
+    }
+}
+
+/// The status of a command of `aigcheck` that has no answer. What is written to memory stops only where memory is refused.
+fn of_check(error: CheckError) -> u32
+    ensures { result ≡ check_status error }
+{
+    match error {
+        CheckError::Open => HEADER,
+        CheckError::Memory | CheckError::Write => MEMORY,
+        CheckError::Settled(_) => SETTLED,
+        CheckError::Answer(error) => of_answer(error),
+        CheckError::Solution(error) => of_solution(error),
+        CheckError::Show(error) => of_show(error),
+        CheckError::Lasso(fault) => of_lasso(fault),
+        CheckError::Bounded(error) => of_bounded(error),
+        CheckError::Safe(error) => of_safety(error),
+        CheckError::Certificate(error) => of_certificate(error),
+        CheckError::Equality(error) => of_equality(error),
+        CheckError::Miter(error) => of_miter(error),
+        CheckError::Unmade(error) => of_edit(error),
+    }
+}
+
+/// An error that a call tells by a number.
+pub(crate) trait HasNumber: Drop {
+    ghost number: { Self → ℕ };
+
+    /// The number.
+    fn number(self) -> u32
+        ensures { result ≡ number self };
+}
+
+impl HasNumber for MemoryError {
+    ghost number = { λ _. memory };
+
+    fn number(self) -> u32 {
+        MEMORY
+    }
+}
+
+impl HasNumber for ToolError {
+    ghost number = { tool_status };
+
+    fn number(self) -> u32 {
+        of_tool(self)
+    }
+}
+
+impl HasNumber for EditError {
+    ghost number = { edit_status };
+
+    fn number(self) -> u32 {
+        of_edit(self)
+    }
+}
+
+impl HasNumber for PairError {
+    ghost number = { pair_status };
+
+    fn number(self) -> u32 {
+        of_pair(self)
+    }
+}
+
+impl HasNumber for AnswerError {
+    ghost number = { answer_status };
+
+    fn number(self) -> u32 {
+        of_answer(self)
+    }
+}
+
+impl HasNumber for ShowError {
+    ghost number = { show_status };
+
+    fn number(self) -> u32 {
+        of_show(self)
+    }
+}
+
+impl HasNumber for ClaimError {
+    ghost number = { claim_status };
+
+    fn number(self) -> u32 {
+        of_claim(self)
+    }
+}
+
+impl HasNumber for CheckError {
+    ghost number = { check_status };
+
+    fn number(self) -> u32 {
+        of_check(self)
+    }
+}
+
+impl HasNumber for LivenessError {
+    ghost number = { live_status };
+
+    fn number(self) -> u32 {
+        of_liveness(self)
+    }
+}
+
+/// The status of a result.
+pub(crate) fn status_of<E: HasNumber>(done: Result<(), E>) -> u32
+    ensures { result ≡ status_by E.number done }
+{
+    match done {
+        Ok(()) => DONE,
+        Err(error) => error.number(),
     }
 }

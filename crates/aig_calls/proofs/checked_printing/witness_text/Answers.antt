@@ -1,44 +1,16 @@
-use Rattle.std.proofs.Common.{ℕ, Some, List, Vec, Global, ap, sym, ◌∙◌, rules}
-use Rattle.aig_answers.specs.Answers.{IsAsked}
-use Rattle.aig_checks.specs.Running.{Answers, file_verdict}
-use Rattle.aig_checks.specs.declared.command.FileCommand.TheVariants as commands
-use Rattle.aig_commands.specs.declared.tool.TheConstants.{LIMIT}
-use Rattle.aig_calls.specs.Parts.{IsOwnOf}
-use Rattle.aig_calls.proofs.Failing.{step_told}
-use Rattle.aig_calls.proofs.Making.{text_made}
-use Rattle.aig_calls.proofs.Taken.{check_not_made}
+use Rattle.std.proofs.lemmas.Result.{err_from_is_err_and}
+use Rattle.aig_calls.proofs.Seen.{held_all, held_nothing, on, runs_seen, wrote}
 use Rattle.aig_calls.proofs.checked_printing.witness_text.Goals as goal
 
-pub returns-in-Ok-clause-makes : goal.returns-in-Ok-clause-makes
-returns-in-Ok-clause-makes c =
-    let command = (commands.Witness c.args.k c.args.optimize) in
-    let told = c.in-Ok.ensures in
-    let items = λ (v : Vec ℕ Global). Some v.items in
-    let none = ap items c.new-sink.ensures.writer ∙ ap (λ (xs : List ℕ). Some xs)
-    c.new.ensures.items in
-    let all = ap items (sym c.into_inner.ensures) in
-    text_made (file_verdict command LIMIT) LIMIT c.args.file.now _ _ (IsAsked LIMIT c.args.k)
-    (λ bs f asked. asked.0.0)
-    (Answers command (Some c.args.solution.now) (Some c.args.file.now)) (IsOwnOf command) _ _ _
-    c.into_inner.result
-    (search rules) (search rules)
-    (rw c.new-source.ensures.reader at told.verdict)
-    (rw (c.new-source.ensures.reader, c.new-answer.ensures.reader) at told.ok) none all
+pub returns-in_err-print_witness : goal.returns-in_err-print_witness
+returns-in_err-print_witness c =
+    let p = err_from_is_err_and c.from_residual.result c.from_residual.ensures.1 in
+    rw (p.1, p.2) (wrote c.new-sink.result, wrote c.print_witness.new.w, (on c.new-source.result c.print_witness.new.r c.new-source.ensures.reader (on c.new-answer.result c.print_witness.new.solution c.new-answer.ensures.reader (runs_seen c.in_err-print_witness.ensures))))
 
-pub returns-in-Err-clause-makes : goal.returns-in-Err-clause-makes
-returns-in-Err-clause-makes c =
-    let command = (commands.Witness c.args.k c.args.optimize) in
-    let told = c.in-Err.ensures in
-    check_not_made LIMIT c.args.file.now _ _ command (Some c.args.solution.now) c.in-Err.error
-    c.of_check.result
-    (rw c.new-source.ensures.reader at told.verdict) c.of_check.ensures.said
-    c.of_check.ensures.least
-    (c.of_check.ensures.own command told.own)
-
-pub returns-in-Err-clause-refusal : goal.returns-in-Err-clause-refusal
-returns-in-Err-clause-refusal c =
-    let told = c.in-Err.ensures in
-    step_told c.args.k c.args.optimize LIMIT c.args.file.now c.args.solution.now c.of_check.result
-    _ _ _ c.in-Err.error told.own (rw c.new-source.ensures.reader at told.verdict)
-    (rw (c.new-source.ensures.reader, c.new-answer.ensures.reader) at told.refusal)
-    c.of_check.ensures.solution
+pub returns : goal.returns
+returns c = (
+  wrote c.new-sink.result,
+  wrote c.print_witness.new.w,
+  held_nothing c.new-sink.ensures.writer c.new.ensures.items,
+  (held_all c.into_inner.ensures, (on c.new-source.result c.print_witness.new.r c.new-source.ensures.reader (on c.new-answer.result c.print_witness.new.solution c.new-answer.ensures.reader (runs_seen c.in_ok-print_witness.ensures)))),
+)

@@ -1,19 +1,18 @@
-use Rattle.std.proofs.Common.{ℕ, Some, List, Vec, Global, ap, sym, ◌∙◌}
-use Rattle.aig_calls.proofs.Editing.{edit_done, edit_refused}
+use Rattle.std.proofs.Common.{Ok, Err}
+use Rattle.std.proofs.lemmas.Result.{err_from_is_err_and}
+use Rattle.aig_commands.specs.declared.tool.TheConstants.{LIMIT}
+use Rattle.aig_calls.proofs.Seen.{edit_seen, file_seen, held_all, held_nothing, on, wrote}
 use Rattle.aig_calls.proofs.edits.edit_text.Goals as goal
 
-pub returns-in-Ok : goal.returns-in-Ok
-returns-in-Ok c =
-    let told = c.in-Ok.ensures.reads in
-    let items = λ (v : Vec ℕ Global). Some v.items in
-    let none = ap items c.new-sink.ensures.writer
-    ∙ ap (λ (xs : List ℕ). Some xs) c.new.ensures.items in
-    let all = ap items (sym c.into_inner.ensures) in
-    edit_done c.new-sink.result c.print_edit.new.w told c.args.file.now
-    (rw c.new-source.ensures.reader) c.into_inner.result none all
+pub returns-in_err-print_edit : goal.returns-in_err-print_edit
+returns-in_err-print_edit c =
+    let p = err_from_is_err_and c.from_residual.result c.from_residual.ensures.1 in
+    rw (p.1, p.2) (wrote c.new-sink.result, wrote c.print_edit.new.w, (on c.new-source.result c.print_edit.new.r c.new-source.ensures.reader (file_seen (λ f. edit_seen c.new-sink.result c.print_edit.new.w c.args.edit.now LIMIT f (Err c.in_err-print_edit.field-0.0)) c.in_err-print_edit.ensures.reads)))
 
-pub returns-in-Err : goal.returns-in-Err
-returns-in-Err c =
-    edit_refused c.new-sink.result c.print_edit.new.w c.in-Err.error c.of_edit.result
-    c.in-Err.ensures.reads c.of_edit.ensures.said
-    c.of_edit.ensures.editing c.args.file.now (rw c.new-source.ensures.reader)
+pub returns : goal.returns
+returns c = (
+  wrote c.new-sink.result,
+  wrote c.print_edit.new.w,
+  held_nothing c.new-sink.ensures.writer c.new.ensures.items,
+  (held_all c.into_inner.ensures, (on c.new-source.result c.print_edit.new.r c.new-source.ensures.reader (file_seen (λ f. edit_seen c.new-sink.result c.print_edit.new.w c.args.edit.now LIMIT f (Ok tt)) c.in_ok-print_edit.ensures.reads))),
+)

@@ -1,19 +1,17 @@
-use Rattle.std.proofs.Common.{ℕ, Some, List, Vec, Global, ap, sym, ◌∙◌}
-use Rattle.aig_calls.proofs.Editing.{info_done, info_refused}
+use Rattle.std.proofs.Common.{Ok, Err}
+use Rattle.std.proofs.lemmas.Result.{err_from_is_err_and}
+use Rattle.aig_calls.proofs.Seen.{file_seen, held_all, held_nothing, info_seen, on, wrote}
 use Rattle.aig_calls.proofs.edits.info_text.Goals as goal
 
-pub returns-in-Ok : goal.returns-in-Ok
-returns-in-Ok c =
-    let told = c.in-Ok.ensures.reads in
-    let items = λ (v : Vec ℕ Global). Some v.items in
-    let none = ap items c.new-sink.ensures.writer
-    ∙ ap (λ (xs : List ℕ). Some xs) c.new.ensures.items in
-    let all = ap items (sym c.into_inner.ensures) in
-    info_done c.new-sink.result c.print_info.new.w c.args.file.now (rw c.new-source.ensures.reader)
-    told c.into_inner.result none all
+pub returns-in_err-print_info : goal.returns-in_err-print_info
+returns-in_err-print_info c =
+    let p = err_from_is_err_and c.from_residual.result c.from_residual.ensures.1 in
+    rw (p.1, p.2) (wrote c.new-sink.result, wrote c.print_info.new.w, (on c.new-source.result c.print_info.new.r c.new-source.ensures.reader (file_seen (λ f. info_seen c.new-sink.result c.print_info.new.w f (Err c.in_err-print_info.field-0.0)) c.in_err-print_info.ensures.reads)))
 
-pub returns-in-Err : goal.returns-in-Err
-returns-in-Err c =
-    info_refused c.new-sink.result c.print_info.new.w c.args.file.now
-    (rw c.new-source.ensures.reader) c.in-Err.error c.of_edit.result
-    c.in-Err.ensures.reads c.of_edit.ensures.said c.of_edit.ensures.making
+pub returns : goal.returns
+returns c = (
+  wrote c.new-sink.result,
+  wrote c.print_info.new.w,
+  held_nothing c.new-sink.ensures.writer c.new.ensures.items,
+  (held_all c.into_inner.ensures, (on c.new-source.result c.print_info.new.r c.new-source.ensures.reader (file_seen (λ f. info_seen c.new-sink.result c.print_info.new.w f (Ok tt)) c.in_ok-print_info.ensures.reads))),
+)

@@ -1,25 +1,18 @@
-use Rattle.std.proofs.Common.{ℕ, Some, List, Vec, Global, ap, sym, ◌∙◌}
-use Rattle.aig_calls.proofs.Editing.{question_done, question_large, question_refused}
+use Rattle.std.proofs.Common.{Ok, Err}
+use Rattle.std.proofs.lemmas.Result.{err_from_is_err_and}
+use Rattle.aig_commands.specs.declared.tool.TheConstants.{LIMIT}
+use Rattle.aig_calls.proofs.Seen.{file_seen, held_all, held_nothing, on, question_seen, wrote}
 use Rattle.aig_calls.proofs.edits.question_text.Goals as goal
 
-pub returns-in-Ok-clause-makes : goal.returns-in-Ok-clause-makes
-returns-in-Ok-clause-makes c =
-    let told = c.in-Ok.ensures.reads in
-    let items = λ (v : Vec ℕ Global). Some v.items in
-    let none = ap items c.new-sink.ensures.writer
-    ∙ ap (λ (xs : List ℕ). Some xs) c.new.ensures.items in
-    let all = ap items (sym c.into_inner.ensures) in
-    question_done c.new-sink.result c.print_question.new.w c.args.file.now
-    (rw c.new-source.ensures.reader) told c.into_inner.result none all
+pub returns-in_err-print_question : goal.returns-in_err-print_question
+returns-in_err-print_question c =
+    let p = err_from_is_err_and c.from_residual.result c.from_residual.ensures.1 in
+    rw (p.1, p.2) (wrote c.new-sink.result, wrote c.print_question.new.w, (on c.new-source.result c.print_question.new.r c.new-source.ensures.reader (file_seen (λ f. question_seen c.new-sink.result c.print_question.new.w c.args.k LIMIT f (Err c.in_err-print_question.field-0.0)) c.in_err-print_question.ensures.reads)))
 
-pub returns-in-Err-clause-makes : goal.returns-in-Err-clause-makes
-returns-in-Err-clause-makes c =
-    question_refused c.new-sink.result c.print_question.new.w c.args.file.now
-    (rw c.new-source.ensures.reader) c.in-Err.error c.of_edit.result
-    c.in-Err.ensures.reads c.of_edit.ensures.said c.of_edit.ensures.asking
-
-pub returns-in-Err-clause-large : goal.returns-in-Err-clause-large
-returns-in-Err-clause-large c =
-    λ is. question_large c.new-sink.result c.print_question.new.w c.args.file.now
-    (rw c.new-source.ensures.reader) c.in-Err.error (c.of_edit.ensures.large is)
-    c.in-Err.ensures.reads
+pub returns : goal.returns
+returns c = (
+  wrote c.new-sink.result,
+  wrote c.print_question.new.w,
+  held_nothing c.new-sink.ensures.writer c.new.ensures.items,
+  (held_all c.into_inner.ensures, (on c.new-source.result c.print_question.new.r c.new-source.ensures.reader (file_seen (λ f. question_seen c.new-sink.result c.print_question.new.w c.args.k LIMIT f (Ok tt)) c.in_ok-print_question.ensures.reads))),
+)

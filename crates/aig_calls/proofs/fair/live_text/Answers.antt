@@ -1,24 +1,17 @@
-use Rattle.std.proofs.Common.{ℕ, Some, List, Vec, Global, ap, sym, ◌∙◌}
-use Rattle.aig_calls.proofs.Living.{live_done, live_refused, live_tells}
+use Rattle.std.proofs.Common.{Ok, Err}
+use Rattle.std.proofs.lemmas.Result.{err_from_is_err_and}
+use Rattle.aig_calls.proofs.Seen.{file_seen, held_all, held_nothing, live_seen, on, wrote}
 use Rattle.aig_calls.proofs.fair.live_text.Goals as goal
 
-pub returns-in-Ok-clause-makes : goal.returns-in-Ok-clause-makes
-returns-in-Ok-clause-makes c =
-    let items = λ (v : Vec ℕ Global). Some v.items in
-    let none = ap items c.new-sink.ensures.writer
-    ∙ ap (λ (xs : List ℕ). Some xs) c.new.ensures.items in
-    let all = ap items (sym c.into_inner.ensures) in
-    live_done c.args.j c.new-sink.result c.print_live.new.w c.args.file.now
-    (rw c.new-source.ensures.reader) c.in-Ok.ensures.reads c.into_inner.result none all
+pub returns-in_err-print_live : goal.returns-in_err-print_live
+returns-in_err-print_live c =
+    let p = err_from_is_err_and c.from_residual.result c.from_residual.ensures.1 in
+    rw (p.1, p.2) (wrote c.new-sink.result, wrote c.print_live.new.w, (on c.new-source.result c.print_live.new.r c.new-source.ensures.reader (file_seen (λ f. live_seen c.new-sink.result c.print_live.new.w c.args.j f (Err c.in_err-print_live.field-0.0)) c.in_err-print_live.ensures.reads)))
 
-pub returns-in-Err-clause-makes : goal.returns-in-Err-clause-makes
-returns-in-Err-clause-makes c =
-    live_refused c.args.j c.new-sink.result c.print_live.new.w c.args.file.now
-    (rw c.new-source.ensures.reader) c.in-Err.error c.of_edit.result c.of_edit.ensures.said
-    c.of_edit.ensures.living c.in-Err.ensures.reads
-
-pub returns-in-Err-clause-refusal : goal.returns-in-Err-clause-refusal
-returns-in-Err-clause-refusal c =
-    live_tells c.args.j c.new-sink.result c.print_live.new.w c.args.file.now
-    (rw c.new-source.ensures.reader) c.in-Err.error c.of_edit.result c.of_edit.ensures.said
-    c.of_edit.ensures.living c.in-Err.ensures.reads
+pub returns : goal.returns
+returns c = (
+  wrote c.new-sink.result,
+  wrote c.print_live.new.w,
+  held_nothing c.new-sink.ensures.writer c.new.ensures.items,
+  (held_all c.into_inner.ensures, (on c.new-source.result c.print_live.new.r c.new-source.ensures.reader (file_seen (λ f. live_seen c.new-sink.result c.print_live.new.w c.args.j f (Ok tt)) c.in_ok-print_live.ensures.reads))),
+)

@@ -1,24 +1,17 @@
-use Rattle.std.proofs.Common.{ℕ, Some, List, Vec, Global, ap, sym, ◌∙◌}
-use Rattle.aig_calls.proofs.Living.{rounds_done, rounds_refused, rounds_tells}
+use Rattle.std.proofs.Common.{Ok, Err}
+use Rattle.std.proofs.lemmas.Result.{err_from_is_err_and}
+use Rattle.aig_calls.proofs.Seen.{file_seen, held_all, held_nothing, on, rounds_seen, wrote}
 use Rattle.aig_calls.proofs.fair.rounds_text.Goals as goal
 
-pub returns-in-Ok-clause-makes : goal.returns-in-Ok-clause-makes
-returns-in-Ok-clause-makes c =
-    let items = λ (v : Vec ℕ Global). Some v.items in
-    let none = ap items c.new-sink.ensures.writer
-    ∙ ap (λ (xs : List ℕ). Some xs) c.new.ensures.items in
-    let all = ap items (sym c.into_inner.ensures) in
-    rounds_done c.args.j c.new-sink.result c.print_rounds.new.w c.args.file.now
-    (rw c.new-source.ensures.reader) c.args.count c.in-Ok.ensures.reads c.into_inner.result none all
+pub returns-in_err-print_rounds : goal.returns-in_err-print_rounds
+returns-in_err-print_rounds c =
+    let p = err_from_is_err_and c.from_residual.result c.from_residual.ensures.1 in
+    rw (p.1, p.2) (wrote c.new-sink.result, wrote c.print_rounds.new.w, (on c.new-source.result c.print_rounds.new.r c.new-source.ensures.reader (file_seen (λ f. rounds_seen c.new-sink.result c.print_rounds.new.w c.args.j c.args.count f (Err c.in_err-print_rounds.field-0.0)) c.in_err-print_rounds.ensures.reads)))
 
-pub returns-in-Err-clause-makes : goal.returns-in-Err-clause-makes
-returns-in-Err-clause-makes c =
-    rounds_refused c.args.j c.new-sink.result c.print_rounds.new.w c.args.file.now
-    (rw c.new-source.ensures.reader) c.in-Err.error c.of_edit.result c.of_edit.ensures.said
-    c.of_edit.ensures.living c.args.count c.in-Err.ensures.reads
-
-pub returns-in-Err-clause-refusal : goal.returns-in-Err-clause-refusal
-returns-in-Err-clause-refusal c =
-    rounds_tells c.args.j c.new-sink.result c.print_rounds.new.w c.args.file.now
-    (rw c.new-source.ensures.reader) c.in-Err.error c.of_edit.result c.of_edit.ensures.said
-    c.of_edit.ensures.living c.args.count c.in-Err.ensures.reads
+pub returns : goal.returns
+returns c = (
+  wrote c.new-sink.result,
+  wrote c.print_rounds.new.w,
+  held_nothing c.new-sink.ensures.writer c.new.ensures.items,
+  (held_all c.into_inner.ensures, (on c.new-source.result c.print_rounds.new.r c.new-source.ensures.reader (file_seen (λ f. rounds_seen c.new-sink.result c.print_rounds.new.w c.args.j c.args.count f (Ok tt)) c.in_ok-print_rounds.ensures.reads))),
+)

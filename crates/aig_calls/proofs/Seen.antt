@@ -1,0 +1,521 @@
+-- What a call told of readers and writers it told of the bytes that they have left or hold.
+use Rattle.std.proofs.Common.{Bor}
+use Rattle.aig_base.proofs.Words.{◌≡◌, ◌≢◌, ℕ, Bool, false, List, [], Option, None, Some, Result, Ok, Err, Vec, Global, sym, ap, ◌∙◌, IfErr}
+use Rattle.aig_base.specs.declared.std_stream.FromRead.{FromRead}
+use Rattle.aig_base.specs.declared.std_stream.ToWrite.{ToWrite}
+use Rattle.aig_bounded_answers.specs.Asking.{AnswersCircuit}
+use Rattle.aig_bounded_answers.specs.declared.error.BoundedAnswerError.{BoundedAnswerError}
+use Rattle.aig_certificates.specs.Comparing.{CertifiesMiter, EqualsBy}
+use Rattle.aig_certificates.specs.declared.compare_error.MiterError.{MiterError}
+use Rattle.aig_certificates.specs.declared.compare_error.MiterError.TheVariants as miter
+use Rattle.aig_certificates.specs.declared.error.CertificateError.{CertificateError}
+use Rattle.aig_checks.specs.Comparing as comparing
+use Rattle.aig_checks.specs.Comparing.{RunsComparing, TellsOfComparing}
+use Rattle.aig_checks.specs.Pairs as pairs
+use Rattle.aig_checks.specs.Pairs.{RunsPair, TellsOfPair}
+use Rattle.aig_checks.specs.Running.{IsOfFileAlone, Runs}
+use Rattle.aig_checks.specs.Safe as safes
+use Rattle.aig_checks.specs.Safe.{RunsSafe, TellsWhy}
+use Rattle.aig_checks.specs.declared.command.FileCommand.{FileCommand}
+use Rattle.aig_checks.specs.declared.command.PairCommand.{PairCommand}
+use Rattle.aig_checks.specs.declared.tool.CheckError.{CheckError}
+use Rattle.aig_checks.specs.declared.tool.CheckError.TheVariants as checks
+use Rattle.aig_circuit.specs.Circuit.{Circuit}
+use Rattle.aig_commands.specs.Running as tool
+use Rattle.aig_commands.specs.declared.command.Command.{Command}
+use Rattle.aig_commands.specs.declared.tool.ToolError.{ToolError}
+use Rattle.aig_commands.specs.declared.tool.ToolError.TheVariants as tools
+use Rattle.aig.specs.declared.aiger.WriteError.TheVariants as write
+use Rattle.aig_edits.specs.Edits.{PrintsEdit, ReadsFile}
+use Rattle.aig_edits.specs.Info.{PrintsInfo}
+use Rattle.aig_edits.specs.Joints.{PrintsJoint}
+use Rattle.aig_edits.specs.Lives.{PrintsLive}
+use Rattle.aig_edits.specs.Pairs.{ReadsPair}
+use Rattle.aig_edits.specs.Questions.{PrintsQuestion}
+use Rattle.aig_edits.specs.Reductions.{PrintsReduction}
+use Rattle.aig_edits.specs.Rounds.{PrintsRounds}
+use Rattle.aig_edits.specs.declared.edit.Edit.{Edit}
+use Rattle.aig_edits.specs.declared.edit_error.EditError.{EditError}
+use Rattle.aig_edits.specs.declared.edit_error.EditError.TheVariants as edit
+use Rattle.aig_edits.specs.declared.error.PairError.{PairError}
+use Rattle.aig_edits.specs.declared.error.PairError.TheVariants as pair
+use Rattle.aig_edits.specs.declared.pairing.Pairing.{Pairing}
+use Rattle.aig_format.proofs.Words.{File}
+use Rattle.aig_liveness.specs.Liveness.{HasNoLassoTo, HasNoRun}
+use Rattle.aig_liveness.specs.declared.error.LivenessError.{LivenessError}
+use Rattle.aig_liveness.specs.declared.error.LivenessError.TheVariants as liveness
+use Rattle.aig_reader.specs.Reading.{IsReadAs}
+use Rattle.aig_reader.specs.Verdicts.{Accepted, Judges, Short, Verdict}
+use Rattle.aig_runs.specs.declared.window.Window.{Window}
+use Rattle.aig_safety.specs.Safety.{Shows, ShowsCircuit}
+use Rattle.aig_safety.specs.declared.error.SafetyError.{SafetyError}
+use Rattle.aig_safety.specs.declared.error.SafetyError.TheVariants as safety
+use Rattle.aig_calls.specs.Memory.{Memory, On, bytes_of, has_failed}
+
+-- what of a reader or a writer is seen
+abbrev pub seen : {R : Type 0} → (R → Option (List ℕ)) → (R → Bool) → R → Memory
+seen left failed r = (left r, failed r)
+
+-- a reader of the caller's bytes
+abbrev Reader : Type 0
+Reader = FromRead (Bor (List ℕ))
+
+abbrev pub bytes_left : Reader → Option (List ℕ)
+bytes_left r = Some r.inner.now
+
+abbrev pub read_failed : Reader → Bool
+read_failed r = r.failed
+
+-- a writer to memory
+abbrev Writer : Type 0
+Writer = ToWrite (Vec ℕ Global)
+
+abbrev all_held : Writer → Option (List ℕ)
+all_held w = Some w.inner.items
+
+abbrev put_failed : Writer → Bool
+put_failed w = w.failed
+
+abbrev pub wrote : Writer → Memory
+wrote = seen all_held put_failed
+
+-- one who holds nothing
+abbrev pub nobody : Memory
+nobody = (None, false)
+
+-- something was done with these bytes
+pub on : (r rest : Reader) {bytes : Bor (List ℕ)} {Does : Memory → Memory → Type 0}
+    → r.inner ≡ bytes → Does (seen bytes_left read_failed r) (seen bytes_left read_failed rest)
+    → On (Some bytes.now) Does
+on r rest same does = (
+  seen bytes_left read_failed r,
+  seen bytes_left read_failed rest,
+  ap (λ (b : Bor (List ℕ)). Some b.now) same,
+  does,
+)
+
+-- what stays as it was is seen to
+same_seen : {R E : Type 0} (left : R → Option (List ℕ)) (failed : R → Bool) (r rest : R)
+    (P : E → Type 0) (result : Result (Unit {0}) E) → IfErr result (λ e. P e → rest ≡ r)
+    → IfErr result (λ e. P e → seen left failed rest ≡ seen left failed r)
+same_seen left failed r rest P (Ok done) same = tt
+same_seen left failed r rest P (Err e) same = λ is. ap (seen left failed) (same is)
+
+-- ---- files
+
+-- what is meant of the file that was read
+means_on : {T : Type 0} {Holds : List ℕ → File → Type 0} {M N : File → T → Type 0}
+    {old new : Option (List ℕ)} {x : T} → ((f : File) → M f x → N f x) → IsReadAs Holds M old new x
+    → IsReadAs Holds N old new x
+means_on so read = record {
+  bytes = read.bytes;
+  file = read.file;
+  taken = read.taken;
+  holds = read.holds;
+  means = so read.file read.means;
+}
+
+pub file_seen : {R T E : Type 0} {left : R → Option (List ℕ)} {failed : R → Bool} {limit : ℕ}
+    {M N : File → Result T E → Type 0} {said : E → Verdict} {Own : E → Type 0} {r rest : R}
+    {result : Result T E} → ((f : File) → M f result → N f result)
+    → ReadsFile left failed limit M said Own r result rest
+    → ReadsFile bytes_of has_failed limit N said Own (seen left failed r) result
+    (seen left failed rest)
+file_seen so reads = record {
+  verdict = reads.verdict;
+  answer = λ taken. means_on so (reads.answer taken);
+  own = reads.own;
+}
+
+pub both_seen : {R S T E : Type 0} {left : R → Option (List ℕ)} {failed : R → Bool}
+    {left_of : S → Option (List ℕ)} {failed_of : S → Bool} {limit : ℕ}
+    {M N : File → File → Result T E → Type 0} {first second : E → Verdict} {Own : E → Type 0}
+    {r rest : R} {s other : S} {result : Result T E}
+    → ((f g : File) → M f g result → N f g result)
+    → ReadsPair left failed left_of failed_of limit M first second Own r s result rest other
+    → ReadsPair bytes_of has_failed bytes_of has_failed limit N first second Own
+    (seen left failed r) (seen left_of failed_of s) result (seen left failed rest)
+    (seen left_of failed_of other)
+both_seen {left_of = left_of} {failed_of = failed_of} so reads = record {
+  verdict = reads.verdict;
+  other_verdict = reads.other_verdict;
+  unread = λ not. ap (seen left_of failed_of) (reads.unread not);
+  answer = λ first second. means_on (λ f m. means_on (so f) m) (reads.answer first second);
+  own = reads.own;
+}
+
+-- ---- what is written
+
+module _ (w made : Writer) where
+  pub edit_seen : (e : Edit) (limit : ℕ) (f : File) (r : Result (Unit {0}) EditError)
+      → PrintsEdit all_held put_failed e limit w made f r
+      → PrintsEdit bytes_of has_failed e limit (wrote w) (wrote made) f r
+  edit_seen e limit f (Ok done) means = means
+  edit_seen e limit f (Err edit.Write) means = means
+  edit_seen e limit f (Err x) means = means
+
+  pub reduction_seen : (f : File) (r : Result (Unit {0}) EditError)
+      → PrintsReduction all_held put_failed w made f r
+      → PrintsReduction bytes_of has_failed (wrote w) (wrote made) f r
+  reduction_seen f (Ok done) means = means
+  reduction_seen f (Err edit.Write) means = means
+  reduction_seen f (Err x) means = means
+
+  pub question_seen : (k limit : ℕ) (f : File) (r : Result (Unit {0}) EditError)
+      → PrintsQuestion all_held put_failed k limit w made f r
+      → PrintsQuestion bytes_of has_failed k limit (wrote w) (wrote made) f r
+  question_seen k limit f (Ok done) means = means
+  question_seen k limit f (Err edit.Write) means = means
+  question_seen k limit f (Err x) means = means
+
+  pub info_seen : (f : File) (r : Result (Unit {0}) EditError) → PrintsInfo all_held put_failed w made f r
+      → PrintsInfo bytes_of has_failed (wrote w) (wrote made) f r
+  info_seen f (Ok done) means = means
+  info_seen f (Err edit.Write) means = means
+  info_seen f (Err x) means = means
+
+  pub live_seen : (j : ℕ) (f : File) (r : Result (Unit {0}) EditError)
+      → PrintsLive all_held put_failed j w made f r
+      → PrintsLive bytes_of has_failed j (wrote w) (wrote made) f r
+  live_seen j f (Ok done) means = means
+  live_seen j f (Err edit.Write) means = means
+  live_seen j f (Err x) means = means
+
+  pub rounds_seen : (j count : ℕ) (f : File) (r : Result (Unit {0}) EditError)
+      → PrintsRounds all_held put_failed j count w made f r
+      → PrintsRounds bytes_of has_failed j count (wrote w) (wrote made) f r
+  rounds_seen j count f (Ok done) means = means
+  rounds_seen j count f (Err edit.Write) means = means
+  rounds_seen j count f (Err x) means = means
+
+  pub joint_seen : (pairing : Pairing) (f g : File) (r : Result (Unit {0}) PairError)
+      → PrintsJoint all_held put_failed pairing w made f g r
+      → PrintsJoint bytes_of has_failed pairing (wrote w) (wrote made) f g r
+  joint_seen pairing f g (Ok done) means = means
+  joint_seen pairing f g (Err pair.Write) means = means
+  joint_seen pairing f g (Err x) means = means
+
+-- a writer that was made of no items holds none, and what it holds is what it is made of
+pub held_nothing : {inner v : Vec ℕ Global} → inner ≡ v → v.items ≡ []
+    → Some inner.items ≡ Some []
+held_nothing same none = ap (λ (x : Vec ℕ Global). Some x.items) same ∙ ap Some none
+
+pub held_all : {v inner : Vec ℕ Global} → v ≡ inner → Some inner.items ≡ Some v.items
+held_all same = ap (λ (x : Vec ℕ Global). Some x.items) (sym same)
+
+-- a file that is taken, for which memory runs out then
+pub short : {of : File → Verdict} {limit : ℕ} {old new : Option (List ℕ)} {failed : Bool}
+    → Judges of limit old new failed Accepted → Judges of limit old new failed Short
+short taken = record {
+  exact = λ is. absurd is;
+  file = λ is.
+      let read = taken.file tt in
+      record {
+        bytes = read.bytes;
+        file = read.file;
+        taken = read.taken;
+        holds = read.holds;
+        means = sym read.means;
+      };
+  whole = λ is. taken.whole tt;
+  stream = λ is. cc;
+}
+
+-- ---- commands
+
+pub tool_seen : {R W : Type 0} {left : R → Option (List ℕ)} {failed : R → Bool}
+    {held : W → Option (List ℕ)} {write_failed : W → Bool} {c : Command} {limit : ℕ} {r rest : R}
+    {w made : W} {result : Result (Unit {0}) ToolError}
+    → tool.Runs left failed held write_failed c limit r w result rest made
+    → tool.Runs bytes_of has_failed bytes_of has_failed c limit (seen left failed r)
+    (seen held write_failed w) result (seen left failed rest) (seen held write_failed made)
+tool_seen {held = held} {write_failed = write_failed} {w = w} {made = made} {result = result} runs =
+    record {
+      verdict = runs.verdict;
+      own = runs.own;
+      ok = runs.ok;
+      stopped = runs.stopped;
+      kept = same_seen held write_failed w made (λ e. e ≢ tools.Write write.Stream) result
+          runs.kept;
+    }
+
+pub runs_seen : {R P W : Type 0} {left : R → Option (List ℕ)} {failed : R → Bool}
+    {given : P → Option (List ℕ)} {given_failed : P → Bool} {held : W → Option (List ℕ)}
+    {write_failed : W → Bool} {c : FileCommand} {limit : ℕ} {r rest : R} {p used : P} {w made : W}
+    {result : Result (Unit {0}) CheckError}
+    → Runs left failed given given_failed held write_failed c limit r p w result rest used made
+    → Runs bytes_of has_failed bytes_of has_failed bytes_of has_failed c limit (seen left failed r)
+    (seen given given_failed p) (seen held write_failed w) result (seen left failed rest)
+    (seen given given_failed used) (seen held write_failed made)
+runs_seen {given = given} {given_failed = given_failed} {held = held} {write_failed = write_failed}
+    {p = p} {used = used} {w = w} {made = made} {result = result} runs =
+    record {
+      verdict = runs.verdict;
+      own = runs.own;
+      ok = runs.ok;
+      stopped = runs.stopped;
+      taken = runs.taken;
+      kept = same_seen held write_failed w made (λ e. e ≢ checks.Write) result runs.kept;
+      unread = same_seen given given_failed p used IsOfFileAlone result runs.unread;
+      refusal = runs.refusal;
+    }
+
+-- ---- two files
+
+module _ {W : Type 0} (held : W → Option (List ℕ)) (write_failed : W → Bool) (w made : W) where
+  of_pair : (c : PairCommand) (limit : ℕ) (base step bytes others : Option (List ℕ)) (f g : File)
+      (r : Result (Unit {0}) CheckError)
+      → TellsOfPair held write_failed c limit base step bytes others w made f g r
+      → TellsOfPair bytes_of has_failed c limit base step bytes others (seen held write_failed w)
+      (seen held write_failed made) f g r
+  of_pair c limit base step bytes others f g (Ok done) means = means
+  of_pair c limit base step bytes others f g (Err checks.Write) means = means
+  of_pair c limit base step bytes others f g (Err x) means = means
+
+pub pair_seen : {R S P Q W : Type 0} {left : R → Option (List ℕ)} {failed : R → Bool}
+    {left_of : S → Option (List ℕ)} {failed_of : S → Bool} {base_left : P → Option (List ℕ)}
+    {base_failed : P → Bool} {step_left : Q → Option (List ℕ)} {step_failed : Q → Bool}
+    {held : W → Option (List ℕ)} {write_failed : W → Bool} {c : PairCommand} {limit : ℕ}
+    {r rest : R} {s other : S} {p used : P} {q spent : Q} {w made : W}
+    {result : Result (Unit {0}) CheckError}
+    → RunsPair left failed left_of failed_of base_left base_failed step_left step_failed held
+    write_failed c limit r s p q w result rest other used spent made
+    → RunsPair bytes_of has_failed bytes_of has_failed bytes_of has_failed bytes_of has_failed
+    bytes_of has_failed c limit (seen left failed r) (seen left_of failed_of s)
+    (seen base_left base_failed p) (seen step_left step_failed q) (seen held write_failed w)
+    result (seen left failed rest) (seen left_of failed_of other)
+    (seen base_left base_failed used) (seen step_left step_failed spent)
+    (seen held write_failed made)
+pair_seen {left = left} {left_of = left_of} {base_left = base_left} {base_failed = base_failed}
+    {step_left = step_left} {step_failed = step_failed} {held = held} {write_failed = write_failed}
+    {c = c} {limit = limit} {r = r} {s = s} {p = p} {used = used} {q = q} {spent = spent} {w = w}
+    {made = made} {result = result} runs =
+    record {
+      reads = both_seen
+          (λ f g. of_pair held write_failed w made c limit (base_left p) (step_left q) (left r)
+          (left_of s) f g result)
+          runs.reads;
+      kept = same_seen held write_failed w made (λ e. e ≢ checks.Write) result runs.kept;
+      base_unread = same_seen base_left base_failed p used pairs.LeavesBase result runs.base_unread;
+      step_unread = same_seen step_left step_failed q spent pairs.LeavesStep result
+          runs.step_unread;
+      base_stream = runs.base_stream;
+      step_stream = runs.step_stream;
+      miter_base_stream = runs.miter_base_stream;
+      miter_step_stream = runs.miter_step_stream;
+    }
+
+-- ---- first steps and a window
+
+module _ {P : Type 0} (left : P → Option (List ℕ)) (failed : P → Bool) (p used : P) (k : ℕ)
+    (optimize : Bool) where
+  base_seen : (c : Circuit) (r : Result (Unit {0}) BoundedAnswerError)
+      → AnswersCircuit left k optimize p used c r
+      → AnswersCircuit bytes_of k optimize (seen left failed p) (seen left failed used) c r
+  base_seen c r told = (
+    told.0,
+    λ made asks.
+        let of = told.1 made asks in
+        record {
+          settled = λ is. ((of.settled is).0, ap (seen left failed) (of.settled is).1);
+          shown = of.shown;
+        },
+  )
+
+  pub lassos_seen : (limit j : ℕ) (f : File) (r : Result (Unit {0}) LivenessError)
+      → HasNoLassoTo left limit j k optimize p used f r
+      → HasNoLassoTo bytes_of limit j k optimize (seen left failed p) (seen left failed used)
+      f r
+  lassos_seen limit j f (Ok done) told = (
+    told.0,
+    (
+      told.1.0,
+      told.1.1,
+      record {
+        said = told.1.2.said;
+        large = told.1.2.large;
+        shown = λ taken. base_seen _ (Ok tt) (told.1.2.shown taken);
+      },
+    ),
+  )
+  lassos_seen limit j f (Err (liveness.Live e)) told = told
+  lassos_seen limit j f (Err (liveness.Question e)) told = (
+    told.0,
+    told.1,
+    record {
+      said = told.2.said;
+      large = told.2.large;
+      shown = λ taken. base_seen _ (Err e) (told.2.shown taken);
+    },
+  )
+  lassos_seen limit j f (Err e) told = told
+
+module _ {P Q : Type 0} (left : P → Option (List ℕ)) (failed : P → Bool)
+    (left_of : Q → Option (List ℕ)) (failed_of : Q → Bool) (p used : P) (q : Q) (k : ℕ)
+    (base_optimize step_optimize : Bool) (form : Window) where
+  circuit_seen : (c : Circuit) (r : Result (Unit {0}) SafetyError)
+      → ShowsCircuit left left_of k base_optimize form step_optimize p used q c r
+      → ShowsCircuit bytes_of bytes_of k base_optimize form step_optimize (seen left failed p)
+      (seen left failed used) (seen left_of failed_of q) c r
+  circuit_seen c (Ok done) told = (base_seen left failed p used k base_optimize c (Ok tt) told.0, told.1)
+  circuit_seen c (Err (safety.File e)) told = absurd told
+  circuit_seen c (Err (safety.Base e)) told = base_seen left failed p used k base_optimize c (Err e) told
+  circuit_seen c (Err (safety.Step e)) told = (base_seen left failed p used k base_optimize c (Ok tt) told.0, told.1)
+
+  pub shows_seen : (f : File) (r : Result (Unit {0}) SafetyError)
+      → Shows left left_of k base_optimize form step_optimize p used q f r
+      → Shows bytes_of bytes_of k base_optimize form step_optimize (seen left failed p)
+      (seen left failed used) (seen left_of failed_of q) f r
+  shows_seen f (Ok done) told = (told.0, circuit_seen _ (Ok tt) told.1)
+  shows_seen f (Err e) told = circuit_seen _ (Err e) told
+
+  why_seen : (limit : ℕ) (old new : Option (List ℕ)) (e : CheckError)
+      → TellsWhy (Shows left left_of k base_optimize form step_optimize p used q) limit k old new e
+      → TellsWhy (Shows bytes_of bytes_of k base_optimize form step_optimize (seen left failed p)
+      (seen left failed used) (seen left_of failed_of q)) limit k old new e
+  why_seen limit old new (checks.Safe e) told = (
+    λ taken. means_on (λ f. shows_seen f (Err e)) (told.0 taken),
+    told.1,
+  )
+  why_seen limit old new e told = tt
+
+  whys_seen : (limit : ℕ) (old new : Option (List ℕ)) (r : Result (Unit {0}) CheckError)
+      → IfErr r (TellsWhy (Shows left left_of k base_optimize form step_optimize p used q) limit k
+      old new)
+      → IfErr r (TellsWhy (Shows bytes_of bytes_of k base_optimize form step_optimize
+      (seen left failed p) (seen left failed used) (seen left_of failed_of q)) limit k old new)
+  whys_seen limit old new (Ok done) told = tt
+  whys_seen limit old new (Err e) told = why_seen limit old new e told
+
+  -- of a justice property
+  pub no_run_seen : (limit j : ℕ) (f : File) (r : Result (Unit {0}) LivenessError)
+      → HasNoRun left left_of limit j k base_optimize form step_optimize p used q f r
+      → HasNoRun bytes_of bytes_of limit j k base_optimize form step_optimize (seen left failed p)
+      (seen left failed used) (seen left_of failed_of q) f r
+  no_run_seen limit j f (Ok done) told = (
+    told.0,
+    (
+      told.1.0,
+      told.1.1,
+      record {
+        said = told.1.2.said;
+        large = told.1.2.large;
+        shown = λ taken. circuit_seen _ (Ok tt) (told.1.2.shown taken);
+      },
+    ),
+  )
+  no_run_seen limit j f (Err (liveness.Live e)) told = told
+  no_run_seen limit j f (Err (liveness.Safety e)) told = (
+    told.0,
+    told.1,
+    record {
+      said = told.2.said;
+      large = told.2.large;
+      shown = λ taken. circuit_seen _ (Err e) (told.2.shown taken);
+    },
+  )
+  no_run_seen limit j f (Err e) told = told
+
+pub safe_seen : {R P Q W : Type 0} {file_left : R → Option (List ℕ)} {file_failed : R → Bool}
+    {left : P → Option (List ℕ)} {failed : P → Bool} {left_of : Q → Option (List ℕ)}
+    {failed_of : Q → Bool} {held : W → Option (List ℕ)} {write_failed : W → Bool} {k : ℕ}
+    {form : Window} {base_optimize step_optimize : Bool} {limit : ℕ} {r rest : R} {p used : P}
+    {q spent : Q} {w made : W} {result : Result (Unit {0}) CheckError}
+    → RunsSafe file_left file_failed left failed left_of failed_of held write_failed k form
+    base_optimize step_optimize limit r p q w result rest used spent made
+    → RunsSafe bytes_of has_failed bytes_of has_failed bytes_of has_failed bytes_of has_failed k
+    form base_optimize step_optimize limit (seen file_left file_failed r) (seen left failed p)
+    (seen left_of failed_of q) (seen held write_failed w) result (seen file_left file_failed rest)
+    (seen left failed used) (seen left_of failed_of spent) (seen held write_failed made)
+safe_seen {file_left = file_left} {left = left} {failed = failed} {left_of = left_of}
+    {failed_of = failed_of} {held = held} {write_failed = write_failed} {k = k} {form = form}
+    {base_optimize = base_optimize} {step_optimize = step_optimize} {limit = limit} {r = r}
+    {rest = rest} {p = p} {used = used} {q = q} {spent = spent} {w = w} {made = made}
+    {result = result} runs =
+    let shows = shows_seen left failed left_of failed_of p used q k base_optimize step_optimize
+    form in
+    record {
+      verdict = runs.verdict;
+      own = runs.own;
+      safe = λ taken. means_on (λ f. shows f (Ok tt)) (runs.safe taken);
+      ok = runs.ok;
+      stopped = runs.stopped;
+      kept = same_seen held write_failed w made (λ e. e ≢ checks.Write) result runs.kept;
+      refusal = whys_seen left failed left_of failed_of p used q k base_optimize step_optimize form
+          limit (file_left r) (file_left rest) result runs.refusal;
+      base_unread = same_seen left failed p used safes.LeavesBase result runs.base_unread;
+      step_unread = same_seen left_of failed_of q spent safes.LeavesStep result runs.step_unread;
+      base_stream = runs.base_stream;
+      step_stream = runs.step_stream;
+    }
+
+-- ---- a certificate of a miter
+
+module _ {C : Type 0} (left : C → Option (List ℕ)) (failed : C → Bool) (c tried : C) (limit : ℕ)
+    (optimize : Bool) (base step : Option (List ℕ)) where
+  certifies_seen : (f g : File) (r : Result (Unit {0}) CertificateError)
+      → CertifiesMiter left failed limit optimize base step c tried f g r
+      → CertifiesMiter bytes_of has_failed limit optimize base step (seen left failed c)
+      (seen left failed tried) f g r
+  certifies_seen f g r told = (
+    told.0,
+    told.1,
+    record { verdict = told.2.verdict; answer = told.2.answer },
+  )
+
+  by_seen : (f g : File) (r : Result (Unit {0}) MiterError)
+      → EqualsBy left failed limit optimize base step c tried f g r
+      → EqualsBy bytes_of has_failed limit optimize base step (seen left failed c)
+      (seen left failed tried) f g r
+  by_seen f g (Ok done) told = (told.0, certifies_seen f g (Ok tt) told.1)
+  by_seen f g (Err (miter.Pair e)) told = told
+  by_seen f g (Err (miter.Certificate e)) told = certifies_seen f g (Err e) told
+
+  comparing_of : {W : Type 0} (held : W → Option (List ℕ)) (write_failed : W → Bool) (w made : W)
+      (f g : File) (r : Result (Unit {0}) CheckError)
+      → TellsOfComparing left failed held write_failed optimize limit base step c tried w made f g r
+      → TellsOfComparing bytes_of has_failed bytes_of has_failed optimize limit base step
+      (seen left failed c) (seen left failed tried) (seen held write_failed w)
+      (seen held write_failed made) f g r
+  comparing_of held write_failed w made f g (Ok done) told =
+      (by_seen f g (Ok tt) told.0, told.1, told.2)
+  comparing_of held write_failed w made f g (Err checks.Write) told =
+      (by_seen f g (Ok tt) told.0, told.1)
+  comparing_of held write_failed w made f g (Err (checks.Miter e)) told = by_seen f g (Err e) told
+  comparing_of held write_failed w made f g (Err e) told = told
+
+pub comparing_seen : {R S C P Q W : Type 0} {left : R → Option (List ℕ)} {failed : R → Bool}
+    {left_of : S → Option (List ℕ)} {failed_of : S → Bool} {given : C → Option (List ℕ)}
+    {given_failed : C → Bool} {base_left : P → Option (List ℕ)} {base_failed : P → Bool}
+    {step_left : Q → Option (List ℕ)} {step_failed : Q → Bool} {held : W → Option (List ℕ)}
+    {write_failed : W → Bool} {limit : ℕ} {optimize : Bool} {r rest : R} {s other : S}
+    {c tried : C} {p used : P} {q spent : Q} {w made : W} {result : Result (Unit {0}) CheckError}
+    → RunsComparing left failed left_of failed_of given given_failed base_left base_failed
+    step_left step_failed held write_failed optimize limit r s c p q w result rest other tried
+    used spent made
+    → RunsComparing bytes_of has_failed bytes_of has_failed bytes_of has_failed bytes_of
+    has_failed bytes_of has_failed bytes_of has_failed optimize limit (seen left failed r)
+    (seen left_of failed_of s) (seen given given_failed c) (seen base_left base_failed p)
+    (seen step_left step_failed q) (seen held write_failed w) result (seen left failed rest)
+    (seen left_of failed_of other) (seen given given_failed tried)
+    (seen base_left base_failed used) (seen step_left step_failed spent)
+    (seen held write_failed made)
+comparing_seen {given = given} {given_failed = given_failed} {base_left = base_left}
+    {base_failed = base_failed} {step_left = step_left} {step_failed = step_failed} {held = held}
+    {write_failed = write_failed} {limit = limit} {optimize = optimize} {c = c} {tried = tried}
+    {p = p} {used = used} {q = q} {spent = spent} {w = w} {made = made} {result = result} runs =
+    record {
+      reads = both_seen
+          (λ f g. comparing_of given given_failed c tried limit optimize (base_left p)
+          (step_left q) held write_failed w made f g result)
+          runs.reads;
+      kept = same_seen held write_failed w made (λ e. e ≢ checks.Write) result runs.kept;
+      certificate_unread = same_seen given given_failed c tried comparing.LeavesCertificate result
+          runs.certificate_unread;
+      base_unread = same_seen base_left base_failed p used comparing.LeavesBase result
+          runs.base_unread;
+      step_unread = same_seen step_left step_failed q spent comparing.LeavesStep result
+          runs.step_unread;
+      base_stream = runs.base_stream;
+      step_stream = runs.step_stream;
+    }
