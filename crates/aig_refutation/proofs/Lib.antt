@@ -39,6 +39,8 @@ mod Plainly
 mod Groups
 mod Fronts
 mod BinarySteps
+mod NumberedSteps
+mod Shapes
 mod Widening
 mod WrittenWords
 mod WrittenLines

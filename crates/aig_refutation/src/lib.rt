@@ -2,6 +2,7 @@
 #![tactic(auto)]
 
 mod binary;
+mod binary_numbered;
 mod bound;
 mod check;
 mod checker;
