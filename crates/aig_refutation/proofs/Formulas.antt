@@ -147,6 +147,15 @@ formula_inside checker n clauses holds variables list =
 
 -- ---- what is promised
 
+-- behind the word stand the steps of a binary LRAT proof
+pub word_form : (variables : ℕ) (bytes : List ℕ) → has_word bytes ≡ true → steps_in variables bytes
+    ≡ Some (numbered_steps_in (allowed variables) (drop 4 bytes))
+word_form variables bytes word =
+    ap (λ (w : Bool). if w then Some (numbered_steps_in (allowed variables) (drop 4 bytes))
+    else if is_binary bytes then (if is_numbered bytes
+    then Some (numbered_steps_in (allowed variables) bytes) else None)
+    else script_if (allowed variables) (lines_of bytes)) word
+
 module _ (variables : ℕ) (clauses : List (List Lit)) (text : Option (List ℕ)) where
   abbrev IsShown : Result (Unit {0}) RefutationError → Type 0
   IsShown = IsOutcome variables clauses text

@@ -1,7 +1,7 @@
 -- The first bytes of a proof, which tell whether it is binary.
-use Rattle.aig_base.proofs.Words.{◌≡◌, ◌⊎◌, inl, inr, ℕ, zero, suc, ◌<◌, ◌≤◌, Bool, true, false, not, ◌&&◌, ◌||◌, codes, drop, List, [], ◌∷◌, ◌++◌, length, take, Option, Some, refl, sym, ap, ◌∙◌, append-nil, arith, take-append-le, list_any, ◌==◌, nat_lt, Consumes, IsAtEnd, prepend_known}
+use Rattle.aig_base.proofs.Words.{◌≡◌, ◌⊎◌, inl, inr, ℕ, ◌<◌, ◌≤◌, Bool, true, false, not, ◌&&◌, ◌||◌, drop, List, [], ◌∷◌, ◌++◌, length, take, Option, Some, refl, sym, ap, ◌∙◌, append-nil, arith, take-append-le, list_any, ◌==◌, nat_lt, Consumes, IsAtEnd, prepend_known}
 use borrow.Author.Tests.{ltb-true, ltb-false}
-use Rattle.std.specs.List.{pointwise}
+use Rattle.std.proofs.lemmas.List.{drop-append-le}
 use Rattle.aig_refutation.specs.Binary.{groups_in}
 use Rattle.aig_refutation.specs.Forms.{Letter, are_steps, has_word, is_binary, is_numbered, telling}
 use Rattle.aig_refutation.specs.Text.{begins}
@@ -38,18 +38,19 @@ numbered_alike held rest enough =
     ap (λ (l : List ℕ). not (are_steps false Letter (groups_in l))
     && are_steps true Letter (groups_in l)) (take-append-le 1024 held rest enough)
 
+-- four bytes tell the word
+word_front : (bytes : List ℕ) → has_word bytes ≡ has_word (take 4 bytes)
+word_front [] = refl
+word_front (a ∷ []) = refl
+word_front (a ∷ b ∷ []) = refl
+word_front (a ∷ b ∷ c ∷ []) = refl
+word_front (a ∷ b ∷ c ∷ d ∷ bytes) = refl
+
 word_alike : (held rest : List ℕ) → telling ≤ length held
     → has_word (held ++ rest) ≡ has_word held
 word_alike held rest enough =
-    ap (λ (l : List ℕ). pointwise (λ a b. a == b) (codes "lrat") l)
-    (take-append-le 4 held rest (omega (arith, enough)))
-
--- the bytes behind the first ones
-drop_front : (n : ℕ) (held rest : List ℕ) → n ≤ length held
-    → drop n (held ++ rest) ≡ drop n held ++ rest
-drop_front zero held rest few = refl
-drop_front (suc n) [] rest few = absurd (omega (arith, few))
-drop_front (suc n) (b ∷ bs) rest few = drop_front n bs rest (omega (arith, few))
+    word_front (held ++ rest)
+    ∙ ap has_word (take-append-le 4 held rest (omega (arith, enough))) ∙ sym (word_front held)
 
 module _ (left after : Option (List ℕ)) (held : List ℕ) (moved : Consumes left after held) where
   -- nothing was taken
@@ -64,7 +65,7 @@ module _ (left after : Option (List ℕ)) (held : List ℕ) (moved : Consumes le
   word_coming long bytes known =
       let c = consumed left after held bytes moved known in
       ap (prepend_known (drop 4 held)) c.1
-      ∙ ap (λ (l : List ℕ). Some l) (sym (ap (drop 4) c.2 ∙ drop_front 4 held c.0 long))
+      ∙ ap (λ (l : List ℕ). Some l) (sym (ap (drop 4) c.2 ∙ drop-append-le 4 held c.0 long))
 
   module _ (enough : length held < telling → IsAtEnd after) where
     -- the first bytes tell

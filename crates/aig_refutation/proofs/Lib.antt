@@ -47,5 +47,6 @@ mod WrittenLines
 mod WrittenProofs
 mod WrittenPlain
 mod WrittenBinary
+mod WrittenNumbered
 mod Turned
 mod Ordered

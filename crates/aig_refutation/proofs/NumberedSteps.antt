@@ -31,7 +31,7 @@ module _ (variables : ℕ) where
   after_number words r =
       after_said variables (r >>= number_by >>= λ n. Ok (Goes (Listing n []))) (say_on words)
 
-  number_word : (bytes rest word : List ℕ) (code : ℕ) → groups_in bytes ≡ word ∷ groups_in rest
+  pub number_word : (bytes rest word : List ℕ) (code : ℕ) → groups_in bytes ≡ word ∷ groups_in rest
       → code_of (parse_delta word) ≡ Ok code
       → numbered_left variables Adding bytes ≡ after_number (groups_in rest) (Ok code)
   unfolding numbered_script

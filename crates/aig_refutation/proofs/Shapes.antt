@@ -1,7 +1,8 @@
 -- The shape of binary steps, byte by byte.
-use Rattle.aig_base.proofs.Words.{◌≡◌, ℕ, ◌+◌, ◌<◌, ◌≤◌, Bool, true, false, cond, List, [], ◌∷◌, ◌++◌, Option, Some, None, refl, sym, ap, ◌∙◌, drop, nat_lt, nat_le, length, slice_index_or, drop_all, drop_more, option_map, arith}
+use Rattle.aig_base.proofs.Words.{◌≡◌, ℕ, ◌+◌, ◌<◌, ◌≤◌, Bool, true, false, cond, List, [], ◌∷◌, ◌++◌, Option, Some, None, refl, sym, ap, ◌∙◌, drop, nat_lt, nat_le, length, slice_index_or, drop_all, drop_more, option_map, arith, take, zero, suc, ◌&&◌, ◌==◌, ◌||◌, subst, ne_eqb, eq-eqb, false≢true, list_any}
 use Rattle.aig_refutation.specs.Binary.{groups_in, with_byte}
-use Rattle.aig_refutation.specs.Forms.{Last, Letter, Literals, Number, Part, are_steps, goes_on, part_after}
+use Rattle.aig_refutation.specs.Text.{begins}
+use Rattle.aig_refutation.specs.Forms.{Last, Letter, Literals, Number, Part, are_steps, goes_on, has_word, is_binary, part_after}
 
 -- the words that are left at a byte, in a word or between two
 abbrev pub left_words : Bool → List ℕ → List (List ℕ)
@@ -109,3 +110,51 @@ module _ (numbered : Bool) (bytes : List ℕ) (i : ℕ) (part : Part) (inside : 
     shape_more is next some =
         ap (λ o. goes_on o (λ next. are_steps numbered next (left_words (nat_le 128 byte)
         (drop (i + 1) bytes)))) (sym some) ∙ begun is
+
+-- ---- the first bytes of steps
+
+module _ (numbered : Bool) where
+  -- the first bytes of steps are those of steps
+  pub shape_cut : (n : ℕ) (bytes : List ℕ) (part : Part) (inside : Bool)
+      → are_steps numbered part (left_words inside bytes) ≡ true
+      → are_steps numbered part (left_words inside (take n bytes)) ≡ true
+  shape_cut zero bytes part inside is = shape_ends numbered part inside
+  shape_cut (suc n) [] part inside is = shape_ends numbered part inside
+  shape_cut (suc n) (b ∷ bytes) part true is =
+      shape_inside numbered part b (take n bytes)
+      ∙ shape_cut n bytes part (nat_le 128 b) (sym (shape_inside numbered part b bytes) ∙ is)
+  shape_cut (suc n) (b ∷ bytes) part false is =
+      shape_begins numbered part b (take n bytes)
+      ∙ by (part_after numbered part (b ∷ [])) (λ next. shape_cut n bytes next (nat_le 128 b))
+      (sym (shape_begins numbered part b bytes) ∙ is)
+    where
+      by : (o : Option Part) → ((next : Part)
+          → are_steps numbered next (left_words (nat_le 128 b) bytes) ≡ true
+          → are_steps numbered next (left_words (nat_le 128 b) (take n bytes)) ≡ true)
+          → goes_on o (λ next. are_steps numbered next (left_words (nat_le 128 b) bytes)) ≡ true
+          → goes_on o (λ next. are_steps numbered next (left_words (nat_le 128 b) (take n bytes)))
+          ≡ true
+      by None later e = absurd cc
+      by (Some next) later e = later next e
+
+-- ---- the word
+
+-- bytes that begin otherwise don't begin with the word
+pub unworded : (bytes : List ℕ) → begins 108 bytes ≡ false → has_word bytes ≡ false
+unworded [] none = refl
+unworded (b ∷ bytes) none =
+    let other : (108 == b) ≡ false =
+    ne_eqb 108 b (λ is. false≢true (sym none ∙ eq-eqb b 108 (sym is))) in
+    rw other refl
+
+-- nor do binary ones
+pub binary_unworded : (bytes : List ℕ) → is_binary bytes ≡ true → has_word bytes ≡ false
+binary_unworded [] is = refl
+binary_unworded (b ∷ bytes) is =
+    unworded (b ∷ bytes) (ne_eqb b 108 (λ same. by b same (list_any (λ c. c == 0)
+    (take 1024 (b ∷ bytes))) is))
+  where
+    by : (b : ℕ) → b ≡ 108 → (zero_there : Bool)
+        → ((b == 97) || (b == 100) && zero_there) ≡ true → ⊥
+    by b same zero_there is = let wrong = subst (λ (n : ℕ). ((n == 97) || (n == 100) && zero_there)
+        ≡ true) same is in false≢true wrong
