@@ -91,16 +91,7 @@ class Steps:
         return "".join(f"{'d ' * deletes}{' '.join(map(str, [*clause, 0]))}\n" for deletes, clause in self.steps).encode()
 
     def binary(self):
-        return b"".join((b"d" if deletes else b"a") + b"".join(map(code, clause)) + b"\0" for deletes, clause in self.steps)
-
-
-def code(literal):
-    """The bytes of a literal: groups of seven bits, the lowest first."""
-    value, made = 2 * abs(literal) + (literal < 0), []
-    while value > 127:
-        made.append(value & 127 | 128)
-        value >>= 7
-    return bytes([*made, value])
+        return b"".join((b"d" if deletes else b"a") + b"".join(map(proofs.code, clause)) + b"\0" for deletes, clause in self.steps)
 
 
 def without_hints(formula, lines):

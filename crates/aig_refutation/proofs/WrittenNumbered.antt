@@ -102,7 +102,7 @@ all_hints_are [] groups are also = also
 all_hints_are (n ∷ hints) groups are also = (are.0, all_hints_are hints groups are.1 also)
 
 all_hints_bytes : (hints : List ℕ) (groups : List (Bool × ℕ)) (rest : List ℕ)
-    → flat_map number_bytes hints ++ flat_map hint_bytes groups ++ rest
+    → flat_map number_bytes hints ++ (flat_map hint_bytes groups ++ rest)
     ≡ flat_map hint_bytes (all_hints hints groups) ++ rest
 all_hints_bytes [] groups rest = refl
 all_hints_bytes (n ∷ hints) groups rest =
@@ -110,6 +110,16 @@ all_hints_bytes (n ∷ hints) groups rest =
     append_assoc (number_bytes n) (flat_map number_bytes hints) later
     ∙ ap (λ bytes. number_bytes n ++ bytes) (all_hints_bytes hints groups rest)
     ∙ sym (append_assoc (number_bytes n) (flat_map hint_bytes (all_hints hints groups)) rest)
+
+-- the lists of a step, one after another
+regrouped : (number clause hints groups rest : List ℕ)
+    → ((number ++ clause) ++ (0 ∷ ((hints ++ groups) ++ (0 ∷ [])))) ++ rest
+    ≡ number ++ (clause ++ (0 ∷ (hints ++ (groups ++ (0 ∷ rest)))))
+regrouped number clause hints groups rest =
+    append_assoc (number ++ clause) (0 ∷ ((hints ++ groups) ++ (0 ∷ []))) rest
+    ∙ append_assoc number clause (0 ∷ (((hints ++ groups) ++ (0 ∷ [])) ++ rest))
+    ∙ ap (λ bytes. number ++ (clause ++ (0 ∷ bytes)))
+    (append_assoc (hints ++ groups) (0 ∷ []) rest ∙ append_assoc hints groups (0 ∷ rest))
 
 hint_one : (n : Bool × ℕ) → IsHint n → IsOne hint_bytes n
 hint_one n is = (code n, (delta_written (code n) (code_small n.0 n.1 is.1)).groups)
@@ -207,7 +217,9 @@ module _ (variables : ℕ) where
       let later = 0 ∷ rest in
       let regroup : numbered_bytes (Adds number clause hints groups) ++ rest
       ≡ 97 ∷ (delta_of number ++ (flat_map literal_bytes clause ++ (0 ∷ (flat_map number_bytes hints
-      ++ (flat_map hint_bytes groups ++ later))))) = simp append_assoc in
+      ++ (flat_map hint_bytes groups ++ later))))) = ap (λ bytes. 97 ∷ bytes)
+      (regrouped (delta_of number) (flat_map literal_bytes clause) (flat_map number_bytes hints)
+      (flat_map hint_bytes groups) rest) in
       let behind = flat_map hint_bytes numbers ++ later in
       let are = all_hints_are hints groups (hints_of hints is.2 small.1)
       (groups_of groups is.3.0 small.2) in

@@ -1,7 +1,7 @@
 -- Part of what laws say, and of no promise of a call.
 -- The texts of proofs, as solvers write them. (LRAT: Cruz-Filipe, Heule, Hunt, Kaufmann and
 -- Schneider-Kamp, 2017. DRAT: Wetzler, Heule and Hunt, 2014.)
-use Rattle.std.specs.Prelude.{◌≡◌, ℕ, ◌+◌, ◌*◌, ◌^◌, ◌<◌, Bool, true, false, if◌then◌else◌, List, [], ◌∷◌, ◌++◌, Ok, All, codes, decimal}
+use Rattle.std.specs.Prelude.{◌≡◌, ℕ, ◌+◌, ◌-◌, ◌*◌, ◌^◌, ◌<◌, Bool, true, false, if◌then◌else◌, List, [], ◌∷◌, ◌++◌, Ok, All, codes, decimal}
 use Rattle.std.specs.List.{flat_map}
 use Rattle.aig_base.specs.declared.logic.literal.Lit.{Lit}
 use Rattle.aig_base.specs.Clauses.{is_positive, variable_of}
@@ -146,8 +146,8 @@ number_bytes n = hint_bytes (true, n)
 -- clauses and a 0; or the clauses' numbers and a 0
 abbrev pub numbered_bytes : Step → List ℕ
 numbered_bytes (Adds number clause hints groups) =
-    97 ∷ delta_of number ++ flat_map literal_bytes clause ++ 0 ∷ flat_map number_bytes hints
-    ++ flat_map hint_bytes groups ++ 0 ∷ []
+    97 ∷ delta_of number ++ flat_map literal_bytes clause ++ (0 ∷ flat_map number_bytes hints
+    ++ flat_map hint_bytes groups ++ (0 ∷ []))
 numbered_bytes (Deletes numbers) = 100 ∷ flat_map number_bytes numbers ++ 0 ∷ []
 
 -- the bytes of steps
