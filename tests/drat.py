@@ -88,7 +88,6 @@ class Steps:
         return live.is_in_conflict([]), counts
 
 
-
 def without_hints(formula, lines):
     """The steps of an LRAT file's lines, without numbers and hints."""
     clauses, steps = dict(enumerate(formula.clauses, 1)), []

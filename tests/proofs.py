@@ -2,14 +2,16 @@
 """Compares which proofs are taken with a checker of its own: proofs.py [PROOFS [SEED]]
 
 Makes PROOFS (1000) proofs of cadical, by settings of all kinds, for steps of random machines at which no bad state is reached: as text, in
-its binary form, and with hints, which a search by unit propagation here finds (LRAT). `aigcheck refuted` takes each. Each is mangled,
-too, and aigcheck takes what comes of it exactly where the checker here does: a plain one of reverse unit propagation, which knows nothing
-of the library.
+its binary form, and with hints, which a search by unit propagation here finds (LRAT), as text and in the binary form that cadical has for
+them from 1.7.4 on, which is written here, behind the word `lrat` and without. `aigcheck refuted` takes each, those without the word
+where their first bytes tell. Each is mangled, too, and aigcheck takes what comes of it exactly where the checker here does: a plain one of
+reverse unit propagation, which knows nothing of the library.
 
 It ends with the first that differs, and else prints one line. It is no part of tests/run."""
 import collections
 import concurrent.futures
 import itertools
+import re
 from pathlib import Path
 
 import harness
@@ -23,6 +25,8 @@ MANGLED = 2
 PIECES = [b"\0", b"\1", b"a", b"d", b"\x80"]
 # How many variables that the clauses don't have the first step may name; each later one may name one more.
 NEW = 1 << 16
+# What stands before a binary LRAT proof whose first bytes may not tell, how many bytes those are, and how such a file is cut into words.
+WORD, FRONT, CUT = b"lrat", 1024, re.compile(rb"[\x80-\xff]*[\x00-\x7f]|[\x80-\xff]+")
 SETTINGS = [[], ["--plain"], ["--unsat"], ["--sat"], ["--no-elim"], ["--no-probe"], ["--decompose=0"], ["--reduceint=10"], ["--seed=7"]]
 
 
@@ -155,6 +159,38 @@ def binary_steps_of(formula, data):
         yield letter == ord("d"), clause
 
 
+def signed(codes):
+    """The numbers that a list's codes say: half of each, and negative where one is odd."""
+    needs(1 not in codes)
+    return [str(-(code // 2) if code % 2 else code // 2) for code in codes]
+
+
+def binary_lines_of(data):
+    """The lines of an LRAT file that say what a binary one does: `a`, a clause's number, its literals and 0, its hints and 0; or `d`, the
+    clauses' numbers and 0. All but the first number are doubled, and one more stands for a minus."""
+    data = iter(data)
+    listed = lambda: signed(list(iter(lambda: binary_number(data), 0)))
+    for letter in data:
+        needs(letter in b"ad")
+        if letter == ord("d"):
+            yield ["1", "d", *listed(), "0"]
+        else:
+            number = str(binary_number(data))
+            yield [number, *listed(), "0", *listed(), "0"]
+
+
+def is_shaped(data, numbered):
+    """Whether the first bytes can be steps: a letter and a list up to the byte 0; with numbers, one and a further list behind `a`."""
+    words = iter(CUT.findall(data[:FRONT]))
+    for letter in words:
+        longer = numbered and letter == b"a"
+        if letter not in [b"a", b"d"] or (longer and next(words, None) == b"\0"):
+            return False
+        for _ in range(2 if longer else 1):
+            next((word for word in words if word == b"\0"), None)
+    return True
+
+
 def has_rat(clauses, clause):
     """Whether what follows of a clause and each other one that has the inverse of its first literal follows (RAT). What was fixed is a
     clause of one literal, with which that doesn't follow."""
@@ -230,7 +266,7 @@ def check_numbered(formula, lines):
         hints, rest = numbers_of(hints)
         number = int(line[0])
         needs(not rest and number > 0 and formula.may_name(clause, steps) and number not in used)
-        needs(clauses.all.keys() >= set(map(abs, hints)))
+        needs(clauses.all.keys() >= set(map(abs, hints)) and number < 4 * len(used) + 65540)
         hints, groups = parted(hints)
         needs(follows(clauses, clause, hints) or is_rat(clauses, clause, hints, groups))
         if not clause:
@@ -250,9 +286,15 @@ def check_text(formula, lines):
 
 
 def check(formula, data):
-    """Takes the bytes of a proof, or refuses them: they are binary where they begin with `a`, or with `d` and soon have a 0."""
-    if data[:1] == b"a" or (data[:1] == b"d" and 0 in data[:1024]):
-        check_unnumbered(formula, binary_steps_of(formula, data))
+    """Takes the bytes of a proof, or refuses them: they are binary where they begin with `a`, or with `d` and soon have a 0. Such steps have
+    numbers behind the word for them, or where the first bytes can't be steps without, and can be steps with them."""
+    if data.startswith(WORD):
+        check_numbered(formula, binary_lines_of(data[len(WORD) :]))
+    elif data[:1] == b"a" or (data[:1] == b"d" and 0 in data[:FRONT]):
+        if is_shaped(data, True) and not is_shaped(data, False):
+            check_numbered(formula, binary_lines_of(data))
+        else:
+            check_unnumbered(formula, binary_steps_of(formula, data))
     else:
         check_text(formula, [line.split() for line in data.decode("latin-1").split("\n") if line.strip()])
 
@@ -265,6 +307,26 @@ def is_taken(formula, data):
         return True
     except Refusal:
         return False
+
+
+def grouped(number):
+    """The bytes of a number: groups of seven bits, the lowest first."""
+    made = []
+    while number > 127:
+        made.append(number & 127 | 128)
+        number >>= 7
+    return bytes([*made, number])
+
+
+def code(number):
+    """The bytes of a literal, of a hint, and of the 0 after them: twice the number, and one more for a minus."""
+    return grouped(2 * abs(number) + (number < 0))
+
+
+def binary_of(lines):
+    """The bytes of a binary LRAT file that say what the lines of one do."""
+    rest = lambda words: b"".join(code(int(word)) for word in words)
+    return b"".join(b"d" + rest(line[2:]) if line[1:2] == ["d"] else b"a" + grouped(int(line[0])) + rest(line[1:]) for line in lines)
 
 
 def numbered(formula, lines):
@@ -337,6 +399,12 @@ class Trial(Files):
     def compare_lines(self, kind, lines):
         self.compare(kind, text_of(lines).encode(), lambda: text_of(mangled(self.rng, lines, self.rng.randint(1, 3))).encode())
 
+    def compare_binary(self, data):
+        """Compares a binary proof with numbers, behind the word for it and without, and what is mangled of both."""
+        self.compare("binary hints", WORD + data, lambda: WORD + damaged_bytes(self.rng, data, PIECES))
+        self.compare_mangled("binary hints without the word,", data)
+        self.compare_mangled("binary hints without the word,", damaged_bytes(self.rng, data, PIECES))
+
     def run(self):
         """Compares all proofs of this machine."""
         lines = [line.split() for line in self.text.decode().splitlines()]
@@ -344,7 +412,9 @@ class Trial(Files):
         if self.formula.is_in_conflict():
             self.counts["in conflict at once"] += 1
             return self
-        self.compare_lines("hints", numbered(self.formula, lines))
+        hints = numbered(self.formula, lines)
+        self.compare_lines("hints", hints)
+        self.compare_binary(binary_of(hints))
         binary = self.proof("--binary")
         self.compare("binary", binary, lambda: damaged_bytes(self.rng, binary, PIECES))
         return self
@@ -354,7 +424,7 @@ def main():
     proofs, seed = numbers(1000, 1)
     counts, count = collections.Counter(), 0
     with harness.new_folder() as folder, concurrent.futures.ProcessPoolExecutor() as pool:
-        while sum(counts[kind] for kind in ["cadical", "hints", "binary"]) < proofs:
+        while sum(counts[kind] for kind in ["cadical", "hints", "binary", "binary hints"]) < proofs:
             counts += counted(pool, Trial, [(f"{seed} {i}", folder / str(i)) for i in range(count, count + 50)])
             count += 50
     print(f"seed {seed}: {count} steps agree ({told(counts)})")

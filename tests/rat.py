@@ -4,10 +4,10 @@
 Writes PROOFS (500) LRAT proofs for random clauses that have no solution, with steps by resolution asymmetry: clauses are deleted and
 added again, blocked ones are added, spare variables and new ones get definitions, and what cadical proves of all these clauses stands
 behind. Pigeonholes of 3 to 12 holes are refuted by extended resolution (Cook, 1976), whose variables are new. `aigcheck refuted` takes
-each. Each is mangled four times, too: hints for a clause are left out, or one of them, or some come behind its number once more, another
+each, as text and in the binary form, behind the word for it and without where the first bytes tell. Each is mangled four times, too: hints for a clause are left out, or one of them, or some come behind its number once more, another
 literal comes first, a clause that they are for is deleted before, a number is skipped, a new variable goes up to the last number that may
-be named, or past it. aigcheck takes what comes of it exactly where the checker of proofs.py does, which was written from the form's
-description and knows nothing of the library.
+be named, or past it; and bytes of the binary form are changed. aigcheck takes what comes of it exactly where the checker of proofs.py does,
+which was written from the forms' descriptions and knows nothing of the library.
 
 It ends with the first that differs, and else prints one line. It is no part of tests/run."""
 import concurrent.futures
@@ -20,8 +20,8 @@ from pathlib import Path
 import harness
 from harness import CHECK, numbers, output
 from machines import machine_of_clauses, random_clauses
-from mangling import mangled, text_of
-from proofs import NEW, Clauses, Formula, is_taken, numbered
+from mangling import damaged_bytes, mangled, text_of
+from proofs import NEW, PIECES, WORD, Clauses, Formula, binary_of, is_taken, numbered
 from trials import Files, counted, told
 
 # How often a proof is mangled.
@@ -158,23 +158,33 @@ class Question(Files):
         path = self.proof(f"p cnf {formula.variables} {len(rows)}\n{text_of(rows)}", "proof.drat")
         return path and [line.split() for line in Path(path).read_text().splitlines()]
 
-    def is_taken(self, lines):
-        return self.takes("no bad state at step 0", "refuted", self.file, "0", self.put("proof", text_of(lines)))
+    def is_taken(self, data):
+        return self.takes("no bad state at step 0", "refuted", self.file, "0", self.put("proof", data))
 
     def compare(self, rng, kind, lines):
         """Compares a proof, and what is mangled of it, with the checker."""
         self.counts[kind] += 1
-        if not is_taken(self.formula, text_of(lines).encode()) or not self.is_taken(lines):
-            self.fail(f"a proof is refused:\n{text_of(lines)}")
+        data = binary_of(lines)
+        for proof in [text_of(lines).encode(), WORD + data]:
+            if not is_taken(self.formula, proof) or not self.is_taken(proof):
+                self.fail(f"a proof is refused:\n{proof}")
+        self.compare_bytes("without the word", data)
         turned = [spoilt, spoilt, functools.partial(mangled, count=1), functools.partial(renumbered, self.formula.variables)]
         for _ in range(MANGLED):
-            self.compare_mangled(rng.choice(turned)(rng=rng, lines=lines))
+            self.compare_mangled(rng, rng.choice(turned)(rng=rng, lines=lines))
+        self.compare_bytes("mangled bytes", rng.choice([WORD, b""]) + damaged_bytes(rng, data, PIECES))
 
-    def compare_mangled(self, lines):
-        taken = is_taken(self.formula, text_of(lines).encode())
-        self.counts[f"mangled, {'taken' if taken else 'refused'}"] += 1
-        if self.is_taken(lines) != taken:
-            self.fail(f"a mangled proof is {'refused' if taken else 'taken'}:\n{text_of(lines)}")
+    def compare_mangled(self, rng, lines):
+        """Compares mangled lines as text, and in the binary form where it has a place for each word."""
+        self.compare_bytes("mangled", text_of(lines).encode())
+        if all(len(line) > 1 and "d" not in [line[0], *line[2:]] for line in lines):
+            self.compare_bytes("mangled, binary", rng.choice([WORD, b""]) + binary_of(lines))
+
+    def compare_bytes(self, kind, proof):
+        taken = is_taken(self.formula, proof)
+        self.counts[f"{kind}, {'taken' if taken else 'refused'}"] += 1
+        if self.is_taken(proof) != taken:
+            self.fail(f"a mangled proof is {'refused' if taken else 'taken'}:\n{proof}")
 
 
 class Trial(Question):

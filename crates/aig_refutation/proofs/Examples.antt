@@ -10,7 +10,7 @@ use Rattle.aig_refutation.specs.Checking.{IsInConflict, IsPlainOutcome, Shows}
 use Rattle.aig_format.specs.Parse.{parse_groups}
 use Rattle.aig_format.specs.Written.{delta_of}
 use Rattle.aig_refutation.specs.Binary.{binary_script, binary_steps_in, groups_in}
-use Rattle.aig_refutation.specs.Forms.{is_binary, plain_steps_in, steps_in}
+use Rattle.aig_refutation.specs.Forms.{are_steps, is_binary, plain_steps_in, steps_in}
 use Rattle.aig_refutation.specs.Proofs.{Script, after_clause, after_first, after_number, after_word, clause_from, clause_in, ended, line_in, numbers_from, numbers_in, plain_of, script_if, script_of}
 use Rattle.aig_refutation.specs.Propagation.{is_rup}
 use Rattle.aig_refutation.specs.Steps.{Adds, Deletes, Drops, Learns, PlainStep, Refute, Step, is_refutation, without_one}
@@ -126,6 +126,7 @@ unfolding groups_in binary_script parse_groups
 binary_steps = refl
 
 no_lrat : steps_in 2 binary_of_four ≡ None
+unfolding groups_in are_steps
 no_lrat = refl
 
 -- `d -63 -8193 0` and `129 -8191 0`, as drat-trim's description writes them

@@ -1,5 +1,5 @@
 -- The clauses of a formula, as they are taken and compared with a proof's text.
-use Rattle.std.proofs.Common.{◌≡◌, ℕ, zero, suc, ◌<◌, ◌≤◌, Bool, true, false, cond, ◌&&◌, inl, Option, Some, None, Result, Ok, Err, List, [], ◌∷◌, ◌++◌, length, slice_get, get_or, refl, sym, ap, subst, ◌∙◌, arith}
+use Rattle.std.proofs.Common.{◌≡◌, ℕ, zero, suc, ◌<◌, ◌≤◌, Bool, true, false, cond, if◌then◌else◌, drop, ◌&&◌, inl, Option, Some, None, Result, Ok, Err, List, [], ◌∷◌, ◌++◌, length, slice_get, get_or, refl, sym, ap, subst, ◌∙◌, arith}
 use Rattle.std.specs.List.{Contains}
 use Rattle.aig_base.proofs.Words.{Contains-get_or, get_or_from_slice_get, slice_get_within, IfSome, option_map, false≢true, list_all-append}
 use Rattle.aig_base.specs.declared.logic.literal.Lit.{Lit}
@@ -8,9 +8,10 @@ use Rattle.aig_base.specs.Formula.{clauses_in}
 use Rattle.aig_refutation.specs.declared.error.RefutationError.{RefutationError}
 use Rattle.aig_refutation.specs.declared.error.RefutationError.TheVariants as errors
 use Rattle.aig_refutation.specs.Checking.{IsInConflict, IsOutcome, IsPlainOutcome, IsRefusal, Shows, shown_by, all_live, are_all_in, are_in}
-use Rattle.aig_refutation.specs.Concluding.{ConcludesPlain, IsFormula, RefusesFormula, ShowsPlain, ShowsText, shown_of, text_outcome}
+use Rattle.aig_refutation.specs.Concluding.{Concludes, ConcludesPlain, IsFormula, RefusesFormula, ShowsPlain, ShowsText, shown_of, text_outcome}
 use Rattle.aig_refutation.specs.Binary.{binary_steps_in}
-use Rattle.aig_refutation.specs.Forms.{is_binary, plain_steps_in}
+use Rattle.aig_refutation.specs.BinaryNumbered.{numbered_steps_in}
+use Rattle.aig_refutation.specs.Forms.{has_word, is_binary, is_numbered, plain_steps_in, steps_in}
 use Rattle.aig_refutation.specs.Proofs.{Script, allowed, plain_of, script_if}
 use Rattle.aig_refutation.specs.Steps.{PlainStep}
 use Rattle.aig_refutation.specs.Tables.{Checked, HoldsFormula}
@@ -146,6 +147,15 @@ formula_inside checker n clauses holds variables list =
 
 -- ---- what is promised
 
+-- behind the word stand the steps of a binary LRAT proof
+pub word_form : (variables : ℕ) (bytes : List ℕ) → has_word bytes ≡ true → steps_in variables bytes
+    ≡ Some (numbered_steps_in (allowed variables) (drop 4 bytes))
+word_form variables bytes word =
+    ap (λ (w : Bool). if w then Some (numbered_steps_in (allowed variables) (drop 4 bytes))
+    else if is_binary bytes then (if is_numbered bytes
+    then Some (numbered_steps_in (allowed variables) bytes) else None)
+    else script_if (allowed variables) (lines_of bytes)) word
+
 module _ (variables : ℕ) (clauses : List (List Lit)) (text : Option (List ℕ)) where
   abbrev IsShown : Result (Unit {0}) RefutationError → Type 0
   IsShown = IsOutcome variables clauses text
@@ -202,83 +212,146 @@ module _ (variables : ℕ) (clauses : List (List Lit)) (text : Option (List ℕ)
   turned None r h = tt
   turned (Some x) r h = sym h
 
-  -- the steps of the proof were checked
-  module _ (inside : are_all_in variables clauses ≡ true) (none : IsInConflict clauses → ⊥)
-      (f : Feed) (there : (bytes : List ℕ) → text ≡ Some bytes → f.coming ≡ Some bytes) where
+  -- what the proof showed is the outcome
+  module _ (inside : are_all_in variables clauses ≡ true) (none : IsInConflict clauses → ⊥) where
     unmapped : {A B : Type 0} (g : A → B) (o : Option A) → option_map g o ≡ None → o ≡ None
     unmapped g None e = refl
     unmapped g (Some x) e = absurd cc
 
-    -- they are those of a text
-    module _ (form : (bytes : List ℕ) → text ≡ Some bytes → is_binary bytes ≡ false) where
-      abbrev Plainly : Result (Unit {0}) RefutationError → Type 0
-      Plainly r = Says f (λ bytes. script_if (allowed variables) (lines_of bytes) ≡ None
-          → IsPlainOutcome clauses (plain_of (allowed variables) (lines_of bytes)) r)
+    is_outcome : (r : Result (Unit {0}) RefutationError)
+        → ((bytes : List ℕ) → text ≡ Some bytes
+        → IfSome (shown_by variables clauses bytes) (λ x. r ≡ x))
+        → ((bytes : List ℕ) → text ≡ Some bytes → shown_by variables clauses bytes ≡ None
+        → IsPlainOutcome clauses (plain_steps_in variables bytes) r) → IsShown r
+    is_outcome r steps propagation = record {
+      no_variable = λ out. absurd (false≢true (sym out ∙ inside));
+      in_conflict = λ _ conflict. absurd (none conflict);
+      by_steps = λ _ _. known _ steps;
+      by_propagation = λ _ _. known _ propagation;
+    }
 
-      shown_as : (bytes : List ℕ) → text ≡ Some bytes
-          → shown_by variables clauses bytes ≡ text_outcome (allowed variables) (all_live clauses) bytes
-      shown_as bytes is = ap (λ (b : Bool). option_map (shown_of (all_live clauses))
-          (cond b None (script_if (allowed variables) (lines_of bytes)))) (form bytes is)
+    -- its steps have numbers, and are read of these bytes
+    module _ (f : Feed) (view : List ℕ → List ℕ)
+        (there : (bytes : List ℕ) → text ≡ Some bytes → f.coming ≡ Some (view bytes))
+        (form : (bytes : List ℕ) → text ≡ Some bytes → steps_in variables bytes
+        ≡ Some (numbered_steps_in (allowed variables) (view bytes))) where
+      abbrev Shown : List ℕ → Result (Unit {0}) RefutationError
+      Shown bytes = shown_of (all_live clauses) (numbered_steps_in (allowed variables) bytes)
 
-      plain_as : (bytes : List ℕ) → text ≡ Some bytes
-          → plain_steps_in variables bytes ≡ plain_of (allowed variables) (lines_of bytes)
-      plain_as bytes is = ap (λ (b : Bool). cond b (binary_steps_in (allowed variables) bytes)
-          (plain_of (allowed variables) (lines_of bytes))) (form bytes is)
+      numbered_as : (bytes : List ℕ) → text ≡ Some bytes
+          → shown_by variables clauses bytes ≡ Some (Shown (view bytes))
+      numbered_as bytes is = ap (option_map (shown_of (all_live clauses))) (form bytes is)
 
-      is_shown : (r : Result (Unit {0}) RefutationError)
-          → Says f (λ bytes. IfSome (text_outcome (allowed variables) (all_live clauses) bytes) (λ x. x ≡ r))
-          → Plainly r → IsShown r
-      is_shown r says plain = record {
-        no_variable = λ out. absurd (false≢true (sym out ∙ inside));
-        in_conflict = λ _ conflict. absurd (none conflict);
-        by_steps = λ _ _. known _ (λ bytes is.
+      is_numbered_so : (r : Result (Unit {0}) RefutationError) → Says f (λ bytes. Shown bytes ≡ r)
+          → IsShown r
+      is_numbered_so r says =
+          is_outcome r (λ bytes is.
+          subst (λ (o : Option (Result (Unit {0}) RefutationError)). IfSome o (λ x. r ≡ x))
+          (sym (numbered_as bytes is)) (sym (says (view bytes) (there bytes is))))
+          (λ bytes is unnumbered.
+          let wrong = sym (numbered_as bytes is) ∙ unnumbered in absurd cc)
+
+      pub shows_numbered : (r : Result (Unit {0}) RefutationError) → Concludes f Shown r
+          → Shows variables clauses text r
+      shows_numbered (Ok done) h = is_numbered_so (Ok tt) h
+      shows_numbered (Err e) h =
+          shows_err e (tells_on e (Says f (λ bytes. Shown bytes ≡ Err e)) (IsShown (Err e))
+          (is_numbered_so (Err e)) h)
+
+    module _ (f : Feed)
+        (there : (bytes : List ℕ) → text ≡ Some bytes → f.coming ≡ Some bytes)
+        (no_word : (bytes : List ℕ) → text ≡ Some bytes → has_word bytes ≡ false) where
+      without_word : (bytes : List ℕ) → text ≡ Some bytes → (b : Bool) → is_binary bytes ≡ b
+          → steps_in variables bytes ≡ (if b then (if is_numbered bytes
+          then Some (numbered_steps_in (allowed variables) bytes) else None)
+          else script_if (allowed variables) (lines_of bytes))
+      without_word bytes is b binary =
+          ap (λ (w : Bool). if w then Some (numbered_steps_in (allowed variables) (drop 4 bytes))
+          else if is_binary bytes then (if is_numbered bytes
+          then Some (numbered_steps_in (allowed variables) bytes) else None)
+          else script_if (allowed variables) (lines_of bytes)) (no_word bytes is)
+          ∙ ap (λ (c : Bool). if c then (if is_numbered bytes
+          then Some (numbered_steps_in (allowed variables) bytes) else None)
+          else script_if (allowed variables) (lines_of bytes)) binary
+
+      -- they are those of a text
+      module _ (form : (bytes : List ℕ) → text ≡ Some bytes → is_binary bytes ≡ false) where
+        abbrev Plainly : Result (Unit {0}) RefutationError → Type 0
+        Plainly r = Says f (λ bytes. script_if (allowed variables) (lines_of bytes) ≡ None
+            → IsPlainOutcome clauses (plain_of (allowed variables) (lines_of bytes)) r)
+
+        shown_as : (bytes : List ℕ) → text ≡ Some bytes
+            → shown_by variables clauses bytes ≡ text_outcome (allowed variables) (all_live clauses) bytes
+        shown_as bytes is = ap (option_map (shown_of (all_live clauses)))
+            (without_word bytes is false (form bytes is))
+
+        plain_as : (bytes : List ℕ) → text ≡ Some bytes
+            → plain_steps_in variables bytes ≡ plain_of (allowed variables) (lines_of bytes)
+        plain_as bytes is = ap (λ (b : Bool). cond b (binary_steps_in (allowed variables) bytes)
+            (plain_of (allowed variables) (lines_of bytes))) (form bytes is)
+
+        is_shown : (r : Result (Unit {0}) RefutationError)
+            → Says f (λ bytes. IfSome (text_outcome (allowed variables) (all_live clauses) bytes) (λ x. x ≡ r))
+            → Plainly r → IsShown r
+        is_shown r says plain =
+            is_outcome r (λ bytes is.
             subst (λ (o : Option (Result (Unit {0}) RefutationError)). IfSome o (λ x. r ≡ x))
             (sym (shown_as bytes is))
             (turned (text_outcome (allowed variables) (all_live clauses) bytes) r
-            (says bytes (there bytes is))));
-        by_propagation = λ _ _. known _ (λ bytes is unnumbered.
+            (says bytes (there bytes is))))
+            (λ bytes is unnumbered.
             subst (λ (script : Script PlainStep). IsPlainOutcome clauses script r)
             (sym (plain_as bytes is))
             (plain bytes (there bytes is) (unmapped _ (script_if (allowed variables) (lines_of bytes))
-            (sym (shown_as bytes is) ∙ unnumbered))));
-      }
+            (sym (shown_as bytes is) ∙ unnumbered))))
 
-      pub shows_text : (r : Result (Unit {0}) RefutationError)
-          → ShowsText f (text_outcome (allowed variables) (all_live clauses)) r
-          → ShowsPlain f (allowed variables) clauses r → Shows variables clauses text r
-      shows_text (Ok done) h plain = is_shown (Ok tt) h (λ bytes known none. tt)
-      shows_text (Err e) h plain =
-          shows_err e (tells_on e _ (IsShown (Err e)) (λ both. is_shown (Err e) both.0 both.1)
-          (tells_both e (Says f (λ bytes. IfSome (text_outcome (allowed variables) (all_live clauses) bytes)
-          (λ x. x ≡ Err e))) (Plainly (Err e)) h plain))
+        pub shows_text : (r : Result (Unit {0}) RefutationError)
+            → ShowsText f (text_outcome (allowed variables) (all_live clauses)) r
+            → ShowsPlain f (allowed variables) clauses r → Shows variables clauses text r
+        shows_text (Ok done) h plain = is_shown (Ok tt) h (λ bytes known none. tt)
+        shows_text (Err e) h plain =
+            shows_err e (tells_on e _ (IsShown (Err e)) (λ both. is_shown (Err e) both.0 both.1)
+            (tells_both e (Says f (λ bytes. IfSome (text_outcome (allowed variables) (all_live clauses) bytes)
+            (λ x. x ≡ Err e))) (Plainly (Err e)) h plain))
 
-    -- they are those of a binary proof
-    module _ (form : (bytes : List ℕ) → text ≡ Some bytes → is_binary bytes ≡ true) where
-      unnumbered : (bytes : List ℕ) → text ≡ Some bytes → shown_by variables clauses bytes ≡ None
-      unnumbered bytes is = ap (λ (b : Bool). option_map (shown_of (all_live clauses))
-          (cond b None (script_if (allowed variables) (lines_of bytes)))) (form bytes is)
+      -- they are those of a binary proof
+      module _ (form : (bytes : List ℕ) → text ≡ Some bytes → is_binary bytes ≡ true) where
+        binary_as : (bytes : List ℕ) → text ≡ Some bytes
+            → plain_steps_in variables bytes ≡ binary_steps_in (allowed variables) bytes
+        binary_as bytes is = ap (λ (b : Bool). cond b (binary_steps_in (allowed variables) bytes)
+            (plain_of (allowed variables) (lines_of bytes))) (form bytes is)
 
-      binary_as : (bytes : List ℕ) → text ≡ Some bytes
-          → plain_steps_in variables bytes ≡ binary_steps_in (allowed variables) bytes
-      binary_as bytes is = ap (λ (b : Bool). cond b (binary_steps_in (allowed variables) bytes)
-          (plain_of (allowed variables) (lines_of bytes))) (form bytes is)
+        -- and have numbers
+        pub numbered_form : ((bytes : List ℕ) → text ≡ Some bytes → is_numbered bytes ≡ true)
+            → (bytes : List ℕ) → text ≡ Some bytes
+            → steps_in variables bytes ≡ Some (numbered_steps_in (allowed variables) bytes)
+        numbered_form numbered bytes is =
+            without_word bytes is true (form bytes is)
+            ∙ ap (λ (n : Bool). if n then Some (numbered_steps_in (allowed variables) bytes)
+            else None) (numbered bytes is)
 
-      is_plain : (r : Result (Unit {0}) RefutationError)
-          → Says f (λ bytes. IsPlainOutcome clauses (binary_steps_in (allowed variables) bytes) r) → IsShown r
-      is_plain r says = record {
-        no_variable = λ out. absurd (false≢true (sym out ∙ inside));
-        in_conflict = λ _ conflict. absurd (none conflict);
-        by_steps = λ _ _. known _ (λ bytes is.
-            subst (λ (o : Option (Result (Unit {0}) RefutationError)). IfSome o (λ x. r ≡ x))
-            (sym (unnumbered bytes is)) tt);
-        by_propagation = λ _ _. known _ (λ bytes is _.
-            subst (λ (script : Script PlainStep). IsPlainOutcome clauses script r)
-            (sym (binary_as bytes is)) (says bytes (there bytes is)));
-      }
+        -- or have none
+        module _ (plain : (bytes : List ℕ) → text ≡ Some bytes → is_numbered bytes ≡ false) where
+          unnumbered : (bytes : List ℕ) → text ≡ Some bytes
+              → shown_by variables clauses bytes ≡ None
+          unnumbered bytes is = ap (option_map (shown_of (all_live clauses)))
+              (without_word bytes is true (form bytes is)
+              ∙ ap (λ (n : Bool). if n then Some (numbered_steps_in (allowed variables) bytes)
+              else None) (plain bytes is))
 
-      pub shows_binary : (r : Result (Unit {0}) RefutationError)
-          → ConcludesPlain f clauses (binary_steps_in (allowed variables)) r → Shows variables clauses text r
-      shows_binary (Ok done) h = is_plain (Ok tt) (λ bytes is. tt)
-      shows_binary (Err e) h =
-          shows_err e (tells_on e (Says f (λ bytes. IsRefusal clauses
-          (binary_steps_in (allowed variables) bytes) e)) (IsShown (Err e)) (is_plain (Err e)) h)
+          is_plain : (r : Result (Unit {0}) RefutationError)
+              → Says f (λ bytes. IsPlainOutcome clauses (binary_steps_in (allowed variables) bytes) r) → IsShown r
+          is_plain r says =
+              is_outcome r (λ bytes is.
+              subst (λ (o : Option (Result (Unit {0}) RefutationError)). IfSome o (λ x. r ≡ x))
+              (sym (unnumbered bytes is)) tt)
+              (λ bytes is _.
+              subst (λ (script : Script PlainStep). IsPlainOutcome clauses script r)
+              (sym (binary_as bytes is)) (says bytes (there bytes is)))
+
+          pub shows_binary : (r : Result (Unit {0}) RefutationError)
+              → ConcludesPlain f clauses (binary_steps_in (allowed variables)) r → Shows variables clauses text r
+          shows_binary (Ok done) h = is_plain (Ok tt) (λ bytes is. tt)
+          shows_binary (Err e) h =
+              shows_err e (tells_on e (Says f (λ bytes. IsRefusal clauses
+              (binary_steps_in (allowed variables) bytes) e)) (IsShown (Err e)) (is_plain (Err e)) h)

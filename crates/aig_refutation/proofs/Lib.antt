@@ -39,11 +39,14 @@ mod Plainly
 mod Groups
 mod Fronts
 mod BinarySteps
+mod NumberedSteps
+mod Shapes
 mod Widening
 mod WrittenWords
 mod WrittenLines
 mod WrittenProofs
 mod WrittenPlain
 mod WrittenBinary
+mod WrittenNumbered
 mod Turned
 mod Ordered

@@ -63,22 +63,22 @@ script_if_past variables ((word ∷ words) ∷ lines) = by (is_comment word) (sc
 -- ---- one step
 
 module _ (live : Live) where
-  outcome_none : (fault : RefutationError) → outcome live [] fault ≡ Err fault
+  pub outcome_none : (fault : RefutationError) → outcome live [] fault ≡ Err fault
   unfolding outcome
   outcome_none fault = refl
 
   module _ (step : Step) (steps : List Step) (fault : RefutationError) where
-    outcome_more : (next : Live) → taken live step ≡ Ok next → is_last_step step ≡ false
+    pub outcome_more : (next : Live) → taken live step ≡ Ok next → is_last_step step ≡ false
         → outcome live (step ∷ steps) fault ≡ outcome next steps fault
     unfolding outcome
     outcome_more next is more = rw (is, more) refl
 
-    outcome_last : (next : Live) → taken live step ≡ Ok next → is_last_step step ≡ true →
+    pub outcome_last : (next : Live) → taken live step ≡ Ok next → is_last_step step ≡ true →
         outcome live (step ∷ steps) fault ≡ Ok tt
     unfolding outcome
     outcome_last next is last = rw (is, last) refl
 
-    outcome_wrong : (e : RefutationError) → taken live step ≡ Err e
+    pub outcome_wrong : (e : RefutationError) → taken live step ≡ Err e
         → outcome live (step ∷ steps) fault ≡ Err e
     unfolding outcome
     outcome_wrong e is = rw is refl

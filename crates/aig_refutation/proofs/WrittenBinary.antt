@@ -1,5 +1,5 @@
 -- Binary DRAT proofs as they are written, and the steps that are read of them.
-use Rattle.aig_base.proofs.Words.{◌≡◌, ℕ, zero, suc, ◌+◌, ◌-◌, ◌*◌, ◌/◌, ◌%◌, ◌^◌, ◌<◌, ◌≤◌, ◌==◌, ◌||◌, nat_lt, Bool, true, false, List, [], ◌∷◌, ◌++◌, length, length-append, map, take, Some, None, Ok, refl, sym, ap, ◌∙◌, append_assoc, append-nil, arith, flat_map, list_any, nat_tests, if◌then◌else◌, AllByRecursion, All, recursion_from_All, lt-ltb, le-ltb}
+use Rattle.aig_base.proofs.Words.{◌≡◌, ℕ, zero, suc, ◌+◌, ◌-◌, ◌*◌, ◌/◌, ◌%◌, ◌^◌, ◌<◌, ◌≤◌, ◌==◌, ◌||◌, nat_lt, Bool, true, false, List, [], ◌∷◌, ◌++◌, length, length-append, map, take, Some, None, Ok, refl, sym, ap, ◌∙◌, append_assoc, append-nil, arith, flat_map, list_any, nat_tests, if◌then◌else◌, AllByRecursion, All, recursion_from_All, lt-ltb, le-ltb, not, ◌&&◌, ne_eqb}
 use Rattle.aig_base.specs.declared.logic.literal.Lit.{Lit}
 use Rattle.aig_base.specs.Clauses.{is_positive, variable_of}
 use Rattle.aig_format.specs.Parse.{parse_delta, parse_groups}
@@ -9,14 +9,16 @@ use Rattle.aig_format.proofs.Printed.{delta_written}
 use Rattle.aig_refutation.specs.declared.error.RefutationError.TheVariants as errors
 use Rattle.aig_refutation.specs.Binary.{binary_script, binary_steps_in, groups_in, literal_said, step_before, with_literal}
 use Rattle.aig_refutation.specs.Proofs.{allowed, widened}
-use Rattle.aig_refutation.specs.Forms.{is_binary, plain_steps_in, steps_in, telling}
+use Rattle.aig_refutation.specs.Text.{begins}
+use Rattle.aig_refutation.specs.Forms.{Last, Letter, are_steps, has_steps, is_binary, is_numbered, plain_steps_in, steps_in, telling}
 use Rattle.aig_refutation.specs.Steps.{PlainStep, Drops, Learns}
 use Rattle.aig_refutation.specs.Written.{AreWithin, IsClause, IsPlainStep, binary_text, literal_bytes, step_bytes}
+use Rattle.aig_refutation.proofs.Shapes.{binary_unworded, shape_cut}
 use Rattle.aig_refutation.proofs.WrittenLines.{lit_to-parts}
 
 -- ---- words
 
-groups_in-number : (d : ℕ) (bytes rest : List ℕ) → Groups d bytes → groups_in (bytes ++ rest) ≡ bytes ∷ groups_in rest
+pub groups_in-number : (d : ℕ) (bytes rest : List ℕ) → Groups d bytes → groups_in (bytes ++ rest) ≡ bytes ∷ groups_in rest
 unfolding groups_in
 groups_in-number d [] rest h = absurd h
 groups_in-number d (b ∷ []) rest h = rw (lt-ltb b 128 h.0) refl
@@ -24,10 +26,10 @@ groups_in-number d (b ∷ c ∷ bytes) rest h = rw (le-ltb b 128 h.1, groups_in-
 
 module _ (variables : ℕ) where
   -- the variable is one that may be named, and the number of the literal has 32 bits
-  abbrev Fits : Lit → Type 0
+  abbrev pub Fits : Lit → Type 0
   Fits lit = (variable_of lit < variables) × (variable_of lit < 2 ^ 31 - 1)
 
-  all_fit : (clause : List Lit) → IsClause variables clause → IsClause (2 ^ 31 - 1) clause → AllByRecursion Fits clause
+  pub all_fit : (clause : List Lit) → IsClause variables clause → IsClause (2 ^ 31 - 1) clause → AllByRecursion Fits clause
   all_fit clause named small = recursion_from_All Fits clause (λ k d there. (named k d there, small k d there))
 
   -- the number of a literal
@@ -38,7 +40,7 @@ module _ (variables : ℕ) where
   code_small true v below = omega arith
   code_small false v below = omega arith
 
-  groups_in-clause : (clause : List Lit) (rest : List ℕ) → AllByRecursion Fits clause
+  pub groups_in-clause : (clause : List Lit) (rest : List ℕ) → AllByRecursion Fits clause
       → groups_in (flat_map literal_bytes clause ++ 0 ∷ rest) ≡ map literal_bytes clause ++ (0 ∷ []) ∷ groups_in rest
   unfolding groups_in
   groups_in-clause [] rest below = refl
@@ -54,7 +56,7 @@ module _ (variables : ℕ) where
   code_parts true v = (grind (arith, nat_tests), grind (arith, nat_tests), grind (arith, nat_tests), omega arith)
   code_parts false v = (grind (arith, nat_tests), grind (arith, nat_tests), grind (arith, nat_tests), omega arith)
 
-  literal_said-written : (lit : Lit) → Fits lit → literal_said variables (literal_bytes lit) ≡ Ok (Some lit)
+  pub literal_said-written : (lit : Lit) → Fits lit → literal_said variables (literal_bytes lit) ≡ Ok (Some lit)
   literal_said-written lit below =
       let is = delta_written (code lit) (code_small (is_positive lit) (variable_of lit) below.1) in
       let read : parse_delta (literal_bytes lit) ≡ Some (code lit, []) = ap parse_delta (sym (append-nil (literal_bytes lit))) ∙ Reads-delta.complete (code lit) (literal_bytes lit) [] is in
@@ -96,6 +98,49 @@ module _ (variables : ℕ) where
       ∙ ap (binary_script variables (Some (Drops []))) (groups_in-clause clause rest below)
       ∙ script-clause (λ c. Drops c) (λ c lit. refl) clause [] (groups_in rest) below
 
+-- ---- the shape of steps
+
+-- a number that isn't 0 doesn't begin with a 0
+no_zero_first : (d : ℕ) (bytes : List ℕ) → Groups d bytes → 0 < d → begins 0 bytes ≡ false
+no_zero_first d [] h some = absurd h
+no_zero_first d (b ∷ []) h some = ne_eqb b 0 (λ none. absurd (omega (arith, h.1, none, some)))
+no_zero_first d (b ∷ c ∷ bytes) h some = ne_eqb b 0 (λ none. absurd (omega (arith, h.1, none)))
+
+shape_clause : (clause : List Lit) (words : List (List ℕ))
+    → AllByRecursion (λ lit. variable_of lit < 2 ^ 31 - 1) clause
+    → are_steps false Last (map literal_bytes clause ++ (0 ∷ []) ∷ words)
+    ≡ are_steps false Letter words
+unfolding are_steps
+shape_clause [] words below = refl
+shape_clause (lit ∷ lits) words below =
+    let is = delta_written (code (2 ^ 31) lit) (code_small (2 ^ 31) (is_positive lit) (variable_of lit) below.0) in
+    rw (no_zero_first (code (2 ^ 31) lit) (literal_bytes lit) is.groups (omega arith)) (shape_clause lits words below.1)
+
+fit_all : (clause : List Lit) → IsClause (2 ^ 31 - 1) clause → AllByRecursion (Fits (2 ^ 31)) clause
+fit_all clause small = recursion_from_All (Fits (2 ^ 31)) clause (λ k d there. (omega (arith, small k d there), small k d there))
+
+below_all : (clause : List Lit) → IsClause (2 ^ 31 - 1) clause → AllByRecursion (λ lit. variable_of lit < 2 ^ 31 - 1) clause
+below_all clause small = recursion_from_All (λ lit. variable_of lit < 2 ^ 31 - 1) clause small
+
+shape_steps : (steps : List PlainStep) → AllByRecursion (IsPlainStep (2 ^ 31 - 1)) steps
+    → are_steps false Letter (groups_in (binary_text steps)) ≡ true
+unfolding are_steps groups_in
+shape_steps [] small = refl
+shape_steps (Learns clause ∷ steps) small =
+    ap (λ bytes. are_steps false Last (groups_in bytes)) (append_assoc (flat_map literal_bytes clause) (0 ∷ []) (binary_text steps))
+    ∙ ap (are_steps false Last) (groups_in-clause (2 ^ 31) clause (binary_text steps) (fit_all clause small.0))
+    ∙ shape_clause clause (groups_in (binary_text steps)) (below_all clause small.0)
+    ∙ shape_steps steps small.1
+shape_steps (Drops clause ∷ steps) small =
+    ap (λ bytes. are_steps false Last (groups_in bytes)) (append_assoc (flat_map literal_bytes clause) (0 ∷ []) (binary_text steps))
+    ∙ ap (are_steps false Last) (groups_in-clause (2 ^ 31) clause (binary_text steps) (fit_all clause small.0))
+    ∙ shape_clause clause (groups_in (binary_text steps)) (below_all clause small.0)
+    ∙ shape_steps steps small.1
+
+unnumbered : (steps : List PlainStep) → AllByRecursion (IsPlainStep (2 ^ 31 - 1)) steps → is_numbered (binary_text steps) ≡ false
+unnumbered steps small =
+    ap (λ (b : Bool). not b && has_steps true (binary_text steps)) (shape_cut false 1024 (binary_text steps) Letter false (shape_steps steps small))
+
 binary_steps_in-written : (variables : ℕ) (steps : List PlainStep) → AreWithin IsPlainStep variables steps
     → AllByRecursion (IsPlainStep (2 ^ 31 - 1)) steps
     → binary_steps_in variables (binary_text steps) ≡ record { steps = steps; fault = errors.Unfinished }
@@ -109,7 +154,9 @@ pub binary_read : (variables : ℕ) (steps : List PlainStep) → AreWithin IsPla
     → All (IsPlainStep (2 ^ 31 - 1)) steps → is_binary (binary_text steps) ≡ true
     → (steps_in variables (binary_text steps) ≡ None) × (plain_steps_in variables (binary_text steps) ≡ record { steps = steps; fault = errors.Unfinished })
 binary_read variables steps are small binary =
-    (rw binary refl, rw binary (binary_steps_in-written (allowed variables) steps are (recursion_from_All (IsPlainStep (2 ^ 31 - 1)) steps small)))
+    let no_word = binary_unworded (binary_text steps) binary in
+    let plain = unnumbered steps (recursion_from_All (IsPlainStep (2 ^ 31 - 1)) steps small) in
+    (rw (no_word, binary, plain) refl, rw binary (binary_steps_in-written (allowed variables) steps are (recursion_from_All (IsPlainStep (2 ^ 31 - 1)) steps small)))
 
 -- ---- which are told by their first bytes
 

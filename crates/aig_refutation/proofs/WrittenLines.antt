@@ -91,12 +91,12 @@ pub are_all : (hints : List ℕ) (groups : List (Bool × ℕ)) → AllByRecursio
 are_all [] groups are also = also
 are_all (n ∷ hints) groups are also = (are.0, are_all hints groups are.1 also)
 
-hints_all : (hints : List ℕ) (groups : List (Bool × ℕ)) → hints_at groups ≡ []
+pub hints_all : (hints : List ℕ) (groups : List (Bool × ℕ)) → hints_at groups ≡ []
     → hints_at (all_hints hints groups) ≡ hints
 hints_all [] groups begins = begins
 hints_all (n ∷ hints) groups begins = ap (λ (list : List ℕ). n ∷ list) (hints_all hints groups begins)
 
-groups_all : (hints : List ℕ) (groups : List (Bool × ℕ)) → hints_at groups ≡ []
+pub groups_all : (hints : List ℕ) (groups : List (Bool × ℕ)) → hints_at groups ≡ []
     → groups_at (all_hints hints groups) ≡ groups
 groups_all [] [] begins = refl
 groups_all [] (hint ∷ groups) begins = by hint.0 begins

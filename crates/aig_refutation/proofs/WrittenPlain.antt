@@ -6,12 +6,13 @@ use Rattle.aig_format.specs.Parse.{is_digit}
 use Rattle.aig_format.specs.Text.{IsDigit}
 use Rattle.aig_format.proofs.Printed.{number_written}
 use Rattle.aig_refutation.specs.declared.error.RefutationError.TheVariants as errors
-use Rattle.aig_refutation.specs.Forms.{is_binary, plain_steps_in, steps_in}
+use Rattle.aig_refutation.specs.Forms.{has_word, is_binary, plain_steps_in, steps_in}
 use Rattle.aig_refutation.specs.Proofs.{after_clause, after_first, after_number, allowed, ended, is_none, line_in, plain_of, script_if, widened}
 use Rattle.aig_refutation.specs.Steps.{PlainStep, Drops, Learns}
 use Rattle.aig_refutation.specs.Text.{begins, lines_of}
 use Rattle.aig_refutation.specs.Written.{AreWithin, IsPlainStep, as_read, clause_line, literal_text, number_text, plain_line, plain_text}
 use Rattle.aig_refutation.proofs.Texts.{end_first}
+use Rattle.aig_refutation.proofs.Shapes.{unworded}
 use Rattle.aig_refutation.proofs.Widening.{all_most, allowed_most, few, widened_most}
 use Rattle.aig_refutation.proofs.WrittenLines.{after_literals, clause_in-written, last_zero_read, letter_plain, letter_read, literal_of-written, spaced_below, zero_plain}
 use Rattle.aig_refutation.proofs.WrittenWords.{Reads, begins-number, each_on, literal_read, reads_lines, word_last, word_on}
@@ -145,18 +146,22 @@ module _ (variables : ℕ) (small : variables < 2 ^ 32) where
   no_zero_in (suc n) [] are = refl
   no_zero_in (suc n) (b ∷ bytes) are = rw are.0 (no_zero_in n bytes are.1)
 
-  no_letter : (steps : List PlainStep) → AllByRecursion (IsPlainStep variables) steps → begins 97 (plain_text steps) ≡ false
-  no_letter [] are = refl
-  no_letter (Learns [] ∷ steps) are = refl
-  no_letter (Learns (lit ∷ lits) ∷ steps) are =
+  no_letter : (k : ℕ) → is_digit k ≡ false → (45 == k) ≡ false → (48 == k) ≡ false → (100 == k) ≡ false
+      → (steps : List PlainStep) → AllByRecursion (IsPlainStep variables) steps → begins k (plain_text steps) ≡ false
+  no_letter k other minus zero_text letter [] are = refl
+  no_letter k other minus zero_text letter (Learns [] ∷ steps) are = zero_text
+  no_letter k other minus zero_text letter (Learns (lit ∷ lits) ∷ steps) are =
       let rest = flat_map literal_text lits ++ (codes "0\n" ++ plain_text steps) in
       let regroup : plain_text (Learns (lit ∷ lits) ∷ steps) ≡ literal_text lit ++ (flat_map literal_text lits ++ (codes "0\n" ++ plain_text steps)) = simp append_assoc in
       let below = recursion_from_All (λ lit. variable_of lit < variables) (lit ∷ lits) are.0 in
-      ap (begins 97) regroup ∙ begins-literal 97 lit rest below.0 refl refl
-  no_letter (Drops clause ∷ steps) are = refl
+      ap (begins k) regroup ∙ begins-literal k lit rest below.0 other minus
+  no_letter k other minus zero_text letter (Drops clause ∷ steps) are = letter
+
+  no_word : (steps : List PlainStep) → AllByRecursion (IsPlainStep variables) steps → has_word (plain_text steps) ≡ false
+  no_word steps are = unworded (plain_text steps) (no_letter 108 refl refl refl refl steps are)
 
   is_binary-plain : (steps : List PlainStep) → AllByRecursion (IsPlainStep variables) steps → is_binary (plain_text steps) ≡ false
-  is_binary-plain steps are = rw (no_letter steps are, no_zero_in 1024 (plain_text steps) (text_steps steps are)) (none (begins 100 (plain_text steps)))
+  is_binary-plain steps are = rw (no_letter 97 refl refl refl refl steps are, no_zero_in 1024 (plain_text steps) (text_steps steps are)) (none (begins 100 (plain_text steps)))
     where
       none : (b : Bool) → (false || (b && false)) ≡ false
       none true = refl
@@ -190,4 +195,5 @@ pub plain_steps_in-written : (variables : ℕ) (steps : List PlainStep)
 plain_steps_in-written variables steps are =
     let most = allowed_most variables in
     let text = is_binary-plain (2 ^ 31) (omega arith) steps (all_most (allowed variables) most steps are) in
-    (rw text (script_if-plain (allowed variables) most steps are), rw text (plain_of-written (allowed variables) most steps are))
+    let other = no_word (2 ^ 31) (omega arith) steps (all_most (allowed variables) most steps are) in
+    (rw (other, text) (script_if-plain (allowed variables) most steps are), rw text (plain_of-written (allowed variables) most steps are))

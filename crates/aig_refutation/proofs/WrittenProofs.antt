@@ -11,6 +11,7 @@ use Rattle.aig_refutation.specs.Proofs.{Numbered, allowed, is_comment, is_none, 
 use Rattle.aig_refutation.specs.Steps.{Step, Adds, Deletes}
 use Rattle.aig_refutation.specs.Text.{begins, lines_of}
 use Rattle.aig_refutation.specs.Written.{AreGroups, AreWithin, IsNumber, IsStep, added_line, deleted_line, literal_text, number_text, proof_text, signed_text}
+use Rattle.aig_refutation.proofs.Shapes.{unworded}
 use Rattle.aig_refutation.proofs.Widening.{allowed_most, few, widened_most}
 use Rattle.aig_refutation.proofs.WrittenLines.{AreNumbers, added_read, added_words, all_hints, are_all, deleted_read, deleted_words}
 use Rattle.aig_refutation.proofs.WrittenWords.{begins-number, reads_lines}
@@ -109,7 +110,8 @@ pub steps_in-written : (variables last : ℕ) (step : Step) (steps : List Step) 
 steps_in-written variables last step steps before are =
     let most = allowed_most variables in
     let small = few (allowed variables) most in
-    rw (begins-step (allowed variables) small 97 last step steps before are.0 refl, begins-step (allowed variables) small 100 last step steps before are.0 refl)
+    let no_word = unworded (proof_text last (step ∷ steps)) (begins-step (allowed variables) small 108 last step steps before are.0 refl) in
+    rw (no_word, begins-step (allowed variables) small 97 last step steps before are.0 refl, begins-step (allowed variables) small 100 last step steps before are.0 refl)
     (script_if-written (allowed variables) most last step steps before are)
 
 -- ---- what it shows

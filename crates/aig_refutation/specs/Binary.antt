@@ -29,6 +29,12 @@ abbrev pub code_of : Option (ℕ × List ℕ) → Result ℕ RefutationError
 code_of (Some x) = Ok x.0
 code_of None = Err errors.Binary
 
+-- what a word says in a list: an item more, which is that of its number, or that the list ends
+abbrev pub item_said : {A : Type 0} → (ℕ → Result A RefutationError) → List ℕ
+    → Result (Option A) RefutationError
+item_said one word = code_of (parse_delta word) >>= λ code.
+    if code == 0 then Ok None else (one code >>= λ x. Ok (Some x))
+
 -- the literal of a number: twice one more than its variable's number, and one more where it is
 -- inverted
 abbrev pub literal_by : ℕ → ℕ → Result Lit RefutationError
@@ -50,20 +56,19 @@ with_literal (Drops clause) lit = Drops (clause ++ lit ∷ [])
 
 -- what a word says in a step: a literal more, or that the step ends
 abbrev pub literal_said : ℕ → List ℕ → Result (Option Lit) RefutationError
-literal_said variables word = code_of (parse_delta word) >>= λ code.
-    if code == 0 then Ok None else (literal_by variables code >>= λ lit. Ok (Some lit))
+literal_said variables word = item_said (literal_by variables) word
 
 -- why no step follows
-abbrev pub no_step : RefutationError → Script PlainStep
+abbrev pub no_step : {S : Type 0} → RefutationError → Script S
 no_step fault = record { steps = []; fault = fault }
 
 -- a step before others
-abbrev pub step_before : PlainStep → Script PlainStep → Script PlainStep
+abbrev pub step_before : {S : Type 0} → S → Script S → Script S
 step_before step rest = record { steps = step ∷ rest.steps; fault = rest.fault }
 
 -- what words say after a letter, by what they say in the step that it begins
-abbrev pub after_letter : Result PlainStep RefutationError → (Option PlainStep → Script PlainStep)
-    → Script PlainStep
+abbrev pub after_letter : {B S : Type 0} → Result B RefutationError → (Option B → Script S)
+    → Script S
 after_letter (Ok step) say = say (Some step)
 after_letter (Err e) say = no_step e
 

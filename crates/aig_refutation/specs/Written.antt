@@ -1,7 +1,7 @@
 -- Part of what laws say, and of no promise of a call.
 -- The texts of proofs, as solvers write them. (LRAT: Cruz-Filipe, Heule, Hunt, Kaufmann and
 -- Schneider-Kamp, 2017. DRAT: Wetzler, Heule and Hunt, 2014.)
-use Rattle.std.specs.Prelude.{◌≡◌, ℕ, ◌+◌, ◌*◌, ◌^◌, ◌<◌, Bool, true, false, if◌then◌else◌, List, [], ◌∷◌, ◌++◌, Ok, All, codes, decimal}
+use Rattle.std.specs.Prelude.{◌≡◌, ℕ, ◌+◌, ◌-◌, ◌*◌, ◌^◌, ◌<◌, Bool, true, false, if◌then◌else◌, List, [], ◌∷◌, ◌++◌, Ok, All, codes, decimal}
 use Rattle.std.specs.List.{flat_map}
 use Rattle.aig_base.specs.declared.logic.literal.Lit.{Lit}
 use Rattle.aig_base.specs.Clauses.{is_positive, variable_of}
@@ -124,3 +124,36 @@ step_bytes (Drops clause) = 100 ∷ flat_map literal_bytes clause ++ 0 ∷ []
 -- the bytes of steps
 abbrev pub binary_text : List PlainStep → List ℕ
 binary_text steps = flat_map step_bytes steps
+
+-- ---- binary LRAT
+
+-- a number of a hint is below 2^31, and a literal's below 2^32
+abbrev pub IsBinaryStep : Step → Type 0
+IsBinaryStep (Adds number clause hints groups) =
+    IsClause (2 ^ 31 - 1) clause × All (λ n. n < 2 ^ 31) hints
+    × All (λ hint. hint.1 < 2 ^ 31) groups
+IsBinaryStep (Deletes numbers) = All (λ n. n < 2 ^ 31) numbers
+
+-- a hint: twice its number, and one more where it has a minus, in groups of seven bits
+abbrev pub hint_bytes : Bool × ℕ → List ℕ
+hint_bytes n = delta_of (2 * n.1 + (if n.0 then 0 else 1))
+
+-- a number without a minus
+abbrev pub number_bytes : ℕ → List ℕ
+number_bytes n = hint_bytes (true, n)
+
+-- a step: a letter, and the number of its clause, its literals and a 0, its hints, those for other
+-- clauses and a 0; or the clauses' numbers and a 0
+abbrev pub numbered_bytes : Step → List ℕ
+numbered_bytes (Adds number clause hints groups) =
+    97 ∷ delta_of number ++ flat_map literal_bytes clause ++ (0 ∷ flat_map number_bytes hints
+    ++ flat_map hint_bytes groups ++ (0 ∷ []))
+numbered_bytes (Deletes numbers) = 100 ∷ flat_map number_bytes numbers ++ 0 ∷ []
+
+-- the bytes of steps
+abbrev pub numbered_text : List Step → List ℕ
+numbered_text steps = flat_map numbered_bytes steps
+
+-- the same behind the word that tells of them
+abbrev pub worded_text : List Step → List ℕ
+worded_text steps = codes "lrat" ++ numbered_text steps

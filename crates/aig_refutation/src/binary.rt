@@ -7,9 +7,9 @@
 ghost use Rattle.std.specs.Prelude.{◌≡◌, ◌<◌, ◌≤◌, ◌^◌, [], IfOk, IsErrOf, IsTrue, OnOk, true};
 ghost use Rattle.aig_base.specs.Clauses.{variable_of};
 ghost use Rattle.aig_lexer.specs.Takes.{feed};
-ghost use Rattle.aig_refutation.specs.Binary.{literal_by};
+ghost use Rattle.aig_refutation.specs.Binary.{binary_steps_in, literal_by};
 ghost use Rattle.aig_refutation.specs.Checking.{are_in};
-ghost use Rattle.aig_refutation.specs.ReadingBinary.{EndsStep, GivesBinary, GivesCode, GivesLetter};
+ghost use Rattle.aig_refutation.specs.ReadingBinary.{GivesCode, GivesItems, GivesLetter, GivesNext};
 ghost use Rattle.aig_refutation.specs.Reading.{plain_by};
 ghost use Rattle.aig_refutation.specs.Words.{Answers};
 
@@ -23,7 +23,7 @@ use aig_lexer::InputBuffer;
 const MOST_GROUPS: u32 = 5;
 
 /// Reads a number, which is below 2^32.
-fn read_code<R: Source>(buffer: &mut InputBuffer, r: &mut R) -> Result<u32, RefutationError>
+pub(crate) fn read_code<R: Source>(buffer: &mut InputBuffer, r: &mut R) -> Result<u32, RefutationError>
     ensures stream { IsErrOf result RefutationError.Stream → R.failed r.new ≡ true }
     ensures fewer { OnOk result ((feed R.left R.failed R.pulls buffer.new r.new).most
         < (feed R.left R.failed R.pulls buffer.old r.old).most) }
@@ -68,7 +68,7 @@ fn literal(code: u32, variables: usize) -> Result<Lit, RefutationError>
 
 /// Reads the letter of the next step, none of whose literals is read then, and says whether there is
 /// one.
-fn read_letter<R: Source>(
+pub(crate) fn read_letter<R: Source>(
     buffer: &mut InputBuffer,
     r: &mut R,
     step: &mut Step,
@@ -77,10 +77,12 @@ fn read_letter<R: Source>(
     ensures fewer { IfOk result (λ there. IsTrue there
         → (feed R.left R.failed R.pulls buffer.new r.new).most
         < (feed R.left R.failed R.pulls buffer.old r.old).most) }
-    ensures letter { GivesLetter (plain_by step.new)
+    ensures letter { GivesLetter step.new.deletes
         (feed R.left R.failed R.pulls buffer.old r.old)
         (feed R.left R.failed R.pulls buffer.new r.new) result }
     ensures empty { step.new.clause.items ≡ [] }
+    ensures same { (step.new.is_numbered ≡ step.old.is_numbered)
+        × (step.new.numbers ≡ step.old.numbers) × (step.new.groups ≡ step.old.groups) }
 {
     step.clause.clear();
     match buffer.next(r)? {
@@ -92,29 +94,29 @@ fn read_letter<R: Source>(
     Ok(true)
 }
 
-/// Reads literals up to a 0, and appends them to the clause of the step.
-fn read_literals<R: Source>(
+/// Reads literals up to a 0, and appends them to a clause.
+pub(crate) fn read_literals<R: Source>(
     buffer: &mut InputBuffer,
     r: &mut R,
-    step: &mut Step,
+    clause: &mut Vec<Lit>,
     variables: usize,
 ) -> Result<(), RefutationError>
     requires { variables ≤ 2 ^ 31 }
     ensures stream { IsErrOf result RefutationError.Stream → R.failed r.new ≡ true }
     ensures fewer { OnOk result ((feed R.left R.failed R.pulls buffer.new r.new).most
         < (feed R.left R.failed R.pulls buffer.old r.old).most) }
-    ensures step { EndsStep variables (plain_by step.old) (plain_by step.new)
+    ensures clause { GivesItems (literal_by variables) clause.old.items clause.new.items
         (feed R.left R.failed R.pulls buffer.old r.old)
         (feed R.left R.failed R.pulls buffer.new r.new) result }
-    ensures inside { are_in variables step.old.clause.items ≡ true
-        → OnOk result (are_in variables step.new.clause.items ≡ true) }
+    ensures inside { are_in variables clause.old.items ≡ true
+        → OnOk result (are_in variables clause.new.items ≡ true) }
 {
     loop {
         let code = read_code(buffer, r)?;
         if code == 0 {
             return Ok(());
         }
-        push(&mut step.clause, literal(code, variables)?)?;
+        push(clause, literal(code, variables)?)?;
     }
 }
 
@@ -131,7 +133,7 @@ pub(crate) fn read_step<R: Source>(
     ensures fewer { IfOk result (λ there. IsTrue there
         → (feed R.left R.failed R.pulls buffer.new r.new).most
         < (feed R.left R.failed R.pulls buffer.old r.old).most) }
-    ensures step { GivesBinary variables (plain_by step.new)
+    ensures step { GivesNext binary_steps_in variables (plain_by step.new)
         (feed R.left R.failed R.pulls buffer.old r.old)
         (feed R.left R.failed R.pulls buffer.new r.new) result }
     ensures inside { IfOk result (λ there. are_in variables step.new.clause.items ≡ true) }
@@ -139,6 +141,6 @@ pub(crate) fn read_step<R: Source>(
     if !read_letter(buffer, r, step)? {
         return Ok(false);
     }
-    read_literals(buffer, r, step, variables)?;
+    read_literals(buffer, r, &mut step.clause, variables)?;
     Ok(true)
 }

@@ -6,8 +6,9 @@ ghost use Rattle.aig_base.specs.Formula.{clauses_in, IsSatisfiable};
 ghost use Rattle.aig_lexer.specs.Takes.{feed};
 ghost use Rattle.aig_refutation.specs.Ahead.{AddsAhead, IsAhead, LearnsAhead, StaysAhead, TakesPlain};
 ghost use Rattle.aig_refutation.specs.Binary.{binary_steps_in};
+ghost use Rattle.aig_refutation.specs.BinaryNumbered.{numbered_steps_in};
 ghost use Rattle.aig_refutation.specs.Checking.{IsInConflict, Live, Shows, is_last_step, taken};
-ghost use Rattle.aig_refutation.specs.Concluding.{Concludes, ConcludesConflict, ConcludesPlain, IsFormula, MovesStep, RefusesFormula, ShowsPlain, ShowsText, TakesLine, TakesStep, left_outcome, plain_left, text_outcome};
+ghost use Rattle.aig_refutation.specs.Concluding.{Concludes, ConcludesConflict, ConcludesPlain, IsFormula, MovesStep, RefusesFormula, ShowsPlain, ShowsText, TakesLine, TakesStep, left_outcome, plain_left, shown_of, text_outcome};
 ghost use Rattle.aig_refutation.specs.Kept.{Keeps, KeepsMore, KeepsOrEnds};
 ghost use Rattle.aig_refutation.specs.Proofs.{Numbered};
 ghost use Rattle.aig_refutation.specs.Reading.{plain_by, said_by};
@@ -18,11 +19,12 @@ ghost use Rattle.aig_refutation.specs.Taken.{CanHold};
 ghost use Rattle.aig_refutation.specs.Words.{place};
 
 use crate::binary::read_step;
+use crate::binary_numbered::read_numbered_step;
 use crate::bound::{allowed, widened};
 use crate::checker::Checker;
 use crate::compare::is_unit;
 use crate::error::RefutationError;
-use crate::form::{TELLING, is_binary};
+use crate::form::{TELLING, WORD, has_word, is_binary, is_numbered};
 use crate::step::Step;
 use crate::units::find_conflict;
 use crate::words::{Number, Words};
@@ -494,6 +496,32 @@ fn check_binary<R: Source>(
     take_binary(buffer, r, checker, &mut search, step, variables)
 }
 
+/// Takes the steps that are read of a binary proof whose steps have numbers, up to the first with the
+/// empty clause.
+fn take_binary_numbered<R: Source>(
+    buffer: &mut InputBuffer,
+    r: &mut R,
+    checker: &mut Checker,
+    step: &mut Step,
+    variables: usize,
+) -> Result<(), RefutationError>
+    requires { variables ≤ 2 ^ 31 }
+    ensures fails { (live : Live) → Holds checker.old.table live → OnOk result (¬ CanHold live) }
+    ensures stream { IsErrOf result RefutationError.Stream → R.failed r.new ≡ true }
+    ensures shown { (live : Live) → Holds checker.old.table live
+        → Concludes (feed R.left R.failed R.pulls buffer.old r.old)
+        (λ bytes. shown_of live (numbered_steps_in variables bytes)) result }
+{
+    let mut bound = variables;
+    'steps: while read_numbered_step(buffer, r, step, bound)? {
+        if take_numbered(checker, step)? {
+            return Ok(());
+        }
+        bound = widened(bound);
+    }
+    Err(RefutationError::Unfinished)
+}
+
 /// Checks the steps of a proof, whatever its form, up to the first with the empty clause, against
 /// clauses that aren't in conflict by themselves. `step` is used, whatever it has.
 fn check_proof<R: Source>(
@@ -515,10 +543,17 @@ fn check_proof<R: Source>(
     let mut words = Words::new();
     words.buffer.hold(r, TELLING)?;
     let bound = allowed(variables);
-    if is_binary(words.buffer.window()) {
-        return check_binary(alloc, &mut words.buffer, r, checker, step, bound);
+    if has_word(words.buffer.window()) {
+        words.buffer.consume(WORD.len());
+        return take_binary_numbered(&mut words.buffer, r, checker, step, bound);
     }
-    check_steps(alloc, &mut words, r, checker, step, bound)
+    if !is_binary(words.buffer.window()) {
+        return check_steps(alloc, &mut words, r, checker, step, bound);
+    }
+    if is_numbered(words.buffer.window()) {
+        return take_binary_numbered(&mut words.buffer, r, checker, step, bound);
+    }
+    check_binary(alloc, &mut words.buffer, r, checker, step, bound)
 }
 
 /// Checks steps against a formula's clauses, where these aren't in conflict by themselves. There are

@@ -12,7 +12,7 @@ ghost use Rattle.aig_refutation.specs.Propagation.{is_rup};
 ghost use Rattle.aig_refutation.specs.Rat.{is_rat_refutation};
 ghost use Rattle.aig_refutation.specs.Steps.{Drops, Learns, PlainStep, Refute, Stand, StandWithout, Step, is_refutation};
 ghost use Rattle.aig_refutation.specs.Taken.{KeepsLive};
-ghost use Rattle.aig_refutation.specs.Written.{AreInOrder, AreWithin, IsNumber, IsPlainStep, IsStep, as_read, binary_text, plain_text, proof_text, step_bytes};
+ghost use Rattle.aig_refutation.specs.Written.{AreInOrder, AreWithin, IsBinaryStep, IsNumber, IsPlainStep, IsStep, as_read, binary_text, plain_text, proof_text, step_bytes, worded_text};
 
 /// Law: a clause that follows by reverse unit propagation is true wherever the clauses are among
 /// which its hints are looked up.
@@ -103,6 +103,14 @@ pub fn binary_proofs_are_read()
         → is_binary (binary_text (Drops clause ∷ steps)) ≡ true }
 {}
 
+/// Law: the steps of a binary LRAT proof are read from the bytes that are written of them behind the word `lrat`.
+pub fn numbered_proofs_are_read()
+    ensures { (variables : ℕ) (steps : List Step)
+        → AreWithin IsStep (allowed variables) steps → All IsBinaryStep steps
+        → steps_in variables (worded_text steps)
+        ≡ Some (record { steps = steps; fault = RefutationError.Unfinished }) }
+{}
+
 /// Law: the text of an LRAT file that is written of steps which can all be taken, up to the empty clause, is refused for memory and
 /// the stream alone.
 pub fn written_proofs_are_taken()
@@ -111,6 +119,16 @@ pub fn written_proofs_are_taken()
         → are_all_in variables clauses ≡ true
         → outcome (all_live clauses) steps RefutationError.Unfinished ≡ Ok tt
         → Shows variables clauses (Some (proof_text last steps)) (Err e)
+        → (e ≡ RefutationError.Memory) ⊎ (e ≡ RefutationError.Stream) }
+{}
+
+/// Law: so are the bytes of such steps behind the word `lrat`.
+pub fn written_numbered_proofs_are_taken()
+    ensures { (variables : ℕ) (clauses : List (List Lit)) (steps : List Step)
+        (e : RefutationError) → AreWithin IsStep (allowed variables) steps
+        → All IsBinaryStep steps → are_all_in variables clauses ≡ true
+        → outcome (all_live clauses) steps RefutationError.Unfinished ≡ Ok tt
+        → Shows variables clauses (Some (worded_text steps)) (Err e)
         → (e ≡ RefutationError.Memory) ⊎ (e ≡ RefutationError.Stream) }
 {}
 

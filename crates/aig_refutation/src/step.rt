@@ -123,7 +123,7 @@ fn read_numbers<R: Source>(
 
 /// Appends a number of a line: to the hints, up to the first that is negative, and to the groups
 /// from that on.
-fn push_number(
+pub(crate) fn push_number(
     number: Number,
     hints: &mut Vec<u32>,
     groups: &mut Vec<Number>,

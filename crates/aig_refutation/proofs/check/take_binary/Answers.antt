@@ -1,9 +1,10 @@
 use Rattle.aig_base.proofs.Words.{ℕ, Bool, true, false, Ok, Err, sym, subst, err_from_is_err_and}
 use Rattle.aig_lexer.specs.Takes.{feed}
 use Rattle.aig_refutation.specs.Ahead.{TakesPlain}
+use Rattle.aig_refutation.specs.Binary.{binary_steps_in}
 use Rattle.aig_refutation.specs.Kept.{KeepsOrEnds}
 use Rattle.aig_refutation.specs.Reading.{plain_by}
-use Rattle.aig_refutation.specs.ReadingBinary.{GivesBinary}
+use Rattle.aig_refutation.specs.ReadingBinary.{GivesNext}
 use Rattle.aig_refutation.proofs.Kept.{kept_on}
 use Rattle.aig_refutation.proofs.BinarySteps.{GoesBinary, binary_more, binary_none, binary_unread, binary_wrong}
 use Rattle.aig_refutation.proofs.check.take_binary.Goals as goal
@@ -31,8 +32,8 @@ returns-in_err-take_searched-clause-plain g c clauses ahead =
     let step = c.read_step.new.step in
     let t = c.take_searched.new.checker.table in
     let s = c.steps.invariant.plain clauses ahead in
-    let given : GivesBinary bound (plain_by step) mid after (Ok true) = subst (λ (b : Bool).
-    GivesBinary bound (plain_by step) mid after (Ok b)) c.if-branch.true
+    let given : GivesNext binary_steps_in bound (plain_by step) mid after (Ok true) = subst (λ (b : Bool).
+    GivesNext binary_steps_in bound (plain_by step) mid after (Ok b)) c.if-branch.true
     c.in_ok-read_step.ensures.step in
     let e = c.in_err-take_searched.field-0.0 in
     let p = err_from_is_err_and c.from_residual-in_err-take_searched.result
@@ -61,8 +62,8 @@ steps-preserved g c = record {
       let step = c.read_step.new.step in
       let t = c.take_searched.new.checker.table in
       let s = c.steps.invariant.plain clauses ahead in
-      let given : GivesBinary bound (plain_by step) mid after (Ok true) = subst (λ (b : Bool).
-      GivesBinary bound (plain_by step) mid after (Ok b)) c.if-branch.true
+      let given : GivesNext binary_steps_in bound (plain_by step) mid after (Ok true) = subst (λ (b : Bool).
+      GivesNext binary_steps_in bound (plain_by step) mid after (Ok b)) c.if-branch.true
       c.in_ok-read_step.ensures.step in
       let on : TakesPlain s.now (plain_by step) t (Ok false) = subst (λ (b : Bool).
       TakesPlain s.now (plain_by step) t (Ok b)) c.if-branch-2.false
@@ -87,8 +88,8 @@ returns-clause-plain g c clauses ahead =
     let bound = c.steps.bound in
     let step = plain_by c.read_step.new.step in
     let s = c.steps.invariant.plain clauses ahead in
-    let given : GivesBinary bound step mid after (Ok false) = subst (λ (b : Bool).
-    GivesBinary bound step mid after (Ok b)) c.if-branch.false c.in_ok-read_step.ensures.step in
+    let given : GivesNext binary_steps_in bound step mid after (Ok false) = subst (λ (b : Bool).
+    GivesNext binary_steps_in bound step mid after (Ok b)) c.if-branch.false c.in_ok-read_step.ensures.step in
     binary_none variables clauses before bound s.now mid s.goes step after given
 
 pub returns-then-branch-2-clause-fails : goal.returns-then-branch-2-clause-fails
