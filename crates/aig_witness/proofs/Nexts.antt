@@ -1,5 +1,5 @@
 -- What reading the next witness tells of known bytes.
-use Rattle.aig_base.proofs.Words.{◌≡◌, ℕ, Bool, false, List, [], Option, Some, None, subst, IfSome, Consumes-whole, prepend_known-nil}
+use Rattle.aig_base.proofs.Words.{◌≡◌, ℕ, Bool, false, List, [], Option, Some, None, subst, IfSome, prepend_known-nil}
 use Rattle.aig.specs.Reading.{IsFileCircuit}
 use Rattle.aig_circuit.specs.Circuit.{Circuit}
 use Rattle.aig_format.specs.Fits.{Accepts}
@@ -11,7 +11,7 @@ use Rattle.aig_reader.specs.Verdicts.{Accepted, Judges}
 use Rattle.aig_reader.proofs.Verdicts.{short_of}
 use Rattle.aig_witness.specs.declared.error.WitnessError.{WitnessError}
 use Rattle.aig_witness.specs.declared.error.WitnessError.TheVariants as witness
-use Rattle.aig_witness.specs.Faults.{EndsWithout, HasFault, IsFault}
+use Rattle.aig_witness.specs.Faults.{HasFault, IsFault}
 use Rattle.aig_witness.specs.Reading.{after_comments}
 use Rattle.aig_witness.specs.Witness.{Witness}
 use Rattle.aig_witness.specs.declared.fault.WitnessFault.{WitnessFault}
@@ -19,7 +19,7 @@ use Rattle.aig_witness.specs.declared.fault.WitnessFault.TheVariants as faults
 use Rattle.aig_witness.specs.declared.file.ShowError.{ShowError}
 use Rattle.aig_witness.specs.declared.file.ShowError.TheVariants as errors
 use Rattle.aig_witness.specs.Answers.{IsWrong}
-use Rattle.aig_witness.specs.Files.{FailsNext, HasNoNext, HasNone, IsNext, IsNextWitness, Refuses, verdict_of}
+use Rattle.aig_witness.specs.Files.{FailsNext, HasNoNext, IsNext, IsNextWitness, Refuses, verdict_of}
 
 module _ {S : Type 0} (left : S → Option (List ℕ)) (failed : S → Bool) (pulls : S → ℕ) where
   -- nothing is held before the source
@@ -37,12 +37,6 @@ module _ {S : Type 0} (left : S → Option (List ℕ)) (failed : S → Bool) (pu
         (known_after (start s).coming after.coming h.taken (λ bytes. (rest : List ℕ)
         × (next bytes ≡ Some (Some y, rest))) h.advances.consumed
         (λ rest. (rest, h.reads rest)))
-
-    pub ends_none : (s : S) (after : Feed) → EndsWithout next (start s) after
-        → HasNone next (left s)
-    ends_none s after h = alone (λ bytes. next bytes ≡ Some (None, [])) s
-        (Consumes-whole (start s).coming after.coming h.taken (λ bytes. next bytes ≡ Some
-        (None, [])) h.ends.consumed h.ends.at_end h.none)
 
   -- a fault after no bytes that are held
   pub has_fault : (justice : Bool) (e : WitnessError) (s : S) → HasFault justice e (start s).coming

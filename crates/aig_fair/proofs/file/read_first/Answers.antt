@@ -4,7 +4,7 @@ use Rattle.aig_witness.specs.Witness.{claim_by}
 use Rattle.aig_lexer.proofs.Faults.{tells-weaker}
 use Rattle.aig_witness.specs.Faults.{witness_cause}
 use Rattle.aig_witness.specs.Reading.{parse_next_claim}
-use Rattle.aig_witness.proofs.Nexts.{ends_none, has_fault, takes_next}
+use Rattle.aig_witness.proofs.Nexts.{has_fault, takes_next}
 use Rattle.aig_fair.proofs.file.read_first.Goals as goal
 
 pub returns-in_err-claim-clause-err : goal.returns-in_err-claim-clause-err
@@ -20,9 +20,3 @@ returns-in-Some-clause-ok g c =
     c.args.w.now _
     (claim_by c.in-Some.claim) (rw (c.in-Some.is, c.new-buffer.ensures) at
     c.in_ok-claim.ensures)
-
-pub returns-in-None-clause-err : goal.returns-in-None-clause-err
-returns-in-None-clause-err g c =
-    ends_none g.W.Source.left g.W.Source.failed g.W.Source.pulls (parse_next_claim true)
-    c.args.w.now _
-    (rw (c.in-None.is, c.new-buffer.ensures) at c.in_ok-claim.ensures)
