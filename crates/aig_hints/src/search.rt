@@ -221,23 +221,11 @@ impl Search {
         Ok(())
     }
 
-    /// Makes true what follows along short clauses, up to one whose literals are all false, and
-    /// returns its place.
-    fn propagate_shorts(&mut self) -> Option<u32> {
-        for _ in 0..self.units.len() {
-            let lit = self.shorts.next(&self.trail)?;
-            let conflict = self.shorts.visit_all(!lit, &mut self.trail);
-            if conflict.is_some() {
-                return conflict;
-            }
-        }
-        None
-    }
-
-    /// The same along recent clauses too.
+    /// Makes true what follows along short and recent clauses, up to one whose literals are all false,
+    /// and returns its place.
     fn propagate_recent(&mut self) -> Result<Option<u32>, MemoryError> {
         for _ in 0..self.units.len() {
-            let conflict = self.propagate_shorts();
+            let conflict = self.shorts.propagate(&mut self.trail);
             if conflict.is_some() {
                 return Ok(conflict);
             }
@@ -246,7 +234,7 @@ impl Search {
             };
             let conflict = self
                 .recent
-                .visit_all(!lit, &mut self.clauses, &mut self.trail)?;
+                .visit_all(lit, &mut self.clauses, &mut self.trail)?;
             if conflict.is_some() {
                 return Ok(conflict);
             }
@@ -266,7 +254,7 @@ impl Search {
             };
             let conflict = self
                 .rest
-                .visit_all(!lit, &mut self.clauses, &mut self.trail)?;
+                .visit_all(lit, &mut self.clauses, &mut self.trail)?;
             if conflict.is_some() {
                 return Ok(conflict);
             }
@@ -292,11 +280,12 @@ impl Search {
     }
 
     /// Collects a clause. The first `fixed` literals of the trail have clauses of their own, which
-    /// become hints at once, each of them once; for the other literals clauses are needed then.
+    /// become hints at once, each of them once; for the others before `end` clauses are needed then.
     fn collect(
         &mut self,
         place: u32,
         fixed: usize,
+        end: usize,
         hints: &mut Vec<u32>,
     ) -> Result<(), MemoryError> {
         self.make_recent(place)?;
@@ -304,6 +293,9 @@ impl Search {
         for word in self.clauses.lits(place) {
             let lit = Lit::from(*word);
             let i = self.trail.order(lit);
+            if i >= end {
+                continue;
+            }
             if i >= fixed {
                 self.needed.add(i);
             } else if self.marked.add(lit)? {
@@ -324,17 +316,17 @@ impl Search {
     ) -> Result<(), MemoryError> {
         self.marked.clear();
         self.chain.clear();
-        self.needed.start(fixed, self.trail.len());
-        self.collect(place, fixed, hints)?;
-        for _ in fixed..self.trail.len() {
-            let Some(i) = self.needed.last() else {
+        let end = self.trail.len();
+        self.needed.start(fixed, end);
+        self.collect(place, fixed, end, hints)?;
+        for _ in fixed..end {
+            let Some(i) = self.needed.take_last() else {
                 break;
             };
             let reason = self.trail.reason(i);
             if reason != 0 {
-                self.collect(reason, fixed, hints)?;
+                self.collect(reason, fixed, i, hints)?;
             }
-            self.needed.remove(i);
         }
         self.chain.reverse();
         hints.extend_from_slice(&self.chain)?;
