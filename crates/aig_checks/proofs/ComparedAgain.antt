@@ -48,6 +48,7 @@ module _ {C W : Type 0} (left : C → Option (List ℕ)) (failed : C → Bool)
   tells_why (errors.Equality e) told = tt
   tells_why (errors.Lasso e) told = tt
   tells_why (errors.Unmade e) told = tt
+  tells_why (errors.Steps e) told = tt
 
 -- the command that is run again refuses it so
 pub refused_again : {R S C P Q W : Type 0} {left : R → Option (List ℕ)} {failed : R → Bool}

@@ -1,5 +1,5 @@
 -- What a command printed on files that were opened, and was flushed.
-use Rattle.aig_base.proofs.Words.{◌≡◌, Bool, false, List, [], ◌∷◌, ℕ, Option, Some, Ok, Err, refl, Appends, Keeps}
+use Rattle.aig_base.proofs.Words.{◌≡◌, Bool, false, List, [], ◌∷◌, ℕ, Option, Some, Ok, Err, inl, inr, refl, Appends, Keeps}
 use Rattle.std.specs.Prelude.{IfErr, IsTrue, Result}
 use Rattle.aig_command_line.proofs.Kept.{appends_kept, stops_unflushed}
 use Rattle.aig_command_line.specs.declared.files.OpenError.{OpenError}
@@ -28,6 +28,7 @@ use Rattle.aig_checks.specs.Justice.{lassos_of, print_of}
 use Rattle.aig_checks.specs.Living.{ActsFair, ActsLasso, CertifiesText, Concludes, IsMadeOwn, IsOfMaking, RefutesText, RunsMade, SavesText, ShowsLasso, TellsMade, made_verdict, no_lasso_line, no_run_line}
 use Rattle.aig_checks.specs.Pairs.{IsErrorOfPair, RunsPair, TellsOfPair, always_line, other_verdict_of, own_text, safe_line}
 use Rattle.aig_checks.specs.Safe.{RunsSafe}
+use Rattle.aig_checks.specs.SafeBySteps.{ActsBySteps, OpensAll, RunsSafeBySteps}
 use Rattle.aig_runs.specs.declared.window.Window.{Window}
 use Rattle.aig_checks.specs.Running.{Runs, nothing_fails, nothing_given, verdict_of}
 
@@ -43,6 +44,16 @@ module _ {F : Type 0} (Holds Also : F → Type 0) (Fails AlsoFails : CheckError 
   opening_on : (opens : List ℕ → Result F OpenError → Type 0) (path : List ℕ)
       → Opening opens path Holds Fails → Opening opens path Also AlsoFails
   opening_on opens path o = record { file = o.file; opened = o.opened; leads = leads_on o.file o.leads }
+
+-- so where files were opened at all paths
+all_on : {F : Type 0} (opens : List ℕ → Result F OpenError → Type 0) (paths : List (List ℕ))
+    (Holds Also : List F → Type 0) (Fails AlsoFails : CheckError → Type 0)
+    → ((fs : List F) → Holds fs → Also fs) → ((e : CheckError) → Fails e → AlsoFails e)
+    → OpensAll opens paths Holds Fails → OpensAll opens paths Also AlsoFails
+all_on opens [] Holds Also Fails AlsoFails on off holds = on [] holds
+all_on opens (path ∷ paths) Holds Also Fails AlsoFails on off o =
+    opening_on _ _ _ _
+    (λ f. all_on opens paths _ _ _ _ (λ fs. on (f ∷ fs)) off) off opens path o
 
 -- ---- the flush after an answer
 
@@ -169,6 +180,48 @@ module _ {W : Type 0} (held : W → Option (List ℕ)) (write_failed : W → Boo
         }
     safe_ended left failed base_left base_failed step_left step_failed k form base_optimize
         step_optimize limit r rest p used q spent (Err e) runs never = absurd never
+
+    steps_ended : {R P Q : Type 0} (left : R → Option (List ℕ)) (failed : R → Bool)
+        (base_left : P → Option (List ℕ)) (base_failed : P → Bool)
+        (step_left : Q → Option (List ℕ)) (step_failed : Q → Bool) (k : ℕ) (form : Window)
+        (base_optimize step_optimize : Bool) (limit : ℕ) (r rest : R) (ps used : List P)
+        (q spent : Q)
+        (done : Result Unit CheckError)
+        → RunsSafeBySteps left failed base_left base_failed step_left step_failed held write_failed
+        k form base_optimize step_optimize limit r ps q w (Ok u) rest used spent made
+        → EndsBy (write_failed flat) done
+        → RunsSafeBySteps left failed base_left base_failed step_left step_failed held write_failed
+        k form base_optimize step_optimize limit r ps q w done rest used spent flat
+    steps_ended left failed base_left base_failed step_left step_failed k form base_optimize
+        step_optimize limit r rest ps used q spent (Ok v) runs sound = record {
+          verdict = runs.verdict;
+          own = tt;
+          safe = λ taken. runs.safe tt;
+          ok = (appends_kept (held w) (held made) (held flat) safe_line runs.ok.0 keeps, sound);
+          stopped = λ is. cc;
+          kept = tt;
+          refusal = tt;
+          base_unread = tt;
+          step_unread = tt;
+          base_stream = λ n is. cc;
+          step_stream = λ is. cc;
+        }
+    steps_ended left failed base_left base_failed step_left step_failed k form base_optimize
+        step_optimize limit r rest ps used q spent (Err errors.Write) runs lost = record {
+          verdict = runs.verdict;
+          own = tt;
+          safe = λ taken. runs.safe tt;
+          ok = tt;
+          stopped = λ is. stops safe_line runs.ok.0 lost;
+          kept = λ not. absurd (not refl);
+          refusal = tt;
+          base_unread = λ n no. absurd no;
+          step_unread = λ no. absurd no;
+          base_stream = λ n is. cc;
+          step_stream = λ is. cc;
+        }
+    steps_ended left failed base_left base_failed step_left step_failed k form base_optimize
+        step_optimize limit r rest ps used q spent (Err e) runs never = absurd never
 
     module _ {R S C P Q : Type 0} (left : R → Option (List ℕ)) (failed : R → Bool)
         (left_of : S → Option (List ℕ)) (failed_of : S → Bool) (given : C → Option (List ℕ))
@@ -400,6 +453,31 @@ module _ {F W : Type 0} (opens : List ℕ → Result F OpenError → Type 0) (le
       (λ e no. let is = no.0 in cc) opens path acts
   lasso_ended limit property c paths further acts = absurd acts
 
+  by_steps_ended : (limit k : ℕ) (form : Window) (base_optimize step_optimize : Bool)
+      (further : List (List ℕ)) (r rest : F)
+      → ActsBySteps opens left failed left failed held write_failed limit k form base_optimize
+      step_optimize further r w (Ok u) rest made
+      → ActsBySteps opens left failed left failed held write_failed limit k form base_optimize
+      step_optimize further r w done rest flat
+  by_steps_ended limit k form base_optimize step_optimize further r rest
+      (bases, step, spelled, inl short) = let is = short.0 in cc
+  by_steps_ended limit k form base_optimize step_optimize further r rest
+      (bases, step, spelled, inr opened) = (
+        bases,
+        step,
+        spelled,
+        inr (all_on opens bases _ _ _ _
+            (λ ps. opening_on _ _ _ _
+            (λ q so. (
+              so.0,
+              so.1,
+              steps_ended held write_failed w made flat keeps u left failed left failed left failed
+                  k form base_optimize step_optimize limit r rest ps so.0 q so.1 done so.2 ends,
+            ))
+            (λ e no. let is = no.0 in cc) opens step)
+            (λ e no. let is = no.0 in cc) opened),
+      )
+
   -- a command that was run, and what it printed flushed
   pub acts_ended : (limit : ℕ) (c : Command) (paths further : List (List ℕ))
       → Acts opens left failed held write_failed limit c paths further w (Ok u) made
@@ -424,6 +502,11 @@ module _ {F W : Type 0} (opens : List ℕ → Result F OpenError → Type 0) (le
       ))
       (λ e no. let is = no.0 in cc) opens step)
       (λ e no. let is = no.0 in cc) opens base)
+      (λ e no. let is = no.0 in cc) opens path acts
+  acts_ended limit (commands.SafeBySteps k form base_optimize step_optimize) (path ∷ []) further
+      acts =
+      opening_on _ _ _ _
+      (λ r so. (so.0, by_steps_ended limit k form base_optimize step_optimize further r so.0 so.1))
       (λ e no. let is = no.0 in cc) opens path acts
   acts_ended limit (commands.EqualBy optimize) (path ∷ beside ∷ [])
       (certificate ∷ base ∷ step ∷ []) acts =

@@ -9,6 +9,8 @@ mod Outcomes
 mod Pairing
 mod Placing
 mod Proving
+mod ProvingSteps
+mod OpeningAll
 mod SafeAgain
 mod Shown
 mod Examples

@@ -34,6 +34,7 @@ tells_why held write_failed limit c base step bytes others w made f g (errors.Eq
 tells_why held write_failed limit c base step bytes others w made f g (errors.Lasso e) told = tt
 tells_why held write_failed limit c base step bytes others w made f g (errors.Miter e) told = tt
 tells_why held write_failed limit c base step bytes others w made f g (errors.Unmade e) told = tt
+tells_why held write_failed limit c base step bytes others w made f g (errors.Steps e) told = tt
 
 -- a value of the same file, with another meaning
 pub read_as : {T U : Type 0} {Holds : List ℕ → File → Type 0} (Means : File → T → Type 0)

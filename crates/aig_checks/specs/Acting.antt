@@ -20,6 +20,7 @@ use Rattle.aig_checks.specs.Comparing.{RunsComparing}
 use Rattle.aig_checks.specs.Living.{ActsFair, ActsLasso}
 use Rattle.aig_checks.specs.Pairs.{RunsPair}
 use Rattle.aig_checks.specs.Safe.{RunsSafe}
+use Rattle.aig_checks.specs.SafeBySteps.{ActsBySteps}
 use Rattle.aig_checks.specs.Running.{Runs, nothing_fails, nothing_given}
 use Rattle.aig_checks.specs.Words.{Give, IsCall}
 
@@ -111,6 +112,13 @@ Acts {F} opens left failed held write_failed limit (commands.EqualBy optimize)
     (λ e. (result ≡ Err e) × (made ≡ w)))
     (λ e. (result ≡ Err e) × (made ≡ w)))
     (λ e. (result ≡ Err e) × (made ≡ w)))
+    (λ e. (result ≡ Err e) × (made ≡ w))
+Acts {F} opens left failed held write_failed limit
+    (commands.SafeBySteps k form base_optimize step_optimize) (path ∷ []) further w result made =
+    Opening opens path
+    (λ r. (rest : F)
+    × ActsBySteps opens left failed left failed held write_failed limit k form base_optimize
+    step_optimize further r w result rest made)
     (λ e. (result ≡ Err e) × (made ≡ w))
 Acts opens left failed held write_failed limit (commands.Fair justice c) paths further w result
     made =

@@ -1,7 +1,7 @@
 -- Part of what is promised.
 -- What is told of an error: the path of the file that it is about, and the place where reading that
 -- file stopped.
-use Rattle.std.specs.Prelude.{◌≡◌, ℕ, ◌+◌, ◌⊎◌, Bool, List, [], ◌∷◌, ◌++◌, Contains, Option, None, Result, Ok, Err, IfSome, slice_get}
+use Rattle.std.specs.Prelude.{◌≡◌, ℕ, ◌+◌, ◌-◌, ◌⊎◌, Bool, List, [], ◌∷◌, ◌++◌, Contains, length, Option, None, Result, Ok, Err, IfSome, slice_get}
 use Rattle.aig_answers.specs.Answers.{IsAsked}
 use Rattle.aig_certificates.specs.Comparing.{EqualsBy}
 use Rattle.aig_command_line.specs.Came.{IsPlaceIn}
@@ -43,6 +43,8 @@ word_of subjects.Other paths further = slice_get paths 1
 word_of subjects.Given paths further = slice_get further 0
 word_of subjects.Step paths further = slice_get further 1
 word_of subjects.Third paths further = slice_get further 2
+word_of (subjects.Nth n) paths further = slice_get further n
+word_of subjects.Last paths further = slice_get further (length further - 1)
 word_of subject paths further = None
 
 -- it is that word, or one of those at which no file is opened

@@ -19,6 +19,7 @@ use crate::living::{refute_at, run_fair};
 use crate::pairs::{print_certified, print_equal, print_obligations};
 use crate::run::print_run;
 use crate::safe::print_safe;
+use crate::safe_by_steps::run_safe_by_steps;
 use crate::tool::{
     CheckError, print_clauses, print_inductive, print_refuted, print_window, print_witness,
 };
@@ -34,6 +35,7 @@ pub const USAGE: &str =
     certified FILE CERT BASE STEP [raw], equal FILE OTHER K PROOF [raw], obligations FILE CERT [raw], \
     bounded FILE K [raw], refuted FILE to K PROOF [raw], witness FILE to K SOLUTION [raw], \
     safe FILE to K BASE STEP [distinct] [raw | raw-base | raw-step], \
+    safe FILE each K P0 .. PK STEP [distinct] [raw | raw-base | raw-step], \
     equal FILE OTHER to K BASE STEP [distinct] [raw | raw-base | raw-step], \
     equal FILE OTHER by CERT BASE STEP [raw]";
 
@@ -423,6 +425,23 @@ fn run<F: Opens, W: Sink>(
                 w,
             )
         }
+        Command::SafeBySteps {
+            k,
+            form,
+            base_optimize,
+            step_optimize,
+        } => run_safe_by_steps(
+            alloc,
+            limit,
+            files,
+            k,
+            form,
+            base_optimize,
+            step_optimize,
+            path,
+            call.further,
+            w,
+        ),
         Command::EqualBy { optimize } => {
             let beside = call.paths[1].as_str();
             let certificate = call.further[0].as_str();

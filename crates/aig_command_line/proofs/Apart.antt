@@ -6,9 +6,9 @@ use Rattle.aig_base.proofs.Words.{get_or_read}
 use Rattle.aig_format.specs.Text.{IsNumber}
 use Rattle.aig_command_line.specs.declared.arguments.Form.{Form}
 use Rattle.aig_command_line.specs.declared.arguments.Step.{Step}
-use Rattle.aig_command_line.specs.declared.arguments.Step.TheVariants.{At, By, UpTo}
+use Rattle.aig_command_line.specs.declared.arguments.Step.TheVariants.{At, By, Each, UpTo}
 use Rattle.aig_command_line.specs.Arguments.{AreStep, Arguments, Gives}
-use Rattle.aig_command_line.proofs.Giving.{after_paths, by_no_number, one_given, to_no_number}
+use Rattle.aig_command_line.proofs.Giving.{after_paths, by_no_number, each_no_number, one_given, to_no_number}
 
 same_first : (a b : List ℕ) (l m : List (List ℕ)) → a ∷ l ≡ b ∷ m → a ≡ b
 same_first a b l m is = cc
@@ -48,8 +48,8 @@ other name x (y ∷ ys) apart a (suc k, low, is) =
 
 -- ---- commands that no words give both
 
--- one names a step by K, by the word `to` and K, or none by the word `by`, and the other by another
--- of these
+-- one names a step by K, by the word `to` or `each` and K, or none by the word `by`, and the other by
+-- another of these
 abbrev pub steps_differ : Step → Step → Bool
 steps_differ At UpTo = true
 steps_differ UpTo At = true
@@ -57,6 +57,12 @@ steps_differ At By = true
 steps_differ By At = true
 steps_differ UpTo By = true
 steps_differ By UpTo = true
+steps_differ At Each = true
+steps_differ Each At = true
+steps_differ UpTo Each = true
+steps_differ Each UpTo = true
+steps_differ By Each = true
+steps_differ Each By = true
 steps_differ s t = false
 
 -- their names differ, or what names a step after as many paths, by a test that computes
@@ -74,7 +80,7 @@ abbrev pub are_apart : {A : Type 0} → (A → List ℕ) → (A → Form) → Li
 are_apart name form [] = true
 are_apart name form (x ∷ xs) = cond (exclude_all name form x xs) (are_apart name form xs) false
 
--- a number is neither the word `to` nor `by`, and these aren't one
+-- a number is none of the words `to`, `by` and `each`, and no two of these are one
 steps_apart : (s t : Step) (k m : ℕ) (a b rest more : List (List ℕ)) → IsTrue (steps_differ s t)
     → AreStep s k a → AreStep t m b
     → ¬ (a ++ rest ≡ b ++ more)
@@ -104,6 +110,34 @@ steps_apart By UpTo k m a b rest more differ h i same =
     ∙ ap (λ l. l ++ more) i.1 in
     other_text (codes "by") (codes "to") refl
     (same_first (codes "by") (codes "to") rest (i.0 ∷ more) words)
+steps_apart At Each k m a b rest more differ h i same =
+    let words : h.0 ∷ rest ≡ codes "each" ∷ i.0 ∷ more = sym (ap (λ l. l ++ rest) h.1) ∙ same
+    ∙ ap (λ l. l ++ more) i.1 in
+    each_no_number k (subst (IsNumber k) (same_first h.0 (codes "each") rest (i.0 ∷ more) words) h.2)
+steps_apart Each At k m a b rest more differ h i same =
+    let words : codes "each" ∷ h.0 ∷ rest ≡ i.0 ∷ more = sym (ap (λ l. l ++ rest) h.1) ∙ same
+    ∙ ap (λ l. l ++ more) i.1 in
+    each_no_number m (subst (IsNumber m) (sym (same_first (codes "each") i.0 (h.0 ∷ rest) more words)) i.2)
+steps_apart UpTo Each k m a b rest more differ h i same =
+    let words : codes "to" ∷ h.0 ∷ rest ≡ codes "each" ∷ i.0 ∷ more = sym (ap (λ l. l ++ rest) h.1) ∙ same
+    ∙ ap (λ l. l ++ more) i.1 in
+    other_text (codes "to") (codes "each") refl
+    (same_first (codes "to") (codes "each") (h.0 ∷ rest) (i.0 ∷ more) words)
+steps_apart Each UpTo k m a b rest more differ h i same =
+    let words : codes "each" ∷ h.0 ∷ rest ≡ codes "to" ∷ i.0 ∷ more = sym (ap (λ l. l ++ rest) h.1) ∙ same
+    ∙ ap (λ l. l ++ more) i.1 in
+    other_text (codes "each") (codes "to") refl
+    (same_first (codes "each") (codes "to") (h.0 ∷ rest) (i.0 ∷ more) words)
+steps_apart By Each k m a b rest more differ h i same =
+    let words : codes "by" ∷ rest ≡ codes "each" ∷ i.0 ∷ more = sym (ap (λ l. l ++ rest) h.1) ∙ same
+    ∙ ap (λ l. l ++ more) i.1 in
+    other_text (codes "by") (codes "each") refl
+    (same_first (codes "by") (codes "each") rest (i.0 ∷ more) words)
+steps_apart Each By k m a b rest more differ h i same =
+    let words : codes "each" ∷ h.0 ∷ rest ≡ codes "by" ∷ more = sym (ap (λ l. l ++ rest) h.1) ∙ same
+    ∙ ap (λ l. l ++ more) i.1 in
+    other_text (codes "each") (codes "by") refl
+    (same_first (codes "each") (codes "by") (h.0 ∷ rest) more words)
 steps_apart s t k m a b rest more differ h i same = cc
 
 module _ {A : Type 0} (name : A → List ℕ) (form : A → Form) (words : List (List ℕ)) where

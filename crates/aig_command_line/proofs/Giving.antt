@@ -6,8 +6,8 @@ use Rattle.std.proofs.lemmas.List.{length-map, map-append, take-append-drop}
 use Rattle.aig_format.specs.Text.{IsNumber, value_of}
 use Rattle.aig_command_line.specs.declared.arguments.Form.{Form}
 use Rattle.aig_command_line.specs.declared.arguments.Step.{Step}
-use Rattle.aig_command_line.specs.declared.arguments.Step.TheVariants.{Absent, At, UpTo, By}
-use Rattle.aig_command_line.specs.Arguments.{AreStep, Arguments, Gives, setting_words}
+use Rattle.aig_command_line.specs.declared.arguments.Step.TheVariants.{Absent, At, UpTo, By, Each}
+use Rattle.aig_command_line.specs.Arguments.{AreStep, Arguments, Gives, further_of, setting_words}
 use Rattle.aig_command_line.specs.Settings.{AreSettings}
 
 -- ---- lists
@@ -65,6 +65,7 @@ step_length Absent k m a b h i = ap length h.1 ∙ sym (ap length i.1)
 step_length At k m a b h i = ap length h.1 ∙ sym (ap length i.1)
 step_length UpTo k m a b h i = ap length h.1 ∙ sym (ap length i.1)
 step_length By k m a b h i = ap length h.1 ∙ sym (ap length i.1)
+step_length Each k m a b h i = ap length h.1 ∙ sym (ap length i.1)
 
 same_step : (form : Step) (k m : ℕ) (words : List (List ℕ)) → AreStep form k words
     → AreStep form m words
@@ -79,6 +80,10 @@ same_step UpTo k m words h i =
     let same : h.0 ≡ i.0 = cc in
     sym h.2.value ∙ ap value_of same ∙ i.2.value
 same_step By k m words h i = h.0 ∙ sym i.0
+same_step Each k m words h i =
+    let words_are = sym h.1 ∙ i.1 in
+    let same : h.0 ≡ i.0 = cc in
+    sym h.2.value ∙ ap value_of same ∙ i.2.value
 
 -- a number that names a step
 pub number_at : (form : Step) (k : ℕ) (words : List (List ℕ)) (word : List ℕ) (after : List (List ℕ)) → form ≡ At → IsNumber k word → words ≡ word ∷ after
@@ -87,6 +92,7 @@ number_at Absent k words word after is number are = cc
 number_at At k words word after is number are = (word ∷ [], (word, refl, number), are)
 number_at UpTo k words word after is number are = cc
 number_at By k words word after is number are = cc
+number_at Each k words word after is number are = cc
 
 -- and one after the word `to`
 pub number_up_to : (form : Step) (k : ℕ) (words : List (List ℕ)) (word : List ℕ) (rest after : List (List ℕ)) → form ≡ UpTo → words ≡ codes "to" ∷ rest → IsNumber k word → rest ≡ word ∷ after
@@ -96,6 +102,17 @@ number_up_to At k words word rest after is to number are = cc
 number_up_to UpTo k words word rest after is to number are =
     (codes "to" ∷ word ∷ [], (word, refl, number), to ∙ ap (λ l. codes "to" ∷ l) are)
 number_up_to By k words word rest after is to number are = cc
+number_up_to Each k words word rest after is to number are = cc
+
+-- and one after the word `each`
+pub number_each : (form : Step) (k : ℕ) (words : List (List ℕ)) (word : List ℕ) (rest after : List (List ℕ)) → form ≡ Each → words ≡ codes "each" ∷ rest → IsNumber k word → rest ≡ word ∷ after
+    → (names : List (List ℕ)) × AreStep form k names × (words ≡ names ++ after)
+number_each Absent k words word rest after is each number are = cc
+number_each At k words word rest after is each number are = cc
+number_each UpTo k words word rest after is each number are = cc
+number_each By k words word rest after is each number are = cc
+number_each Each k words word rest after is each number are =
+    (codes "each" ∷ word ∷ [], (word, refl, number), each ∙ ap (λ l. codes "each" ∷ l) are)
 
 -- the word `by` names none
 pub none_by : (form : Step) (words after : List (List ℕ)) → form ≡ By → words ≡ codes "by" ∷ after
@@ -104,6 +121,7 @@ none_by Absent words after is are = cc
 none_by At words after is are = cc
 none_by UpTo words after is are = cc
 none_by By words after is are = (codes "by" ∷ [], (refl, refl), are)
+none_by Each words after is are = cc
 
 -- a word that is no number
 pub no_number : (words : List (List ℕ)) (first : List ℕ) (after : List (List ℕ))
@@ -121,6 +139,10 @@ to_no_number k number = omega (arith, number.each.0.1)
 -- nor is the word `by`
 pub by_no_number : (k : ℕ) → ¬ IsNumber k (codes "by")
 by_no_number k number = omega (arith, number.each.0.1)
+
+-- nor is the word `each`
+pub each_no_number : (k : ℕ) → ¬ IsNumber k (codes "each")
+each_no_number k number = omega (arith, number.each.0.1)
 
 -- ---- parts of words that give arguments
 
@@ -144,12 +166,18 @@ module _ (name : List ℕ) (form : Form) (words : List (List ℕ)) (a : Argument
           same_parts steps rest g.steps _ (after_paths (steps ++ rest) are).1
           (step_length form.step k a.step steps g.steps names g.step)
 
-      pub after_further : (further rest : List (List ℕ)) → length further ≡ form.further
+      pub same_number : (rest : List (List ℕ)) → words ≡ first ∷ (paths ++ (steps ++ rest))
+          → k ≡ a.step
+      same_number rest are =
+          same_step form.step k a.step g.steps
+          (subst (AreStep form.step k) (after_step rest are).0 names) g.step
+
+      pub after_further : (further rest : List (List ℕ)) → length further ≡ further_of form k
           → words ≡ first ∷ (paths ++ (steps ++ (further ++ rest)))
           → (further ≡ a.further) × (rest ≡ setting_words a.distinct a.optimize)
       after_further further rest so_many_more are =
           same_parts further rest a.further _ (after_step (further ++ rest) are).1
-          (so_many_more ∙ sym g.further)
+          (so_many_more ∙ ap (further_of form) (same_number (further ++ rest) are) ∙ sym g.further)
 
 same_arguments : (p q : List (List ℕ)) (k m : ℕ) (r s : List (List ℕ)) (d e o u : Bool) → p ≡ q → k ≡ m → r ≡ s → d ≡ e → o ≡ u → ◌≡◌ {A = Arguments} (record { paths = p; step = k; further = r; distinct = d; optimize = o }) (record { paths = q; step = m; further = s; distinct = e; optimize = u })
 same_arguments p q k m r s d e o u a b c f g = rw (a, b, c, f, g) refl
@@ -191,30 +219,31 @@ module _ (name : List ℕ) (form : Form) (words : List (String Global)) (first :
     steps_are = paths_are ∙ ap (λ l. string_bytes first ∷ (map string_bytes paths ++ l)) step_is
 
     -- too few words follow
-    pub no_further : length last < form.further → (a : Arguments)
+    pub no_further : length last < further_of form k → (a : Arguments)
         → ¬ Gives name form (map string_bytes words) a
     no_further few a g =
         let follow = (after_step name form (map string_bytes words) a g (string_bytes first) (map string_bytes paths) so_many k steps names (map string_bytes last) steps_are).1 in
+        let number = same_number name form (map string_bytes words) a g (string_bytes first) (map string_bytes paths) so_many k steps names (map string_bytes last) steps_are in
         let long = ap length follow in
         let parts = length-append a.further (setting_words a.distinct a.optimize) in
         let same = length-map last string_bytes in
-        let wanted = g.further in
+        let wanted : length a.further ≡ further_of form k = g.further ∙ ap (further_of form) (sym number) in
         omega (arith, long, parts, same, wanted)
 
-    module _ (further end : List (String Global)) (split_again : IsSplitAt last form.further further end) where
+    module _ (further end : List (String Global)) (split_again : IsSplitAt last (further_of form k) further end) where
       all_are : map string_bytes words
           ≡ string_bytes first ∷ (map string_bytes paths ++ (steps ++ (map string_bytes further ++ map string_bytes end)))
       all_are =
           steps_are
           ∙ ap (λ l. string_bytes first ∷ (map string_bytes paths ++ (steps ++ l)))
-          (cut last further end form.further split_again).0
+          (cut last further end (further_of form k) split_again).0
 
       -- the last words are no settings
       pub no_settings : ((d o : Bool) → ¬ AreSettings form d o (map string_bytes end))
           → (a : Arguments)
           → ¬ Gives name form (map string_bytes words) a
       no_settings none a g =
-          let follow = after_further name form (map string_bytes words) a g (string_bytes first) (map string_bytes paths) so_many k steps names (map string_bytes further) (map string_bytes end) (cut last further end form.further split_again).1 all_are in
+          let follow = after_further name form (map string_bytes words) a g (string_bytes first) (map string_bytes paths) so_many k steps names (map string_bytes further) (map string_bytes end) (cut last further end (further_of form k) split_again).1 all_are in
           none a.distinct a.optimize (follow.1, g.distinct, g.raw)
 
       -- all fit
@@ -229,7 +258,7 @@ module _ (name : List ℕ) (form : Form) (words : List (String Global)) (first :
             ∙ ap (λ n. n ∷ (map string_bytes paths ++ (steps ++ (map string_bytes further ++ setting_words d o)))) is;
         paths = so_many;
         step = names;
-        further = (cut last further end form.further split_again).1;
+        further = (cut last further end (further_of form k) split_again).1;
         distinct = settings.1;
         raw = settings.2;
       }

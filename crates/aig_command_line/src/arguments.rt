@@ -1,7 +1,8 @@
 //! What a command takes after its name.
 
 ghost use Rattle.std.specs.Prelude.{◌≡◌, ◌↔◌, ◌<◌, ◌^◌, ◌++◌, ◌∷◌, ℕ, Bool, true, IfNone, IfSome, IsTrue, List, None, Some, codes, length, map, slice_get, string_bytes};
-ghost use Rattle.aig_command_line.specs.Arguments.{AreStep, Arguments, Gives, of_paths, seen};
+ghost use Rattle.std.specs.List.{IsSplitAt};
+ghost use Rattle.aig_command_line.specs.Arguments.{AreStep, Arguments, Gives, further_by, further_of, of_paths, seen};
 ghost use Rattle.aig_command_line.specs.Settings.{AreSettings, IsRawSetting};
 ghost use Rattle.aig_format.specs.Text.{IsNumber};
 
@@ -18,6 +19,8 @@ pub enum Step {
     UpTo,
     /// The word `by`, which names none.
     By,
+    /// The word `each`, and then K; K + 1 further paths come after it, one for each of the steps 0 to K.
+    Each,
 }
 
 /// What a command takes after its name, in this order.
@@ -27,7 +30,7 @@ pub struct Form {
     pub paths: usize,
     /// Which words come after them and name a step.
     pub step: Step,
-    /// How many further paths come after these.
+    /// How many further paths come after these, and after the paths of each step.
     pub further: usize,
     /// Whether the word `distinct` may come after these.
     pub distinct: bool,
@@ -152,6 +155,20 @@ fn step_first(form: Step, words: &[String]) -> Option<(usize, &[String])>
         Step::At => number_first(words),
         Step::UpTo => number_first(after_word(words, "to")?),
         Step::By => Some((0, after_word(words, "by")?)),
+        Step::Each => number_first(after_word(words, "each")?),
+    }
+}
+
+/// The paths after step K, of which there are so many besides those of each step, and the words after these.
+fn further_first(step: Step, k: usize, further: usize, words: &[String]) -> Option<(&[String], &[String])>
+    requires { k < 2 ^ 32 }
+    ensures some { IfSome result
+        (λ p. IsSplitAt words.now (further_by step k further) p.0.now p.1.now) }
+    ensures none { IfNone result (length words.now < further_by step k further) }
+{
+    match step {
+        Step::Each => words.split_at_checked(further.checked_add(k + 1)?),
+        _ => words.split_at_checked(further),
     }
 }
 
@@ -162,7 +179,7 @@ pub fn arguments_of<'a>(name: &str, form: Form, words: &'a [String]) -> Option<G
     ensures none { IfNone result
         ((a : Arguments) → ¬ Gives name.now form (map string_bytes words.now) a) }
     ensures paths { IfSome result (λ g. length g.paths.now ≡ form.paths) }
-    ensures further { IfSome result (λ g. length g.further.now ≡ form.further) }
+    ensures further { IfSome result (λ g. length g.further.now ≡ further_of form g.step) }
     ensures small { IfSome result (λ g. g.step < 2 ^ 32) }
 {
     let (first, rest) = words.split_first()?;
@@ -171,7 +188,7 @@ pub fn arguments_of<'a>(name: &str, form: Form, words: &'a [String]) -> Option<G
     }
     let (paths, rest) = rest.split_at_checked(form.paths)?;
     let (step, rest) = step_first(form.step, rest)?;
-    let (further, rest) = rest.split_at_checked(form.further)?;
+    let (further, rest) = further_first(form.step, step, form.further, rest)?;
     let (distinct, optimize) = settings(form, rest)?;
     Some(Given {
         paths,

@@ -2,7 +2,7 @@
 
 ghost use Rattle.std.specs.Prelude.{◌≡◌, ◌<◌, ◌^◌, All, Contains, IfNone, IfSome, List, ℕ, length, map, string_bytes};
 ghost use Rattle.aig_command_line.specs.declared.arguments.Form.{Form};
-ghost use Rattle.aig_command_line.specs.Arguments.{Arguments, Gives, seen};
+ghost use Rattle.aig_command_line.specs.Arguments.{Arguments, Gives, further_of, seen};
 
 use crate::arguments::{Form, Given, arguments_of};
 
@@ -31,7 +31,8 @@ pub fn find<'a, A: HasForm>(all: &[A], words: &'a [String]) -> Option<(A, Given<
     ensures none { IfNone result (All (λ a. (g : Arguments)
         → ¬ Gives (A.name a) (A.form a) (map string_bytes words.now) g) all.now) }
     ensures paths { IfSome result (λ p. length p.1.paths.now ≡ (A.form p.0).paths) }
-    ensures further { IfSome result (λ p. length p.1.further.now ≡ (A.form p.0).further) }
+    ensures further { IfSome result
+        (λ p. length p.1.further.now ≡ further_of (A.form p.0) p.1.step) }
     ensures small { IfSome result (λ p. p.1.step < 2 ^ 32) }
 {
     for action in all {

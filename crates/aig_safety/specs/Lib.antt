@@ -1,1 +1,3 @@
+pub mod Bases
 pub mod Safety
+pub mod Steps

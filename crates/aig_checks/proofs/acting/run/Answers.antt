@@ -28,6 +28,13 @@ returns-in-Safe g c =
     let step = c.as_str-step.ensures.value ∙ ap string_bytes (sym second.is) in
     rw (names, further, c.in-Safe.is, sym path, sym base, sym step) c.run_safe.ensures
 
+pub returns-in-SafeBySteps : goal.returns-in-SafeBySteps
+returns-in-SafeBySteps g c =
+    let names = one_name c.args.call.now.paths.now c.index-call-0.result
+    (rw c.in-SafeBySteps.is at c.requires.paths) c.index-call-0.is in
+    let path = c.as_str-path.ensures.value ∙ ap string_bytes (sym c.index-call-0.is) in
+    rw (names, c.in-SafeBySteps.is, sym path) c.run_safe_by_steps.ensures
+
 pub returns-in-EqualBy : goal.returns-in-EqualBy
 returns-in-EqualBy g c =
     let other = c.index-call-1-in-EqualBy in
