@@ -10,13 +10,13 @@ use std::alloc::Global;
 const HEADER: usize = 5;
 
 /// The word that says how many literals a clause has.
-const LENGTH: usize = 2;
+const LENGTH: usize = 0;
 
 /// The word of a clause's number, which is 0 once it is removed.
-const NUMBER: usize = 0;
+const NUMBER: usize = 1;
 
 /// The word of the next clause with the same hash, by its place; 0 is the place of none.
-const NEXT: usize = 1;
+const NEXT: usize = 2;
 
 /// The word that says where the look for a literal to watch goes on, after the two that are
 /// watched. Of a short clause it says where its first watch stands.
@@ -341,7 +341,7 @@ impl Clauses {
         else {
             return Err(MemoryError::Memory);
         };
-        self.words.extend_from_slice(&[number, 0, len, 0, 0])?;
+        self.words.extend_from_slice(&[len, number, 0, 0, 0])?;
         for lit in lits {
             self.words.push(u32::from(*lit))?;
         }

@@ -1,7 +1,7 @@
 //! Clauses of more than three literals.
 
 use crate::clauses::{Clauses, Kind, Look};
-use crate::trail::{Trail, is_true};
+use crate::trail::Trail;
 use crate::watches::{Watch, Watches};
 use aig_base::{Lit, MemoryError};
 use std::alloc::Global;
@@ -14,18 +14,6 @@ enum Visit {
     Ends,
     /// It stays, and all literals of the clause are false.
     Conflict,
-}
-
-/// Where the first of the watches from `from` on stands whose other literal isn't true. Where there
-/// is none, it is how many watches there are.
-#[inline(always)]
-fn first_open(list: &[Watch<Lit>], from: usize, weights: &[u8]) -> usize {
-    for i in from..list.len() {
-        if !is_true(weights, list[i].others) {
-            return i;
-        }
-    }
-    list.len()
 }
 
 /// Clauses of some kind, of which two literals are watched, each beside a literal: where that is
@@ -128,8 +116,7 @@ impl Longs {
         self.stale.fill(0);
     }
 
-    /// Takes the next literal on the trail that is to be propagated along these clauses, if any, and
-    /// answers its inverse.
+    /// Takes the next literal on the trail that is to be propagated along these clauses, if any.
     pub(crate) fn next(&mut self, trail: &Trail) -> Option<Lit> {
         self.watches.next(trail)
     }
@@ -175,23 +162,23 @@ impl Longs {
         clauses: &mut Clauses,
         trail: &mut Trail,
     ) -> Result<Option<u32>, MemoryError> {
-        let mut at = first_open(list, 0, trail.weights());
+        let mut at = 0;
         for _ in 0..list.len() {
             if at >= list.len() {
                 break;
             }
-            let place = list[at].place;
-            match self.visit(place, lit, clauses, trail)? {
-                Visit::Stays(other) => {
-                    list[at].others = other;
-                    at += 1;
+            let watch = list[at];
+            if !trail.is_true(watch.others) {
+                match self.visit(watch.place, lit, clauses, trail)? {
+                    Visit::Stays(other) => list[at].others = other,
+                    Visit::Ends => {
+                        list.swap_remove(at);
+                        continue;
+                    }
+                    Visit::Conflict => return Ok(Some(watch.place)),
                 }
-                Visit::Ends => {
-                    list.swap_remove(at);
-                }
-                Visit::Conflict => return Ok(Some(place)),
             }
-            at = first_open(list, at, trail.weights());
+            at += 1;
         }
         Ok(None)
     }
@@ -204,14 +191,15 @@ impl Longs {
         clauses: &mut Clauses,
         trail: &mut Trail,
     ) -> Result<Option<u32>, MemoryError> {
-        let mut list = self.watches.take(lit);
-        let count = list.len();
-        let conflict = self.visit_list(lit, &mut list, clauses, trail)?;
-        let has_fewer = list.len() < count;
-        self.watches.put(lit, list);
-        if has_fewer && self.is_sparse(lit) {
+        if self.watches.is_unwatched(lit) {
+            return Ok(None);
+        }
+        if self.is_sparse(lit) {
             self.sweep(lit, clauses);
         }
+        let mut list = self.watches.take(lit);
+        let conflict = self.visit_list(lit, &mut list, clauses, trail)?;
+        self.watches.put(lit, list);
         Ok(conflict)
     }
 }

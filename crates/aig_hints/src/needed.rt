@@ -58,15 +58,19 @@ impl Needed {
         }
     }
 
-    /// Takes the last literal out, and says where it stands, if there is one.
-    pub(crate) fn take_last(&mut self) -> Option<usize> {
+    /// Removes the literal that stands here.
+    pub(crate) fn remove(&mut self, i: usize) {
+        if i / BITS < self.words.len() {
+            self.words[i / BITS] &= !(1 << (i % BITS));
+        }
+    }
+
+    /// Where the last literal stands, if there is one.
+    pub(crate) fn last(&mut self) -> Option<usize> {
         for i in (self.start..self.end.min(self.words.len())).rev() {
-            let word = self.words[i];
-            if let Some(bit) = word.checked_ilog2() {
-                let bit = bit as usize % BITS;
-                self.words[i] = word & !(1 << bit);
+            if let Some(bit) = self.words[i].checked_ilog2() {
                 self.end = i + 1;
-                return Some(i.saturating_mul(BITS).saturating_add(bit));
+                return Some(i.saturating_mul(BITS).saturating_add(bit as usize));
             }
         }
         None

@@ -221,11 +221,23 @@ impl Search {
         Ok(())
     }
 
-    /// Makes true what follows along short and recent clauses, up to one whose literals are all false,
-    /// and returns its place.
+    /// Makes true what follows along short clauses, up to one whose literals are all false, and
+    /// returns its place.
+    fn propagate_shorts(&mut self) -> Option<u32> {
+        for _ in 0..self.units.len() {
+            let lit = self.shorts.next(&self.trail)?;
+            let conflict = self.shorts.visit_all(!lit, &mut self.trail);
+            if conflict.is_some() {
+                return conflict;
+            }
+        }
+        None
+    }
+
+    /// The same along recent clauses too.
     fn propagate_recent(&mut self) -> Result<Option<u32>, MemoryError> {
         for _ in 0..self.units.len() {
-            let conflict = self.shorts.propagate(&mut self.trail);
+            let conflict = self.propagate_shorts();
             if conflict.is_some() {
                 return Ok(conflict);
             }
@@ -234,7 +246,7 @@ impl Search {
             };
             let conflict = self
                 .recent
-                .visit_all(lit, &mut self.clauses, &mut self.trail)?;
+                .visit_all(!lit, &mut self.clauses, &mut self.trail)?;
             if conflict.is_some() {
                 return Ok(conflict);
             }
@@ -254,7 +266,7 @@ impl Search {
             };
             let conflict = self
                 .rest
-                .visit_all(lit, &mut self.clauses, &mut self.trail)?;
+                .visit_all(!lit, &mut self.clauses, &mut self.trail)?;
             if conflict.is_some() {
                 return Ok(conflict);
             }
@@ -280,12 +292,11 @@ impl Search {
     }
 
     /// Collects a clause. The first `fixed` literals of the trail have clauses of their own, which
-    /// become hints at once, each of them once; for the others before `end` clauses are needed then.
+    /// become hints at once, each of them once; for the other literals clauses are needed then.
     fn collect(
         &mut self,
         place: u32,
         fixed: usize,
-        end: usize,
         hints: &mut Vec<u32>,
     ) -> Result<(), MemoryError> {
         self.make_recent(place)?;
@@ -293,9 +304,6 @@ impl Search {
         for word in self.clauses.lits(place) {
             let lit = Lit::from(*word);
             let i = self.trail.order(lit);
-            if i >= end {
-                continue;
-            }
             if i >= fixed {
                 self.needed.add(i);
             } else if self.marked.add(lit)? {
@@ -316,17 +324,17 @@ impl Search {
     ) -> Result<(), MemoryError> {
         self.marked.clear();
         self.chain.clear();
-        let end = self.trail.len();
-        self.needed.start(fixed, end);
-        self.collect(place, fixed, end, hints)?;
-        for _ in fixed..end {
-            let Some(i) = self.needed.take_last() else {
+        self.needed.start(fixed, self.trail.len());
+        self.collect(place, fixed, hints)?;
+        for _ in fixed..self.trail.len() {
+            let Some(i) = self.needed.last() else {
                 break;
             };
             let reason = self.trail.reason(i);
             if reason != 0 {
-                self.collect(reason, fixed, i, hints)?;
+                self.collect(reason, fixed, hints)?;
             }
+            self.needed.remove(i);
         }
         self.chain.reverse();
         hints.extend_from_slice(&self.chain)?;

@@ -1,9 +1,7 @@
 //! Clauses of two and three literals.
 
-ghost use Rattle.std.specs.Prelude.{◌<◌, IfSome, length};
-
 use crate::clauses::Clauses;
-use crate::trail::{Trail, is_forced};
+use crate::trail::Trail;
 use crate::watches::{Watch, Watches};
 use aig_base::{Lit, MemoryError};
 
@@ -85,45 +83,15 @@ impl Watches<[Lit; 2]> {
         }
     }
 
-    /// Makes true what follows along these clauses, up to one whose literals are all false, and returns
-    /// its place.
-    pub(crate) fn propagate(&mut self, trail: &mut Trail) -> Option<u32> {
-        for _ in 0..trail.size() {
-            let lit = self.next(trail)?;
-            let conflict = visit_all(self.list(lit)?, trail);
-            if conflict.is_some() {
-                return conflict;
+    /// Makes true what follows along the clauses that watch a literal which is false now, up to one
+    /// whose literals are all false, and returns its place. Nothing is read of them but what stands
+    /// in the list.
+    pub(crate) fn visit_all(&self, lit: Lit, trail: &mut Trail) -> Option<u32> {
+        for watch in self.list(lit)? {
+            if trail.is_forced(watch.others) && !watch.force(trail) {
+                return Some(watch.place);
             }
         }
         None
     }
-}
-
-/// Where the first of the watches from `from` on stands whose clause has one literal that isn't false
-/// and none that is true, or none that isn't false.
-#[inline(always)]
-fn first_forced(list: &[Watch<[Lit; 2]>], from: usize, weights: &[u8]) -> Option<usize>
-    ensures { IfSome result (λ i. i < length list.now) }
-{
-    for i in from..list.len() {
-        if is_forced(weights, list[i].others) {
-            return Some(i);
-        }
-    }
-    None
-}
-
-/// Makes true what follows along the clauses of a literal which is false now, up to one whose
-/// literals are all false, and returns its place. Nothing is read of them but what stands here.
-#[inline(always)]
-fn visit_all(list: &[Watch<[Lit; 2]>], trail: &mut Trail) -> Option<u32> {
-    let mut from = 0;
-    for _ in 0..list.len() {
-        let i = first_forced(list, from, trail.weights())?;
-        if !list[i].force(trail) {
-            return Some(list[i].place);
-        }
-        from = i + 1;
-    }
-    None
 }

@@ -12,24 +12,6 @@ const OPEN: u8 = 1;
 /// The weight of a true literal.
 const TRUE: u8 = 2;
 
-/// Whether a literal with one of these weights is true.
-#[inline(always)]
-pub(crate) fn is_true(weights: &[u8], lit: Lit) -> bool {
-    let i = u32::from(lit) as usize;
-    i < weights.len() && weights[i] == TRUE
-}
-
-/// Whether of two literals with some of these weights one is false and the other isn't true.
-#[inline(always)]
-pub(crate) fn is_forced(weights: &[u8], lits: [Lit; 2]) -> bool {
-    let first = u32::from(lits[0]) as usize;
-    let second = u32::from(lits[1]) as usize;
-    if first.max(second) >= weights.len() {
-        return false;
-    }
-    weights[first] as u32 + weights[second] as u32 <= OPEN as u32
-}
-
 /// Gives a literal and its inverse these weights, if they are there.
 fn put(weights: &mut [u8], lit: Lit, weight: u8, of_inverse: u8) {
     let i = u32::from(lit) as usize;
@@ -40,22 +22,6 @@ fn put(weights: &mut [u8], lit: Lit, weight: u8, of_inverse: u8) {
     }
 }
 
-/// A true literal, and why it is.
-#[derive(Clone, Copy)]
-struct Entry {
-    lit: Lit,
-    /// The place of the clause that gave its value, or 0.
-    reason: u32,
-}
-
-/// What stands where no literal does.
-fn empty() -> Entry {
-    Entry {
-        lit: Lit::from(0),
-        reason: 0,
-    }
-}
-
 /// Truth values of literals, in the order in which they came.
 pub(crate) struct Trail {
     /// How far each literal is from being false, by its number.
@@ -63,7 +29,9 @@ pub(crate) struct Trail {
     /// For each variable where its literal stands in the order, if it has a value.
     orders: Vec<u32>,
     /// The true literals, and room for the others.
-    entries: Vec<Entry>,
+    lits: Vec<Lit>,
+    /// For each of them the place of the clause that gave its value, or 0.
+    reasons: Vec<u32>,
     /// How many literals are true.
     len: usize,
 }
@@ -73,7 +41,8 @@ impl Drop for Trail {
         let Trail {
             weights: _,
             orders: _,
-            entries: _,
+            lits: _,
+            reasons: _,
             len: _,
         } = self;
     }
@@ -85,7 +54,8 @@ impl Trail {
         Ok(Trail {
             weights: vec![in alloc; OPEN; variables.saturating_mul(2)]?,
             orders: vec![in alloc; 0; variables]?,
-            entries: vec![in alloc; empty(); variables]?,
+            lits: vec![in alloc; Lit::from(0); variables]?,
+            reasons: vec![in alloc; 0; variables]?,
             len: 0,
         })
     }
@@ -94,13 +64,9 @@ impl Trail {
     pub(crate) fn grow(&mut self, variables: usize) -> Result<(), MemoryError> {
         self.weights.resize(variables.saturating_mul(2), OPEN)?;
         self.orders.resize(variables, 0)?;
-        self.entries.resize(variables, empty())?;
+        self.lits.resize(variables, Lit::from(0))?;
+        self.reasons.resize(variables, 0)?;
         Ok(())
-    }
-
-    /// How many variables there are, and so how many literals are true at most.
-    pub(crate) fn size(&self) -> usize {
-        self.entries.len()
     }
 
     /// How many literals are true.
@@ -110,8 +76,8 @@ impl Trail {
 
     /// The true literal that stands here in the order, if there are so many.
     pub(crate) fn get(&self, i: usize) -> Option<Lit> {
-        if i < self.len && i < self.entries.len() {
-            Some(self.entries[i].lit)
+        if i < self.len && i < self.lits.len() {
+            Some(self.lits[i])
         } else {
             None
         }
@@ -137,17 +103,22 @@ impl Trail {
         self.weight(lit) == FALSE
     }
 
-    /// How far each literal is from being false, by its number.
+    /// Whether of two literals that are there one is false and the other isn't true.
     #[inline(always)]
-    pub(crate) fn weights(&self) -> &[u8] {
-        &self.weights
+    pub(crate) fn is_forced(&self, lits: [Lit; 2]) -> bool {
+        let first = u32::from(lits[0]) as usize;
+        let second = u32::from(lits[1]) as usize;
+        if first >= self.weights.len() || second >= self.weights.len() {
+            return false;
+        }
+        self.weights[first] as u32 + self.weights[second] as u32 <= OPEN as u32
     }
 
     /// The place of the clause that gave its value to the literal that stands here in the order, or
     /// 0.
     pub(crate) fn reason(&self, i: usize) -> u32 {
-        if i < self.entries.len() {
-            self.entries[i].reason
+        if i < self.reasons.len() {
+            self.reasons[i]
         } else {
             0
         }
@@ -168,8 +139,9 @@ impl Trail {
     pub(crate) fn assign(&mut self, lit: Lit, reason: u32) {
         let i = self.len;
         let variable = usize::from(lit.var());
-        if i < self.entries.len() && variable < self.orders.len() {
-            self.entries[i] = Entry { lit, reason };
+        if i < self.lits.len() && i < self.reasons.len() && variable < self.orders.len() {
+            self.lits[i] = lit;
+            self.reasons[i] = reason;
             self.orders[variable] = u32::try_from(i).unwrap_or(0);
             self.len = i + 1;
         }
@@ -178,10 +150,9 @@ impl Trail {
 
     /// Keeps the first `len` literals alone.
     pub(crate) fn undo(&mut self, len: usize) {
-        let end = self.len.min(self.entries.len());
-        let weights: &mut [u8] = &mut self.weights;
-        for entry in &self.entries[len.min(end)..end] {
-            put(weights, entry.lit, OPEN, OPEN);
+        let end = self.len.min(self.lits.len());
+        for lit in &self.lits[len.min(end)..end] {
+            put(&mut self.weights, *lit, OPEN, OPEN);
         }
         self.len = self.len.min(len);
     }

@@ -59,7 +59,6 @@ impl<O: Copy> Watches<O> {
     }
 
     /// Whether no clause watches a literal.
-    #[inline(always)]
     pub(crate) fn is_unwatched(&self, lit: Lit) -> bool {
         match self.list(lit) {
             Some(list) => list.is_empty(),
@@ -101,19 +100,11 @@ impl<O: Copy> Watches<O> {
         }
     }
 
-    /// Takes the next literal on the trail whose inverse is watched by one of these clauses and that is
-    /// to be propagated along them, if any, and answers the inverse.
-    #[inline(always)]
+    /// Takes the next literal on the trail that is to be propagated along these clauses, if any.
     pub(crate) fn next(&mut self, trail: &Trail) -> Option<Lit> {
-        for i in self.taken..trail.len() {
-            let lit = !trail.get(i)?;
-            if !self.is_unwatched(lit) {
-                self.taken = i + 1;
-                return Some(lit);
-            }
-        }
-        self.taken = self.taken.max(trail.len());
-        None
+        let lit = trail.get(self.taken)?;
+        self.taken = self.taken.saturating_add(1);
+        Some(lit)
     }
 
     /// Says that the trail has so many literals, all of which were propagated.
