@@ -19,4 +19,3 @@ returns-in-Some-clause-ok g c =
     takes_next g.W.Source.left g.W.Source.failed g.W.Source.pulls parse_next c.args.w.now _
     (said_by c.in-Some.witness) (rw (c.in-Some.is, c.new-buffer.ensures) at
     c.in_ok-witness.ensures)
-
