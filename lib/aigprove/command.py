@@ -59,7 +59,7 @@ Asks whether the machine of an AIGER file can reach a bad state, and believes no
 
 Engines look for an answer side by side, and the first that is checked is printed:
   bmc3, pdr commands of ABC, whose counterexamples become witnesses and whose invariant becomes a certificate
-  bounded   asks a SAT solver one question about all steps up to 1, 2, 4 and so on
+  bounded   asks a SAT solver one question about all steps up to 1, 4, 16 and so on, and cadical about one step after the other in it
   steps     asks it about step 0, 1 and so on
   windows   asks it about K + 2 steps from any state, bad at the last alone (k-induction)
   registers guesses which registers of two files are always equal, and asks it whether a step keeps them so
@@ -284,7 +284,7 @@ def parse(line):
     words.engines = words.engine or ([] if given else [*ENGINES, *[REGISTERS] * bool(words.equal)])
     words.certificate, words.run = (path and sealed(path, words.limit) for path in [words.certificate, words.run])
     words.believed = [believed(name, vars(words)[name]) for name in BELIEVED]
-    words.solver = words.solver or cadical()
+    words.takes_turns, words.solver = not words.solver, words.solver or cadical()
     words.solver[:1] = map(engine, words.solver[:1])
     words.abc = words.abc and engine(words.abc)
     return words
