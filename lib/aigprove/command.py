@@ -201,6 +201,8 @@ def parser():
     seconds = count(r"[0-9]{1,9}(\.[0-9]{1,9})?", "seconds", float)
     it.add_argument("--timeout", metavar="S", type=seconds, help="end after so many seconds, with those of yosys (never)")
     it.add_argument("--limit", metavar="N", type=count("[1-9][0-9]{0,9}", "nodes", most=1 << 31), help=limit)
+    memory = "let each program that is run have N MiB of memory at most (all that there is)"
+    it.add_argument("--memory", metavar="N", type=count("[1-9][0-9]{0,9}", "MiB", lambda word: int(word) << 20, most=1 << 62), help=memory)
     it.add_argument("--jobs", metavar="N", type=count("[1-9][0-9]{0,4}", "programs"), default=processors, help=running)
     it.add_argument("--engine", metavar="NAMES", type=engines, help="ask these engines alone, with commas between; abc is bmc3 and pdr")
     for option, metavar, what in NAMED:
@@ -344,7 +346,7 @@ def raced(words, above, judge):
             if statuses[-1] in (UNSAFE, FAILED) or words.aiger:
                 break
             judge.programs.stop()
-            judge.programs = programs.Programs(words.jobs)
+            judge.programs = programs.Programs(words.jobs, words.memory)
     finally:
         end_scripts(races if words.keep else [])
     return next((it for it in (UNSAFE, FAILED, OPEN) if it in statuses), SAFE)
@@ -362,7 +364,7 @@ def end_scripts(races):
 def answer(line):
     """Answers what a command line asks, and gives the exit status."""
     words = parse(line)
-    judge = Judge(programs.Programs(words.jobs), *words.believed, words.limit)
+    judge = Judge(programs.Programs(words.jobs, words.memory), *words.believed, words.limit)
     programs.adopt()
     above = tempfile.mkdtemp(prefix="aigprove-")
     try:
