@@ -33,7 +33,7 @@ def asked(file, step, folder):
     if status == 20:
         return "settled", making, 0, 0
     before = time.process_time()
-    turns.write_bytes(in_turn(clauses.read_bytes()))
+    turns.write_bytes(b"".join(in_turn(clauses.read_bytes())))
     making += time.process_time() - before
     status, solving = timed(["cadical", "-q", "--no-binary", ASSUMING, turns, proof], solution)
     if status not in (10, 20):

@@ -86,7 +86,7 @@ class Trial(Files):
 
     def compare_turns(self, clauses):
         """Compares the answer about one step after the other."""
-        asked = in_turn(clauses)
+        asked = b"".join(in_turn(clauses))
         path, proof = self.put("clauses.icnf", asked), str(self.folder / "turns")
         status, printed, _ = harness.run(["cadical", "-q", "--no-binary", ASSUMING, path, proof])
         self.counts["assumptions in turn"] += asked.count(b"\na ")

@@ -31,8 +31,10 @@ def cadical():
 
 def in_turn(clauses):
     """The clauses of a question about the steps up to K, and behind them for one step after the other, as assumptions, that a bad state is
-    reached by then: a file of cadical's, which goes on with what it learned. The clauses come in the order of their gates, the last of which
-    says of all steps that none is bad: a chain, in which each gate has the one of the step before."""
+    reached by then: the pieces of a file of cadical's, which goes on with what it learned.
+
+    The clauses come in the order of their gates, of which the last says of all steps that none is bad, by a chain: each gate in it reads
+    the one of the step before. Where that isn't found, fewer steps are assumed, and the question is the same."""
     gate, end, chain = -int(clauses[clauses.rindex(b"\n", 0, -1) :].split()[0]), len(clauses), []
     while gate:
         chain.append(gate)
@@ -40,7 +42,7 @@ def in_turn(clauses):
         gate = before
     head = clauses.index(b"\np cnf ") + 1
     assumed = b"".join(b"a %d 0\n" % -gate for gate in reversed(chain))
-    return b"p inccnf" + clauses[clauses.index(b"\n", head) :] + assumed
+    return [b"p inccnf", memoryview(clauses)[clauses.index(b"\n", head) :], assumed]
 
 
 def operands(clauses, gate, end):
@@ -84,7 +86,7 @@ class Solver:
         if not self.takes_turns or question.command != "bounded":
             return [*self.words, folder.place("clauses.cnf")]
         with open(folder.place("clauses.cnf"), "rb") as clauses, folder.make("clauses.icnf") as out:
-            out.write(in_turn(clauses.read()))
+            out.writelines(in_turn(clauses.read()))
         return [*(word for word in self.words if word != HINTED), ASSUMING, folder.place("clauses.icnf")]
 
     def refute(self, question, file):
