@@ -1,17 +1,20 @@
 #!/usr/bin/env python3
-"""Measures bounded checks by one question beside ABC's: bounded.py [GATES [STEP ..]]
+"""Measures bounded checks by one question beside ABC's: bounded.py [STEP ..]
 
-For the designs of tests/designs and a file of GATES (5000) gates in which tokens go through 52 stages (`circuits.py`), up to each STEP
-(20, 50): processor seconds of `aigcheck bounded`, of `cadical --unsat`, of `aigcheck refuted FILE to K` or `witness FILE to K`, of all
-three, and of ABC's `bmc3`, and what part of the last the sum is. Then the geometric mean of these ratios, and that of `bounded` to
-`aigtool cnf FILE K`.
-Times below 10 ms count as 10 ms. A program has 20 seconds; a row where one takes longer counts for nothing."""
+For the designs of tests/designs and six machines that are made (`machines.py`), up to each STEP (20, 50): processor seconds of `aigcheck
+bounded`, of cadical, which is asked about one step after the other as by aigprove, of `aigcheck refuted FILE to K` or `witness FILE to K`,
+of all three, and of ABC's `bmc3`, and what part of the last the sum is; what part of the solver's time question and check are; and what
+part of bmc3's the solver is alone. What makes the solver's file counts as a part of the question. Then means, also of the rows where the
+solver takes no longer than bmc3, and sums over the six machines.
+Times below 10 ms count as 10 ms. A program has 20 seconds by the clock; a row where one takes longer counts for nothing."""
 import os
 import statistics
-import subprocess
+import time
 
-from circuits import pipeline
-from measuring import CHECK, DESIGNS, TOOL, heads, new_folder, numbers, row, run
+from machines import MACHINES
+from measuring import CHECK, DESIGNS, heads, new_folder, numbers, row, run
+
+from aigprove.questions import ASSUMING, in_turn
 
 LEAST, MOST = 0.01, 20
 
@@ -25,11 +28,14 @@ def timed(words, out=os.devnull):
 
 def asked(file, step, folder):
     """What is answered, and the seconds of the question, of the solver and of the check."""
-    clauses, proof, solution = (folder / name for name in ["clauses", "proof", "solution"])
+    clauses, turns, proof, solution = (folder / name for name in ["clauses", "turns", "proof", "solution"])
     status, making = timed([CHECK, "bounded", file, step], clauses)
     if status == 20:
         return "settled", making, 0, 0
-    status, solving = timed(["cadical", "-q", "--no-binary", "--unsat", clauses, proof], solution)
+    before = time.process_time()
+    turns.write_bytes(b"".join(in_turn(clauses.read_bytes())))
+    making += time.process_time() - before
+    status, solving = timed(["cadical", "-q", "--no-binary", ASSUMING, turns, proof], solution)
     if status not in (10, 20):
         return "-", making, solving, 0
     answer, command, given = ("refuted", "refuted", proof) if status == 20 else ("reached", "witness", solution)
@@ -37,23 +43,38 @@ def asked(file, step, folder):
     return answer if checked == 0 else "-", making, solving, checking
 
 
+def told(ratios):
+    """The geometric mean of ratios, and the greatest."""
+    return f"{statistics.geometric_mean(ratios):.2f}, at most {max(ratios):.2f} (of {len(ratios)})" if ratios else "none"
+
+
+def measure(step, files, folder):
+    """Prints the rows of one step, and what they come to."""
+    all_to_abc, where_less, own_to_solver, sums = [], [], [], [0, 0]
+    for file in files:
+        answer, making, solving, checking = asked(file, step, folder)
+        abc = timed(["berkeley-abc", "-q", f"read_aiger {file}; logic; undc; strash; zero; fold; bmc3 -F {step + 1}"])[1]
+        total = making + solving + checking
+        row(file.stem, step, answer, *(f"{seconds:.2f}" for seconds in [making, solving, checking, total, abc, total / abc]))
+        if answer == "-" or abc >= MOST:
+            continue
+        all_to_abc.append(total / abc)
+        where_less += [total / abc] * (solving <= abc)
+        own_to_solver += [(making + checking) / solving] if answer != "settled" else []
+        if file.parent == folder:
+            sums = [sums[0] + total, sums[1] + abc]
+    print(f"up to step {step}: all / bmc3 {told(all_to_abc)}; where the solver takes no longer {told(where_less)};")
+    print(f"question and check / solver {told(own_to_solver)}; sums over the machines that are made {sums[0]:.2f} / {sums[1]:.2f}")
+
+
 def main():
-    gates, *steps = numbers(5000)
-    to_abc, to_cnf = [], []
     heads("file", "step", "answer", "question", "solver", "check", "all", "bmc3", "all / bmc3")
     with new_folder() as folder:
-        made, binary = folder / "pipeline.aag", folder / "pipeline.aig"
-        made.write_text(pipeline(gates))
-        subprocess.run([TOOL, "binary", made, binary], check=True)
-        for file, step in ((file, step) for file in [binary, *sorted(DESIGNS.glob("*.aig"))] for step in steps or [20, 50]):
-            answer, *parts = asked(file, step, folder)
-            abc = timed(["berkeley-abc", "-q", f"read_aiger {file}; logic; undc; strash; zero; fold; bmc3 -F {step + 1}"])[1]
-            if answer != "-" and abc < MOST:
-                to_abc.append(sum(parts) / abc)
-            to_cnf.append(parts[0] / timed([TOOL, "cnf", file, step])[1])
-            row(file.stem, step, answer, *(f"{seconds:.2f}" for seconds in [*parts, sum(parts), abc, sum(parts) / abc]))
-    abc, cnf = (f"{statistics.geometric_mean(ratios):.2f}, at most {max(ratios):.2f}" for ratios in (to_abc, to_cnf))
-    print(f"all / bmc3 of {len(to_abc)}: {abc}; bounded / cnf: {cnf}")
+        made = [folder / f"{make.__name__}.aig" for make in MACHINES]
+        for file, make in zip(made, MACHINES):
+            file.write_bytes(make().binary())
+        for step in numbers() or [20, 50]:
+            measure(step, [*sorted(DESIGNS.glob("*.aig")), *made], folder)
 
 
 if __name__ == "__main__":

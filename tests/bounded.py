@@ -3,7 +3,8 @@
 
 Asks of FILES (500) random machines, with constraints, resets of all three kinds and several bad states, whether a bad state is reached up
 to a step K from 0 to 12, by one question: `aigcheck bounded`, cadical, and `aigcheck refuted FILE to K` or `witness FILE to K`, whose
-witness `aigcheck run` takes. Where a question is settled at once, the search has to find no bad state either. The file of `aigedit
+witness `aigcheck run` takes. Asked about one step after the other, as by aigprove, cadical says the same, and nearly always finds the first
+step first. Where a question is settled at once, the search has to find no bad state either. The file of `aigedit
 question` has an output that can be true exactly where the search finds one. Where a bad state is reached, mangled proofs are refused.
 Where none is, `aigcheck window` is asked, too: by cadical's proofs of both `aigcheck safe` says that no step is bad, and by neither of
 them for both, nor by that of a window where the first is refused; and the same by cadical's proofs of each step.
@@ -17,6 +18,8 @@ from aiger import machine_of
 from harness import CHECK, EDIT, numbers, output
 from machines import deep_machine, random_machine
 from trials import Files, run_files
+
+from aigprove.questions import ASSUMING, in_turn
 
 LAST = 12
 # How many inputs a question may have of which all values are tried.
@@ -77,6 +80,23 @@ class Trial(Files):
         else:
             self.counts["refuted"] += 1
             self.compare_safe(proof)
+        self.compare_turns(clauses)
+
+    def compare_turns(self, clauses):
+        """Compares the answer about one step after the other."""
+        asked = b"".join(in_turn(clauses))
+        path, proof = self.put("clauses.icnf", asked), str(self.folder / "turns")
+        status, printed, _ = harness.run(["cadical", "-q", "--no-binary", ASSUMING, path, proof])
+        self.counts["assumptions in turn"] += asked.count(b"\na ")
+        if status != (10 if self.is_reached else 20):
+            self.fail(f"in turn: {printed}")
+        if not self.is_reached and not self.refutes(proof):
+            self.fail(f"a proof in turn is refused: {Path(proof).read_text()}")
+        if self.is_reached:
+            step = self.witnessed(self.put("turned", printed))
+            self.counts["reached in turn, not at the first step"] += step != self.first
+            if not self.first <= step <= self.step:
+                self.fail(f"in turn a witness ends at step {step}")
 
     def compare_safe(self, base):
         """Asks for a window, and what both proofs show."""
@@ -113,13 +133,19 @@ class Trial(Files):
 
     def compare_witness(self, solution):
         """Compares the witness of a solution."""
-        witness = output([CHECK, "witness", self.file, "to", str(self.step), solution, *self.setting])
-        shown = output([CHECK, "run", self.file, self.put("witness", witness)]).split()
-        step = int(shown[-1])
+        step = self.witnessed(solution)
         self.counts["reached"] += 1
         self.counts["reached at the first step"] += step == self.first
-        if not self.first <= step <= self.step or len(witness.splitlines()) != step + 5:
-            self.fail(f"a witness: {witness}, {shown}")
+        if not self.first <= step <= self.step:
+            self.fail(f"a witness ends at step {step}")
+
+    def witnessed(self, solution):
+        """The last step of the witness of a solution."""
+        witness = output([CHECK, "witness", self.file, "to", str(self.step), solution, *self.setting])
+        step = int(output([CHECK, "run", self.file, self.put("witness", witness)]).split()[-1])
+        if len(witness.splitlines()) != step + 5:
+            self.fail(f"a witness: {witness}")
+        return step
 
     def refuse_mangled(self):
         """Looks that proofs of other clauses are refused where a bad state is reached."""

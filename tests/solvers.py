@@ -242,6 +242,16 @@ def limited():
             yield options, (0, "", []), (status, said, left)
 
 
+def bounded_memory():
+    """A limit of memory: an engine's program has it, and one that is too small for a program is told of as its fault."""
+    with running(STUCK, f"sleep 0.2; ulimit -v > $FOLDER/memory; {REFUTES}") as run:
+        words = ["--engine", "windows", "--bound", "0"]
+        yield "memory", run.result(words), run.result([*words, "--memory", "300"])
+        yield "kilobytes of memory", f"{300 << 10}\n", (run.folder / "memory").read_text()
+        status, printed, said, left = run.result([*words, "--memory", "1"])
+        yield "too little memory", (1, "", True, []), (status, printed, said.startswith("aigprove: "), left)
+
+
 def hung():
     """An engine that hangs, where there is a limit of time, and where standard error is a terminal."""
     hangs = TOGGLE, "exit 3", "sleep 1000"
@@ -325,7 +335,7 @@ def main():
     # Where this is run in the background, what it starts has to end by SIGINT still.
     signal.signal(signal.SIGINT, signal.default_int_handler)
     tally = harness.Tally()
-    parts = [answers, files, fed, worded, faulty, kept, limited, hung, together, closed, ended, killed, missing, installed]
+    parts = [answers, files, fed, worded, faulty, kept, limited, bounded_memory, hung, together, closed, ended, killed, missing, installed]
     for part in parts:
         with tally.test(part.__name__):
             for what, wanted, given in part():

@@ -17,7 +17,7 @@ from aigprove.files import sealed
 from aigprove.judge import Judge
 from aigprove.justice import Justice, Justices, lives
 from aigprove.properties import Property
-from aigprove.questions import cadical
+from aigprove.questions import HINTED, cadical
 from aigprove.race import FAILED, OPEN, SAFE, UNSAFE, Race
 from aigprove.source import Given, Pair, Source
 from aigprove.table import Table
@@ -59,7 +59,7 @@ Asks whether the machine of an AIGER file can reach a bad state, and believes no
 
 Engines look for an answer side by side, and the first that is checked is printed:
   bmc3, pdr commands of ABC, whose counterexamples become witnesses and whose invariant becomes a certificate
-  bounded   asks a SAT solver one question about all steps up to 1, 2, 4 and so on
+  bounded   asks a SAT solver one question about all steps up to 1, 4, 16 and so on, and cadical about one step after the other in it
   steps     asks it about step 0, 1 and so on
   windows   asks it about K + 2 steps from any state, bad at the last alone (k-induction)
   registers guesses which registers of two files are always equal, and asks it whether a step keeps them so
@@ -201,6 +201,8 @@ def parser():
     seconds = count(r"[0-9]{1,9}(\.[0-9]{1,9})?", "seconds", float)
     it.add_argument("--timeout", metavar="S", type=seconds, help="end after so many seconds, with those of yosys (never)")
     it.add_argument("--limit", metavar="N", type=count("[1-9][0-9]{0,9}", "nodes", most=1 << 31), help=limit)
+    memory = "let each program that is run have N MiB of memory at most (all that there is)"
+    it.add_argument("--memory", metavar="N", type=count("[1-9][0-9]{0,9}", "MiB", lambda word: int(word) << 20, most=1 << 62), help=memory)
     it.add_argument("--jobs", metavar="N", type=count("[1-9][0-9]{0,4}", "programs"), default=processors, help=running)
     it.add_argument("--engine", metavar="NAMES", type=engines, help="ask these engines alone, with commas between; abc is bmc3 and pdr")
     for option, metavar, what in NAMED:
@@ -284,7 +286,9 @@ def parse(line):
     words.engines = words.engine or ([] if given else [*ENGINES, *[REGISTERS] * bool(words.equal)])
     words.certificate, words.run = (path and sealed(path, words.limit) for path in [words.certificate, words.run])
     words.believed = [believed(name, vars(words)[name]) for name in BELIEVED]
-    words.solver = words.solver or cadical()
+    own, words.solver = not words.solver, words.solver or cadical()
+    # A proof with hints is checked in far less time than one of steps in turn, which has none.
+    words.takes_turns = own and HINTED not in words.solver
     words.solver[:1] = map(engine, words.solver[:1])
     words.abc = words.abc and engine(words.abc)
     return words
@@ -344,7 +348,7 @@ def raced(words, above, judge):
             if statuses[-1] in (UNSAFE, FAILED) or words.aiger:
                 break
             judge.programs.stop()
-            judge.programs = programs.Programs(words.jobs)
+            judge.programs = programs.Programs(words.jobs, words.memory)
     finally:
         end_scripts(races if words.keep else [])
     return next((it for it in (UNSAFE, FAILED, OPEN) if it in statuses), SAFE)
@@ -362,7 +366,7 @@ def end_scripts(races):
 def answer(line):
     """Answers what a command line asks, and gives the exit status."""
     words = parse(line)
-    judge = Judge(programs.Programs(words.jobs), *words.believed, words.limit)
+    judge = Judge(programs.Programs(words.jobs, words.memory), *words.believed, words.limit)
     programs.adopt()
     above = tempfile.mkdtemp(prefix="aigprove-")
     try:

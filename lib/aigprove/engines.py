@@ -8,6 +8,7 @@ import itertools
 import re
 import shutil
 import threading
+import time
 
 from aigprove import aiger, simulation, witness
 from aigprove.programs import Fault, Folder, Sealed, ending
@@ -16,6 +17,8 @@ from aigprove.shown import Shown
 
 # How many proofs are checked at once, beside the next question.
 CHECKS = 2
+# Seconds within which a question about the steps up to K has an answer for the next to be of four times as many.
+QUICK = 1
 # How many variables the windows without repeated states may have to tell states apart.
 PAIRS = 1 << 22
 ABCS = ["berkeley-abc", "yosys-abc", "abc"]
@@ -103,7 +106,8 @@ class Steps(Asking):
 
 
 class Bounded(Asking):
-    """Asks one question about all steps up to K, where K is 1, 2, 4 and so on, and the bound; then for the least step by halves."""
+    """Asks one question about all steps up to K, where K is 1, 4, 16 and so on, or twice the last after one that took long, and the bound;
+    then for the least step: whether it is the one found, where steps were asked about in turn, else by halves."""
 
     def run(self):
         shown = -1
@@ -115,9 +119,12 @@ class Bounded(Asking):
         self.race.bound_reached()
 
     def steps(self):
-        bound = self.race.bound
-        powers = itertools.takewhile(lambda k: bound is None or k < bound, (1 << i for i in itertools.count()))
-        yield from itertools.filterfalse(lambda k: k < self.race.steps, powers)
+        bound, k = self.race.bound, 1
+        while bound is None or k < bound:
+            begun = time.monotonic()
+            if k >= self.race.steps:
+                yield k
+            k *= 4 if time.monotonic() - begun < QUICK else 2
         yield bound
 
     def reaches(self, k):
@@ -136,7 +143,7 @@ class Bounded(Asking):
     def least(self, shown, run):
         """The witness of a run to the first step with a bad state, which is past a step that was shown and not past this run's last."""
         while (last := self.last(run)) > shown + 1:
-            middle = (shown + last) // 2
+            middle = last - 1 if self.solver.takes_turns else (shown + last) // 2
             found = self.reaches(middle)
             shown, run = (shown, found) if found else (middle, run)
         return run

@@ -156,6 +156,11 @@ class Group:
     def signal(self, number):
         signal_group(self.process.pid, number)
 
+    def limit_memory(self, most):
+        """Lets it, and each that it starts, have so many bytes of memory."""
+        with contextlib.suppress(OSError):
+            resource.prlimit(self.process.pid, resource.RLIMIT_AS, (most, most))
+
 
 class Keeper:
     """A process that ends the groups that run where this process is killed, so that it can't do that itself."""
@@ -191,10 +196,11 @@ def end_left(told):
 
 
 class Programs:
-    """All programs that run now. As many as there are jobs run at once, and the others wait until those of their engine ran least."""
+    """All programs that run now. As many as there are jobs run at once, and the others wait until those of their engine ran least. Each has so
+    many bytes of memory at most, where a number is given."""
 
-    def __init__(self, jobs):
-        self.jobs, self.lock, self.is_stopped = jobs, threading.Lock(), False
+    def __init__(self, jobs, memory=None):
+        self.jobs, self.memory, self.lock, self.is_stopped = jobs, memory, threading.Lock(), False
         # The thread that alone starts programs once there is an answer.
         self.alone = None
         self.keeper = Keeper()
@@ -210,6 +216,8 @@ class Programs:
         with self.lock:
             self.check_stopped()
             group = Group(words, **options)
+            if self.memory:
+                group.limit_memory(self.memory)
             self.keeper.tell(group.process.pid)
             (self.running if len(self.running) < self.jobs else self.waiting).append(group)
             if group in self.waiting:

@@ -7,6 +7,8 @@ from aigprove.programs import Fault, Folder, ending, plain, tell
 
 # How many bytes of what a solver says on standard error are passed on.
 SAID = 4096
+# What cadical is told for a proof with hints. One about assumptions has none, and stands where nothing takes a variable away.
+HINTED, ASSUMING = "--lrat=1", "--plain"
 
 
 class Question(collections.namedtuple("Question", "command k form", defaults=[()])):
@@ -24,17 +26,45 @@ def cadical():
         options = subprocess.run(["cadical", "--help"], stdin=subprocess.DEVNULL, capture_output=True).stdout
     except FileNotFoundError:
         return []
-    return ["cadical", "-q", "--no-binary", *(["--lrat=1"] if b"--lrat" in options else [])]
+    return ["cadical", "-q", "--no-binary", *[HINTED] * (b"--lrat" in options)]
+
+
+def in_turn(clauses):
+    """The clauses of a question about the steps up to K, and behind them for one step after the other, as assumptions, that a bad state is
+    reached by then: the pieces of a file of cadical's, which goes on with what it learned.
+
+    The clauses come in the order of their gates, of which the last says of all steps that none is bad, by a chain: each gate in it reads
+    the one of the step before. Where that isn't found, fewer steps are assumed, and the question is the same."""
+    gate, end, chain = -int(clauses[clauses.rindex(b"\n", 0, -1) :].split()[0]), len(clauses), []
+    while gate:
+        chain.append(gate)
+        before, end = operands(clauses, gate, end) if gate > 0 else (0, end)
+        gate = before
+    head = clauses.index(b"\np cnf ") + 1
+    assumed = b"".join(b"a %d 0\n" % -gate for gate in reversed(chain))
+    return [b"p inccnf", memoryview(clauses)[clauses.index(b"\n", head) :], assumed]
+
+
+def operands(clauses, gate, end):
+    """The first operand of a gate whose clauses stand before a place, where it is an and, else 0; and where they stand."""
+    place = clauses.rfind(b"\n%d -" % gate, 0, end)
+    words = clauses[place + 1 : clauses.find(b"\n", place + 1)].split() if place >= 0 else []
+    if len(words) != 4:
+        return 0, end
+    first, other = sorted((-int(word) for word in words[1:3]), key=abs)
+    is_and = clauses.endswith(b"\n-%d %d 0\n-%d %d 0" % (gate, first, gate, other), 0, place)
+    return (first, place) if is_and else (0, end)
 
 
 class Solver:
     """A SAT solver, which is believed nothing.
 
     It is given the names of a file in DIMACS form and of a file for its proof, in LRAT, as text, or DRAT. It has to end with
-    status 10 and print lines `s ..` and `v ..`, or with status 20. Both files stand in a new folder."""
+    status 10 and print lines `s ..` and `v ..`, or with status 20. Both files stand in a new folder. One that takes turns, as cadical does,
+    is asked about one step after the other where a question is about several."""
 
-    def __init__(self, words, programs, judge, above):
-        self.words, self.programs, self.judge, self.above = words, programs, judge, above
+    def __init__(self, words, programs, judge, above, takes_turns=False):
+        self.words, self.programs, self.judge, self.above, self.takes_turns = words, programs, judge, above, takes_turns
 
     def ask(self, question, file):
         """Whether a question has a solution, as it says, and the solution or the proof, which nobody has looked at. One that has none at
@@ -44,12 +74,20 @@ class Solver:
                 if not self.judge.print_question(question, file, out):
                     return False, self.judge.nothing
             try:
-                status = folder.run(self.programs, [*self.words, folder.place("clauses.cnf"), folder.place("proof")])
+                status = folder.run(self.programs, [*self.told(question, folder), folder.place("proof")])
             finally:
                 pass_on(folder)
             if status not in (10, 20):
                 raise Fault(f"{os.path.basename(self.words[0])} {ending(status)}")
             return status == 10, folder.taken("out", "answer") if status == 10 else folder.taken("proof", "proof")
+
+    def told(self, question, folder):
+        """The words that call it for a question whose clauses are in a folder."""
+        if not self.takes_turns or question.command != "bounded":
+            return [*self.words, folder.place("clauses.cnf")]
+        with open(folder.place("clauses.cnf"), "rb") as clauses, folder.make("clauses.icnf") as out:
+            out.writelines(in_turn(clauses.read()))
+        return [*self.words, ASSUMING, folder.place("clauses.icnf")]
 
     def refute(self, question, file):
         """A proof, which nobody has looked at, that a question has no solution; a solution is a fault."""

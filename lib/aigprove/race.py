@@ -76,7 +76,7 @@ class Race:
     def needs_solver(self):
         if not self.words.solver:
             raise Missing("cadical is not installed")
-        return Solver(self.words.solver, self.programs, self.judge, self.above)
+        return Solver(self.words.solver, self.programs, self.judge, self.above, self.words.takes_turns)
 
     def claimed(self, told):
         """What aigcheck says of a run."""

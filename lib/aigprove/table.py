@@ -100,7 +100,7 @@ class Table:
         try:
             if not self.words.solver:
                 raise Fault("cadical is not installed")
-            solver = Solver(self.words.solver, self.programs, self.judge, self.above)
+            solver = Solver(self.words.solver, self.programs, self.judge, self.above, self.words.takes_turns)
             found.look(solver, max(answer.steps for answer in self.answers), time.monotonic() + met.SECONDS)
         except Fault as why:
             say(f"assumptions: {why}")

@@ -160,7 +160,12 @@ fn step_first(form: Step, words: &[String]) -> Option<(usize, &[String])>
 }
 
 /// The paths after step K, of which there are so many besides those of each step, and the words after these.
-fn further_first(step: Step, k: usize, further: usize, words: &[String]) -> Option<(&[String], &[String])>
+fn further_first(
+    step: Step,
+    k: usize,
+    further: usize,
+    words: &[String],
+) -> Option<(&[String], &[String])>
     requires { k < 2 ^ 32 }
     ensures some { IfSome result
         (λ p. IsSplitAt words.now (further_by step k further) p.0.now p.1.now) }

@@ -45,7 +45,8 @@ module _ {X : Type 0} (say : List ℕ → X) where
     said_on e x h =
         tells_on e (IsSaid said x mid) (IsSaid say x before)
         (λ says. says_on before mid (λ bytes rest. say bytes ≡ said rest) so_far
-        (λ bytes. said bytes ≡ x) (λ bytes. say bytes ≡ x) says (λ bytes middle is then. is ∙ then)) h
+        (λ bytes. said bytes ≡ x) (λ bytes. say bytes ≡ x) says
+        (λ bytes middle is then. is ∙ then)) h
 
     pub said_now : (x : X) → ((bytes : List ℕ) → said bytes ≡ x) → IsSaid say x before
     said_now x same =
@@ -279,37 +280,38 @@ module _ (variables : ℕ) where
         no_letter bytes wrong.1 ∙ ap (λ (x : RefutationError). no_step x) (sym wrong.0)) h
 
     module _ (letter : GivesLetter deletes before mid (Ok true)) (clause : List Lit) (after : Feed)
-        where
-      begins : Passes (binary_steps_in variables)
-          (λ rest. after_items deletes (items_left (literal_by variables) [] rest)) before mid
-      begins =
-          leaves_same before mid (λ bytes rest. bytes ≡ letter_of deletes ∷ rest) letter
-          (λ bytes rest. binary_steps_in variables bytes
-          ≡ after_items deletes (items_left (literal_by variables) [] rest))
-          (λ bytes rest is. ap (binary_steps_in variables) is ∙ letter_begins deletes rest)
+      where
+        begins : Passes (binary_steps_in variables)
+            (λ rest. after_items deletes (items_left (literal_by variables) [] rest)) before mid
+        begins =
+            leaves_same before mid (λ bytes rest. bytes ≡ letter_of deletes ∷ rest) letter
+            (λ bytes rest. binary_steps_in variables bytes
+            ≡ after_items deletes (items_left (literal_by variables) [] rest))
+            (λ bytes rest is. ap (binary_steps_in variables) is ∙ letter_begins deletes rest)
 
-      pub step_unread : (step : PlainStep) (e : RefutationError)
-          → GivesItems (literal_by variables) [] clause mid after (Err e)
-          → GivesNext binary_steps_in variables step before after (Err e)
-      step_unread step e h =
-          let say : List ℕ → Script PlainStep = λ rest. after_items deletes
-          (items_left (literal_by variables) [] rest) in
-          said_on (binary_steps_in variables) say before mid begins e (no_step e)
-          (tells_on e (IsSaid (items_left (literal_by variables) []) (Err e) mid)
-          (IsSaid say (no_step e) mid) (λ says bytes known. ap (after_items deletes)
-          (says bytes known)) h)
+        pub step_unread : (step : PlainStep) (e : RefutationError)
+            → GivesItems (literal_by variables) [] clause mid after (Err e)
+            → GivesNext binary_steps_in variables step before after (Err e)
+        step_unread step e h =
+            let say : List ℕ → Script PlainStep = λ rest. after_items deletes
+            (items_left (literal_by variables) [] rest) in
+            said_on (binary_steps_in variables) say before mid begins e (no_step e)
+            (tells_on e (IsSaid (items_left (literal_by variables) []) (Err e) mid)
+            (IsSaid say (no_step e) mid) (λ says bytes known. ap (after_items deletes)
+            (says bytes known)) h)
 
-      pub step_read : GivesItems (literal_by variables) [] clause mid after (Ok tt)
-          → GivesNext binary_steps_in variables (plain_of_clause deletes clause) before after (Ok true)
-      step_read h =
-          let say : List ℕ → Script PlainStep = λ rest. after_items deletes
-          (items_left (literal_by variables) [] rest) in
-          let then : List ℕ → Script PlainStep = λ rest. step_before
-          (plain_of_clause deletes clause) (binary_steps_in (widened variables) rest) in
-          passes_on (binary_steps_in variables) say before mid begins then after
-          (leaves_same mid after (λ bytes rest. items_left (literal_by variables) [] bytes
-          ≡ Ok (clause, groups_in rest)) h (λ bytes rest. say bytes ≡ then rest)
-          (λ bytes rest is. ap (after_items deletes) is))
+        pub step_read : GivesItems (literal_by variables) [] clause mid after (Ok tt)
+            → GivesNext binary_steps_in variables (plain_of_clause deletes clause) before after
+            (Ok true)
+        step_read h =
+            let say : List ℕ → Script PlainStep = λ rest. after_items deletes
+            (items_left (literal_by variables) [] rest) in
+            let then : List ℕ → Script PlainStep = λ rest. step_before
+            (plain_of_clause deletes clause) (binary_steps_in (widened variables) rest) in
+            passes_on (binary_steps_in variables) say before mid begins then after
+            (leaves_same mid after (λ bytes rest. items_left (literal_by variables) [] bytes
+            ≡ Ok (clause, groups_in rest)) h (λ bytes rest. say bytes ≡ then rest)
+            (λ bytes rest is. ap (after_items deletes) is))
 
 -- ---- a loop over steps
 

@@ -201,54 +201,54 @@ module _ (variables : ℕ) where
       (deleted_said variables []) before after e h
 
   module _ (number : ℕ) (before mid : Feed) (read : GivesNumber variables before mid (Ok number))
-      where
-    abbrev Begins : List ℕ → Script Step
-    Begins = numbered_left variables Adding
+    where
+      abbrev Begins : List ℕ → Script Step
+      Begins = numbered_left variables Adding
 
-    abbrev Lists : List ℕ → Script Step
-    Lists = numbered_left variables (Listing number [])
+      abbrev Lists : List ℕ → Script Step
+      Lists = numbered_left variables (Listing number [])
 
-    abbrev listed_then : List Lit → List (List ℕ) → Script Step
-    listed_then lits words = numbered_script variables (Some (Hinting number lits [])) words
+      abbrev listed_then : List Lit → List (List ℕ) → Script Step
+      listed_then lits words = numbered_script variables (Some (Hinting number lits [])) words
 
-    pub literals_fail : (clause : List Lit) (step : Step) (after : Feed) (e : RefutationError)
-        → GivesItems (literal_by variables) [] clause mid after (Err e)
-        → EndsStep variables Adding step before after (Err e)
-    literals_fail clause step after e h =
-        said_on Begins Lists before mid read e (no_step e)
-        (list_wrong (literal_by variables) [] clause listed_then Lists
-        (literals_said variables number []) mid after e h)
+      pub literals_fail : (clause : List Lit) (step : Step) (after : Feed) (e : RefutationError)
+          → GivesItems (literal_by variables) [] clause mid after (Err e)
+          → EndsStep variables Adding step before after (Err e)
+      literals_fail clause step after e h =
+          said_on Begins Lists before mid read e (no_step e)
+          (list_wrong (literal_by variables) [] clause listed_then Lists
+          (literals_said variables number []) mid after e h)
 
-    module _ (clause : List Lit) (now : Feed)
-        (literals : GivesItems (literal_by variables) [] clause mid now (Ok tt)) where
-      abbrev Hints : List ℕ → Script Step
-      Hints = numbered_left variables (Hinting number clause [])
+      module _ (clause : List Lit) (now : Feed)
+          (literals : GivesItems (literal_by variables) [] clause mid now (Ok tt)) where
+        abbrev Hints : List ℕ → Script Step
+        Hints = numbered_left variables (Hinting number clause [])
 
-      abbrev hinted_then : List (Bool × ℕ) → List (List ℕ) → Script Step
-      hinted_then all words =
-          step_before (adds number clause all) (numbered_script (widened variables) None words)
+        abbrev hinted_then : List (Bool × ℕ) → List (List ℕ) → Script Step
+        hinted_then all words =
+            step_before (adds number clause all) (numbered_script (widened variables) None words)
 
-      so_far : Passes Begins Hints before now
-      so_far =
-          passes_on Begins Lists before mid read Hints now
-          (list_read (literal_by variables) [] clause listed_then Lists
-          (literals_said variables number []) mid now literals)
+        so_far : Passes Begins Hints before now
+        so_far =
+            passes_on Begins Lists before mid read Hints now
+            (list_read (literal_by variables) [] clause listed_then Lists
+            (literals_said variables number []) mid now literals)
 
-      pub hints_end : (hints : List ℕ) (groups : List (Bool × ℕ)) (after : Feed)
-          (r : Result (Unit {0}) RefutationError) → GivesHints hints groups now after r
-          → EndsStep variables Adding (Adds number clause hints groups) before after r
-      hints_end hints groups after (Ok done) h =
-          let ends : Passes Begins (λ rest. step_before (adds number clause h.0)
-          (numbered_steps_in (widened variables) rest)) before after =
-          passes_on Begins Hints before now so_far (λ rest. step_before (adds number clause h.0)
-          (numbered_steps_in (widened variables) rest)) after
-          (list_read hint_by [] h.0 hinted_then Hints (hints_said variables number clause []) now
-          after h.3) in
-          rw (← h.1, ← h.2) ends
-      hints_end hints groups after (Err e) h =
-          said_on Begins Hints before now so_far e (no_step e)
-          (list_wrong hint_by [] [] hinted_then Hints (hints_said variables number clause []) now
-          after e h)
+        pub hints_end : (hints : List ℕ) (groups : List (Bool × ℕ)) (after : Feed)
+            (r : Result (Unit {0}) RefutationError) → GivesHints hints groups now after r
+            → EndsStep variables Adding (Adds number clause hints groups) before after r
+        hints_end hints groups after (Ok done) h =
+            let ends : Passes Begins (λ rest. step_before (adds number clause h.0)
+            (numbered_steps_in (widened variables) rest)) before after =
+            passes_on Begins Hints before now so_far (λ rest. step_before (adds number clause h.0)
+            (numbered_steps_in (widened variables) rest)) after
+            (list_read hint_by [] h.0 hinted_then Hints (hints_said variables number clause []) now
+            after h.3) in
+            rw (← h.1, ← h.2) ends
+        hints_end hints groups after (Err e) h =
+            said_on Begins Hints before now so_far e (no_step e)
+            (list_wrong hint_by [] [] hinted_then Hints (hints_said variables number clause []) now
+            after e h)
 
 -- ---- letters
 

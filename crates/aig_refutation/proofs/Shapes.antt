@@ -53,7 +53,8 @@ module _ (numbered : Bool) (part : Part) where
   pub shape_inside : (b : ℕ) (bytes : List ℕ)
       → are_steps numbered part (left_words true (b ∷ bytes))
       ≡ are_steps numbered part (left_words (nat_le 128 b) bytes)
-  shape_inside b bytes = ap (λ words. are_steps numbered part (drop 1 words)) (words_behind b bytes).1
+  shape_inside b bytes =
+      ap (λ words. are_steps numbered part (drop 1 words)) (words_behind b bytes).1
 
   -- the first byte of a word
   pub shape_begins : (b : ℕ) (bytes : List ℕ)

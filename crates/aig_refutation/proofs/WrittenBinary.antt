@@ -113,13 +113,18 @@ shape_clause : (clause : List Lit) (words : List (List ℕ))
 unfolding are_steps
 shape_clause [] words below = refl
 shape_clause (lit ∷ lits) words below =
-    let is = delta_written (code (2 ^ 31) lit) (code_small (2 ^ 31) (is_positive lit) (variable_of lit) below.0) in
-    rw (no_zero_first (code (2 ^ 31) lit) (literal_bytes lit) is.groups (omega arith)) (shape_clause lits words below.1)
+    let c = code (2 ^ 31) lit in
+    let is = delta_written c
+    (code_small (2 ^ 31) (is_positive lit) (variable_of lit) below.0) in
+    rw (no_zero_first c (literal_bytes lit) is.groups (omega arith))
+    (shape_clause lits words below.1)
 
 fit_all : (clause : List Lit) → IsClause (2 ^ 31 - 1) clause → AllByRecursion (Fits (2 ^ 31)) clause
-fit_all clause small = recursion_from_All (Fits (2 ^ 31)) clause (λ k d there. (omega (arith, small k d there), small k d there))
+fit_all clause small =
+    recursion_from_All (Fits (2 ^ 31)) clause (λ k d there. (omega (arith, small k d there), small k d there))
 
-below_all : (clause : List Lit) → IsClause (2 ^ 31 - 1) clause → AllByRecursion (λ lit. variable_of lit < 2 ^ 31 - 1) clause
+below_all : (clause : List Lit) → IsClause (2 ^ 31 - 1) clause
+    → AllByRecursion (λ lit. variable_of lit < 2 ^ 31 - 1) clause
 below_all clause small = recursion_from_All (λ lit. variable_of lit < 2 ^ 31 - 1) clause small
 
 shape_steps : (steps : List PlainStep) → AllByRecursion (IsPlainStep (2 ^ 31 - 1)) steps
@@ -127,19 +132,25 @@ shape_steps : (steps : List PlainStep) → AllByRecursion (IsPlainStep (2 ^ 31 -
 unfolding are_steps groups_in
 shape_steps [] small = refl
 shape_steps (Learns clause ∷ steps) small =
-    ap (λ bytes. are_steps false Last (groups_in bytes)) (append_assoc (flat_map literal_bytes clause) (0 ∷ []) (binary_text steps))
-    ∙ ap (are_steps false Last) (groups_in-clause (2 ^ 31) clause (binary_text steps) (fit_all clause small.0))
+    ap (λ bytes. are_steps false Last (groups_in bytes))
+    (append_assoc (flat_map literal_bytes clause) (0 ∷ []) (binary_text steps))
+    ∙ ap (are_steps false Last)
+    (groups_in-clause (2 ^ 31) clause (binary_text steps) (fit_all clause small.0))
     ∙ shape_clause clause (groups_in (binary_text steps)) (below_all clause small.0)
     ∙ shape_steps steps small.1
 shape_steps (Drops clause ∷ steps) small =
-    ap (λ bytes. are_steps false Last (groups_in bytes)) (append_assoc (flat_map literal_bytes clause) (0 ∷ []) (binary_text steps))
-    ∙ ap (are_steps false Last) (groups_in-clause (2 ^ 31) clause (binary_text steps) (fit_all clause small.0))
+    ap (λ bytes. are_steps false Last (groups_in bytes))
+    (append_assoc (flat_map literal_bytes clause) (0 ∷ []) (binary_text steps))
+    ∙ ap (are_steps false Last)
+    (groups_in-clause (2 ^ 31) clause (binary_text steps) (fit_all clause small.0))
     ∙ shape_clause clause (groups_in (binary_text steps)) (below_all clause small.0)
     ∙ shape_steps steps small.1
 
-unnumbered : (steps : List PlainStep) → AllByRecursion (IsPlainStep (2 ^ 31 - 1)) steps → is_numbered (binary_text steps) ≡ false
+unnumbered : (steps : List PlainStep) → AllByRecursion (IsPlainStep (2 ^ 31 - 1)) steps
+    → is_numbered (binary_text steps) ≡ false
 unnumbered steps small =
-    ap (λ (b : Bool). not b && has_steps true (binary_text steps)) (shape_cut false 1024 (binary_text steps) Letter false (shape_steps steps small))
+    ap (λ (b : Bool). not b && has_steps true (binary_text steps))
+    (shape_cut false 1024 (binary_text steps) Letter false (shape_steps steps small))
 
 binary_steps_in-written : (variables : ℕ) (steps : List PlainStep) → AreWithin IsPlainStep variables steps
     → AllByRecursion (IsPlainStep (2 ^ 31 - 1)) steps

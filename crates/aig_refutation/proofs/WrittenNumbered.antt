@@ -48,10 +48,18 @@ code_small false n small = omega (arith, small)
 code_parts : (positive : Bool) (n : ℕ) → 0 < n → ((code (positive, n) == 0) ≡ false)
     × (nat_lt (code (positive, n)) 2 ≡ false) × ((code (positive, n) % 2 == 0) ≡ positive)
     × (code (positive, n) / 2 ≡ n)
-code_parts true n some =
-    (grind (arith, nat_tests, some), grind (arith, nat_tests, some), grind (arith, nat_tests), omega arith)
-code_parts false n some =
-    (grind (arith, nat_tests, some), grind (arith, nat_tests, some), grind (arith, nat_tests), omega arith)
+code_parts true n some = (
+  grind (arith, nat_tests, some),
+  grind (arith, nat_tests, some),
+  grind (arith, nat_tests),
+  omega arith,
+)
+code_parts false n some = (
+  grind (arith, nat_tests, some),
+  grind (arith, nat_tests, some),
+  grind (arith, nat_tests),
+  omega arith,
+)
 
 hint_item : (n : Bool × ℕ) → IsHint n → item_said hint_by (hint_bytes n) ≡ Ok (Some n)
 hint_item n is =
@@ -252,7 +260,8 @@ steps_written variables (step ∷ steps) are small =
 -- behind the word
 pub worded_read : (variables : ℕ) (steps : List Step) → AreWithin IsStep (allowed variables) steps
     → All IsBinaryStep steps
-    → steps_in variables (worded_text steps) ≡ Some (record { steps = steps; fault = errors.Unfinished })
+    → steps_in variables (worded_text steps)
+    ≡ Some (record { steps = steps; fault = errors.Unfinished })
 worded_read variables steps are small =
     word_form variables (worded_text steps) refl
     ∙ ap (λ script. Some script) (steps_written (allowed variables) steps are

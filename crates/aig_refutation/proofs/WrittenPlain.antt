@@ -146,8 +146,8 @@ module _ (variables : ℕ) (small : variables < 2 ^ 32) where
   no_zero_in (suc n) [] are = refl
   no_zero_in (suc n) (b ∷ bytes) are = rw are.0 (no_zero_in n bytes are.1)
 
-  no_letter : (k : ℕ) → is_digit k ≡ false → (45 == k) ≡ false → (48 == k) ≡ false → (100 == k) ≡ false
-      → (steps : List PlainStep) → AllByRecursion (IsPlainStep variables) steps → begins k (plain_text steps) ≡ false
+  no_letter : (k : ℕ) → is_digit k ≡ false → (45 == k) ≡ false → (48 == k) ≡ false
+      → (100 == k) ≡ false → (steps : List PlainStep) → AllByRecursion (IsPlainStep variables) steps → begins k (plain_text steps) ≡ false
   no_letter k other minus zero_text letter [] are = refl
   no_letter k other minus zero_text letter (Learns [] ∷ steps) are = zero_text
   no_letter k other minus zero_text letter (Learns (lit ∷ lits) ∷ steps) are =
@@ -157,7 +157,8 @@ module _ (variables : ℕ) (small : variables < 2 ^ 32) where
       ap (begins k) regroup ∙ begins-literal k lit rest below.0 other minus
   no_letter k other minus zero_text letter (Drops clause ∷ steps) are = letter
 
-  no_word : (steps : List PlainStep) → AllByRecursion (IsPlainStep variables) steps → has_word (plain_text steps) ≡ false
+  no_word : (steps : List PlainStep) → AllByRecursion (IsPlainStep variables) steps
+      → has_word (plain_text steps) ≡ false
   no_word steps are = unworded (plain_text steps) (no_letter 108 refl refl refl refl steps are)
 
   is_binary-plain : (steps : List PlainStep) → AllByRecursion (IsPlainStep variables) steps → is_binary (plain_text steps) ≡ false
@@ -195,5 +196,6 @@ pub plain_steps_in-written : (variables : ℕ) (steps : List PlainStep)
 plain_steps_in-written variables steps are =
     let most = allowed_most variables in
     let text = is_binary-plain (2 ^ 31) (omega arith) steps (all_most (allowed variables) most steps are) in
-    let other = no_word (2 ^ 31) (omega arith) steps (all_most (allowed variables) most steps are) in
+    let all = all_most (allowed variables) most steps are in
+    let other = no_word (2 ^ 31) (omega arith) steps all in
     (rw (other, text) (script_if-plain (allowed variables) most steps are), rw text (plain_of-written (allowed variables) most steps are))

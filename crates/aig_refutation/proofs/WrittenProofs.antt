@@ -110,7 +110,8 @@ pub steps_in-written : (variables last : ℕ) (step : Step) (steps : List Step) 
 steps_in-written variables last step steps before are =
     let most = allowed_most variables in
     let small = few (allowed variables) most in
-    let no_word = unworded (proof_text last (step ∷ steps)) (begins-step (allowed variables) small 108 last step steps before are.0 refl) in
+    let no_word = unworded (proof_text last (step ∷ steps))
+    (begins-step (allowed variables) small 108 last step steps before are.0 refl) in
     rw (no_word, begins-step (allowed variables) small 97 last step steps before are.0 refl, begins-step (allowed variables) small 100 last step steps before are.0 refl)
     (script_if-written (allowed variables) most last step steps before are)
 

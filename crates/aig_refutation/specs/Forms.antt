@@ -58,8 +58,8 @@ are_steps numbered part (word ∷ words) =
 abbrev pub has_steps : Bool → List ℕ → Bool
 has_steps numbered bytes = are_steps numbered Letter (groups_in (take telling bytes))
 
--- A binary proof is one of an LRAT file where its first bytes can't be steps of a DRAT file, and can
--- be those of an LRAT file.
+-- a binary proof is one of an LRAT file: its first bytes can't be steps of a DRAT file, and can be
+-- those of an LRAT file
 abbrev pub is_numbered : List ℕ → Bool
 is_numbered bytes = not (has_steps false bytes) && has_steps true bytes
 

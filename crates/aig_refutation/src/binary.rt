@@ -23,7 +23,10 @@ use aig_lexer::InputBuffer;
 const MOST_GROUPS: u32 = 5;
 
 /// Reads a number, which is below 2^32.
-pub(crate) fn read_code<R: Source>(buffer: &mut InputBuffer, r: &mut R) -> Result<u32, RefutationError>
+pub(crate) fn read_code<R: Source>(
+    buffer: &mut InputBuffer,
+    r: &mut R,
+) -> Result<u32, RefutationError>
     ensures stream { IsErrOf result RefutationError.Stream → R.failed r.new ≡ true }
     ensures fewer { OnOk result ((feed R.left R.failed R.pulls buffer.new r.new).most
         < (feed R.left R.failed R.pulls buffer.old r.old).most) }

@@ -21,7 +21,10 @@ use aig_base::Source;
 use aig_lexer::InputBuffer;
 
 /// Reads the number of a clause, as it is.
-fn read_clause_number<R: Source>(buffer: &mut InputBuffer, r: &mut R) -> Result<u32, RefutationError>
+fn read_clause_number<R: Source>(
+    buffer: &mut InputBuffer,
+    r: &mut R,
+) -> Result<u32, RefutationError>
     ensures stream { IsErrOf result RefutationError.Stream → R.failed r.new ≡ true }
     ensures fewer { OnOk result ((feed R.left R.failed R.pulls buffer.new r.new).most
         < (feed R.left R.failed R.pulls buffer.old r.old).most) }

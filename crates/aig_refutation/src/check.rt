@@ -581,10 +581,10 @@ fn check_clauses<R: Source>(
     check_proof(alloc, r, checker, step, cnf.num_vars())
 }
 
-/// Checks a proof that clauses can't be satisfied: the text of an LRAT file, or a DRAT file, text or
-/// binary, whose steps follow by reverse unit propagation or have the RAT property. The clauses of
-/// `cnf`, variable by variable, and those of `further` after them are numbered from 1 on, and
-/// variable v is written as v + 1.
+/// Checks a proof that clauses can't be satisfied: an LRAT or a DRAT file, text or binary, whose
+/// steps follow by reverse unit propagation or have the RAT property. The clauses of `cnf`, variable
+/// by variable, and those of `further` after them are numbered from 1 on, and variable v is written
+/// as v + 1.
 ///
 /// Clauses of which a literal has no variable are refused as `Variable`. Others in conflict at once
 /// need no proof, and nothing is read: one is empty, or one has a literal alone and another its
@@ -609,12 +609,15 @@ fn check_clauses<R: Source>(
 /// is a literal given up that followed once, and to delete a clause that isn't there does nothing.
 ///
 /// A binary DRAT file has the letter `a` or `d` for each step, then each literal as twice its number,
-/// one more where it is inverted, in groups of seven bits, the lowest first, and then a 0. The bytes
-/// after the empty clause don't matter.
+/// one more where it is inverted, in groups of seven bits, the lowest first, and then a 0. A binary LRAT
+/// file has the number of a clause behind the letter `a`, as it is, and its hints and a 0 behind the
+/// literals; a hint is twice its number, one more where it has a minus, and so are the numbers behind
+/// the letter `d`.
 ///
-/// A proof is binary where it begins with `a`, or with `d` and a byte 0 is among the first 1,024. The
-/// first line of a text says which form all have. A clause that can't be added is refused as `Step`,
-/// and as `Asymmetry` where it has hints for other clauses.
+/// A proof is binary where it begins with `a`, or with `d` and a byte 0 is among the first 1,024. It
+/// is an LRAT file where those bytes can't be DRAT steps, and can be LRAT steps, and in any case
+/// behind the word `lrat`. The first line of a text says which form all have. A clause that can't be
+/// added is refused as `Step`, and as `Asymmetry` where it has hints for other clauses.
 ///
 /// The proof is read through a buffer of 16,384 bytes, up to the empty clause, and nothing is
 /// trusted of it. The memory is that of the clauses that are not deleted, a few times over, and

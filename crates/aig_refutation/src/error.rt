@@ -41,7 +41,7 @@ pub enum RefutationError {
     /// property (resolution asymmetry) on its first literal.
     #[error("proof step has not the RAT property")]
     Asymmetry,
-    /// The proof is neither a text nor binary DRAT, or a binary one is cut or malformed in a step.
+    /// The proof is neither a text nor a binary one, or a binary one is cut or malformed in a step.
     #[error("bad binary proof; LRAT is taken as text (cadical --no-binary)")]
     Binary,
     /// The bytes end before the empty clause.
