@@ -1,6 +1,6 @@
 -- Part of what is promised.
 -- Which words give which command.
-use Rattle.std.specs.Prelude.{◌≡◌, ◌⊎◌, ◌++◌, ◌∷◌, [], ℕ, Bool, true, false, not, IsTrue, List, None, Option, Some, codes}
+use Rattle.std.specs.Prelude.{◌≡◌, ◌⊎◌, ◌==◌, ◌++◌, ◌∷◌, [], ℕ, Bool, true, false, not, IsTrue, List, None, Option, Some, codes}
 use Rattle.aig_runs.specs.declared.window.Window.{Window}
 use Rattle.aig_runs.specs.declared.window.Window.TheVariants.{Plain, Distinct}
 use Rattle.aig_command_line.specs.declared.arguments.Form.{Form}
@@ -10,15 +10,12 @@ use Rattle.aig_command_line.specs.Arguments.{Arguments, Gives}
 use Rattle.aig_command_line.specs.Limits.{IsLimited}
 use Rattle.aig_checks.specs.declared.command.Action.{Action}
 use Rattle.aig_checks.specs.declared.command.Action.TheVariants as actions
+use Rattle.aig_checks.specs.declared.command.Asked.{Asked}
 use Rattle.aig_checks.specs.declared.command.Command.{Command}
 use Rattle.aig_checks.specs.declared.command.Command.TheVariants as commands
 use Rattle.aig_checks.specs.declared.command.FileCommand.TheVariants as on_file
 use Rattle.aig_checks.specs.declared.command.PairCommand.TheVariants as on_pair
-use Rattle.aig_checks.specs.declared.justice.FairCommand.TheVariants as fair
-use Rattle.aig_checks.specs.declared.justice.FairPrint.TheVariants as prints
-use Rattle.aig_checks.specs.declared.justice.Justice.{Justice}
-use Rattle.aig_checks.specs.declared.justice.LassoCommand.TheVariants as lassos
-use Rattle.aig_checks.specs.Justice.{AreJustice, command_by}
+use Rattle.aig_checks.specs.Justice.{AreJustice, is_asked}
 
 -- the word that names a command
 abbrev pub name_of : Action → List ℕ
@@ -133,22 +130,20 @@ AreCommand words c a =
 
 -- the words give the limit, then the justice property that is asked about, if there is one, and
 -- then the command, with its files and what is given beside them
-pub record IsCall (words : List (List ℕ)) (limit : ℕ) (c : Command) (paths further : List (List ℕ))
+pub record IsCall (words : List (List ℕ)) (limit : ℕ) (c : Asked) (paths further : List (List ℕ))
     : Type 0 where
   pub rest : List (List ℕ)
   pub limited : IsLimited words limit rest
-  pub justice : Option Justice
   pub more : List (List ℕ)
-  pub asked : AreJustice justice rest more
-  pub usual : Command
+  pub asked : AreJustice c.justice rest more
   pub arguments : Arguments
-  pub gives : AreCommand more usual arguments
-  pub command : command_by justice usual ≡ Some c
+  pub gives : AreCommand more c.command arguments
+  pub allowed : IsTrue (is_asked c.justice c.command)
   pub on : paths ≡ arguments.paths
   pub beside : further ≡ arguments.further
 
 -- the words give the command
-abbrev pub Give : List (List ℕ) → Command → Type 0
+abbrev pub Give : List (List ℕ) → Asked → Type 0
 Give words c = (limit : ℕ) × (paths : List (List ℕ)) × (further : List (List ℕ))
     × IsCall words limit c paths further
 
@@ -167,13 +162,6 @@ step_of (commands.File (on_file.WitnessTo k optimize)) = k
 step_of (commands.Pair (on_pair.Equal k optimize)) = k
 step_of (commands.Pair (on_pair.AlwaysEqual k form base_optimize step_optimize)) = k
 step_of (commands.Safe k form base_optimize step_optimize) = k
-step_of (commands.Fair justice (fair.Print (prints.Clauses k optimize))) = k
-step_of (commands.Fair justice (fair.Print (prints.Window k form optimize))) = k
-step_of (commands.Fair justice (fair.Print (prints.Bounded k optimize))) = k
-step_of (commands.Fair justice (fair.Safe k form base_optimize step_optimize)) = k
-step_of (commands.Lasso property (lassos.Refuted k optimize)) = k
-step_of (commands.Lasso property (lassos.RefutedTo k optimize)) = k
-step_of (commands.Lasso property (lassos.Inductive k form optimize)) = k
 step_of c = 0
 
 -- on how many files it is
@@ -182,11 +170,6 @@ paths_of (commands.File c) = 1
 paths_of (commands.Pair c) = 2
 paths_of (commands.Safe k form base_optimize step_optimize) = 1
 paths_of (commands.EqualBy optimize) = 2
-paths_of (commands.Fair justice (fair.Print c)) = 1
-paths_of (commands.Fair justice (fair.Obligations optimize)) = 2
-paths_of (commands.Fair justice (fair.Certified optimize)) = 2
-paths_of (commands.Fair justice (fair.Safe k form base_optimize step_optimize)) = 1
-paths_of (commands.Lasso property c) = 1
 
 -- how many are given beside these
 abbrev pub beside_of : Command → ℕ
@@ -198,8 +181,8 @@ beside_of (commands.Pair (on_pair.Obligations optimize)) = 0
 beside_of (commands.Pair (on_pair.AlwaysEqual k form base_optimize step_optimize)) = 2
 beside_of (commands.Safe k form base_optimize step_optimize) = 2
 beside_of (commands.EqualBy optimize) = 3
-beside_of (commands.Fair justice (fair.Print c)) = 0
-beside_of (commands.Fair justice (fair.Obligations optimize)) = 0
-beside_of (commands.Fair justice (fair.Certified optimize)) = 2
-beside_of (commands.Fair justice (fair.Safe k form base_optimize step_optimize)) = 2
 beside_of c = 1
+
+-- it prints clauses, and takes nothing beside its files
+abbrev pub prints : Command → Bool
+prints c = beside_of c == 0

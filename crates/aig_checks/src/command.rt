@@ -2,11 +2,12 @@
 
 ghost use Rattle.std.specs.Prelude.{◌≡◌, ◌↔◌, ◌<◌, ◌^◌, Bool, IfNone, IfSome, List, Some, ℕ, length, map, string_bytes};
 ghost use Rattle.aig_command_line.specs.Arguments.{Arguments, seen};
-ghost use Rattle.aig_command_line.specs.Limits.{IsLimit};
+ghost use Rattle.aig_checks.specs.Fits.{Fits};
 ghost use Rattle.aig_checks.specs.Words.{AreCommand, Give, IsAlone, IsCall, IsWhole, beside_of, command_of, form_of, name_of, on_certificate, on_step, paths_of, raw_alone, raw_word, step_of, window_of};
+ghost use Rattle.aig_checks.specs.declared.command.Asked.{Asked};
 ghost use Rattle.aig_checks.specs.declared.command.Command.{Command};
 
-use crate::justice::{FairCommand, Justice, LassoCommand, command_by, is_word, justice_first};
+use crate::justice::{Justice, is_asked, is_word, justice_first};
 use aig_answers::Window;
 use aig_command_line::{Form, Given, HasForm, Step, find, limited};
 
@@ -133,20 +134,16 @@ pub enum Command {
         /// Whether exclusive ors and choices have clauses of their own.
         optimize: bool,
     },
-    /// A command about the fair runs of FILE.
-    Fair {
-        /// The justice property.
-        justice: Justice,
-        /// What is asked.
-        command: FairCommand,
-    },
-    /// A command about the fair lassos of FILE.
-    Lasso {
-        /// The number of the justice property.
-        property: usize,
-        /// What is asked.
-        command: LassoCommand,
-    },
+}
+
+/// What the program is asked to do, and of which property of FILE.
+#[derive(Clone, Copy)]
+pub struct Asked {
+    /// The justice property of FILE that is asked about, or none where it is the bad states. The command is then on the file that is made
+    /// of FILE for it.
+    pub justice: Option<Justice>,
+    /// The command.
+    pub command: Command,
 }
 
 /// A command without K and its settings.
@@ -329,8 +326,8 @@ impl Action {
 pub struct Call<'a> {
     /// The limit on the nodes of a circuit.
     pub limit: usize,
-    /// The command.
-    pub command: Command,
+    /// The command, and the property.
+    pub asked: Asked,
     /// FILE, and CERT or OTHER, where the command wants one.
     pub paths: &'a [String],
     /// PROOF, SOLUTION or WITNESS, or BASE and STEP, behind CERT after the word `by`, where the command wants them.
@@ -429,37 +426,37 @@ fn command_first(words: &[String]) -> Option<(Command, Given<'_>)>
 /// N of `--rounds N`, where these come, and then the command and what it takes. Words that fit no command may end with `raw-base` or
 /// `raw-step` behind those of `safe` or of `equal` with `to`, without `raw`. It takes no memory.
 pub fn call_of(words: &[String]) -> Option<Call<'_>>
-    ensures some { IfSome result (λ c. IsCall (map string_bytes words.now) c.limit c.command
+    ensures some { IfSome result (λ c. IsCall (map string_bytes words.now) c.limit c.asked
         (map string_bytes c.paths.now) (map string_bytes c.further.now)) }
-    ensures none { IfNone result ((limit : ℕ) (c : Command) (paths further : List (List ℕ))
+    ensures none { IfNone result ((limit : ℕ) (c : Asked) (paths further : List (List ℕ))
         → ¬ IsCall (map string_bytes words.now) limit c paths further) }
-    ensures limit { IfSome result (λ c. IsLimit c.limit) }
-    ensures paths { IfSome result (λ c. length c.paths.now ≡ paths_of c.command) }
-    ensures further { IfSome result (λ c. length c.further.now ≡ beside_of c.command) }
-    ensures small { IfSome result (λ c. step_of c.command < 2 ^ 32) }
+    ensures fits { IfSome result Fits }
 {
     let (limit, rest) = limited(words)?;
     let (justice, rest) = justice_first(rest)?;
     let (command, given) = command_first(rest)?;
+    if !is_asked(justice, command) {
+        return None;
+    }
     Some(Call {
         limit,
-        command: command_by(justice, command)?,
+        asked: Asked { justice, command },
         paths: given.paths,
         further: given.further,
     })
 }
 
-/// The command that the words after the program's name give, or none where they are wrong.
+/// What the words after the program's name ask for, or none where they are wrong.
 ///
-/// The words `--limit` and N may come first, and then `--justice` and J, and then `--rounds` and N. The word after the command's name is FILE. The next is WITNESS of `run`, CERT of `certified`
-/// and `obligations`, and OTHER of `equal`. Then comes K, where the command has one, after the word `to` where it is on the steps up to K,
-/// and the words after that are PROOF of `refuted`, `inductive` and `equal`, SOLUTION of `witness`, and BASE and STEP of `certified`, `safe`
-/// and `equal` with `to`. Of `equal` with the word `by` it is CERT, BASE and STEP that come after that. The words `distinct` and `raw` may
-/// come last, where the command may have them, and in place of `raw` the word `raw-base` or `raw-step` of `safe` and of `equal` with `to`:
-/// the clauses of BASE alone are then raw, or those of STEP alone. It takes no memory.
-pub fn parse(words: &[String]) -> Option<Command>
-    ensures exact { (c : Command) → (result ≡ Some c) ↔ Give (map string_bytes words.now) c }
-    ensures small { IfSome result (λ c. step_of c < 2 ^ 32) }
+/// The words `--limit` and N may come first, and then `--justice` and J, and then `--rounds` and N. The word after the command's name is
+/// FILE. The next is WITNESS of `run`, CERT of `certified` and `obligations`, and OTHER of `equal`. Then comes K, where the command has one,
+/// after the word `to` where it is on the steps up to K, and the words after that are PROOF of `refuted`, `inductive` and `equal`, SOLUTION
+/// of `witness`, and BASE and STEP of `certified`, `safe` and `equal` with `to`. Of `equal` with the word `by` it is CERT, BASE and STEP that
+/// come after that. The words `distinct` and `raw` may come last, where the command may have them, and in place of `raw` the word `raw-base`
+/// or `raw-step` of `safe` and of `equal` with `to`: the clauses of BASE alone are then raw, or those of STEP alone. It takes no memory.
+pub fn parse(words: &[String]) -> Option<Asked>
+    ensures exact { (c : Asked) → (result ≡ Some c) ↔ Give (map string_bytes words.now) c }
+    ensures small { IfSome result (λ c. step_of c.command < 2 ^ 32) }
 {
-    Some(call_of(words)?.command)
+    Some(call_of(words)?.asked)
 }
