@@ -12,11 +12,13 @@ use Rattle.aig_command_line.specs.declared.status.Ending.TheVariants.{Done}
 use Rattle.aig_command_line.specs.declared.files.OpenError.{OpenError}
 use Rattle.aig_command_line.specs.Ending.{ended}
 use Rattle.aig_checks.specs.declared.command.Action.TheVariants as actions
+use Rattle.aig_checks.specs.declared.command.Asked.{Asked}
 use Rattle.aig_checks.specs.declared.command.Command.TheVariants as commands
 use Rattle.aig_checks.specs.declared.command.FileCommand.TheVariants as on_file
 use Rattle.aig_checks.specs.declared.tool.CheckError.{CheckError}
-use Rattle.aig_checks.specs.Acting.{Acts, RunsFile}
-use Rattle.aig_checks.specs.Opening.{OnOpening}
+use Rattle.aig_checks.specs.Acting.{Acts, RanOn}
+use Rattle.aig_checks.specs.Inputs.{Ran}
+use Rattle.aig_checks.specs.Opening.{OnOpening, OpensAll}
 use Rattle.aig_checks.specs.Running.{Runs, step_line}
 use Rattle.aig_checks.specs.Words.{IsCall}
 use Rattle.aig_edits.specs.declared.edit.Edit.TheVariants as edits
@@ -45,11 +47,14 @@ abbrev begins_with : ℕ → List (List ℕ) → Bool
 begins_with letter ((c ∷ cs) ∷ words) = c == letter
 begins_with letter words = false
 
+-- what is asked
+abbrev pub refuted_asked : Asked
+refuted_asked = record { justice = None; command = commands.File (on_file.Refuted 0 true) }
+
 -- the words give the command
 pub refuted_call : (words : List (List ℕ))
     → words ≡ codes "refuted" ∷ codes "FILE" ∷ codes "0" ∷ codes "PROOF" ∷ []
-    → IsCall words (2 ^ 24) (commands.File (on_file.Refuted 0 true)) (codes "FILE" ∷ [])
-    (codes "PROOF" ∷ [])
+    → IsCall words (2 ^ 24) refuted_asked (codes "FILE" ∷ []) (codes "PROOF" ∷ [])
 refuted_call words are = record {
   rest = words;
   limited = inr (record {
@@ -58,10 +63,8 @@ refuted_call words are = record {
         refl;
     usual = refl;
   });
-  justice = None;
   more = words;
   asked = (λ more is. true≢false (ap (begins_with 114) (sym are ∙ is)), refl);
-  usual = commands.File (on_file.Refuted 0 true);
   arguments = record {
     paths = codes "FILE" ∷ [];
     step = 0;
@@ -92,7 +95,7 @@ refuted_call words are = record {
     };
     command = refl;
   });
-  command = refl;
+  allowed = refl;
   on = refl;
   beside = refl;
 }
@@ -152,30 +155,38 @@ module _ {F W : Type 0} (file proof : List ℕ) (left : F → Option (List ℕ))
         (on_file.Refuted 0 true) (2 ^ 24) r rest p used w made file out u runs is empty all in
         (answer.0, answer.1.0.0, answer.2.1.1, answer.2.1.0 ∙ line_0)
 
-    refuted_beside : (r rest : F) (u : Unit {0}) (second : Result F OpenError) → left r ≡ Some file
-        → OnOpening (λ p. (used : F)
-        × Runs left read_failed left read_failed held write_failed (on_file.Refuted 0 true) (2 ^ 24)
-        r p w (Ok u) rest used made)
-        (λ e. (Ok u ≡ Err e) × (rest ≡ r) × (made ≡ w)) second
+    refuted_ran : (r rest p : F) (others : List F) (u : Unit {0}) → left r ≡ Some file
+        → Ran left read_failed left read_failed held write_failed (2 ^ 24) refuted_asked.command r
+        (p ∷ []) w (Ok u) rest others made
         → IsRefuted
-    refuted_beside r rest u (Ok p) is runs = refuted_run r rest p runs.0 u is runs.1
-    refuted_beside r rest u (Err e) is runs = let h = runs.0 in cc
+    refuted_ran r rest p (used ∷ []) u is ran = refuted_run r rest p used u is ran
+    refuted_ran r rest p others u is ran = absurd ran
+
+    -- what is meant of files that were opened
+    abbrev pub IsRunOn : Unit {0} → List F → Type 0
+    IsRunOn u = RanOn left read_failed held write_failed (2 ^ 24) refuted_asked w (Ok u) made
+
+    -- and of one that was not
+    abbrev pub IsUnopened : Unit {0} → CheckError → Type 0
+    IsUnopened u e = (Ok u ≡ Err e) × (made ≡ w)
+
+    refuted_beside : (r : F) (u : Unit {0}) (second : Result F OpenError) → left r ≡ Some file
+        → OnOpening (λ p. IsRunOn u (r ∷ p ∷ [])) (IsUnopened u) second
+        → IsRefuted
+    refuted_beside r u (Ok p) is runs = refuted_ran r runs.0 p runs.1 u is runs.2
+    refuted_beside r u (Err e) is runs = let h = runs.0 in cc
 
     refuted_opened : (u : Unit {0}) (first : Result F OpenError) → OpensTwo (codes "FILE") first
-        → OnOpening (λ r. (rest : F)
-        × RunsFile OpensTwo left read_failed left read_failed held write_failed (2 ^ 24)
-        (on_file.Refuted 0 true) (codes "PROOF" ∷ []) r w (Ok u) rest made)
-        (λ e. (Ok u ≡ Err e) × (made ≡ w)) first
+        → OnOpening (λ r. OpensAll OpensTwo (codes "PROOF" ∷ []) (λ files. IsRunOn u (r ∷ files))
+        (IsUnopened u)) (IsUnopened u) first
         → IsRefuted
-    refuted_opened u (Ok r) opened runs =
-        refuted_beside r runs.0 u runs.1.file (opened.0 refl) runs.1.leads
+    refuted_opened u (Ok r) opened runs = refuted_beside r u runs.file (opened.0 refl) runs.leads
     refuted_opened u (Err e) opened runs = let h = runs.0 in cc
 
     -- a program that is done has printed it
     pub refuted_done : (done : Result (Unit {0}) CheckError) → Done ≡ ended done
-        → Acts OpensTwo left read_failed held write_failed (2 ^ 24)
-        (commands.File (on_file.Refuted 0 true)) (codes "FILE" ∷ []) (codes "PROOF" ∷ []) w done
-        made
+        → Acts OpensTwo left read_failed held write_failed (2 ^ 24) refuted_asked
+        (codes "FILE" ∷ []) (codes "PROOF" ∷ []) w done made
         → IsRefuted
     refuted_done (Ok u) is acts = refuted_opened u acts.file acts.opened acts.leads
     refuted_done (Err e) is acts = cc

@@ -1,5 +1,5 @@
 -- Words give one command.
-use Rattle.aig_base.proofs.Words.{◌≢◌, Bool, true, false, length, length-append, map, map-append, inl, inr, ◌++◌, get_or, Global, ◌≡◌, ◌↔◌, ℕ, List, ◌∷◌, [], Some, refl, sym, ap, ◌∙◌, arith, same_Some}
+use Rattle.aig_base.proofs.Words.{◌≢◌, Bool, true, false, length, length-append, map, map-append, inl, inr, ◌++◌, Global, ◌≡◌, ◌↔◌, ℕ, List, ◌∷◌, [], Some, refl, sym, ap, ◌∙◌, arith, same_Some, true≢false}
 use Rattle.std.specs.Prelude.{All, Contains, Err, IfNone, None, Ok, Option, Result, String, codes, slice_index, slice_index_or, string_bytes}
 use Rattle.aig_format.specs.Text.{IsNumber, value_of}
 use Rattle.aig_command_line.specs.declared.about.Question.{Question}
@@ -8,22 +8,18 @@ use Rattle.aig_command_line.specs.About.{word_of}
 use Rattle.aig_command_line.specs.declared.status.Ending.TheVariants as endings
 use Rattle.aig_command_line.specs.Ending.{ended}
 use Rattle.aig_runs.specs.declared.window.Window.{Window}
-use Rattle.aig_command_line.specs.Arguments.{Arguments, Gives, further_of}
+use Rattle.aig_command_line.specs.Arguments.{Arguments, Gives}
 use Rattle.aig_command_line.specs.declared.arguments.Given.{Given}
 use Rattle.aig_command_line.specs.Limits.{IsLimited}
 use Rattle.aig_command_line.proofs.Apart as apart
 use Rattle.aig_command_line.proofs.Limits.{asked_alone, one_limit}
 use Rattle.aig_checks.specs.declared.command.Action.{Action}
 use Rattle.aig_checks.specs.declared.command.Action.TheVariants as actions
+use Rattle.aig_checks.specs.declared.command.Asked.{Asked}
 use Rattle.aig_checks.specs.declared.command.Command.{Command}
-use Rattle.aig_checks.specs.declared.command.Command.TheVariants as commands
-use Rattle.aig_checks.specs.declared.command.FileCommand.{FileCommand}
-use Rattle.aig_checks.specs.declared.command.FileCommand.TheVariants as on_file
-use Rattle.aig_checks.specs.declared.command.PairCommand.{PairCommand}
-use Rattle.aig_checks.specs.declared.command.PairCommand.TheVariants as on_pair
 use Rattle.aig_checks.specs.declared.command.TheConstants.Action.{ALL}
 use Rattle.aig_checks.specs.declared.justice.Justice.{Justice}
-use Rattle.aig_checks.specs.Justice.{AreJustice, IsNumbered, command_by}
+use Rattle.aig_checks.specs.Justice.{AreJustice, IsNumbered, is_asked}
 use Rattle.aig_checks.specs.Words.{AreCommand, Give, IsAlone, IsCall, IsWhole, beside_of, command_of, form_of, name_of, paths_of, raw_alone, raw_word}
 
 -- each command is in the list
@@ -43,7 +39,6 @@ among actions.WitnessTo = (11, omega arith, refl)
 among actions.Safe = (12, omega arith, refl)
 among actions.AlwaysEqual = (13, omega arith, refl)
 among actions.EqualBy = (14, omega arith, refl)
-among actions.SafeBySteps = (15, omega arith, refl)
 
 -- what holds of each in the list holds of each
 pub each : (P : Action → Type 0) → All P ALL → (a : Action) → P a
@@ -246,79 +241,89 @@ pub neither_if : (words : List (List ℕ)) → ((c : Command) (x : Arguments) �
 neither_if words whole (Some g) alone = tt
 neither_if words whole None alone = neither words whole alone
 
+-- what is asked is its justice property and its command
+same_asked : (c d : Asked) → c.justice ≡ d.justice → c.command ≡ d.command → c ≡ d
+same_asked c d justice command =
+    ap (λ j. the j c.command) justice ∙ ap (λ e. the d.justice e) command
+  where
+    the : Option Justice → Command → Asked
+    the j e = record { justice = j; command = e }
+
 -- what words give after their limit and their justice property, where they give a command
 given_is : (words rest more : List (List ℕ)) (limit : ℕ) (a : Option Justice) (u : Command)
     (x : Arguments) → IsLimited words limit rest → AreJustice a rest more → AreCommand more u x
-    → (other : ℕ) (c : Command) (paths further : List (List ℕ))
+    → (other : ℕ) (c : Asked) (paths further : List (List ℕ))
     → IsCall words other c paths further
-    → (other ≡ limit) × (Some c ≡ command_by a u) × (paths ≡ x.paths) × (further ≡ x.further)
+    → (other ≡ limit) × (c.justice ≡ a) × (c.command ≡ u) × (paths ≡ x.paths)
+    × (further ≡ x.further)
 given_is words rest more limit a u x limited asked gives other c paths further g =
     let words_are = one_limit words other limit g.rest rest g.limited limited in
-    let justice = one_justice rest g.justice a g.more more (rw words_are.1 at g.asked) asked in
-    let same = one_command more g.usual u g.arguments x (rw justice.1 at g.gives) gives in (
+    let justice = one_justice rest c.justice a g.more more (rw words_are.1 at g.asked) asked in
+    let same = one_command more c.command u g.arguments x (rw justice.1 at g.gives) gives in (
       words_are.0,
-      sym g.command ∙ ap (λ j. command_by j g.usual) justice.0 ∙ ap (λ d. command_by a d) same.0,
+      justice.0,
+      same.0,
       g.on ∙ ap (λ (y : Arguments). y.paths) same.1,
       g.beside ∙ ap (λ (y : Arguments). y.further) same.1,
     )
 
 -- words give one command, with one limit, one list of paths and one of what is beside them
-pub one_call : (words : List (List ℕ)) (limit other : ℕ) (c d : Command) (p q r s : List (List ℕ))
+pub one_call : (words : List (List ℕ)) (limit other : ℕ) (c d : Asked) (p q r s : List (List ℕ))
     → IsCall words limit c p r
     → IsCall words other d q s → (limit ≡ other) × (c ≡ d) × (p ≡ q) × (r ≡ s)
 one_call words limit other c d p q r s g h =
-    let is = given_is words h.rest h.more other h.justice h.usual h.arguments h.limited h.asked
+    let is = given_is words h.rest h.more other d.justice d.command h.arguments h.limited h.asked
     h.gives limit c p r g in
-    (is.0, same_Some _ _ (is.1 ∙ h.command), is.2 ∙ sym h.on, is.3 ∙ sym h.beside)
+    (is.0, same_asked c d is.1 is.2, is.3 ∙ sym h.on, is.4 ∙ sym h.beside)
 
 -- words after a limit that give no justice property rightly give no command
 pub unjust_none : (words rest : List (List ℕ)) (limit : ℕ) → IsLimited words limit rest
     → ((a : Option Justice) (more : List (List ℕ)) → ¬ AreJustice a rest more)
-    → (other : ℕ) (c : Command) (paths further : List (List ℕ)) → ¬ IsCall words other c paths further
+    → (other : ℕ) (c : Asked) (paths further : List (List ℕ)) → ¬ IsCall words other c paths further
 unjust_none words rest limit limited none other c paths further g =
     let same = (one_limit words other limit g.rest rest g.limited limited).1 in
-    none g.justice g.more (rw same at g.asked)
+    none c.justice g.more (rw same at g.asked)
 
 -- nor do words after these that are none
 pub fits_none : (words rest more : List (List ℕ)) (limit : ℕ) (a : Option Justice)
     → IsLimited words limit rest → AreJustice a rest more
     → ((c : Command) (x : Arguments) → ¬ AreCommand more c x)
-    → (other : ℕ) (c : Command) (paths further : List (List ℕ)) → ¬ IsCall words other c paths
+    → (other : ℕ) (c : Asked) (paths further : List (List ℕ)) → ¬ IsCall words other c paths
     further
 fits_none words rest more limit a limited asked none other c paths further g =
     let words_are = one_limit words other limit g.rest rest g.limited limited in
-    let justice = one_justice rest g.justice a g.more more (rw words_are.1 at g.asked) asked in
-    none g.usual g.arguments (rw justice.1 at g.gives)
+    let justice = one_justice rest c.justice a g.more more (rw words_are.1 at g.asked) asked in
+    none c.command g.arguments (rw justice.1 at g.gives)
 
 -- nor where no justice property is asked about by what they are
 pub unasked_none : (words rest more : List (List ℕ)) (limit : ℕ) (a : Option Justice) (u : Command)
     (x : Arguments) → IsLimited words limit rest → AreJustice a rest more → AreCommand more u x
-    → command_by a u ≡ None
-    → (other : ℕ) (c : Command) (paths further : List (List ℕ)) → ¬ IsCall words other c paths
+    → is_asked a u ≡ false
+    → (other : ℕ) (c : Asked) (paths further : List (List ℕ)) → ¬ IsCall words other c paths
     further
 unasked_none words rest more limit a u x limited asked gives none other c paths further g =
-    let is = (given_is words rest more limit a u x limited asked gives other c paths further g).1 ∙
-    none in
-    cc
+    let is = given_is words rest more limit a u x limited asked gives other c paths further g in
+    true≢false (sym g.allowed ∙ ap (λ j. is_asked j c.command) is.1 ∙ ap (λ d. is_asked a d) is.2
+    ∙ none)
 
 -- so what they give is told exactly
-pub gives_exactly : (words : List (List ℕ)) (limit : ℕ) (c : Command) (paths further : List (List ℕ))
+pub gives_exactly : (words : List (List ℕ)) (limit : ℕ) (c : Asked) (paths further : List (List ℕ))
     → IsCall words limit c paths further
-    → (d : Command) → (Some c ≡ Some d) ↔ Give words d
+    → (d : Asked) → (Some c ≡ Some d) ↔ Give words d
 gives_exactly words limit c paths further g d = (
   λ is. let same : c ≡ d = same_Some _ _ is in (limit, paths, further, rw same at g),
   λ h. ap Some (one_call words limit h.0 c d paths h.1 further h.2 g h.3).1,
 )
 
 -- a question is no command
-pub no_command : (words : List (List ℕ)) (q : Question) (limit : ℕ) (c : Command)
+pub no_command : (words : List (List ℕ)) (q : Question) (limit : ℕ) (c : Asked)
     (paths further : List (List ℕ)) → words ≡ word_of q ∷ []
     → ¬ IsCall words limit c paths further
 no_command words q limit c paths further are g =
     let alone = asked_alone words g.rest q limit are g.limited in
-    let rest = (no_justice (word_of q ∷ []) g.justice g.more (no_asked q) (rw alone at g.asked)).1
+    let rest = (no_justice (word_of q ∷ []) c.justice g.more (no_asked q) (rw alone at g.asked)).1
     in
-    no_question q g.usual g.arguments (rw rest at g.gives)
+    no_question q c.command g.arguments (rw rest at g.gives)
   where
     no_asked : (q : Question) (more : List (List ℕ)) → ¬ (word_of q ∷ [] ≡ codes "--justice" ∷ more)
     no_asked Usage more is =
@@ -378,11 +383,10 @@ paths_fit actions.WitnessTo k d o = refl
 paths_fit actions.Safe k d o = refl
 paths_fit actions.AlwaysEqual k d o = refl
 paths_fit actions.EqualBy k d o = refl
-paths_fit actions.SafeBySteps k d o = refl
 
 -- and as many beside them
-pub beside_fit : (a : Action) (k : ℕ) (d o : Bool) → beside_of (command_of a k d o)
-    ≡ further_of (form_of a) k
+pub beside_fit : (a : Action) (k : ℕ) (d o : Bool) → beside_of (command_of a k d o) ≡ (form_of
+    a).further
 beside_fit actions.Clauses k d o = refl
 beside_fit actions.Window k d o = refl
 beside_fit actions.Refuted k d o = refl
@@ -398,46 +402,3 @@ beside_fit actions.WitnessTo k d o = refl
 beside_fit actions.Safe k d o = refl
 beside_fit actions.AlwaysEqual k d o = refl
 beside_fit actions.EqualBy k d o = refl
-beside_fit actions.SafeBySteps k d o = omega arith
-
-pub one_beside : (c : FileCommand) → ((k : ℕ) (o : Bool) → c ≢ on_file.Clauses k o) → ((k : ℕ) (form : Window) (o : Bool) → c ≢ on_file.Window k form o)
-    → ((k : ℕ) (o : Bool) → c ≢ on_file.Bounded k o) → beside_of (commands.File c) ≡ 1
-one_beside (on_file.Clauses k o) no_clauses no_window no_bounded = absurd (no_clauses k o refl)
-one_beside (on_file.Window k form o) no_clauses no_window no_bounded = absurd (no_window k form o refl)
-one_beside (on_file.Bounded k o) no_clauses no_window no_bounded = absurd (no_bounded k o refl)
-one_beside c no_clauses no_window no_bounded = refl
-
-pub two_beside : (c : PairCommand) → ((k : ℕ) (o : Bool) → c ≢ on_pair.Equal k o)
-    → ((o : Bool) → c ≢ on_pair.Obligations o) → beside_of (commands.Pair c) ≡ 2
-two_beside (on_pair.Equal k o) no_equal no_obligations = absurd (no_equal k o refl)
-two_beside (on_pair.Obligations o) no_equal no_obligations = absurd (no_obligations o refl)
-two_beside c no_equal no_obligations = refl
-
--- the names in a list of none, of one and of two
-pub no_names : (xs : List (String Global)) → length xs ≡ 0 → map string_bytes xs ≡ []
-no_names [] none = refl
-no_names (x ∷ xs) none = absurd (omega (arith, none))
-
-pub one_name : (xs : List (String Global)) (x : String Global) → length xs ≡ 1 → x ≡ get_or xs 0 x
-    → map string_bytes xs ≡ string_bytes x ∷ []
-one_name [] x one at = absurd (omega (arith, one))
-one_name (y ∷ []) x one at = ap (λ z. string_bytes z ∷ []) (sym at)
-one_name (y ∷ z ∷ xs) x one at = absurd (omega (arith, one))
-
-pub two_names : (xs : List (String Global)) (x y : String Global) → length xs ≡ 2 → x ≡ get_or xs 0 x → y ≡ get_or xs 1 y
-    → map string_bytes xs ≡ string_bytes x ∷ string_bytes y ∷ []
-two_names [] x y two at_first at_second = absurd (omega (arith, two))
-two_names (a ∷ []) x y two at_first at_second = absurd (omega (arith, two))
-two_names (a ∷ b ∷ []) x y two at_first at_second = rw (at_first, at_second) refl
-two_names (a ∷ b ∷ z ∷ xs) x y two at_first at_second = absurd (omega (arith, two))
-
-pub three_names : (xs : List (String Global)) (x y z : String Global) → length xs ≡ 3
-    → x ≡ get_or xs 0 x → y ≡ get_or xs 1 y → z ≡ get_or xs 2 z
-    → map string_bytes xs ≡ string_bytes x ∷ string_bytes y ∷ string_bytes z ∷ []
-three_names [] x y z three at_first at_second at_third = absurd (omega (arith, three))
-three_names (a ∷ []) x y z three at_first at_second at_third = absurd (omega (arith, three))
-three_names (a ∷ b ∷ []) x y z three at_first at_second at_third = absurd (omega (arith, three))
-three_names (a ∷ b ∷ d ∷ []) x y z three at_first at_second at_third =
-    rw (at_first, at_second, at_third) refl
-three_names (a ∷ b ∷ d ∷ e ∷ xs) x y z three at_first at_second at_third =
-    absurd (omega (arith, three))

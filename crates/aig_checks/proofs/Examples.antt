@@ -1,6 +1,6 @@
 -- The comments of a small query, computed; and wrong words and lines, of which the definitions are
 -- false.
-use Rattle.aig_base.proofs.Words.{◌≡◌, ◌≢◌, ℕ, Bool, true, false, None, Option, List, [], ◌∷◌, ◌++◌, length, refl, ap, subst, sym, arith, length-append, ◌∙◌, inl, inr, Some, same_Some}
+use Rattle.aig_base.proofs.Words.{◌≡◌, ◌≢◌, ℕ, Bool, true, false, None, Option, List, [], ◌∷◌, ◌++◌, length, refl, ap, subst, sym, arith, length-append, ◌∙◌, inl, inr, Some}
 use Rattle.std.specs.Prelude.{IsTrue, codes, not, slice_get, slice_index, slice_index_or}
 use Rattle.std.specs.Fmt.{digits}
 use Rattle.aig_base.specs.Clauses.{lit_to}
@@ -15,11 +15,10 @@ use Rattle.aig_titles.specs.Titles.{title_text}
 use Rattle.aig_witness.specs.declared.error.WitnessError.TheVariants as witness
 use Rattle.aig_witness.specs.declared.file.ShowError.TheVariants as shows
 use Rattle.aig_fair.specs.declared.file.ShownProperty.TheVariants as properties
+use Rattle.aig_checks.specs.declared.command.Asked.{Asked}
 use Rattle.aig_checks.specs.declared.command.Command.{Command}
 use Rattle.aig_checks.specs.declared.command.FileCommand.{FileCommand}
 use Rattle.aig_checks.specs.declared.justice.Justice.{Justice}
-use Rattle.aig_checks.specs.declared.justice.LassoCommand.{LassoCommand}
-use Rattle.aig_checks.specs.Justice.{command_by, fair_command, lasso_command}
 use Rattle.aig_checks.proofs.Calling.{no_justice}
 use Rattle.aig_checks.specs.declared.tool.CheckError.TheVariants as errors
 use Rattle.aig_checks.specs.Running.{Answers, IsErrorOf, TellsOfGiven, error_status, file_verdict, shown_line, step_line, window_line}
@@ -47,30 +46,9 @@ is_witness : (a : Action) (k m : ℕ) (d o p : Bool) → asked.File (commands.Wi
 is_witness actions.Witness k m d o p is = refl
 is_witness a k m d o p is = cc
 
-no_lasso : (rounds : Option ℕ) (property : ℕ) (c : LassoCommand) (d : FileCommand)
-    → ¬ (lasso_command rounds property c ≡ Some (asked.File d))
-no_lasso None property c d is = cc
-no_lasso (Some n) property c d is = cc
-
--- what is asked of a justice property is no command on a file
-no_fair : (a : Justice) (c : Command) (d : FileCommand)
-    → ¬ (fair_command a c ≡ Some (asked.File d))
-no_fair a (asked.File (commands.Clauses k o)) d is = cc
-no_fair a (asked.File (commands.Window k form o)) d is = cc
-no_fair a (asked.File (commands.Bounded k o)) d is = cc
-no_fair a (asked.File (commands.Refuted k o)) d is = no_lasso a.rounds a.property _ d is
-no_fair a (asked.File (commands.RefutedTo k o)) d is = no_lasso a.rounds a.property _ d is
-no_fair a (asked.File (commands.Inductive k form o)) d is = no_lasso a.rounds a.property _ d is
-no_fair a (asked.Pair (on_pair.Certified o)) d is = cc
-no_fair a (asked.Pair (on_pair.Obligations o)) d is = cc
-no_fair a (asked.Safe k form o p) d is = cc
-no_fair a c d is = cc
-
--- so it is asked of none
-plain : (a : Option Justice) (c : Command) (d : FileCommand) → command_by a c ≡ Some (asked.File d)
-    → asked.File d ≡ c
-plain None c d is = sym (same_Some _ _ is)
-plain (Some a) c d is = absurd (no_fair a c d is)
+-- a command of a justice property, or of none
+abbrev of_property : Option Justice → Command → Asked
+of_property a c = record { justice = a; command = c }
 
 -- no command on a file has raw clauses of one proof alone
 whole_of : (words : List (List ℕ)) (c : Command) (d : FileCommand) (x : Arguments)
@@ -92,22 +70,21 @@ no_limit words limit rest other (inl g) = absurd (other _ g.spelled)
 no_limit words limit rest other (inr g) = g.all
 
 -- a witness, and a word more
-no_more_words : (file witness more : List ℕ)
-    → ¬ Give (codes "run" ∷ file ∷ witness ∷ more ∷ []) (asked.File commands.Run)
-no_more_words file witness more give =
+no_more_words : (file witness more : List ℕ) (a : Option Justice)
+    → ¬ Give (codes "run" ∷ file ∷ witness ∷ more ∷ []) (of_property a (asked.File commands.Run))
+no_more_words file witness more a give =
     let call = give.3 in
     let x = call.arguments in
-    let asked = plain call.justice _ _ call.command in
     let all = no_limit (codes "run" ∷ file ∷ witness ∷ more ∷ []) give.0 call.rest (λ further is.
     let letter = ap (λ (words : List (List ℕ)). slice_index (slice_index_or words 0 []) 0) is in
     omega (arith, letter)) call.limited in
-    let every = (no_justice (codes "run" ∷ file ∷ witness ∷ more ∷ []) call.justice call.more
+    let every = (no_justice (codes "run" ∷ file ∷ witness ∷ more ∷ []) a call.more
     (λ further is.
     let letter = ap (λ (words : List (List ℕ)). slice_index (slice_index_or words 0 []) 0) is in
     omega (arith, letter)) (rw all at call.asked)).1 in
-    let whole = whole_of (codes "run" ∷ file ∷ witness ∷ more ∷ []) call.usual _ x asked
+    let whole = whole_of (codes "run" ∷ file ∷ witness ∷ more ∷ []) (asked.File commands.Run) _ x refl
     (rw every at call.gives) in
-    let run = is_run whole.action x.step x.distinct x.optimize (asked ∙ whole.command) in
+    let run = is_run whole.action x.step x.distinct x.optimize whole.command in
     let gives = subst (λ a. Gives (name_of a) (form_of a) (codes "run" ∷ file ∷ witness ∷ more ∷ [])
     x) run whole.gives in
     let settings = setting_words x.distinct x.optimize in
@@ -126,23 +103,22 @@ no_more_words file witness more give =
     no_settings d false distinct raw = let no = raw refl in cc
 
 -- a proof for a witness
-no_other_name : (file steps proof : List ℕ) (k : ℕ) (optimize : Bool)
-    → ¬ Give (codes "refuted" ∷ file ∷ steps ∷ proof ∷ []) (asked.File (commands.Witness k
-    optimize))
-no_other_name file steps proof k optimize give =
+no_other_name : (file steps proof : List ℕ) (k : ℕ) (optimize : Bool) (a : Option Justice)
+    → ¬ Give (codes "refuted" ∷ file ∷ steps ∷ proof ∷ []) (of_property a (asked.File
+    (commands.Witness k optimize)))
+no_other_name file steps proof k optimize a give =
     let call = give.3 in
     let x = call.arguments in
     let all = no_limit (codes "refuted" ∷ file ∷ steps ∷ proof ∷ []) give.0 call.rest (λ further is.
     let letter = ap (λ (words : List (List ℕ)). slice_index (slice_index_or words 0 []) 0) is in
     omega (arith, letter)) call.limited in
-    let every = (no_justice (codes "refuted" ∷ file ∷ steps ∷ proof ∷ []) call.justice call.more
+    let every = (no_justice (codes "refuted" ∷ file ∷ steps ∷ proof ∷ []) a call.more
     (λ further is.
     let letter = ap (λ (words : List (List ℕ)). slice_index (slice_index_or words 0 []) 0) is in
     omega (arith, letter)) (rw all at call.asked)).1 in
-    let asked = plain call.justice _ _ call.command in
-    let whole = whole_of (codes "refuted" ∷ file ∷ steps ∷ proof ∷ []) call.usual _ x asked
+    let whole = whole_of (codes "refuted" ∷ file ∷ steps ∷ proof ∷ []) (asked.File (commands.Witness k optimize)) _ x refl
     (rw every at call.gives) in
-    let is = is_witness whole.action x.step k x.distinct x.optimize optimize (asked ∙ whole.command)
+    let is = is_witness whole.action x.step k x.distinct x.optimize optimize whole.command
     in
     let letter = ap (λ (words : List (List ℕ)). slice_index (slice_index_or words 0 []) 0)
     whole.gives.spelled in

@@ -1,5 +1,5 @@
 -- What a command printed on files that were opened, and was flushed.
-use Rattle.aig_base.proofs.Words.{◌≡◌, Bool, false, List, [], ◌∷◌, ℕ, Option, Some, Ok, Err, inl, inr, refl, Appends, Keeps}
+use Rattle.aig_base.proofs.Words.{◌≡◌, Bool, true, false, List, [], ◌∷◌, ◌++◌, ℕ, Option, None, Some, Ok, Err, refl, Appends, Keeps}
 use Rattle.std.specs.Prelude.{IfErr, IsTrue, Result}
 use Rattle.aig_command_line.proofs.Kept.{appends_kept, stops_unflushed}
 use Rattle.aig_command_line.specs.declared.files.OpenError.{OpenError}
@@ -7,53 +7,26 @@ use Rattle.aig_edits.proofs.ReadFiles.{file_on}
 use Rattle.aig_edits.proofs.Reading.{reads_on}
 use Rattle.aig_edits.specs.Pairs.{ReadsPair}
 use Rattle.aig_format.specs.File.{File}
-use Rattle.aig_live_laws.specs.Fair.{HasFairRun}
 use Rattle.aig_output.specs.Sinks.{Stops}
 use Rattle.aig_reader.specs.Verdicts.{Accepted, verdict_by}
+use Rattle.aig_runs.specs.declared.window.Window.{Window}
+use Rattle.aig_checks.specs.declared.command.Asked.{Asked}
 use Rattle.aig_checks.specs.declared.command.Command.{Command}
 use Rattle.aig_checks.specs.declared.command.Command.TheVariants as commands
 use Rattle.aig_checks.specs.declared.command.FileCommand.{FileCommand}
 use Rattle.aig_checks.specs.declared.command.PairCommand.{PairCommand}
+use Rattle.aig_checks.specs.declared.justice.Justice.{Justice}
 use Rattle.aig_checks.specs.declared.tool.CheckError.{CheckError}
 use Rattle.aig_checks.specs.declared.tool.CheckError.TheVariants as errors
-use Rattle.aig_checks.specs.Acting.{Acts, RunsFile, RunsProofs}
+use Rattle.aig_checks.specs.Acting.{Acts, RanBy, RanOn}
 use Rattle.aig_checks.specs.Comparing.{IsErrorOfComparing, RunsComparing, TellsOfComparing}
-use Rattle.aig_checks.specs.Opening.{OnOpening, Opening}
-use Rattle.aig_checks.specs.declared.command.PairCommand.TheVariants as on_pair
-use Rattle.aig_checks.specs.declared.justice.FairCommand.{FairCommand}
-use Rattle.aig_checks.specs.declared.justice.FairCommand.TheVariants as fair
-use Rattle.aig_checks.specs.declared.justice.Justice.{Justice}
-use Rattle.aig_checks.specs.declared.justice.LassoCommand.{LassoCommand}
-use Rattle.aig_checks.specs.Justice.{lassos_of, print_of}
-use Rattle.aig_checks.specs.Living.{ActsFair, ActsLasso, CertifiesText, Concludes, IsMadeOwn, IsOfMaking, RefutesText, RunsMade, SavesText, ShowsLasso, TellsMade, made_verdict, no_lasso_line, no_run_line}
-use Rattle.aig_checks.specs.Pairs.{IsErrorOfPair, RunsPair, TellsOfPair, always_line, other_verdict_of, own_text, safe_line}
-use Rattle.aig_checks.specs.Safe.{RunsSafe}
-use Rattle.aig_checks.specs.SafeBySteps.{ActsBySteps, OpensAll, RunsSafeBySteps}
-use Rattle.aig_runs.specs.declared.window.Window.{Window}
+use Rattle.aig_checks.specs.Inputs.{Ran, bytes_of, has_failed}
+use Rattle.aig_checks.specs.Living.{ChecksText, Concludes, IsMadeOwn, IsOfMaking, MeansMade, RunsMade, ShowsFair, TellsMade, fair_line, made_verdict}
+use Rattle.aig_checks.specs.Pairs.{IsErrorOfPair, RunsPair, TellsOfPair, always_line, other_verdict_of, safe_line}
 use Rattle.aig_checks.specs.Running.{Runs, nothing_fails, nothing_given, verdict_of}
-
--- ---- files that are opened
-
-module _ {F : Type 0} (Holds Also : F → Type 0) (Fails AlsoFails : CheckError → Type 0) (on : (f : F) → Holds f → Also f) (off : (e : CheckError) → Fails e → AlsoFails e) where
-  leads_on : (file : Result F OpenError) → OnOpening Holds Fails file
-      → OnOpening Also AlsoFails file
-  leads_on (Ok f) leads = on f leads
-  leads_on (Err e) leads = off _ leads
-
-  -- what holds of a file that was opened, or of the error, may be another thing that follows
-  opening_on : (opens : List ℕ → Result F OpenError → Type 0) (path : List ℕ)
-      → Opening opens path Holds Fails → Opening opens path Also AlsoFails
-  opening_on opens path o = record { file = o.file; opened = o.opened; leads = leads_on o.file o.leads }
-
--- so where files were opened at all paths
-all_on : {F : Type 0} (opens : List ℕ → Result F OpenError → Type 0) (paths : List (List ℕ))
-    (Holds Also : List F → Type 0) (Fails AlsoFails : CheckError → Type 0)
-    → ((fs : List F) → Holds fs → Also fs) → ((e : CheckError) → Fails e → AlsoFails e)
-    → OpensAll opens paths Holds Fails → OpensAll opens paths Also AlsoFails
-all_on opens [] Holds Also Fails AlsoFails on off holds = on [] holds
-all_on opens (path ∷ paths) Holds Also Fails AlsoFails on off o =
-    opening_on _ _ _ _
-    (λ f. all_on opens paths _ _ _ _ (λ fs. on (f ∷ fs)) off) off opens path o
+use Rattle.aig_checks.specs.Safe.{RunsSafe}
+use Rattle.aig_checks.specs.Words.{prints}
+use Rattle.aig_checks.proofs.Opened.{opens_on}
 
 -- ---- the flush after an answer
 
@@ -181,48 +154,6 @@ module _ {W : Type 0} (held : W → Option (List ℕ)) (write_failed : W → Boo
     safe_ended left failed base_left base_failed step_left step_failed k form base_optimize
         step_optimize limit r rest p used q spent (Err e) runs never = absurd never
 
-    steps_ended : {R P Q : Type 0} (left : R → Option (List ℕ)) (failed : R → Bool)
-        (base_left : P → Option (List ℕ)) (base_failed : P → Bool)
-        (step_left : Q → Option (List ℕ)) (step_failed : Q → Bool) (k : ℕ) (form : Window)
-        (base_optimize step_optimize : Bool) (limit : ℕ) (r rest : R) (ps used : List P)
-        (q spent : Q)
-        (done : Result Unit CheckError)
-        → RunsSafeBySteps left failed base_left base_failed step_left step_failed held write_failed
-        k form base_optimize step_optimize limit r ps q w (Ok u) rest used spent made
-        → EndsBy (write_failed flat) done
-        → RunsSafeBySteps left failed base_left base_failed step_left step_failed held write_failed
-        k form base_optimize step_optimize limit r ps q w done rest used spent flat
-    steps_ended left failed base_left base_failed step_left step_failed k form base_optimize
-        step_optimize limit r rest ps used q spent (Ok v) runs sound = record {
-          verdict = runs.verdict;
-          own = tt;
-          safe = λ taken. runs.safe tt;
-          ok = (appends_kept (held w) (held made) (held flat) safe_line runs.ok.0 keeps, sound);
-          stopped = λ is. cc;
-          kept = tt;
-          refusal = tt;
-          base_unread = tt;
-          step_unread = tt;
-          base_stream = λ n is. cc;
-          step_stream = λ is. cc;
-        }
-    steps_ended left failed base_left base_failed step_left step_failed k form base_optimize
-        step_optimize limit r rest ps used q spent (Err errors.Write) runs lost = record {
-          verdict = runs.verdict;
-          own = tt;
-          safe = λ taken. runs.safe tt;
-          ok = tt;
-          stopped = λ is. stops safe_line runs.ok.0 lost;
-          kept = λ not. absurd (not refl);
-          refusal = tt;
-          base_unread = λ n no. absurd no;
-          step_unread = λ no. absurd no;
-          base_stream = λ n is. cc;
-          step_stream = λ is. cc;
-        }
-    steps_ended left failed base_left base_failed step_left step_failed k form base_optimize
-        step_optimize limit r rest ps used q spent (Err e) runs never = absurd never
-
     module _ {R S C P Q : Type 0} (left : R → Option (List ℕ)) (failed : R → Bool)
         (left_of : S → Option (List ℕ)) (failed_of : S → Bool) (given : C → Option (List ℕ))
         (given_failed : C → Bool) (base_left : P → Option (List ℕ)) (base_failed : P → Bool)
@@ -340,196 +271,85 @@ module _ {W : Type 0} (held : W → Option (List ℕ)) (write_failed : W → Boo
       (told.0, told.1, stops held write_failed w made flat keeps line told.2 lost)
   concludes_ended line Shown Checks (Err e) never told = absurd never
 
-module _ {F W : Type 0} (opens : List ℕ → Result F OpenError → Type 0) (left : F → Option (List ℕ)) (failed : F → Bool) (held : W → Option (List ℕ)) (write_failed : W → Bool) (w made flat : W) (keeps : Keeps (held made) (held flat)) (u : Unit {0}) (done : Result Unit CheckError) (ends : EndsBy (write_failed flat) done) where
-  file_ended : (limit : ℕ) (c : FileCommand) (further : List (List ℕ)) (r rest : F)
-      → RunsFile opens left failed left failed held write_failed limit c further r w (Ok u) rest made
-      → RunsFile opens left failed left failed held write_failed limit c further r w done rest flat
-  file_ended limit c [] r rest runs = runs_ended held write_failed w made flat keeps u left failed nothing_given nothing_fails limit c r rest tt tt done runs ends
-  file_ended limit c (path ∷ more) r rest runs =
-      opening_on _ _ _ _ (λ p so. (so.0, runs_ended held write_failed w made flat keeps u left failed left failed limit c r rest p so.0 done so.1 ends)) (λ e no. let is = no.0 in cc) opens path runs
+module _ {W : Type 0} (held : W → Option (List ℕ)) (write_failed : W → Bool) (w made flat : W)
+    (keeps : Keeps (held made) (held flat)) (u : Unit {0}) (done : Result Unit CheckError)
+    (ends : EndsBy (write_failed flat) done) (limit : ℕ) where
+  ran_ended : {R S : Type 0} (left : R → Option (List ℕ)) (failed : R → Bool)
+      (left_of : S → Option (List ℕ)) (failed_of : S → Bool) (c : Command) (r rest : R)
+      (files others : List S)
+      → Ran left failed left_of failed_of held write_failed limit c r files w (Ok u) rest others made
+      → Ran left failed left_of failed_of held write_failed limit c r files w done rest others flat
+  ran_ended left failed left_of failed_of (commands.File c) r rest [] [] ran =
+      runs_ended held write_failed w made flat keeps u left failed nothing_given nothing_fails limit
+      c r rest tt tt done ran ends
+  ran_ended left failed left_of failed_of (commands.File c) r rest (p ∷ []) (used ∷ []) ran =
+      runs_ended held write_failed w made flat keeps u left failed left_of failed_of limit c r rest p
+      used done ran ends
+  ran_ended left failed left_of failed_of (commands.Pair c) r rest (s ∷ []) (other ∷ []) ran =
+      pair_ended held write_failed w made flat keeps u left failed left_of failed_of nothing_given
+      nothing_fails nothing_given nothing_fails limit c r rest s other tt tt tt tt done ran ends
+  ran_ended left failed left_of failed_of (commands.Pair c) r rest (s ∷ p ∷ [])
+      (other ∷ used ∷ []) ran =
+      pair_ended held write_failed w made flat keeps u left failed left_of failed_of left_of
+      failed_of nothing_given nothing_fails limit c r rest s other p used tt tt done ran ends
+  ran_ended left failed left_of failed_of (commands.Pair c) r rest (s ∷ p ∷ q ∷ [])
+      (other ∷ used ∷ spent ∷ []) ran =
+      pair_ended held write_failed w made flat keeps u left failed left_of failed_of left_of
+      failed_of left_of failed_of limit c r rest s other p used q spent done ran ends
+  ran_ended left failed left_of failed_of (commands.Safe k form base_optimize step_optimize) r rest
+      (p ∷ q ∷ []) (used ∷ spent ∷ []) ran =
+      safe_ended held write_failed w made flat keeps u left failed left_of failed_of left_of
+      failed_of k form base_optimize step_optimize limit r rest p used q spent done ran ends
+  ran_ended left failed left_of failed_of (commands.EqualBy optimize) r rest (s ∷ c ∷ p ∷ q ∷ [])
+      (other ∷ tried ∷ used ∷ spent ∷ []) ran =
+      compare_ended held write_failed w made flat keeps u left failed left_of failed_of left_of
+      failed_of left_of failed_of left_of failed_of optimize limit r rest s other c tried p used q
+      spent done ran ends
+  ran_ended left failed left_of failed_of c r rest files others ran = absurd ran
 
-  proofs_ended : (limit : ℕ) (c : PairCommand) (further : List (List ℕ)) (r rest s other : F)
-      → RunsProofs opens left failed left failed left failed held write_failed limit c further r s w (Ok u) rest other made
-      → RunsProofs opens left failed left failed left failed held write_failed limit c further r s w done rest other flat
-  proofs_ended limit c [] r rest s other runs = pair_ended held write_failed w made flat keeps u left failed left failed nothing_given nothing_fails nothing_given nothing_fails limit c r rest s other tt tt tt tt done runs ends
-  proofs_ended limit c (proof ∷ []) r rest s other runs =
-      opening_on _ _ _ _ (λ p so. (so.0, pair_ended held write_failed w made flat keeps u left failed left failed left failed nothing_given nothing_fails limit c r rest s other p so.0 tt tt done so.1 ends)) (λ e no. let is = no.0 in cc) opens proof runs
-  proofs_ended limit c (base ∷ step ∷ more) r rest s other runs =
-      opening_on _ _ _ _
-      (λ p. opening_on _ _ _ _ (λ q so. (so.0, so.1, pair_ended held write_failed w made flat keeps u left failed left failed left failed left failed limit c r rest s other p so.0 q so.1 done so.2 ends)) (λ e no. let is = no.0 in cc) opens step)
-      (λ e no. let is = no.0 in cc) opens base runs
+  module _ {R S : Type 0} (left : R → Option (List ℕ)) (failed : R → Bool)
+      (left_of : S → Option (List ℕ)) (failed_of : S → Bool) (c : Command) (r rest : R)
+      (files others : List S) where
+    means_ended : (b : Bool) (property : ℕ) (f : File) (text : List ℕ)
+        → MeansMade b left_of failed_of held write_failed limit property c files others w made f text
+        (Ok u)
+        → MeansMade b left_of failed_of held write_failed limit property c files others w flat f text
+        done
+    means_ended true property f text told = (
+      told.0,
+      told.1,
+      ran_ended bytes_of has_failed left_of failed_of c (Some text, told.0) told.1 files others
+          told.2,
+    )
+    means_ended false property f text told =
+        concludes_ended held write_failed w made flat keeps u (fair_line c property)
+        (ShowsFair c property f) (ChecksText left_of failed_of limit c files others text) done ends
+        told
 
-  fair_ended : (limit : ℕ) (a : Justice) (c : FairCommand) (paths further : List (List ℕ))
-      → ActsFair opens left failed held write_failed limit a c paths further w (Ok u) made
-      → ActsFair opens left failed held write_failed limit a c paths further w done flat
-  fair_ended limit a (fair.Print c) (path ∷ []) [] acts =
-      opening_on _ _ _ _
-      (λ r so. (
-        so.0,
-        made_ended left failed limit a _ _ _ _ r so.0 _ u done ends
-            (λ f text on. (
-              on.0,
-              on.1,
-              runs_ended held write_failed w made flat keeps u own_text (λ x. on.1) nothing_given
-                  nothing_fails limit (print_of c) (Some text) on.0 tt tt done on.2 ends,
-            )) so.1,
-      ))
-      (λ e no. let is = no.0 in cc) opens path acts
-  fair_ended limit a (fair.Obligations optimize) (path ∷ certificate ∷ []) [] acts =
-      opening_on _ _ _ _
-      (λ r. opening_on _ _ _ _
-      (λ s so. (
-        so.0,
-        so.1,
-        made_ended left failed limit a _ _ _ _ r so.0 _ u done ends
-            (λ f text on. (
-              on.0,
-              on.1,
-              pair_ended held write_failed w made flat keeps u own_text (λ x. on.1) left failed
-                  nothing_given nothing_fails nothing_given nothing_fails limit
-                  (on_pair.Obligations optimize) (Some text) on.0 s so.1 tt tt tt tt done on.2 ends,
-            )) so.2,
-      ))
-      (λ e no. let is = no.0 in cc) opens certificate)
-      (λ e no. let is = no.0 in cc) opens path acts
-  fair_ended limit a (fair.Certified optimize) (path ∷ certificate ∷ []) (base ∷ step ∷ []) acts =
-      opening_on _ _ _ _
-      (λ r. opening_on _ _ _ _
-      (λ s. opening_on _ _ _ _
-      (λ p. opening_on _ _ _ _
-      (λ q so. (
-        so.0,
-        so.1,
-        so.2,
-        so.3,
-        made_ended left failed limit a _ _ _ _ r so.0 _ u done ends
-            (λ f text on. concludes_ended held write_failed w made flat keeps u (no_run_line
-            a.property)
-            (¬ HasFairRun f a.property) (CertifiesText left failed left failed left failed limit
-            optimize
-            s so.1 p so.2 q so.3 text) done ends on) so.4,
-      ))
-      (λ e no. let is = no.0 in cc) opens step)
-      (λ e no. let is = no.0 in cc) opens base)
-      (λ e no. let is = no.0 in cc) opens certificate)
-      (λ e no. let is = no.0 in cc) opens path acts
-  fair_ended limit a (fair.Safe k form base_optimize step_optimize) (path ∷ []) (base ∷ step ∷ [])
-      acts =
-      opening_on _ _ _ _
-      (λ r. opening_on _ _ _ _
-      (λ p. opening_on _ _ _ _
-      (λ q so. (
-        so.0,
-        so.1,
-        so.2,
-        made_ended left failed limit a _ _ _ _ r so.0 _ u done ends
-            (λ f text on. concludes_ended held write_failed w made flat keeps u (no_run_line
-            a.property)
-            (¬ HasFairRun f a.property) (SavesText left failed left failed limit k form
-            base_optimize
-            step_optimize p so.1 q so.2 text) done ends on) so.3,
-      ))
-      (λ e no. let is = no.0 in cc) opens step)
-      (λ e no. let is = no.0 in cc) opens base)
-      (λ e no. let is = no.0 in cc) opens path acts
-  fair_ended limit a c paths further acts = absurd acts
+    by_ended : (asked : Option Justice)
+        → RanBy left failed left_of failed_of held write_failed limit asked c r files w (Ok u) rest
+        others made
+        → RanBy left failed left_of failed_of held write_failed limit asked c r files w done rest
+        others flat
+    by_ended None ran = ran_ended left failed left_of failed_of c r rest files others ran
+    by_ended (Some a) ran =
+        made_ended left failed limit a _ _ _ _ r rest _ u done ends
+        (means_ended (prints c) a.property) ran
 
-  lasso_ended : (limit property : ℕ) (c : LassoCommand) (paths further : List (List ℕ))
-      → ActsLasso opens left failed held write_failed limit property c paths further w (Ok u) made
-      → ActsLasso opens left failed held write_failed limit property c paths further w done flat
-  lasso_ended limit property c (path ∷ []) (proof ∷ []) acts =
-      opening_on _ _ _ _
-      (λ r. opening_on _ _ _ _
-      (λ p so. (
-        so.0,
-        so.1,
-        made_ended left failed limit (lassos_of property) _ _ _ _ r so.0 _ u done ends
-            (λ f text on. concludes_ended held write_failed w made flat keeps u (no_lasso_line c
-            property)
-            (ShowsLasso c property f) (RefutesText left failed limit c p so.1 text) done ends on)
-            so.2,
-      ))
-      (λ e no. let is = no.0 in cc) opens proof)
-      (λ e no. let is = no.0 in cc) opens path acts
-  lasso_ended limit property c paths further acts = absurd acts
+  module _ {F : Type 0} (opens : List ℕ → Result F OpenError → Type 0)
+      (left : F → Option (List ℕ)) (failed : F → Bool) (c : Asked) where
+    on_ended : (files : List F) → RanOn left failed held write_failed limit c w (Ok u) made files
+        → RanOn left failed held write_failed limit c w done flat files
+    on_ended [] ran = absurd ran
+    on_ended (r ∷ files) ran = (
+      ran.0,
+      ran.1,
+      by_ended left failed left failed c.command r ran.0 files ran.1 c.justice ran.2,
+    )
 
-  by_steps_ended : (limit k : ℕ) (form : Window) (base_optimize step_optimize : Bool)
-      (further : List (List ℕ)) (r rest : F)
-      → ActsBySteps opens left failed left failed held write_failed limit k form base_optimize
-      step_optimize further r w (Ok u) rest made
-      → ActsBySteps opens left failed left failed held write_failed limit k form base_optimize
-      step_optimize further r w done rest flat
-  by_steps_ended limit k form base_optimize step_optimize further r rest
-      (bases, step, spelled, inl short) = let is = short.0 in cc
-  by_steps_ended limit k form base_optimize step_optimize further r rest
-      (bases, step, spelled, inr opened) = (
-        bases,
-        step,
-        spelled,
-        inr (all_on opens bases _ _ _ _
-            (λ ps. opening_on _ _ _ _
-            (λ q so. (
-              so.0,
-              so.1,
-              steps_ended held write_failed w made flat keeps u left failed left failed left failed
-                  k form base_optimize step_optimize limit r rest ps so.0 q so.1 done so.2 ends,
-            ))
-            (λ e no. let is = no.0 in cc) opens step)
-            (λ e no. let is = no.0 in cc) opened),
-      )
-
-  -- a command that was run, and what it printed flushed
-  pub acts_ended : (limit : ℕ) (c : Command) (paths further : List (List ℕ))
-      → Acts opens left failed held write_failed limit c paths further w (Ok u) made
-      → Acts opens left failed held write_failed limit c paths further w done flat
-  acts_ended limit (commands.File c) (path ∷ []) further acts =
-      opening_on _ _ _ _ (λ r so. (so.0, file_ended limit c further r so.0 so.1)) (λ e no. let is = no.0 in cc) opens path acts
-  acts_ended limit (commands.Pair c) (path ∷ beside ∷ []) further acts =
-      opening_on _ _ _ _
-      (λ r. opening_on _ _ _ _ (λ s so. (so.0, so.1, proofs_ended limit c further r so.0 s so.1 so.2)) (λ e no. let is = no.0 in cc) opens beside)
-      (λ e no. let is = no.0 in cc) opens path acts
-  acts_ended limit (commands.Safe k form base_optimize step_optimize) (path ∷ []) (base ∷ step ∷
-      []) acts =
-      opening_on _ _ _ _
-      (λ r. opening_on _ _ _ _
-      (λ p. opening_on _ _ _ _
-      (λ q so. (
-        so.0,
-        so.1,
-        so.2,
-        safe_ended held write_failed w made flat keeps u left failed left failed left failed k form
-            base_optimize step_optimize limit r so.0 p so.1 q so.2 done so.3 ends,
-      ))
-      (λ e no. let is = no.0 in cc) opens step)
-      (λ e no. let is = no.0 in cc) opens base)
-      (λ e no. let is = no.0 in cc) opens path acts
-  acts_ended limit (commands.SafeBySteps k form base_optimize step_optimize) (path ∷ []) further
-      acts =
-      opening_on _ _ _ _
-      (λ r so. (so.0, by_steps_ended limit k form base_optimize step_optimize further r so.0 so.1))
-      (λ e no. let is = no.0 in cc) opens path acts
-  acts_ended limit (commands.EqualBy optimize) (path ∷ beside ∷ [])
-      (certificate ∷ base ∷ step ∷ []) acts =
-      opening_on _ _ _ _
-      (λ r. opening_on _ _ _ _
-      (λ s. opening_on _ _ _ _
-      (λ c. opening_on _ _ _ _
-      (λ p. opening_on _ _ _ _
-      (λ q so. (
-        so.0,
-        so.1,
-        so.2,
-        so.3,
-        so.4,
-        compare_ended held write_failed w made flat keeps u left failed left failed left failed left
-            failed left failed optimize limit r so.0 s so.1 c so.2 p so.3 q so.4 done so.5 ends,
-      ))
-      (λ e no. let is = no.0 in cc) opens step)
-      (λ e no. let is = no.0 in cc) opens base)
-      (λ e no. let is = no.0 in cc) opens certificate)
-      (λ e no. let is = no.0 in cc) opens beside)
-      (λ e no. let is = no.0 in cc) opens path acts
-  acts_ended limit (commands.Fair a c) paths further acts = fair_ended limit a c paths further acts
-  acts_ended limit (commands.Lasso property c) paths further acts =
-      lasso_ended limit property c paths further acts
-  acts_ended limit c paths further acts = absurd acts
+    -- what was asked was done, and what that printed is flushed
+    pub acts_ended : (paths further : List (List ℕ))
+        → Acts opens left failed held write_failed limit c paths further w (Ok u) made
+        → Acts opens left failed held write_failed limit c paths further w done flat
+    acts_ended paths further acts =
+        opens_on opens (paths ++ further) _ _ _ _ on_ended (λ e no. let is = no.0 in cc) acts

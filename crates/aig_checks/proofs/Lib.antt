@@ -1,17 +1,15 @@
 mod Commenting
 mod Calling
 mod Comparing
-mod ComparedAgain
 mod Equating
 mod Flushing
 mod Made
+mod Opened
 mod Outcomes
 mod Pairing
 mod Placing
 mod Proving
-mod ProvingSteps
-mod OpeningAll
-mod SafeAgain
+mod Refusing
 mod Shown
+mod Viewed
 mod Examples
-pub mod Refusing

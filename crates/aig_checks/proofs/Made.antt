@@ -1,6 +1,7 @@
 -- What the text of the file that is made for a justice property shows of the file itself.
-use Rattle.aig_base.proofs.Words.{◌≡◌, ◌≢◌, ◌↔◌, ℕ, ◌+◌, ◌≤◌, Bool, false, List, [], Option, None, Some, Ok, Err, Vec, Global, refl, subst, arith, length, Appends, IsAtEnd, Consumes-whole}
-use Rattle.std.specs.Prelude.{IfErr, MatchOption, Result}
+use Rattle.aig_base.proofs.Words.{◌≡◌, ◌≢◌, ◌==◌, ◌↔◌, ℕ, zero, suc, ◌+◌, ◌≤◌, ◌<◌, eqb-true, false_from_ne_true, sym, true≢false, Bool, true, false, List, [], ◌∷◌, Option, None, Some, Ok, Err, Vec, Global, refl, subst, arith, length, Appends, IsAtEnd, Consumes-whole}
+use mathlib.Core.List.{map-id}
+use Rattle.std.specs.Prelude.{IfErr, IsTrue, MatchOption, Result, is_none}
 use Rattle.std.proofs.lemmas.Option.{slice_get_within}
 use Rattle.aig_output.specs.Sinks.{Stops}
 use Rattle.aig_circuit.specs.Circuit.{Circuit}
@@ -10,7 +11,6 @@ use Rattle.aig_edits.specs.Edits.{IsEditOwn, ReadsFile, edit_verdict}
 use Rattle.aig_edits.specs.Lives.{IsLiveFile, IsLiveRefusal, PrintsLive}
 use Rattle.aig_edits.specs.Rounds.{IsRoundsFile, IsRoundsRefusal, PrintsRounds}
 use Rattle.aig_edits.proofs.ReadFiles.{file_on}
-use Rattle.aig_edits.proofs.Reading.{reads_on}
 use Rattle.aig_edit_laws.specs.Shown.{HasWitness}
 use Rattle.aig_format.specs.Circuit.{IsReadAgain, text_of}
 use Rattle.aig_format.specs.declared.FileKind.TheVariants.{Text}
@@ -23,21 +23,27 @@ use Rattle.aig_reader.proofs.Verdicts.{one_file}
 use Rattle.aig_runs.specs.Queries.{IsSafeTo}
 use Rattle.aig_runs.specs.declared.window.Window.{Window}
 use Rattle.aig_runs.proofs.SafeSteps.{safe_is}
+use Rattle.aig_command_line.specs.declared.discarded.Discarded.{Discarded}
+use Rattle.aig_checks.specs.declared.command.Command.{Command}
+use Rattle.aig_checks.specs.declared.command.Command.TheVariants as commands
 use Rattle.aig_checks.specs.declared.command.FileCommand.{FileCommand}
 use Rattle.aig_checks.specs.declared.command.FileCommand.TheVariants as on_file
 use Rattle.aig_checks.specs.declared.command.PairCommand.{PairCommand}
 use Rattle.aig_checks.specs.declared.command.PairCommand.TheVariants as on_pair
 use Rattle.aig_checks.specs.declared.justice.Justice.{Justice}
-use Rattle.aig_checks.specs.declared.justice.LassoCommand.{LassoCommand}
-use Rattle.aig_checks.specs.declared.justice.LassoCommand.TheVariants as lassos
 use Rattle.aig_checks.specs.declared.tool.CheckError.{CheckError}
 use Rattle.aig_checks.specs.declared.tool.CheckError.TheVariants as errors
-use Rattle.aig_checks.specs.Living.{CertifiesText, Concludes, IsMadeOf, IsMadeOwn, IsOfMaking, IsUnmade, OnText, RefutesText, RunsMade, SavesText, ShowsLasso, TellsMade, made_verdict}
+use Rattle.aig_checks.specs.Comparing.{IsErrorOfComparing, RunsComparing}
+use Rattle.aig_checks.specs.Inputs.{Ran, Stream, bytes_of, has_failed}
+use Rattle.aig_checks.specs.Justice.{is_asked}
+use Rattle.aig_checks.specs.Living.{ChecksText, Concludes, IsMadeOf, IsMadeOwn, IsOfMaking, IsUnmade, PrintsMade, RunsMade, ShowsFair, TellsMade, keeps_nothing, made_verdict, never_fails}
 use Rattle.aig_checks.specs.LivingParts.{MakesText, WritesMade, text_error}
-use Rattle.aig_checks.specs.Pairs.{IsErrorOfPair, RunsPair, TellsOfPair, other_verdict_of, own_text}
-use Rattle.aig_checks.specs.Running.{IsErrorOf, Runs, nothing_fails, nothing_given, verdict_of}
+use Rattle.aig_checks.specs.Pairs.{IsErrorOfPair, RunsPair}
+use Rattle.aig_checks.specs.Running.{IsErrorOf, Runs}
 use Rattle.aig_checks.specs.Safe.{IsErrorOfSafe, RunsSafe}
+use Rattle.aig_checks.specs.Words.{beside_of, prints}
 use Rattle.aig_checks.proofs.Outcomes.{err_of}
+use Rattle.aig_checks.proofs.Viewed.{ran_seen}
 
 -- ---- the file of a text
 
@@ -60,7 +66,7 @@ within_more low high bytes f le is = (
 )
 
 -- what is read of the text of a circuit is its file
-pub read_back : {T : Type 0} {Holds : List ℕ → File → Type 0} {Means : File → T → Type 0}
+read_back : {T : Type 0} {Holds : List ℕ → File → Type 0} {Means : File → T → Type 0}
     {rest : Option (List ℕ)} {x : T} (limit : ℕ) (m : Circuit)
     → ((bytes : List ℕ) (f : File) → Holds bytes f → Accepts bytes limit f)
     → IsReadAgain m (file_of Text m) → IsAtEnd rest → IsReadAs Holds Means (Some (text_of m)) rest x
@@ -81,7 +87,7 @@ abbrev pub AreLassos : Type 0
 AreLassos = (g : File) (i : ℕ) → HasFairRun g i ↔ ((k : ℕ) × HasFairLasso g i k)
 
 -- what is made reaches no bad state: there is no fair run
-pub no_run : (runs_are : AreLassos) (a : Justice) (f : File) (m : Circuit) → IsMadeOf a f m
+no_run : (runs_are : AreLassos) (a : Justice) (f : File) (m : Circuit) → IsMadeOf a f m
     → ((n : ℕ) → IsSafeTo (file_of Text m) n) → ¬ HasFairRun f a.property
 no_run runs_are a f m made safe = none a.rounds made
   where
@@ -97,7 +103,7 @@ no_run runs_are a f m made safe = none a.rounds made
     none (Some n) rounds = rounds.none never
 
 -- its text is read as its file
-pub made_again : (a : Justice) (f : File) (m : Circuit) → IsMadeOf a f m
+made_again : (a : Justice) (f : File) (m : Circuit) → IsMadeOf a f m
     → IsReadAgain m (file_of Text m)
 made_again a f m made = again a.rounds made
   where
@@ -107,60 +113,98 @@ made_again a f m made = again a.rounds made
     again None live = live.again
     again (Some n) rounds = rounds.again
 
--- a proof about its text was taken
-pub shows_lasso : {P : Type 0} {given : P → Option (List ℕ)} {given_failed : P → Bool}
-    (runs_are : AreLassos) (c : LassoCommand) (limit property : ℕ) (f : File) (m : Circuit)
-    (p used : P)
-    → IsLiveFile property f m → RefutesText given given_failed limit c p used (text_of m) (Ok tt)
-    → ShowsLasso c property f
-shows_lasso runs_are (lassos.Refuted k optimize) limit property f m p used live on =
-    let runs = on.2 in
-    let answer = read_back limit m (λ bytes g is. is.0.0) live.again (runs.verdict.whole tt).1
-    runs.ok.1 in
-    λ lasso. answer.1 ((live.shows k).1 lasso)
-shows_lasso runs_are (lassos.RefutedTo k optimize) limit property f m p used live on =
-    let runs = on.2 in
-    let answer = read_back limit m (λ bytes g is. is.0) live.again (runs.verdict.whole tt).1
-    runs.ok.1 in
-    λ n low lasso. (safe_is (file_of Text m) k).1 answer.1 n low ((live.shows n).1 lasso)
-shows_lasso runs_are (lassos.Inductive k form optimize) limit property f m p used live on =
-    let runs = on.2 in
-    let answer = read_back limit m (λ bytes g is. is.0.0) live.again (runs.verdict.whole tt).1
-    runs.ok.1 in
-    let g = file_of Text m in
-    λ none run.
-    let lasso = (runs_are f property).0 run in
-    let first = (safe_is g k).0 (λ n low found. none n low ((live.shows n).0 found)) in
-    (safe_is g lasso.0).1 (answer.2 first lasso.0) lasso.0 (omega arith) ((live.shows lasso.0).1
-    lasso.1)
+-- it is asked about, without rounds
+live_of : (rounds : Option ℕ) (property : ℕ) (f : File) (m : Circuit) → is_none rounds ≡ true
+    → MatchOption rounds (IsLiveFile property f m) (λ n. IsRoundsFile property n f m)
+    → IsLiveFile property f m
+live_of None property f m is live = live
+live_of (Some n) property f m is live = cc
 
--- proofs of its safety were taken
-pub saved_safe : {P Q : Type 0} {base_left : P → Option (List ℕ)} {base_failed : P → Bool}
-    {step_left : Q → Option (List ℕ)} {step_failed : Q → Bool} (k : ℕ) (form : Window)
-    (base_optimize step_optimize : Bool) (limit : ℕ) (m : Circuit) (p used : P) (q spent : Q)
-    → IsReadAgain m (file_of Text m)
-    → SavesText base_left base_failed step_left step_failed limit k form base_optimize step_optimize
-    p used q spent (text_of m) (Ok tt)
-    → (n : ℕ) → IsSafeTo (file_of Text m) n
-saved_safe k form base_optimize step_optimize limit m p used q spent again on =
-    let runs = on.2 in
-    (read_back limit m (λ bytes g is. is.0.0) again (runs.verdict.whole tt).1 (runs.safe tt)).0
+-- what was given beside its text was taken
+module _ (runs_are : AreLassos) (limit : ℕ) (a : Justice) (f : File) (m : Circuit)
+    (made : IsMadeOf a f m) (failed : Bool) (rest : Stream) (w done : Discarded) where
+  file_shows : {P : Type 0} {given : P → Option (List ℕ)} {given_failed : P → Bool} (p used : P)
+      (c : FileCommand) → 0 < beside_of (commands.File c)
+      → IsTrue (is_asked (Some a) (commands.File c))
+      → Runs bytes_of has_failed given given_failed keeps_nothing never_fails c limit
+      (Some (text_of m), failed) p w (Ok tt) rest used done
+      → ShowsFair (commands.File c) a.property f
+  file_shows p used (on_file.Refuted k optimize) some asked runs =
+      let live = live_of a.rounds a.property f m asked made in
+      let answer = read_back limit m (λ bytes g is. is.0.0) live.again (runs.verdict.whole tt).1
+      runs.ok.1 in
+      λ lasso. answer.1 ((live.shows k).1 lasso)
+  file_shows p used (on_file.RefutedTo k optimize) some asked runs =
+      let live = live_of a.rounds a.property f m asked made in
+      let answer = read_back limit m (λ bytes g is. is.0) live.again (runs.verdict.whole tt).1
+      runs.ok.1 in
+      λ n low lasso. (safe_is (file_of Text m) k).1 answer.1 n low ((live.shows n).1 lasso)
+  file_shows p used (on_file.Inductive k form optimize) some asked runs =
+      let live = live_of a.rounds a.property f m asked made in
+      let answer = read_back limit m (λ bytes g is. is.0.0) live.again (runs.verdict.whole tt).1
+      runs.ok.1 in
+      let g = file_of Text m in
+      λ none run.
+      let lasso = (runs_are f a.property).0 run in
+      let first = (safe_is g k).0 (λ n low found. none n low ((live.shows n).0 found)) in
+      (safe_is g lasso.0).1 (answer.2 first lasso.0) lasso.0 (omega arith) ((live.shows lasso.0).1
+      lasso.1)
+  file_shows p used (on_file.Clauses k optimize) some asked runs = absurd (omega (arith, some))
+  file_shows p used (on_file.Window k form optimize) some asked runs = absurd (omega (arith, some))
+  file_shows p used (on_file.Bounded k optimize) some asked runs = absurd (omega (arith, some))
+  file_shows p used c some asked runs = absurd (true≢false (sym asked))
 
--- a certificate of it and its proofs were taken
-pub certified_safe : {S P Q : Type 0} {left_of : S → Option (List ℕ)} {failed_of : S → Bool}
-    {base_left : P → Option (List ℕ)} {base_failed : P → Bool}
-    {step_left : Q → Option (List ℕ)} {step_failed : Q → Bool} (optimize : Bool) (limit : ℕ) (m :
-    Circuit)
-    (s other : S) (p used : P) (q spent : Q)
-    → IsReadAgain m (file_of Text m)
-    → CertifiesText left_of failed_of base_left base_failed step_left step_failed limit optimize s
-    other p used q spent (text_of m) (Ok tt)
-    → (n : ℕ) → IsSafeTo (file_of Text m) n
-certified_safe optimize limit m s other p used q spent again on =
-    let runs = on.2 in
-    let both = runs.reads in
-    (read_back limit m (λ bytes g is. is) again (both.verdict.whole tt).1 (both.answer refl
-    refl)).means.1.1.0.1
+  pair_shows : {S P Q : Type 0} {left_of : S → Option (List ℕ)} {failed_of : S → Bool}
+      {base_left : P → Option (List ℕ)} {base_failed : P → Bool} {step_left : Q → Option (List ℕ)}
+      {step_failed : Q → Bool} (s other : S) (p used : P) (q spent : Q) (c : PairCommand)
+      → 0 < beside_of (commands.Pair c) → IsTrue (is_asked (Some a) (commands.Pair c))
+      → RunsPair bytes_of has_failed left_of failed_of base_left base_failed step_left step_failed
+      keeps_nothing never_fails c limit (Some (text_of m), failed) s p q w (Ok tt) rest other used
+      spent done
+      → ShowsFair (commands.Pair c) a.property f
+  pair_shows s other p used q spent (on_pair.Certified optimize) some asked runs =
+      let both = runs.reads in
+      no_run runs_are a f m made
+      (read_back limit m (λ bytes g is. is) (made_again a f m made) (both.verdict.whole tt).1
+      (both.answer refl refl)).means.1.1.0.1
+  pair_shows s other p used q spent (on_pair.Obligations optimize) some asked runs =
+      absurd (omega (arith, some))
+  pair_shows s other p used q spent c some asked runs = absurd (true≢false (sym asked))
+
+  ran_shows : {S : Type 0} (left_of : S → Option (List ℕ)) (failed_of : S → Bool) (c : Command)
+      (files others : List S) → 0 < beside_of c → IsTrue (is_asked (Some a) c)
+      → Ran bytes_of has_failed left_of failed_of keeps_nothing never_fails limit c
+      (Some (text_of m), failed) files w (Ok tt) rest others done
+      → ShowsFair c a.property f
+  ran_shows left_of failed_of (commands.File c) [] [] some asked ran =
+      file_shows tt tt c some asked ran
+  ran_shows left_of failed_of (commands.File c) (p ∷ []) (used ∷ []) some asked ran =
+      file_shows p used c some asked ran
+  ran_shows left_of failed_of (commands.Pair c) (s ∷ []) (other ∷ []) some asked ran =
+      pair_shows s other tt tt tt tt c some asked ran
+  ran_shows left_of failed_of (commands.Pair c) (s ∷ p ∷ []) (other ∷ used ∷ []) some asked ran =
+      pair_shows s other p used tt tt c some asked ran
+  ran_shows left_of failed_of (commands.Pair c) (s ∷ p ∷ q ∷ []) (other ∷ used ∷ spent ∷ []) some
+      asked ran =
+      pair_shows s other p used q spent c some asked ran
+  ran_shows left_of failed_of (commands.Safe k form base_optimize step_optimize) (p ∷ q ∷ [])
+      (used ∷ spent ∷ []) some asked runs =
+      no_run runs_are a f m made
+      (read_back limit m (λ bytes g is. is.0.0) (made_again a f m made) (runs.verdict.whole tt).1
+      (runs.safe tt)).0
+  ran_shows left_of failed_of (commands.EqualBy optimize) files others some asked ran =
+      absurd (true≢false (sym asked))
+  ran_shows left_of failed_of c files others some asked ran = absurd ran
+
+pub shows_fair : {S : Type 0} (left_of : S → Option (List ℕ)) (failed_of : S → Bool)
+    (runs_are : AreLassos) (limit : ℕ) (a : Justice) (f : File) (m : Circuit) → IsMadeOf a f m
+    → (c : Command) (files others : List S) → 0 < beside_of c → IsTrue (is_asked (Some a) c)
+    → ChecksText left_of failed_of limit c files others (text_of m) (Ok tt)
+    → ShowsFair c a.property f
+shows_fair left_of failed_of runs_are limit a f m made c files others some asked checks =
+    let on = checks.2 in
+    ran_shows runs_are limit a f m made on.0 on.1 checks.0 checks.1 left_of failed_of c files others
+    some asked on.2
 
 -- ---- the making
 
@@ -272,7 +316,7 @@ module _ {R : Type 0} (left : R → Option (List ℕ)) (failed : R → Bool) (li
 
 -- ---- which errors a command has on the text
 
-pub never_unmade : (c : FileCommand) (e : CheckError) → IsErrorOf c e → ¬ IsOfMaking e
+never_unmade : (c : FileCommand) (e : CheckError) → IsErrorOf c e → ¬ IsOfMaking e
 never_unmade (on_file.Clauses k o) (errors.Unmade e) own is = own
 never_unmade (on_file.Window k form o) (errors.Unmade e) own is = own
 never_unmade (on_file.Refuted k o) (errors.Unmade e) own is = own
@@ -284,18 +328,22 @@ never_unmade (on_file.RefutedTo k o) (errors.Unmade e) own is = own
 never_unmade (on_file.WitnessTo k o) (errors.Unmade e) own is = own
 never_unmade c e own is = is
 
-pub pair_never_unmade : (c : PairCommand) (e : CheckError) → IsErrorOfPair c e → ¬ IsOfMaking e
+pair_never_unmade : (c : PairCommand) (e : CheckError) → IsErrorOfPair c e → ¬ IsOfMaking e
 pair_never_unmade (on_pair.Certified o) (errors.Unmade e) own is = own
 pair_never_unmade (on_pair.Equal k o) (errors.Unmade e) own is = own
 pair_never_unmade (on_pair.Obligations o) (errors.Unmade e) own is = own
 pair_never_unmade (on_pair.AlwaysEqual k form o p) (errors.Unmade e) own is = own
 pair_never_unmade c e own is = is
 
-pub safe_never_unmade : (e : CheckError) → IsErrorOfSafe e → ¬ IsOfMaking e
+compare_never_unmade : (e : CheckError) → IsErrorOfComparing e → ¬ IsOfMaking e
+compare_never_unmade (errors.Unmade e) own is = own
+compare_never_unmade e own is = is
+
+safe_never_unmade : (e : CheckError) → IsErrorOfSafe e → ¬ IsOfMaking e
 safe_never_unmade (errors.Unmade e) own is = own
 safe_never_unmade e own is = is
 
-pub each_error : (IsOwn IsSuch : CheckError → Type 0) → ((e : CheckError) → IsOwn e → IsSuch e)
+each_error : (IsOwn IsSuch : CheckError → Type 0) → ((e : CheckError) → IsOwn e → IsSuch e)
     → (result : Result (Unit {0}) CheckError) → IfErr result IsOwn → IfErr result IsSuch
 each_error IsOwn IsSuch so (Ok u) own = tt
 each_error IsOwn IsSuch so (Err e) own = so e own
@@ -313,217 +361,110 @@ concludes_refused held write_failed line Shown Checks w made e not checks same =
 stops_never : {text : List ℕ} → ¬ Stops None None false text
 stops_never stops = let no = stops.has_failed in cc
 
-pub runs_no_write : {R P : Type 0} {left : R → Option (List ℕ)} {failed : R → Bool} {given : P →
-    Option (List ℕ)} {given_failed : P → Bool} {c : FileCommand} {limit : ℕ} {r rest : R} {p used :
-    P} (e : CheckError)
-    → Runs left failed given given_failed nothing_given nothing_fails c limit r p tt (Err e) rest
-    used tt
+runs_no_write : {R P : Type 0} {left : R → Option (List ℕ)} {failed : R → Bool}
+    {given : P → Option (List ℕ)} {given_failed : P → Bool} {c : FileCommand} {limit : ℕ}
+    {r rest : R} {p used : P} {w made : Discarded} (e : CheckError)
+    → Runs left failed given given_failed keeps_nothing never_fails c limit r p w (Err e) rest used
+    made
     → e ≢ errors.Write
 runs_no_write e runs is = stops_never (runs.stopped (err_of e errors.Write is)).2
 
-pub safe_no_write : {R P Q : Type 0} {left : R → Option (List ℕ)} {failed : R → Bool} {base_left :
-    P → Option (List ℕ)} {base_failed : P → Bool} {step_left : Q → Option (List ℕ)} {step_failed :
-    Q → Bool} {k : ℕ} {form : Window} {base_optimize step_optimize : Bool} {limit : ℕ} {r rest :
-    R} {p used : P} {q
-    spent : Q} (e : CheckError)
-    → RunsSafe left failed base_left base_failed step_left step_failed nothing_given nothing_fails
-    k form base_optimize step_optimize limit r p q tt (Err e) rest used spent tt
+safe_no_write : {R P Q : Type 0} {left : R → Option (List ℕ)} {failed : R → Bool}
+    {base_left : P → Option (List ℕ)} {base_failed : P → Bool} {step_left : Q → Option (List ℕ)}
+    {step_failed : Q → Bool} {k : ℕ} {form : Window} {base_optimize step_optimize : Bool}
+    {limit : ℕ} {r rest : R} {p used : P} {q spent : Q} {w made : Discarded} (e : CheckError)
+    → RunsSafe left failed base_left base_failed step_left step_failed keeps_nothing never_fails k
+    form base_optimize step_optimize limit r p q w (Err e) rest used spent made
     → e ≢ errors.Write
 safe_no_write e runs is = stops_never (runs.stopped (err_of e errors.Write is))
 
-pub pair_no_write : {R S P Q : Type 0} {left : R → Option (List ℕ)} {failed : R → Bool} {left_of :
-    S → Option (List ℕ)} {failed_of : S → Bool} {base_left : P → Option (List ℕ)} {base_failed : P
-    → Bool} {step_left : Q → Option (List ℕ)} {step_failed : Q → Bool} {c : PairCommand} {limit :
-    ℕ} {r rest : R} {s other : S} {p used : P} {q spent : Q} (e : CheckError)
+pair_no_write : {R S P Q : Type 0} {left : R → Option (List ℕ)} {failed : R → Bool}
+    {left_of : S → Option (List ℕ)} {failed_of : S → Bool} {base_left : P → Option (List ℕ)}
+    {base_failed : P → Bool} {step_left : Q → Option (List ℕ)} {step_failed : Q → Bool}
+    {c : PairCommand} {limit : ℕ} {r rest : R} {s other : S} {p used : P} {q spent : Q}
+    {w made : Discarded} (e : CheckError)
     → RunsPair left failed left_of failed_of base_left base_failed step_left step_failed
-    nothing_given nothing_fails c limit r s p q tt (Err e) rest other used spent tt
+    keeps_nothing never_fails c limit r s p q w (Err e) rest other used spent made
     → e ≢ errors.Write
 pair_no_write errors.Write runs is = stops_never (runs.reads.answer refl refl).means.means.2
 pair_no_write e runs is = cc
 
--- ---- commands on a text
+comparing_no_write : {R S : Type 0} {left : R → Option (List ℕ)} {failed : R → Bool}
+    {left_of : S → Option (List ℕ)} {failed_of : S → Bool} {optimize : Bool} {limit : ℕ}
+    {r rest : R} {s other c tried p used q spent : S} {w made : Discarded} (e : CheckError)
+    → RunsComparing left failed left_of failed_of left_of failed_of left_of failed_of left_of
+    failed_of keeps_nothing never_fails optimize limit r s c p q w (Err e) rest other tried used
+    spent made
+    → e ≢ errors.Write
+comparing_no_write errors.Write runs is = stops_never (runs.reads.answer refl refl).means.means.1
+comparing_no_write e runs is = cc
 
-module _ {R : Type 0} {left : R → Option (List ℕ)} {failed : R → Bool} {r rest : R} {text : List ℕ}
+module _ {R S : Type 0} (left : R → Option (List ℕ)) (failed : R → Bool)
+    (left_of : S → Option (List ℕ)) (failed_of : S → Bool) (limit : ℕ) (r rest : R) where
+  pub ran_no_write : (w made : Discarded) (c : Command) (files others : List S) (e : CheckError)
+      → Ran left failed left_of failed_of keeps_nothing never_fails limit c r files w (Err e) rest
+      others made
+      → e ≢ errors.Write
+  ran_no_write w made (commands.File c) [] [] e ran = runs_no_write e ran
+  ran_no_write w made (commands.File c) (p ∷ []) (used ∷ []) e ran = runs_no_write e ran
+  ran_no_write w made (commands.Pair c) (s ∷ []) (other ∷ []) e ran = pair_no_write e ran
+  ran_no_write w made (commands.Pair c) (s ∷ p ∷ []) (other ∷ used ∷ []) e ran = pair_no_write e ran
+  ran_no_write w made (commands.Pair c) (s ∷ p ∷ q ∷ []) (other ∷ used ∷ spent ∷ []) e ran =
+      pair_no_write e ran
+  ran_no_write w made (commands.Safe k form o y) (p ∷ q ∷ []) (used ∷ spent ∷ []) e ran =
+      safe_no_write e ran
+  ran_no_write w made (commands.EqualBy o) (s ∷ c ∷ p ∷ q ∷ []) (other ∷ tried ∷ used ∷ spent ∷ []) e ran =
+      comparing_no_write e ran
+  ran_no_write w made c files others e ran = absurd ran
+
+  module _ {W : Type 0} (held : W → Option (List ℕ)) (write_failed : W → Bool) (w made : W)
+      (result : Result (Unit {0}) CheckError) where
+    pub ran_no_making : (c : Command) (files others : List S)
+        → Ran left failed left_of failed_of held write_failed limit c r files w result rest others
+        made
+        → IfErr result (λ e. ¬ IsOfMaking e)
+    ran_no_making (commands.File c) [] [] ran = each_error _ _ (never_unmade c) result ran.own
+    ran_no_making (commands.File c) (p ∷ []) (used ∷ []) ran =
+        each_error _ _ (never_unmade c) result ran.own
+    ran_no_making (commands.Pair c) (s ∷ []) (other ∷ []) ran =
+        each_error _ _ (pair_never_unmade c) result ran.reads.own
+    ran_no_making (commands.Pair c) (s ∷ p ∷ []) (other ∷ used ∷ []) ran =
+        each_error _ _ (pair_never_unmade c) result ran.reads.own
+    ran_no_making (commands.Pair c) (s ∷ p ∷ q ∷ []) (other ∷ used ∷ spent ∷ []) ran =
+        each_error _ _ (pair_never_unmade c) result ran.reads.own
+    ran_no_making (commands.Safe k form o y) (p ∷ q ∷ []) (used ∷ spent ∷ []) ran =
+        each_error _ _ safe_never_unmade result ran.own
+    ran_no_making (commands.EqualBy o) (s ∷ c ∷ p ∷ q ∷ []) (other ∷ tried ∷ used ∷ spent ∷ []) ran =
+        each_error _ _ compare_never_unmade result ran.reads.own
+    ran_no_making c files others ran = absurd ran
+
+    -- a command that was run on a text
+    pub ran_on_text : (text : List ℕ) (c : Command) (files others : List S)
+        → left r ≡ Some text
+        → Ran left failed left_of failed_of held write_failed limit c r files w result rest others
+        made
+        → PrintsMade left_of failed_of held write_failed limit c files others w made text result
+    ran_on_text text c files others is ran =
+        let seen = ran_seen (λ x. (left x, failed x)) bytes_of has_failed held write_failed limit r
+        rest w made result (λ (x : S). x) left_of failed_of c files others ran in (
+          failed r,
+          (left rest, failed rest),
+          rw (is, map-id files, map-id others) at seen,
+        )
+
+-- ---- which commands print
+
+pub prints_not : (c : Command) → 0 < beside_of c → prints c ≡ false
+prints_not c some = false_from_ne_true _ (λ is.
+    let none = eqb-true (beside_of c) 0 is in
+    omega (arith, some, none))
+
+pub checks_where : (c : Command) → prints c ≡ false → 0 < beside_of c
+checks_where c not = from (beside_of c) not
   where
-    pub runs_on_text : {P W : Type 0} {given : P → Option (List ℕ)} {given_failed : P → Bool} {held
-        : W → Option (List ℕ)} {write_failed : W → Bool} {c : FileCommand} {limit : ℕ} {p used : P}
-        {w made : W} {result : Result (Unit {0}) CheckError}
-        → left r ≡ Some text
-        → Runs left failed given given_failed held write_failed c limit r p w result rest used made
-        → OnText (λ left failed r rest. Runs left failed given given_failed held write_failed c
-        limit r p w result rest used made) text
-    runs_on_text {given = given} {given_failed = given_failed} {held = held} {write_failed =
-        write_failed} {c = c} {limit = limit} {p = p} {used = used} {w = w} {made = made} {result =
-        result} is runs = (
-          left rest,
-          failed rest,
-          subst (λ o. Runs own_text (λ x. failed rest) given given_failed held write_failed c limit
-              o p w result (left rest) used made) is (record {
-                verdict = runs.verdict;
-                own = runs.own;
-                ok = runs.ok;
-                stopped = runs.stopped;
-                taken = runs.taken;
-                kept = runs.kept;
-                unread = runs.unread;
-                refusal = runs.refusal;
-              }),
-        )
+    from : (n : ℕ) → (n == 0) ≡ false → 0 < n
+    from zero is = cc
+    from (suc n) is = omega arith
 
-    pub pair_on_text : {S P Q W : Type 0} {left_of : S → Option (List ℕ)} {failed_of : S → Bool}
-        {base_left : P → Option (List ℕ)} {base_failed : P → Bool} {step_left : Q → Option (List ℕ)}
-        {step_failed : Q → Bool} {held : W → Option (List ℕ)} {write_failed : W → Bool} {c :
-        PairCommand} {limit : ℕ} {s other : S} {p used : P} {q spent : Q} {w made : W} {result :
-        Result (Unit {0}) CheckError}
-        → left r ≡ Some text
-        → RunsPair left failed left_of failed_of base_left base_failed step_left step_failed held
-        write_failed c limit r s p q w result rest other used spent made
-        → OnText (λ left failed r rest. RunsPair left failed left_of failed_of base_left base_failed
-        step_left step_failed held write_failed c limit r s p q w result rest other used spent
-        made) text
-    pair_on_text {left_of = left_of} {failed_of = failed_of} {base_left = base_left} {base_failed =
-        base_failed} {step_left = step_left} {step_failed = step_failed} {held = held} {write_failed
-        = write_failed} {c = c} {limit = limit} {s = s} {other = other} {p = p} {used = used} {q =
-        q} {spent = spent} {w = w} {made = made} {result = result} is runs = (
-          left rest,
-          failed rest,
-          subst (λ o. RunsPair own_text (λ x. failed rest) left_of failed_of base_left base_failed
-              step_left step_failed held write_failed c limit o s p q w result (left rest) other
-              used spent made) is (record {
-                reads = record {
-                  verdict = runs.reads.verdict;
-                  other_verdict = runs.reads.other_verdict;
-                  unread = runs.reads.unread;
-                  answer = runs.reads.answer;
-                  own = runs.reads.own;
-                };
-                kept = runs.kept;
-                base_unread = runs.base_unread;
-                step_unread = runs.step_unread;
-                base_stream = runs.base_stream;
-                step_stream = runs.step_stream;
-                miter_base_stream = runs.miter_base_stream;
-                miter_step_stream = runs.miter_step_stream;
-              }),
-        )
-
-    pub safe_on_text : {P Q W : Type 0} {base_left : P → Option (List ℕ)} {base_failed : P → Bool}
-        {step_left : Q → Option (List ℕ)} {step_failed : Q → Bool} {held : W → Option (List ℕ)}
-        {write_failed : W → Bool} {k : ℕ} {form : Window} {base_optimize step_optimize : Bool}
-        {limit : ℕ} {p used : P}
-        {q spent : Q} {w made : W} {result : Result (Unit {0}) CheckError}
-        → left r ≡ Some text
-        → RunsSafe left failed base_left base_failed step_left step_failed held write_failed k form
-        base_optimize step_optimize limit r p q w result rest used spent made
-        → OnText (λ left failed r rest. RunsSafe left failed base_left base_failed step_left
-        step_failed held write_failed k form base_optimize step_optimize limit r p q w result rest
-        used spent made)
-        text
-    safe_on_text {base_left = base_left} {base_failed = base_failed} {step_left = step_left}
-        {step_failed = step_failed} {held = held} {write_failed = write_failed} {k = k} {form =
-        form} {base_optimize = base_optimize} {step_optimize = step_optimize} {limit = limit} {p =
-        p} {used = used} {q = q} {spent = spent}
-        {w = w} {made = made} {result = result} is runs = (
-          left rest,
-          failed rest,
-          subst (λ o. RunsSafe own_text (λ x. failed rest) base_left base_failed step_left
-              step_failed held write_failed k form base_optimize step_optimize limit o p q w
-              result (left rest) used
-              spent made) is (record {
-                verdict = runs.verdict;
-                own = runs.own;
-                safe = runs.safe;
-                ok = runs.ok;
-                stopped = runs.stopped;
-                kept = runs.kept;
-                refusal = runs.refusal;
-                base_unread = runs.base_unread;
-                step_unread = runs.step_unread;
-                base_stream = runs.base_stream;
-                step_stream = runs.step_stream;
-              }),
-        )
-
--- ---- what nobody reads
-
-kept_nothing : (result : Result (Unit {0}) CheckError)
-    → IfErr result (λ e. e ≢ errors.Write → tt {0} ≡ tt {0})
-kept_nothing (Ok u) = tt
-kept_nothing (Err e) = λ not. refl
-
-module _ {R W : Type 0} {left : R → Option (List ℕ)} {failed : R → Bool} {r rest : R} {w made : W}
-    {result : Result (Unit {0}) CheckError} where
-  pub runs_unwritten : {P : Type 0} {given : P → Option (List ℕ)} {given_failed : P → Bool} {c :
-      FileCommand} {limit : ℕ} {p used : P}
-      → Runs left failed given given_failed (λ x. None) (λ x. false) c limit r p w result rest used
-      made
-      → Runs left failed given given_failed nothing_given nothing_fails c limit r p tt result rest
-      used tt
-  runs_unwritten runs = record {
-    verdict = runs.verdict;
-    own = runs.own;
-    ok = runs.ok;
-    stopped = runs.stopped;
-    taken = runs.taken;
-    kept = kept_nothing result;
-    unread = runs.unread;
-    refusal = runs.refusal;
-  }
-
-  pub safe_unwritten : {P Q : Type 0} {base_left : P → Option (List ℕ)} {base_failed : P → Bool}
-      {step_left : Q → Option (List ℕ)} {step_failed : Q → Bool} {k : ℕ} {form : Window}
-      {base_optimize
-      step_optimize : Bool} {limit : ℕ} {p used : P} {q spent : Q}
-      → RunsSafe left failed base_left base_failed step_left step_failed (λ x. None) (λ x. false) k
-      form base_optimize step_optimize limit r p q w result rest used spent made
-      → RunsSafe left failed base_left base_failed step_left step_failed nothing_given
-      nothing_fails k form base_optimize step_optimize limit r p q tt result rest used spent tt
-  safe_unwritten runs = record {
-    verdict = runs.verdict;
-    own = runs.own;
-    safe = runs.safe;
-    ok = runs.ok;
-    stopped = runs.stopped;
-    kept = kept_nothing result;
-    refusal = runs.refusal;
-    base_unread = runs.base_unread;
-    step_unread = runs.step_unread;
-    base_stream = runs.base_stream;
-    step_stream = runs.step_stream;
-  }
-
-  pub pair_unwritten : {S P Q : Type 0} {left_of : S → Option (List ℕ)} {failed_of : S → Bool}
-      {base_left : P → Option (List ℕ)} {base_failed : P → Bool} {step_left : Q → Option (List ℕ)}
-      {step_failed : Q → Bool} {c : PairCommand} {limit : ℕ} {s other : S} {p used : P} {q spent :
-      Q}
-      → RunsPair left failed left_of failed_of base_left base_failed step_left step_failed (λ x.
-      None) (λ x. false) c limit r s p q w result rest other used spent made
-      → RunsPair left failed left_of failed_of base_left base_failed step_left step_failed
-      nothing_given nothing_fails c limit r s p q tt result rest other used spent tt
-  pair_unwritten {left_of = left_of} {failed_of = failed_of} {base_left = base_left} {step_left =
-      step_left} {c = c} {limit = limit} {s = s} {other = other} {p = p} {q = q} runs = record {
-        reads = reads_on left failed left_of failed_of limit r s rest other
-            (TellsOfPair nothing_given nothing_fails c limit (base_left p) (step_left q) (left r)
-            (left_of s) tt tt)
-            verdict_of
-            other_verdict_of (IsErrorOfPair c) result runs.reads refl refl runs.reads.own
-            (λ f g bytes others fits also told. nothing (base_left p) (step_left q) (left r)
-            (left_of s) f g result told);
-        kept = kept_nothing result;
-        base_unread = runs.base_unread;
-        step_unread = runs.step_unread;
-        base_stream = runs.base_stream;
-        step_stream = runs.step_stream;
-        miter_base_stream = runs.miter_base_stream;
-        miter_step_stream = runs.miter_step_stream;
-      }
-    where
-      nothing : (base step first second : Option (List ℕ)) (f g : File)
-          (x : Result (Unit {0}) CheckError)
-          → TellsOfPair {W = W} (λ y. None) (λ y. false) c limit base step first second w made f g x
-          → TellsOfPair nothing_given nothing_fails c limit base step first second tt tt f g x
-      nothing base step first second f g (Ok u) told = told
-      nothing base step first second f g (Err errors.Write) told = told
-      nothing base step first second f g (Err (errors.Certificate e)) told = told
-      nothing base step first second f g (Err (errors.Equality e)) told = told
-      nothing base step first second f g (Err e) told = absurd told
+pub prints_where : (c : Command) → prints c ≡ true → beside_of c ≡ 0
+prints_where c is = eqb-true (beside_of c) 0 is

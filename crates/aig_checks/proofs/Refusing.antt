@@ -1,69 +1,74 @@
--- Why a proof about two files is refused.
-use Rattle.std.proofs.Common.{◌≡◌, ℕ, Bool, List, subst}
-use Rattle.std.specs.Prelude.{Option, Err}
-use Rattle.aig_edits.specs.Pairs.{AreReadAs}
-use Rattle.aig_format.specs.File.{File}
-use Rattle.aig_reader.specs.Reading.{IsReadAs}
-use Rattle.aig_reader.specs.Verdicts.{Accepted}
-use Rattle.aig_checks.specs.declared.command.PairCommand.{PairCommand}
+-- What is asked is refused again, of which one input is counted.
+use Rattle.aig_base.proofs.Words.{◌≡◌, ◌==◌, ◌+◌, ℕ, suc, Bool, IsTrue, List, [], ◌∷◌, Option, Some, Ok, Err, ap, arith, eqb-true, map, map-map, same_Some, subst, sym, ◌∙◌}
+use Rattle.std.specs.Prelude.{IfOk, Result, slice_get}
+use Rattle.aig_command_line.specs.declared.discarded.Discarded.{Discarded}
+use Rattle.aig_command_line.specs.declared.files.OpenError.{OpenError}
+use Rattle.aig_command_line.specs.declared.tally.Measure.{Measure}
+use Rattle.aig_command_line.specs.declared.tally.Place.{Place}
+use Rattle.aig_command_line.specs.Came.{IsPlaceIn}
+use Rattle.aig_checks.specs.declared.command.Asked.{Asked}
 use Rattle.aig_checks.specs.declared.tool.CheckError.{CheckError}
-use Rattle.aig_checks.specs.declared.tool.CheckError.TheVariants as errors
-use Rattle.aig_checks.specs.Explaining.{RefusesFor}
-use Rattle.aig_checks.specs.Pairs.{RunsPair, TellsOfPair, other_verdict_of}
-use Rattle.aig_checks.specs.Running.{verdict_of}
+use Rattle.aig_checks.specs.Acting.{RanBy}
+use Rattle.aig_checks.specs.Explaining.{IsRefusedIn}
+use Rattle.aig_checks.specs.Inputs.{Stream, bytes_of, has_failed}
+use Rattle.aig_checks.specs.Living.{keeps_nothing, never_fails}
+use Rattle.aig_checks.specs.Opening.{AreOpened}
+use Rattle.aig_checks.proofs.Viewed.{by_seen}
 
--- what is told of a refusal
-pub tells_why : {W : Type 0} (held : W → Option (List ℕ)) (write_failed : W → Bool)
-    (limit : ℕ) (c : PairCommand) (base step bytes others : Option (List ℕ)) (w made : W)
-    (f g : File) (e : CheckError)
-    → TellsOfPair held write_failed c limit base step bytes others w made f g (Err e)
-    → RefusesFor limit c f g e
-tells_why held write_failed limit c base step bytes others w made f g (errors.Certificate e) told =
-    (base, step, told)
-tells_why held write_failed limit c base step bytes others w made f g errors.Open told = tt
-tells_why held write_failed limit c base step bytes others w made f g errors.Memory told = tt
-tells_why held write_failed limit c base step bytes others w made f g (errors.Answer e) told = tt
-tells_why held write_failed limit c base step bytes others w made f g (errors.Solution e) told = tt
-tells_why held write_failed limit c base step bytes others w made f g (errors.Show e) told = tt
-tells_why held write_failed limit c base step bytes others w made f g errors.Write told = tt
-tells_why held write_failed limit c base step bytes others w made f g (errors.Bounded e) told = tt
-tells_why held write_failed limit c base step bytes others w made f g (errors.Settled k) told = tt
-tells_why held write_failed limit c base step bytes others w made f g (errors.Safe e) told = tt
-tells_why held write_failed limit c base step bytes others w made f g (errors.Equality e) told =
-    (base, step, told)
-tells_why held write_failed limit c base step bytes others w made f g (errors.Lasso e) told = tt
-tells_why held write_failed limit c base step bytes others w made f g (errors.Miter e) told = tt
-tells_why held write_failed limit c base step bytes others w made f g (errors.Unmade e) told = tt
-tells_why held write_failed limit c base step bytes others w made f g (errors.Steps e) told = tt
+-- the bytes of one of the files are those of the one that is told
+pub told_at : (known : List (Option (List ℕ))) (which i : ℕ) (told one : Option (List ℕ))
+    → slice_get known which ≡ Some told → slice_get known i ≡ Some one → IsTrue (which == i)
+    → one ≡ told
+told_at known which i told one is at same =
+    same_Some _ _ (sym at ∙ ap (slice_get known) (sym (eqb-true which i same)) ∙ is)
 
--- a value of the same file, with another meaning
-pub read_as : {T U : Type 0} {Holds : List ℕ → File → Type 0} (Means : File → T → Type 0)
-    (Other : File → U → Type 0) {old new : Option (List ℕ)}
-    {value : T} {another : U} → ((f : File) → Means f value → Other f another)
-    → IsReadAs Holds Means old new value → IsReadAs Holds Other old new another
-read_as Means Other so was = record {
-  file = was.file;
-  bytes = was.bytes;
-  holds = was.holds;
-  means =
-      so was.file was.means;
-  taken = was.taken;
-}
+-- files that are opened again are opened
+pub opened_again : {F : Type 0} (opens : List ℕ → Result F OpenError → Type 0)
+    (paths : List (List ℕ)) (files : List F)
+    → AreOpened (λ path opened. IfOk opened (λ file. opens path (Ok file))) paths files
+    → AreOpened opens paths files
+opened_again opens [] [] are = tt
+opened_again opens (path ∷ paths) (file ∷ files) are =
+    (are.0, opened_again opens paths files are.1)
+opened_again opens [] (file ∷ files) are = absurd are
+opened_again opens (path ∷ paths) [] are = absurd are
 
--- a command on two files that is run again refuses them so
-pub refused_again : {R S P Q W : Type 0} {left : R → Option (List ℕ)} {failed : R → Bool}
-    {left_of : S → Option (List ℕ)} {failed_of : S → Bool}
-    {base_left : P → Option (List ℕ)} {base_failed : P → Bool}
-    {step_left : Q → Option (List ℕ)} {step_failed : Q → Bool} {held : W → Option (List ℕ)} {write_failed : W
-    → Bool} {limit : ℕ} {c : PairCommand} {r : R} {s : S} {p : P}
-    {q : Q} {w : W} (again e : CheckError) {rest : R} {other : S} {used : P} {spent : Q} {made : W}
-    → RunsPair left failed left_of failed_of base_left base_failed step_left step_failed held
-    write_failed c limit r s p q w (Err again) rest other used spent made
-    → again ≡ e → verdict_of e ≡ Accepted → other_verdict_of e ≡ Accepted
-    → AreReadAs limit (RefusesFor limit c) (left r) (left rest) (left_of s) (left_of other) e
-refused_again {left = left} {left_of = left_of} {held = held} {write_failed = write_failed} {limit = limit} {c = c}
-    {r = r} {s = s} {w = w} again e {rest = rest} {other = other} {made = made} runs same =
-    subst (λ (x : CheckError). verdict_of x ≡ Accepted → other_verdict_of x ≡ Accepted
-    → AreReadAs limit (RefusesFor limit c) (left r) (left rest) (left_of s) (left_of other) x) same
-    (λ first second. read_as _ _ (λ f. read_as _ _ (λ g. tells_why held write_failed limit c _ _ _ _ w made f g
-    again)) (runs.reads.answer first second))
+next_of : {X : Type 0} (x : X) (xs : List X) (i : ℕ) → slice_get (x ∷ xs) (i + 1) ≡ slice_get xs i
+next_of x xs i =
+    let next : i + 1 ≡ suc i = omega arith in
+    ap (slice_get (x ∷ xs)) next
+
+-- what was asked again was refused so, and the place is that of the last byte of the counted input
+pub refused_again : {F S : Type 0} (left : F → Option (List ℕ)) (failed : F → Bool)
+    (left_of : S → Option (List ℕ)) (failed_of : S → Bool) (limit number : ℕ) (asked : Asked)
+    (file rest : F) (files others : List S) (known : List (Option (List ℕ)))
+    (told : Option (List ℕ)) (again e : CheckError) (measure : Measure) (place : Place)
+    (before after : Discarded) → map left_of files ≡ known → slice_get known number ≡ Some told
+    → IsPlaceIn told measure place → again ≡ e
+    → RanBy left failed left_of failed_of keeps_nothing never_fails limit asked.justice
+    asked.command file files before (Err again) rest others after
+    → IsRefusedIn limit asked (left file ∷ known) (number + 1) e measure place
+refused_again {F} {S} left failed left_of failed_of limit number asked file rest files others
+    known told again e measure place before after are which at same ran = record {
+      told = told;
+      which = next_of (left file) known number ∙ which;
+      at = at;
+      file = of_file file;
+      files = map of_input files;
+      are = ap (λ l. left file ∷ l) (sym are ∙ sym (map-map bytes_of of_input files));
+      rest = of_file rest;
+      others = map of_input others;
+      before = before;
+      after = after;
+      refused = subst (λ (x : CheckError). RanBy bytes_of has_failed bytes_of has_failed
+          keeps_nothing never_fails limit asked.justice asked.command (of_file file)
+          (map of_input files) before (Err x) (of_file rest) (map of_input others) after) same
+          (by_seen of_input bytes_of has_failed keeps_nothing never_fails limit asked.command files
+          others before after of_file bytes_of has_failed asked.justice file rest (Err again) ran);
+    }
+  where
+    of_file : F → Stream
+    of_file x = (left x, failed x)
+
+    of_input : S → Stream
+    of_input x = (left_of x, failed_of x)

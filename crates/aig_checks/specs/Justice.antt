@@ -1,19 +1,13 @@
 -- Part of what is promised.
 -- Commands that ask about a justice property of a file, and the words that give the property.
 -- (AIGER 1.9, "Properties": justice and fairness.)
-use Rattle.std.specs.Prelude.{◌≡◌, ℕ, List, ◌∷◌, Option, Some, None, codes}
+use Rattle.std.specs.Prelude.{◌≡◌, ℕ, Bool, true, false, List, ◌∷◌, Option, Some, None, codes, is_none}
 use Rattle.aig_format.specs.Text.{IsNumber}
 use Rattle.aig_checks.specs.declared.command.Command.{Command}
 use Rattle.aig_checks.specs.declared.command.Command.TheVariants as commands
-use Rattle.aig_checks.specs.declared.command.FileCommand.{FileCommand}
 use Rattle.aig_checks.specs.declared.command.FileCommand.TheVariants as on_file
 use Rattle.aig_checks.specs.declared.command.PairCommand.TheVariants as on_pair
-use Rattle.aig_checks.specs.declared.justice.FairCommand.TheVariants as fair
-use Rattle.aig_checks.specs.declared.justice.FairPrint.{FairPrint}
-use Rattle.aig_checks.specs.declared.justice.FairPrint.TheVariants as prints
 use Rattle.aig_checks.specs.declared.justice.Justice.{Justice}
-use Rattle.aig_checks.specs.declared.justice.LassoCommand.{LassoCommand}
-use Rattle.aig_checks.specs.declared.justice.LassoCommand.TheVariants as lassos
 
 -- ---- words
 
@@ -34,50 +28,16 @@ AreJustice None words rest = IsNumbered (codes "--justice") None words rest
 
 -- ---- commands
 
--- the fair lassos of a justice property
-abbrev pub lassos_of : ℕ → Justice
-lassos_of property = record { property = property; rounds = None }
-
--- the command that prints these clauses of a file
-abbrev pub print_of : FairPrint → FileCommand
-print_of (prints.Clauses k optimize) = on_file.Clauses k optimize
-print_of (prints.Window k form optimize) = on_file.Window k form optimize
-print_of (prints.Bounded k optimize) = on_file.Bounded k optimize
-
--- the command that checks the proof of a file
-abbrev pub check_of : LassoCommand → FileCommand
-check_of (lassos.Refuted k optimize) = on_file.Refuted k optimize
-check_of (lassos.RefutedTo k optimize) = on_file.RefutedTo k optimize
-check_of (lassos.Inductive k form optimize) = on_file.Inductive k form optimize
-
--- rounds are not asked about lassos
-abbrev pub lasso_command : Option ℕ → ℕ → LassoCommand → Option Command
-lasso_command None property c = Some (commands.Lasso property c)
-lasso_command (Some rounds) property c = None
-
--- the command on the file that is made for the justice property, where there is one
-abbrev pub fair_command : Justice → Command → Option Command
-fair_command a (commands.File (on_file.Clauses k optimize)) =
-    Some (commands.Fair a (fair.Print (prints.Clauses k optimize)))
-fair_command a (commands.File (on_file.Window k form optimize)) =
-    Some (commands.Fair a (fair.Print (prints.Window k form optimize)))
-fair_command a (commands.File (on_file.Bounded k optimize)) =
-    Some (commands.Fair a (fair.Print (prints.Bounded k optimize)))
-fair_command a (commands.File (on_file.Refuted k optimize)) =
-    lasso_command a.rounds a.property (lassos.Refuted k optimize)
-fair_command a (commands.File (on_file.RefutedTo k optimize)) =
-    lasso_command a.rounds a.property (lassos.RefutedTo k optimize)
-fair_command a (commands.File (on_file.Inductive k form optimize)) =
-    lasso_command a.rounds a.property (lassos.Inductive k form optimize)
-fair_command a (commands.Pair (on_pair.Certified optimize)) =
-    Some (commands.Fair a (fair.Certified optimize))
-fair_command a (commands.Pair (on_pair.Obligations optimize)) =
-    Some (commands.Fair a (fair.Obligations optimize))
-fair_command a (commands.Safe k form base_optimize step_optimize) =
-    Some (commands.Fair a (fair.Safe k form base_optimize step_optimize))
-fair_command a c = None
-
--- the command, where it is asked of a justice property
-abbrev pub command_by : Option Justice → Command → Option Command
-command_by None c = Some c
-command_by (Some a) c = fair_command a c
+-- the command is asked of a justice property: one that checks one proof, of its fair lassos alone
+abbrev pub is_asked : Option Justice → Command → Bool
+is_asked None c = true
+is_asked (Some a) (commands.File (on_file.Clauses k optimize)) = true
+is_asked (Some a) (commands.File (on_file.Window k form optimize)) = true
+is_asked (Some a) (commands.File (on_file.Bounded k optimize)) = true
+is_asked (Some a) (commands.File (on_file.Refuted k optimize)) = is_none a.rounds
+is_asked (Some a) (commands.File (on_file.RefutedTo k optimize)) = is_none a.rounds
+is_asked (Some a) (commands.File (on_file.Inductive k form optimize)) = is_none a.rounds
+is_asked (Some a) (commands.Pair (on_pair.Certified optimize)) = true
+is_asked (Some a) (commands.Pair (on_pair.Obligations optimize)) = true
+is_asked (Some a) (commands.Safe k form base_optimize step_optimize) = true
+is_asked (Some a) c = false

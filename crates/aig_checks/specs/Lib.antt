@@ -8,13 +8,15 @@ pub mod Safe
 pub mod Pairs
 pub mod Comparing
 pub mod Printing
+pub mod Fits
+pub mod Inputs
 pub mod Asked
 pub mod Opening
 pub mod Living
 pub mod LivingParts
-pub mod SafeBySteps
 pub mod Acting
 pub mod About
 pub mod Explaining
+pub mod Tracing
 pub mod Noticing
 pub mod Advising

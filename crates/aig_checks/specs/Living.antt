@@ -2,10 +2,10 @@
 -- What a command does that asks about a justice property of a file: what it is run on is the text
 -- of another file, which is made of that one, and what it answers is so of the file itself. (AIGER
 -- 1.9, "Properties": justice and fairness. Liveness to safety; k-liveness.)
-use Rattle.std.specs.Prelude.{◌≡◌, ℕ, ◌+◌, ◌≤◌, Bool, false, List, ◌∷◌, [], ◌++◌, MatchOption, Option, Some, Result, Ok, Err, IfErr, codes, decimal}
+use Rattle.std.specs.Prelude.{◌≡◌, ℕ, ◌+◌, ◌≤◌, Bool, true, false, List, ◌∷◌, [], ◌++◌, MatchOption, Option, None, Some, Result, Ok, Err, IfErr, codes, decimal}
 use Rattle.std.specs.Io.KnownBytes.{Appends}
 use Rattle.aig_circuit.specs.Circuit.{Circuit}
-use Rattle.aig_command_line.specs.declared.files.OpenError.{OpenError}
+use Rattle.aig_command_line.specs.declared.discarded.Discarded.{Discarded}
 use Rattle.aig_edits.specs.declared.edit_error.EditError.{EditError}
 use Rattle.aig_edits.specs.Edits.{IsEditOwn, ReadsFile, edit_verdict}
 use Rattle.aig_edits.specs.Lives.{IsLiveFile, IsLiveRefusal}
@@ -15,21 +15,16 @@ use Rattle.aig_format.specs.File.{File}
 use Rattle.aig_live_laws.specs.Fair.{HasFairLasso, HasFairRun}
 use Rattle.aig_output.specs.Sinks.{Stops}
 use Rattle.aig_reader.specs.Verdicts.{Accepted, Verdict}
-use Rattle.aig_runs.specs.declared.window.Window.{Window}
+use Rattle.aig_checks.specs.declared.command.Command.{Command}
+use Rattle.aig_checks.specs.declared.command.Command.TheVariants as commands
+use Rattle.aig_checks.specs.declared.command.FileCommand.{FileCommand}
+use Rattle.aig_checks.specs.declared.command.FileCommand.TheVariants as on_file
 use Rattle.aig_checks.specs.declared.command.PairCommand.TheVariants as on_pair
-use Rattle.aig_checks.specs.declared.justice.FairCommand.{FairCommand}
-use Rattle.aig_checks.specs.declared.justice.FairCommand.TheVariants as fair
-use Rattle.aig_checks.specs.declared.justice.FairPrint.{FairPrint}
 use Rattle.aig_checks.specs.declared.justice.Justice.{Justice}
-use Rattle.aig_checks.specs.declared.justice.LassoCommand.{LassoCommand}
-use Rattle.aig_checks.specs.declared.justice.LassoCommand.TheVariants as lassos
 use Rattle.aig_checks.specs.declared.tool.CheckError.{CheckError}
 use Rattle.aig_checks.specs.declared.tool.CheckError.TheVariants as errors
-use Rattle.aig_checks.specs.Justice.{check_of, lassos_of, print_of}
-use Rattle.aig_checks.specs.Opening.{Opening}
-use Rattle.aig_checks.specs.Pairs.{RunsPair, own_text}
-use Rattle.aig_checks.specs.Running.{Runs, nothing_fails, nothing_given}
-use Rattle.aig_checks.specs.Safe.{RunsSafe}
+use Rattle.aig_checks.specs.Inputs.{Ran, Stream, bytes_of, has_failed}
+use Rattle.aig_checks.specs.Words.{prints, step_of}
 
 -- ---- the file that is made
 
@@ -75,50 +70,47 @@ pub record RunsMade {R : Type 0} (left : R → Option (List ℕ)) (failed : R �
   pub reads : ReadsFile left failed limit (TellsMade a Means) made_verdict IsMadeOwn r result rest
   pub unread : IfErr result (λ e. IsOfMaking e → Unread)
 
--- this holds of a reader of these bytes, for what is left of them after it, and whether a read of
--- them failed
-abbrev pub OnText : ((Option (List ℕ) → Option (List ℕ)) → (Option (List ℕ) → Bool)
-    → Option (List ℕ) → Option (List ℕ) → Type 0) → List ℕ → Type 0
-OnText Reads text =
-    (rest : Option (List ℕ)) × (failed : Bool) × Reads own_text (λ x. failed) (Some text) rest
+-- this holds of the bytes of the text, and of what is left of them
+abbrev pub OnText : (Stream → Stream → Type 0) → List ℕ → Type 0
+OnText Reads text = (failed : Bool) × (rest : Stream) × Reads (Some text, failed) rest
 
 -- ---- answers
 
 -- what stands before a number of steps in a line about fair lassos
-abbrev pub lasso_text : LassoCommand → ℕ → List ℕ
-lasso_text (lassos.Refuted k optimize) property =
+abbrev pub lasso_text : FileCommand → ℕ → List ℕ
+lasso_text (on_file.Refuted k optimize) property =
     codes "no fair lasso of j" ++ (decimal property ++ 32 ∷ []) ++ codes "of "
-lasso_text (lassos.RefutedTo k optimize) property =
+lasso_text (on_file.RefutedTo k optimize) property =
     codes "no fair lasso of j" ++ (decimal property ++ 32 ∷ []) ++ codes "of at most "
-lasso_text (lassos.Inductive k form optimize) property =
+lasso_text (on_file.Inductive k form optimize) property =
     codes "no fair run of j" ++ (decimal property ++ 44 ∷ [])
     ++ codes " if no fair lasso of at most "
-
--- the last step
-abbrev pub last_of : LassoCommand → ℕ
-last_of (lassos.Refuted k optimize) = k
-last_of (lassos.RefutedTo k optimize) = k
-last_of (lassos.Inductive k form optimize) = k
+lasso_text c property = []
 
 -- the line about fair lassos
-abbrev pub no_lasso_line : LassoCommand → ℕ → List ℕ
-no_lasso_line c property =
-    lasso_text c property ++ (decimal (last_of c + 1) ++ 32 ∷ []) ++ (codes "steps" ++ 10 ∷ [])
+abbrev pub lassos_line : FileCommand → ℕ → List ℕ
+lassos_line c property =
+    lasso_text c property ++ (decimal (step_of (commands.File c) + 1) ++ 32 ∷ [])
+    ++ (codes "steps" ++ 10 ∷ [])
 
--- the line of a justice property that has no fair run
-abbrev pub no_run_line : ℕ → List ℕ
-no_run_line property = codes "no fair run of j" ++ (decimal property ++ 10 ∷ [])
+-- the line about the fair runs of a justice property
+abbrev pub fair_line : Command → ℕ → List ℕ
+fair_line (commands.File c) property = lassos_line c property
+fair_line c property = codes "no fair run of j" ++ (decimal property ++ 10 ∷ [])
 
 -- it has no fair lasso of at most k + 1 steps
 abbrev pub HasNoLassoTo : File → ℕ → ℕ → Type 0
 HasNoLassoTo f property k = (n : ℕ) → n ≤ k → ¬ HasFairLasso f property n
 
 -- what is so of the file
-abbrev pub ShowsLasso : LassoCommand → ℕ → File → Type 0
-ShowsLasso (lassos.Refuted k optimize) property f = ¬ HasFairLasso f property k
-ShowsLasso (lassos.RefutedTo k optimize) property f = HasNoLassoTo f property k
-ShowsLasso (lassos.Inductive k form optimize) property f =
+abbrev pub ShowsFair : Command → ℕ → File → Type 0
+ShowsFair (commands.File (on_file.Refuted k optimize)) property f = ¬ HasFairLasso f property k
+ShowsFair (commands.File (on_file.RefutedTo k optimize)) property f = HasNoLassoTo f property k
+ShowsFair (commands.File (on_file.Inductive k form optimize)) property f =
     HasNoLassoTo f property k → ¬ HasFairRun f property
+ShowsFair (commands.Pair (on_pair.Certified optimize)) property f = ¬ HasFairRun f property
+ShowsFair (commands.Safe k form base_optimize step_optimize) property f = ¬ HasFairRun f property
+ShowsFair c property f = ⊥
 
 -- The check was passed, this is shown, and the line was written, and the writer has not failed; or
 -- a beginning of it was, and the writer has; or the check was not passed, and nothing is written.
@@ -132,144 +124,52 @@ Concludes held write_failed line Shown Checks w made (Err e) = Checks (Err e) ×
 
 -- ---- on the text of what is made
 
+-- the writer that keeps nothing holds nothing that is known, and never fails
+abbrev pub keeps_nothing : Discarded → Option (List ℕ)
+keeps_nothing w = None
+
+abbrev pub never_fails : Discarded → Bool
+never_fails w = false
+
 -- clauses are printed of it
-abbrev pub PrintsMade : {W : Type 0} → (W → Option (List ℕ)) → (W → Bool) → ℕ → FairPrint → W → W
-    → File → List ℕ → Result Unit CheckError → Type 0
-PrintsMade held write_failed limit c w made f text result =
-    OnText (λ left failed r rest. Runs left failed nothing_given nothing_fails held write_failed
-    (print_of c) limit r tt w result rest tt made) text
-
--- the clauses of the proofs about a certificate of it are printed
-abbrev pub ObligesMade : {S W : Type 0} → (S → Option (List ℕ)) → (S → Bool)
-    → (W → Option (List ℕ)) → (W → Bool) → ℕ → Bool → S → S → W → W → File → List ℕ
+abbrev pub PrintsMade : {S W : Type 0} → (S → Option (List ℕ)) → (S → Bool)
+    → (W → Option (List ℕ)) → (W → Bool) → ℕ → Command → List S → List S → W → W → List ℕ
     → Result Unit CheckError → Type 0
-ObligesMade left_of failed_of held write_failed limit optimize s other w made f text result =
-    OnText (λ left failed r rest. RunsPair left failed left_of failed_of nothing_given
-    nothing_fails nothing_given nothing_fails held write_failed (on_pair.Obligations optimize)
-    limit r s tt tt w result rest other tt tt made) text
+PrintsMade left_of failed_of held write_failed limit c inputs others w made text result =
+    OnText (λ r rest. Ran bytes_of has_failed left_of failed_of held write_failed limit c r inputs w
+    result rest others made) text
 
--- what a check of its text by a proof tells
-abbrev pub RefutesText : {P : Type 0} → (P → Option (List ℕ)) → (P → Bool) → ℕ → LassoCommand → P
-    → P → List ℕ → Result Unit CheckError → Type 0
-RefutesText given given_failed limit c p used text result =
-    OnText (λ left failed r rest. Runs left failed given given_failed nothing_given nothing_fails
-    (check_of c) limit r p tt result rest used tt) text
+-- it is checked by what is given beside it, and nothing is printed
+abbrev pub ChecksText : {S : Type 0} → (S → Option (List ℕ)) → (S → Bool) → ℕ → Command → List S
+    → List S → List ℕ → Result Unit CheckError → Type 0
+ChecksText left_of failed_of limit c inputs others text result =
+    (w : Discarded) × (made : Discarded)
+    × PrintsMade left_of failed_of keeps_nothing never_fails limit c inputs others w made text
+    result
 
--- a proof of it is checked, of which the line about fair lassos is told
-abbrev pub RefutesMade : {P W : Type 0} → (P → Option (List ℕ)) → (P → Bool)
-    → (W → Option (List ℕ)) → (W → Bool) → ℕ → ℕ → LassoCommand → P → P → W → W → File → List ℕ
-    → Result Unit CheckError → Type 0
-RefutesMade given given_failed held write_failed limit property c p used w made f text =
-    Concludes held write_failed (no_lasso_line c property) (ShowsLasso c property f)
-    (RefutesText given given_failed limit c p used text) w made
-
--- what a check of its text by a certificate and two proofs tells
-abbrev pub CertifiesText : {S P Q : Type 0} → (S → Option (List ℕ)) → (S → Bool)
-    → (P → Option (List ℕ)) → (P → Bool) → (Q → Option (List ℕ)) → (Q → Bool) → ℕ → Bool → S → S → P
-    → P → Q → Q → List ℕ → Result Unit CheckError → Type 0
-CertifiesText left_of failed_of base_left base_failed step_left step_failed limit optimize s other
-    p used q spent text result =
-    OnText (λ left failed r rest. RunsPair left failed left_of failed_of base_left base_failed
-    step_left step_failed nothing_given nothing_fails (on_pair.Certified optimize) limit r s p q tt
-    result rest other used spent tt) text
-
--- a certificate of it and two proofs are checked, of which it is told that there is no fair run
-abbrev pub CertifiesMade : {S P Q W : Type 0} → (S → Option (List ℕ)) → (S → Bool)
-    → (P → Option (List ℕ)) → (P → Bool) → (Q → Option (List ℕ)) → (Q → Bool)
-    → (W → Option (List ℕ)) → (W → Bool) → ℕ → ℕ → Bool → S → S → P → P → Q → Q → W → W → File
+-- so it is, and what that shows of the file is told
+abbrev pub ChecksMade : {S W : Type 0} → (S → Option (List ℕ)) → (S → Bool)
+    → (W → Option (List ℕ)) → (W → Bool) → ℕ → ℕ → Command → List S → List S → W → W → File
     → List ℕ → Result Unit CheckError → Type 0
-CertifiesMade left_of failed_of base_left base_failed step_left step_failed held write_failed limit
-    property optimize s other p used q spent w made f text =
-    Concludes held write_failed (no_run_line property) (¬ HasFairRun f property)
-    (CertifiesText left_of failed_of base_left base_failed step_left step_failed limit optimize s
-    other p used q spent text) w made
+ChecksMade left_of failed_of held write_failed limit property c inputs others w made f text =
+    Concludes held write_failed (fair_line c property) (ShowsFair c property f)
+    (ChecksText left_of failed_of limit c inputs others text) w made
 
--- what a check of its text by two proofs tells
-abbrev pub SavesText : {P Q : Type 0} → (P → Option (List ℕ)) → (P → Bool) → (Q → Option (List ℕ))
-    → (Q → Bool) → ℕ → ℕ → Window → Bool → Bool → P → P → Q → Q → List ℕ
-    → Result Unit CheckError → Type 0
-SavesText base_left base_failed step_left step_failed limit k form base_optimize step_optimize p
-    used q spent text result =
-    OnText (λ left failed r rest. RunsSafe left failed base_left base_failed step_left step_failed
-    nothing_given nothing_fails k form base_optimize step_optimize limit r p q tt result rest used
-    spent tt) text
+-- either, by the command
+abbrev pub MeansMade : {S W : Type 0} → Bool → (S → Option (List ℕ)) → (S → Bool)
+    → (W → Option (List ℕ)) → (W → Bool) → ℕ → ℕ → Command → List S → List S → W → W → File
+    → List ℕ → Result Unit CheckError → Type 0
+MeansMade true left_of failed_of held write_failed limit property c inputs others w made f =
+    PrintsMade left_of failed_of held write_failed limit c inputs others w made
+MeansMade false left_of failed_of held write_failed limit property c inputs others w made f =
+    ChecksMade left_of failed_of held write_failed limit property c inputs others w made f
 
--- two proofs of it are checked, of which it is told that there is no fair run
-abbrev pub SavesMade : {P Q W : Type 0} → (P → Option (List ℕ)) → (P → Bool)
-    → (Q → Option (List ℕ)) → (Q → Bool) → (W → Option (List ℕ)) → (W → Bool) → ℕ → ℕ → ℕ
-    → Window → Bool → Bool → P → P → Q → Q → W → W → File → List ℕ → Result Unit CheckError → Type 0
-SavesMade base_left base_failed step_left step_failed held write_failed limit property k form
-    base_optimize step_optimize p used q spent w made f text =
-    Concludes held write_failed (no_run_line property) (¬ HasFairRun f property)
-    (SavesText base_left base_failed step_left step_failed limit k form base_optimize step_optimize
-    p used q spent text) w made
-
--- ---- commands
-
--- What a command about fair runs does with the files at its paths, which are opened first, in
--- order: FILE, CERT and the proofs. Where one isn't opened, nothing is written.
-abbrev pub ActsFair : {F W : Type 0} → (List ℕ → Result F OpenError → Type 0)
-    → (F → Option (List ℕ)) → (F → Bool) → (W → Option (List ℕ)) → (W → Bool) → ℕ → Justice
-    → FairCommand → List (List ℕ) → List (List ℕ) → W → Result Unit CheckError → W → Type 0
-ActsFair {F} opens left failed held write_failed limit a (fair.Print c) (path ∷ []) [] w result
+-- the command was run on what is made of FILE for the justice property, and on the files behind it
+abbrev pub RanMade : {R S W : Type 0} → (R → Option (List ℕ)) → (R → Bool)
+    → (S → Option (List ℕ)) → (S → Bool) → (W → Option (List ℕ)) → (W → Bool) → ℕ → Justice
+    → Command → R → List S → W → Result Unit CheckError → R → List S → W → Type 0
+RanMade left failed left_of failed_of held write_failed limit a c r inputs w result rest others
     made =
-    Opening opens path
-    (λ r. (rest : F)
-    × RunsMade left failed limit a (PrintsMade held write_failed limit c w made) (made ≡ w) r result
-    rest)
-    (λ e. (result ≡ Err e) × (made ≡ w))
-ActsFair {F} opens left failed held write_failed limit a (fair.Obligations optimize)
-    (path ∷ certificate ∷ []) [] w result made =
-    Opening opens path
-    (λ r. Opening opens certificate
-    (λ s. (rest : F) × (other : F)
-    × RunsMade left failed limit a
-    (ObligesMade left failed held write_failed limit optimize s other w made)
-    ((other ≡ s) × (made ≡ w)) r result rest)
-    (λ e. (result ≡ Err e) × (made ≡ w)))
-    (λ e. (result ≡ Err e) × (made ≡ w))
-ActsFair {F} opens left failed held write_failed limit a (fair.Certified optimize)
-    (path ∷ certificate ∷ []) (base ∷ step ∷ []) w result made =
-    Opening opens path
-    (λ r. Opening opens certificate
-    (λ s. Opening opens base
-    (λ p. Opening opens step
-    (λ q. (rest : F) × (other : F) × (used : F) × (spent : F)
-    × RunsMade left failed limit a
-    (CertifiesMade left failed left failed left failed held write_failed limit a.property optimize s
-    other p used q spent w made)
-    ((other ≡ s) × (used ≡ p) × (spent ≡ q) × (made ≡ w)) r result rest)
-    (λ e. (result ≡ Err e) × (made ≡ w)))
-    (λ e. (result ≡ Err e) × (made ≡ w)))
-    (λ e. (result ≡ Err e) × (made ≡ w)))
-    (λ e. (result ≡ Err e) × (made ≡ w))
-ActsFair {F} opens left failed held write_failed limit a
-    (fair.Safe k form base_optimize step_optimize) (path ∷ []) (base ∷ step ∷ []) w result made =
-    Opening opens path
-    (λ r. Opening opens base
-    (λ p. Opening opens step
-    (λ q. (rest : F) × (used : F) × (spent : F)
-    × RunsMade left failed limit a
-    (SavesMade left failed left failed held write_failed limit a.property k form base_optimize
-    step_optimize p used q spent w made)
-    ((used ≡ p) × (spent ≡ q) × (made ≡ w)) r result rest)
-    (λ e. (result ≡ Err e) × (made ≡ w)))
-    (λ e. (result ≡ Err e) × (made ≡ w)))
-    (λ e. (result ≡ Err e) × (made ≡ w))
-ActsFair opens left failed held write_failed limit a c paths further w result made = ⊥
-
--- so a command about fair lassos does with FILE and the proof
-abbrev pub ActsLasso : {F W : Type 0} → (List ℕ → Result F OpenError → Type 0)
-    → (F → Option (List ℕ)) → (F → Bool) → (W → Option (List ℕ)) → (W → Bool) → ℕ → ℕ
-    → LassoCommand → List (List ℕ) → List (List ℕ) → W → Result Unit CheckError → W → Type 0
-ActsLasso {F} opens left failed held write_failed limit property c (path ∷ []) (proof ∷ []) w
-    result made =
-    Opening opens path
-    (λ r. Opening opens proof
-    (λ p. (rest : F) × (used : F)
-    × RunsMade left failed limit (lassos_of property)
-    (RefutesMade left failed held write_failed limit property c p used w made)
-    ((used ≡ p) × (made ≡ w)) r result rest)
-    (λ e. (result ≡ Err e) × (made ≡ w)))
-    (λ e. (result ≡ Err e) × (made ≡ w))
-ActsLasso opens left failed held write_failed limit property c paths further w result made = ⊥
+    RunsMade left failed limit a
+    (MeansMade (prints c) left_of failed_of held write_failed limit a.property c inputs others w
+    made) ((others ≡ inputs) × (made ≡ w)) r result rest

@@ -1,6 +1,6 @@
 -- Part of what is promised.
 -- Files that a program opens at paths.
-use Rattle.std.specs.Prelude.{ℕ, List, Result, Ok, Err}
+use Rattle.std.specs.Prelude.{ℕ, List, [], ◌∷◌, Result, Ok, Err}
 use Rattle.aig_command_line.specs.declared.files.OpenError.{OpenError}
 use Rattle.aig_command_line.specs.declared.files.OpenError.TheVariants as opening
 use Rattle.aig_checks.specs.declared.tool.CheckError.{CheckError}
@@ -22,3 +22,19 @@ pub record Opening {F : Type 0} (opens : List ℕ → Result F OpenError → Typ
   pub file : Result F OpenError
   pub opened : opens path file
   pub leads : OnOpening Holds Fails file
+
+-- the files at the paths were opened, in order, and this holds of them, or one was not, and that of
+-- the error
+abbrev pub OpensAll : {F : Type 0} → (List ℕ → Result F OpenError → Type 0) → List (List ℕ)
+    → (List F → Type 0) → (CheckError → Type 0) → Type 0
+OpensAll opens [] Holds Fails = Holds []
+OpensAll opens (path ∷ paths) Holds Fails =
+    Opening opens path
+    (λ file. OpensAll opens paths (λ files. Holds (file ∷ files)) Fails) Fails
+
+-- they were opened as these
+abbrev pub AreOpened : {F : Type 0} → (List ℕ → Result F OpenError → Type 0) → List (List ℕ)
+    → List F → Type 0
+AreOpened opens [] [] = Unit {0}
+AreOpened opens (path ∷ paths) (file ∷ files) = opens path (Ok file) × AreOpened opens paths files
+AreOpened opens paths files = ⊥

@@ -1,24 +1,21 @@
 -- Part of what is promised.
 -- Which words give which command.
-use Rattle.std.specs.Prelude.{◌≡◌, ◌⊎◌, ◌+◌, ◌++◌, ◌∷◌, [], ℕ, Bool, true, false, not, IsTrue, List, None, Option, Some, codes}
+use Rattle.std.specs.Prelude.{◌≡◌, ◌⊎◌, ◌==◌, ◌++◌, ◌∷◌, [], ℕ, Bool, true, false, not, IsTrue, List, None, Option, Some, codes}
 use Rattle.aig_runs.specs.declared.window.Window.{Window}
 use Rattle.aig_runs.specs.declared.window.Window.TheVariants.{Plain, Distinct}
 use Rattle.aig_command_line.specs.declared.arguments.Form.{Form}
 use Rattle.aig_command_line.specs.declared.arguments.Step.{Step}
-use Rattle.aig_command_line.specs.declared.arguments.Step.TheVariants.{Absent, At, UpTo, By, Each}
+use Rattle.aig_command_line.specs.declared.arguments.Step.TheVariants.{Absent, At, UpTo, By}
 use Rattle.aig_command_line.specs.Arguments.{Arguments, Gives}
 use Rattle.aig_command_line.specs.Limits.{IsLimited}
 use Rattle.aig_checks.specs.declared.command.Action.{Action}
 use Rattle.aig_checks.specs.declared.command.Action.TheVariants as actions
+use Rattle.aig_checks.specs.declared.command.Asked.{Asked}
 use Rattle.aig_checks.specs.declared.command.Command.{Command}
 use Rattle.aig_checks.specs.declared.command.Command.TheVariants as commands
 use Rattle.aig_checks.specs.declared.command.FileCommand.TheVariants as on_file
 use Rattle.aig_checks.specs.declared.command.PairCommand.TheVariants as on_pair
-use Rattle.aig_checks.specs.declared.justice.FairCommand.TheVariants as fair
-use Rattle.aig_checks.specs.declared.justice.FairPrint.TheVariants as prints
-use Rattle.aig_checks.specs.declared.justice.Justice.{Justice}
-use Rattle.aig_checks.specs.declared.justice.LassoCommand.TheVariants as lassos
-use Rattle.aig_checks.specs.Justice.{AreJustice, command_by}
+use Rattle.aig_checks.specs.Justice.{AreJustice, is_asked}
 
 -- the word that names a command
 abbrev pub name_of : Action → List ℕ
@@ -37,7 +34,6 @@ name_of actions.WitnessTo = codes "witness"
 name_of actions.Safe = codes "safe"
 name_of actions.AlwaysEqual = codes "equal"
 name_of actions.EqualBy = codes "equal"
-name_of actions.SafeBySteps = codes "safe"
 
 -- so many paths and a step, so many further paths, `distinct` or nothing where it may be there, and
 -- `raw` or nothing
@@ -51,7 +47,7 @@ on_certificate further =
     record { paths = 2; step = Absent; further = further; distinct = false; raw = true }
 
 -- What comes after it: the paths are FILE, and CERT or OTHER; the further ones are PROOF, SOLUTION
--- or WITNESS, or BASE and STEP, behind CERT where that comes after OTHER; or P0 to PK and STEP.
+-- or WITNESS, or BASE and STEP, behind CERT where that comes after OTHER.
 abbrev pub form_of : Action → Form
 form_of actions.Clauses = on_step 1 At 0 false
 form_of actions.Window = on_step 1 At 0 true
@@ -69,7 +65,6 @@ form_of actions.WitnessTo = on_step 1 UpTo 1 false
 form_of actions.Safe = on_step 1 UpTo 2 true
 form_of actions.AlwaysEqual = on_step 2 UpTo 2 true
 form_of actions.EqualBy = on_step 2 By 3 false
-form_of actions.SafeBySteps = on_step 1 Each 1 true
 
 -- the form of windows
 abbrev pub window_of : Bool → Window
@@ -97,11 +92,8 @@ command_of actions.Safe k distinct optimize =
 command_of actions.AlwaysEqual k distinct optimize =
     commands.Pair (on_pair.AlwaysEqual k (window_of distinct) optimize optimize)
 command_of actions.EqualBy k distinct optimize = commands.EqualBy optimize
-command_of actions.SafeBySteps k distinct optimize =
-    commands.SafeBySteps k (window_of distinct) optimize optimize
 
--- the word of raw clauses of BASE alone, or of P0 to PK, where those of STEP are optimised, or of
--- STEP alone
+-- the word of raw clauses of BASE alone, where those of STEP are optimised, or of STEP alone
 abbrev pub raw_word : Bool → List ℕ
 raw_word true = codes "raw-base"
 raw_word false = codes "raw-step"
@@ -112,8 +104,6 @@ raw_alone step (commands.Safe k form base_optimize step_optimize) =
     Some (commands.Safe k form (not step) step)
 raw_alone step (commands.Pair (on_pair.AlwaysEqual k form base_optimize step_optimize)) =
     Some (commands.Pair (on_pair.AlwaysEqual k form (not step) step))
-raw_alone step (commands.SafeBySteps k form base_optimize step_optimize) =
-    Some (commands.SafeBySteps k form (not step) step)
 raw_alone step c = None
 
 -- the words fit the command, with one setting for all its proofs
@@ -140,22 +130,20 @@ AreCommand words c a =
 
 -- the words give the limit, then the justice property that is asked about, if there is one, and
 -- then the command, with its files and what is given beside them
-pub record IsCall (words : List (List ℕ)) (limit : ℕ) (c : Command) (paths further : List (List ℕ))
+pub record IsCall (words : List (List ℕ)) (limit : ℕ) (c : Asked) (paths further : List (List ℕ))
     : Type 0 where
   pub rest : List (List ℕ)
   pub limited : IsLimited words limit rest
-  pub justice : Option Justice
   pub more : List (List ℕ)
-  pub asked : AreJustice justice rest more
-  pub usual : Command
+  pub asked : AreJustice c.justice rest more
   pub arguments : Arguments
-  pub gives : AreCommand more usual arguments
-  pub command : command_by justice usual ≡ Some c
+  pub gives : AreCommand more c.command arguments
+  pub allowed : IsTrue (is_asked c.justice c.command)
   pub on : paths ≡ arguments.paths
   pub beside : further ≡ arguments.further
 
 -- the words give the command
-abbrev pub Give : List (List ℕ) → Command → Type 0
+abbrev pub Give : List (List ℕ) → Asked → Type 0
 Give words c = (limit : ℕ) × (paths : List (List ℕ)) × (further : List (List ℕ))
     × IsCall words limit c paths further
 
@@ -174,14 +162,6 @@ step_of (commands.File (on_file.WitnessTo k optimize)) = k
 step_of (commands.Pair (on_pair.Equal k optimize)) = k
 step_of (commands.Pair (on_pair.AlwaysEqual k form base_optimize step_optimize)) = k
 step_of (commands.Safe k form base_optimize step_optimize) = k
-step_of (commands.SafeBySteps k form base_optimize step_optimize) = k
-step_of (commands.Fair justice (fair.Print (prints.Clauses k optimize))) = k
-step_of (commands.Fair justice (fair.Print (prints.Window k form optimize))) = k
-step_of (commands.Fair justice (fair.Print (prints.Bounded k optimize))) = k
-step_of (commands.Fair justice (fair.Safe k form base_optimize step_optimize)) = k
-step_of (commands.Lasso property (lassos.Refuted k optimize)) = k
-step_of (commands.Lasso property (lassos.RefutedTo k optimize)) = k
-step_of (commands.Lasso property (lassos.Inductive k form optimize)) = k
 step_of c = 0
 
 -- on how many files it is
@@ -189,13 +169,7 @@ abbrev pub paths_of : Command → ℕ
 paths_of (commands.File c) = 1
 paths_of (commands.Pair c) = 2
 paths_of (commands.Safe k form base_optimize step_optimize) = 1
-paths_of (commands.SafeBySteps k form base_optimize step_optimize) = 1
 paths_of (commands.EqualBy optimize) = 2
-paths_of (commands.Fair justice (fair.Print c)) = 1
-paths_of (commands.Fair justice (fair.Obligations optimize)) = 2
-paths_of (commands.Fair justice (fair.Certified optimize)) = 2
-paths_of (commands.Fair justice (fair.Safe k form base_optimize step_optimize)) = 1
-paths_of (commands.Lasso property c) = 1
 
 -- how many are given beside these
 abbrev pub beside_of : Command → ℕ
@@ -206,10 +180,9 @@ beside_of (commands.Pair (on_pair.Certified optimize)) = 2
 beside_of (commands.Pair (on_pair.Obligations optimize)) = 0
 beside_of (commands.Pair (on_pair.AlwaysEqual k form base_optimize step_optimize)) = 2
 beside_of (commands.Safe k form base_optimize step_optimize) = 2
-beside_of (commands.SafeBySteps k form base_optimize step_optimize) = k + 2
 beside_of (commands.EqualBy optimize) = 3
-beside_of (commands.Fair justice (fair.Print c)) = 0
-beside_of (commands.Fair justice (fair.Obligations optimize)) = 0
-beside_of (commands.Fair justice (fair.Certified optimize)) = 2
-beside_of (commands.Fair justice (fair.Safe k form base_optimize step_optimize)) = 2
 beside_of c = 1
+
+-- it prints clauses, and takes nothing beside its files
+abbrev pub prints : Command → Bool
+prints c = beside_of c == 0

@@ -1,22 +1,19 @@
 //! The place where what is given beside a file is refused, found by running the command again.
 
-ghost use Rattle.std.specs.Prelude.{◌≡◌, ◌<◌, ◌^◌, ◌⊎◌, ◌∷◌, [], IfSome, Ok, length, map, string_bytes, true};
+ghost use Rattle.std.specs.Prelude.{◌≡◌, ◌+◌, ◌<◌, ◌⊎◌, ◌∷◌, IsTrue, Some, length, map, slice_get, string_bytes, true};
 ghost use Rattle.aig_command_line.specs.declared.tally.Place.TheVariants as places;
 ghost use Rattle.aig_command_line.specs.Came.{IsPlaceIn};
-ghost use Rattle.aig_command_line.specs.Limits.{IsLimit};
-ghost use Rattle.aig_checks.specs.Explaining.{IsRefusedBeside, IsRefusedOnPair, IsRunPlace, word_of};
-ghost use Rattle.aig_checks.specs.Words.{beside_of, paths_of, step_of};
-ghost use Rattle.aig_checks.specs.declared.about.Subject.TheVariants as subjects;
+ghost use Rattle.aig_checks.specs.Explaining.{IsRefusedIn, IsRunPlace};
+ghost use Rattle.aig_checks.specs.Fits.{Fits};
+ghost use Rattle.aig_checks.specs.Inputs.{listed};
+ghost use Rattle.aig_checks.specs.Words.{beside_of, paths_of};
 
-use crate::about::Subject;
-use crate::acting::{run_given, run_proved};
-use crate::again_compared::{place_of_compared_base, place_of_compared_step};
-use crate::again_safe::{place_of_safe_base, place_of_safe_step};
-use crate::command::{Call, Command, FileCommand, PairCommand};
-use crate::pairs::print_equal;
+use crate::command::Call;
+use crate::inputs::{Again, Inputs, open_all};
+use crate::running::check_asked;
 use crate::tool::CheckError;
 use aig_answers::AnswerError;
-use aig_base::Source;
+use aig_base::{Source, StreamFault};
 use aig_bounded_answers::BoundedAnswerError;
 use aig_certificates::{CertificateError, MiterError};
 use aig_command_line::{Counted, Discarded, Measure, Origin, Place, Reopens};
@@ -96,7 +93,7 @@ fn is_same_safety(first: SafetyError, second: SafetyError) -> bool
 }
 
 /// Whether two errors are the same, and of what is given beside a file.
-pub(crate) fn is_same(first: CheckError, second: CheckError) -> bool
+fn is_same(first: CheckError, second: CheckError) -> bool
     ensures { result ≡ true → first ≡ second }
 {
     match (first, second) {
@@ -135,7 +132,7 @@ const AHEAD: u64 = 1024;
 
 /// The place of the last byte that came. Within the bytes of a proof that are read ahead none is told, since a step before may be
 /// wrong.
-pub(crate) fn place_told<R: Source, B: Origin>(counted: &Counted<R, B>, measure: Measure) -> Place
+fn place_told<R: Source, B: Origin>(counted: &Counted<R, B>, measure: Measure) -> Place
     ensures { (result ≡ places.Whole) ⊎ IsPlaceIn B.bytes measure result }
 {
     match (measure, counted.place(Measure::Byte)) {
@@ -144,480 +141,149 @@ pub(crate) fn place_told<R: Source, B: Origin>(counted: &Counted<R, B>, measure:
     }
 }
 
-/// Runs a command on a file and on what is given beside it, by single bytes. Returns the place of the last byte where that is refused so.
-// It and the next three are never inlined: else the buffers of all four are on the stack at once, of which one is used.
-#[inline(never)]
-fn place_beside<R: Source + Drop, B: Origin>(
-    alloc: Global,
-    limit: usize,
-    command: FileCommand,
-    mut file: R,
-    given: R,
-    error: CheckError,
-    measure: Measure,
-) -> Place
-    requires limit { IsLimit limit }
-    requires origin { R.left given ≡ B.bytes }
-    requires beside { beside_of (Command.File command) ≡ 1 }
-    requires small { step_of (Command.File command) < 2 ^ 32 }
-    ensures { (result ≡ places.Whole)
-        ⊎ IsRefusedBeside limit command (R.left file) B.bytes error measure result }
+/// An input of a command that is run again.
+#[derive(Drop)]
+enum Traced<R, C> {
+    /// One that is read as it is.
+    Plain(R),
+    /// The one of which the place is looked for: its bytes are counted.
+    Counted(C),
+}
+
+impl<R: Source, C: Source> Source for Traced<R, C> {
+    ghost use Rattle.aig_checks.specs.Tracing.{either};
+
+    ghost left = { either R.left C.left };
+
+    ghost failed = { either R.failed C.failed };
+
+    ghost pulls = { either R.pulls C.pulls };
+
+    fn pull(&mut self, buf: &mut [u8]) -> Result<usize, StreamFault> {
+        match self {
+            Traced::Plain(source) => source.pull(buf),
+            Traced::Counted(source) => source.pull(buf),
+        }
+    }
+}
+
+/// Inputs of which one may be counted.
+type Trace<R, B> = Inputs<Traced<R, Counted<R, B>>>;
+
+/// An input, counted or not.
+fn counted_if<R: Source + Drop, B: Origin>(source: R, is_counted: bool) -> Traced<R, Counted<R, B>>
+    requires { IsTrue is_counted → R.left source ≡ B.bytes }
+    ensures { ⟦<Traced<R, Counted<R, B>> as Source>⟧.left result ≡ R.left source }
 {
-    let mut counted = Counted::<R, B>::new(given);
-    match run_given(
-        alloc,
-        limit,
-        command,
-        &mut file,
-        &mut counted,
-        &mut Discarded,
-    ) {
-        Err(again) if is_same(again, error) => place_told(&counted, measure),
+    if is_counted {
+        Traced::Counted(Counted::new(source))
+    } else {
+        Traced::Plain(source)
+    }
+}
+
+/// The inputs, of which the one of this number, the first of which is 0, is counted.
+fn trace<R: Source + Drop, B: Origin>(inputs: Inputs<R>, which: usize) -> Trace<R, B>
+    requires { slice_get (map R.left (listed inputs)) which ≡ Some B.bytes }
+    ensures { map ⟦<Traced<R, Counted<R, B>> as Source>⟧.left (listed result)
+        ≡ map R.left (listed inputs) }
+{
+    match inputs {
+        Inputs::Empty => Inputs::Empty,
+        Inputs::One(first) => Inputs::One(counted_if(first, which == 0)),
+        Inputs::Two(first, second) => {
+            Inputs::Two(
+                counted_if(first, which == 0),
+                counted_if(second, which == 1),
+            )
+        }
+        Inputs::Three(first, second, third) => Inputs::Three(
+            counted_if(first, which == 0),
+            counted_if(second, which == 1),
+            counted_if(third, which == 2),
+        ),
+        Inputs::Four(first, second, third, fourth) => Inputs::Four(
+            counted_if(first, which == 0),
+            counted_if(second, which == 1),
+            counted_if(third, which == 2),
+            counted_if(fourth, which == 3),
+        ),
+    }
+}
+
+/// The place that is told of the counted input.
+fn place_among<R: Source, B: Origin>(inputs: &Trace<R, B>, measure: Measure) -> Place
+    ensures { (result ≡ places.Whole) ⊎ IsPlaceIn B.bytes measure result }
+{
+    match inputs {
+        Inputs::One(Traced::Counted(counted))
+        | Inputs::Two(Traced::Counted(counted), _)
+        | Inputs::Two(_, Traced::Counted(counted))
+        | Inputs::Three(Traced::Counted(counted), _, _)
+        | Inputs::Three(_, Traced::Counted(counted), _)
+        | Inputs::Three(_, _, Traced::Counted(counted))
+        | Inputs::Four(Traced::Counted(counted), _, _, _)
+        | Inputs::Four(_, Traced::Counted(counted), _, _)
+        | Inputs::Four(_, _, Traced::Counted(counted), _)
+        | Inputs::Four(_, _, _, Traced::Counted(counted)) => place_told(counted, measure),
         _ => Place::Whole,
     }
 }
 
-/// The same of a proof that two files' machines are equal at step `k`.
+/// Runs what is asked again, with this input counted. Returns the place of its last byte that came where the refusal is the same.
+// It is never inlined: else its buffers are on the stack beside those of the first run.
 #[inline(never)]
-fn place_in_equal<R: Source + Drop, B: Origin>(
+fn place_in<R: Source + Drop, B: Origin>(
     alloc: Global,
-    limit: usize,
-    k: usize,
-    optimize: bool,
-    mut file: R,
-    mut other: R,
-    proof: R,
-    error: CheckError,
-    measure: Measure,
-) -> Place
-    requires limit { IsLimit limit }
-    requires origin { R.left proof ≡ B.bytes }
-    ensures { let command = PairCommand.Equal k optimize in (result ≡ places.Whole)
-        ⊎ IsRefusedOnPair limit command (R.left file) (R.left other) B.bytes error measure result }
-{
-    let mut counted = Counted::<R, B>::new(proof);
-    match print_equal(
-        alloc,
-        limit,
-        k,
-        optimize,
-        &mut file,
-        &mut other,
-        &mut counted,
-        &mut Discarded,
-    ) {
-        Err(again) if is_same(again, error) => place_told(&counted, measure),
-        _ => Place::Whole,
-    }
-}
-
-/// The same of BASE.
-#[inline(never)]
-fn place_in_base<R: Source + Drop, B: Origin>(
-    alloc: Global,
-    limit: usize,
-    command: PairCommand,
-    mut file: R,
-    mut other: R,
-    base: R,
-    mut step: R,
-    error: CheckError,
-    measure: Measure,
-) -> Place
-    requires limit { IsLimit limit }
-    requires origin { R.left base ≡ B.bytes }
-    requires beside { beside_of (Command.Pair command) ≡ 2 }
-    requires small { step_of (Command.Pair command) < 2 ^ 32 }
-    ensures { (result ≡ places.Whole)
-        ⊎ IsRefusedOnPair limit command (R.left file) (R.left other) B.bytes error measure result }
-{
-    let mut counted = Counted::<R, B>::new(base);
-    match run_proved(
-        alloc,
-        limit,
-        command,
-        &mut file,
-        &mut other,
-        &mut counted,
-        &mut step,
-        &mut Discarded,
-    ) {
-        Err(again) if is_same(again, error) => place_told(&counted, measure),
-        _ => Place::Whole,
-    }
-}
-
-/// The same of STEP.
-#[inline(never)]
-fn place_in_step<R: Source + Drop, B: Origin>(
-    alloc: Global,
-    limit: usize,
-    command: PairCommand,
-    mut file: R,
-    mut other: R,
-    mut base: R,
-    step: R,
-    error: CheckError,
-    measure: Measure,
-) -> Place
-    requires limit { IsLimit limit }
-    requires origin { R.left step ≡ B.bytes }
-    requires beside { beside_of (Command.Pair command) ≡ 2 }
-    requires small { step_of (Command.Pair command) < 2 ^ 32 }
-    ensures { (result ≡ places.Whole)
-        ⊎ IsRefusedOnPair limit command (R.left file) (R.left other) B.bytes error measure result }
-{
-    let mut counted = Counted::<R, B>::new(step);
-    match run_proved(
-        alloc,
-        limit,
-        command,
-        &mut file,
-        &mut other,
-        &mut base,
-        &mut counted,
-        &mut Discarded,
-    ) {
-        Err(again) if is_same(again, error) => place_told(&counted, measure),
-        _ => Place::Whole,
-    }
-}
-
-/// The files at two paths, opened again.
-pub(crate) fn open_both<F: Reopens>(
-    files: &F,
-    first: &str,
-    second: &str,
-) -> Option<(F::File, F::File)>
-    ensures { IfSome result (λ both. F.opens files.now first.now (Ok both.0)
-        × F.opens files.now second.now (Ok both.1)) }
-{
-    let Some(Ok(first)) = files.reopen(first) else {
-        return None;
-    };
-    let Some(Ok(second)) = files.reopen(second) else {
-        return None;
-    };
-    Some((first, second))
-}
-
-/// The place where a command on a file refuses so what is given beside it.
-fn place_of_beside<F: Reopens>(
-    alloc: Global,
-    limit: usize,
-    files: &F,
-    command: FileCommand,
-    path: &str,
-    given: &str,
-    error: CheckError,
-    measure: Measure,
-) -> Place
-    requires limit { IsLimit limit }
-    requires beside { beside_of (Command.File command) ≡ 1 }
-    requires small { step_of (Command.File command) < 2 ^ 32 }
-    ensures { IsRunPlace (F.opens files.now) F.File.left limit (Command.File command)
-        (path.now ∷ [])
-        given.now error measure result }
-{
-    let Some((file, given)) = open_both(files, path, given) else {
-        return Place::Whole;
-    };
-    place_beside::<F::File, Brand>(alloc, limit, command, file, given, error, measure)
-}
-
-/// The place where `equal` refuses so its proof.
-fn place_of_equal<F: Reopens>(
-    alloc: Global,
-    limit: usize,
-    files: &F,
-    k: usize,
-    optimize: bool,
-    paths: &[String],
-    proof: &str,
-    error: CheckError,
-    measure: Measure,
-) -> Place
-    requires limit { IsLimit limit }
-    requires paths { length paths.now ≡ 2 }
-    ensures { IsRunPlace (F.opens files.now) F.File.left limit
-        (Command.Pair (PairCommand.Equal k optimize)) (map string_bytes paths.now) proof.now error
-        measure result }
-{
-    let Some((file, other)) = open_both(files, paths[0].as_str(), paths[1].as_str()) else {
-        return Place::Whole;
-    };
-    let Some(Ok(proof)) = files.reopen(proof) else {
-        return Place::Whole;
-    };
-    place_in_equal::<F::File, Brand>(
-        alloc, limit, k, optimize, file, other, proof, error, measure,
-    )
-}
-
-/// The place where a command on two files refuses BASE so.
-fn place_of_base<F: Reopens>(
-    alloc: Global,
-    limit: usize,
-    files: &F,
-    command: PairCommand,
-    paths: &[String],
-    base: &str,
-    step: &str,
-    error: CheckError,
-    measure: Measure,
-) -> Place
-    requires limit { IsLimit limit }
-    requires paths { length paths.now ≡ 2 }
-    requires beside { beside_of (Command.Pair command) ≡ 2 }
-    requires small { step_of (Command.Pair command) < 2 ^ 32 }
-    ensures { IsRunPlace (F.opens files.now) F.File.left limit
-        (Command.Pair command) (map string_bytes paths.now) base.now error
-        measure result }
-{
-    let Some((file, other)) = open_both(files, paths[0].as_str(), paths[1].as_str()) else {
-        return Place::Whole;
-    };
-    let Some((base, step)) = open_both(files, base, step) else {
-        return Place::Whole;
-    };
-    place_in_base::<F::File, Brand>(
-        alloc, limit, command, file, other, base, step, error, measure,
-    )
-}
-
-/// The place where a command on two files refuses STEP so.
-fn place_of_step<F: Reopens>(
-    alloc: Global,
-    limit: usize,
-    files: &F,
-    command: PairCommand,
-    paths: &[String],
-    base: &str,
-    step: &str,
-    error: CheckError,
-    measure: Measure,
-) -> Place
-    requires limit { IsLimit limit }
-    requires paths { length paths.now ≡ 2 }
-    requires beside { beside_of (Command.Pair command) ≡ 2 }
-    requires small { step_of (Command.Pair command) < 2 ^ 32 }
-    ensures { IsRunPlace (F.opens files.now) F.File.left limit
-        (Command.Pair command) (map string_bytes paths.now) step.now error
-        measure result }
-{
-    let Some((file, other)) = open_both(files, paths[0].as_str(), paths[1].as_str()) else {
-        return Place::Whole;
-    };
-    let Some((base, step)) = open_both(files, base, step) else {
-        return Place::Whole;
-    };
-    place_in_step::<F::File, Brand>(
-        alloc, limit, command, file, other, base, step, error, measure,
-    )
-}
-
-/// The place where a command refuses so the first that is given beside its files.
-fn place_in_first<F: Reopens>(
-    alloc: Global,
-    files: &F,
     call: &Call<'_>,
+    mut file: R,
+    inputs: Inputs<R>,
+    which: usize,
     error: CheckError,
     measure: Measure,
 ) -> Place
-    requires limit { IsLimit call.now.limit }
-    requires paths { length call.now.paths.now ≡ paths_of call.now.command }
-    requires further { length call.now.further.now ≡ beside_of call.now.command }
-    requires small { step_of call.now.command < 2 ^ 32 }
-    ensures { IfSome (word_of subjects.Given (map string_bytes call.now.paths.now)
-        (map string_bytes call.now.further.now)) (λ path. IsRunPlace (F.opens files.now) F.File.left
-        call.now.limit call.now.command (map string_bytes call.now.paths.now) path error measure
-        result) }
+    requires fits { Fits call.now }
+    requires checks { 0 < beside_of call.now.asked.command }
+    requires inputs { length (listed inputs) + 1
+        ≡ paths_of call.now.asked.command + beside_of call.now.asked.command }
+    requires origin { slice_get (map R.left (listed inputs)) which ≡ Some B.bytes }
+    ensures { (result ≡ places.Whole) ⊎ IsRefusedIn call.now.limit call.now.asked
+        (R.left file ∷ map R.left (listed inputs)) (which + 1) error measure result }
 {
-    match (call.command, call.further) {
-        (Command::File(command), [given]) => {
-            let path = call.paths[0].as_str();
-            place_of_beside(
-                alloc,
-                call.limit,
-                files,
-                command,
-                path,
-                given.as_str(),
-                error,
-                measure,
-            )
-        }
-        (Command::Pair(PairCommand::Equal { k, optimize }), [proof]) => {
-            place_of_equal(
-                alloc,
-                call.limit,
-                files,
-                k,
-                optimize,
-                call.paths,
-                proof.as_str(),
-                error,
-                measure,
-            )
-        }
-        (Command::Pair(command), [base, step]) => {
-            let (base, step) = (base.as_str(), step.as_str());
-            place_of_base(
-                alloc, call.limit, files, command, call.paths, base, step, error, measure,
-            )
-        }
-        (
-            Command::Safe {
-                k,
-                form,
-                base_optimize,
-                step_optimize,
-            },
-            [base, step],
-        ) => {
-            let path = call.paths[0].as_str();
-            place_of_safe_base(
-                alloc,
-                call.limit,
-                files,
-                k,
-                form,
-                base_optimize,
-                step_optimize,
-                path,
-                base.as_str(),
-                step.as_str(),
-                error,
-                measure,
-            )
-        }
+    let mut traced = trace::<R, B>(inputs, which);
+    match check_asked(
+        alloc,
+        call.limit,
+        call.asked,
+        &mut file,
+        &mut traced,
+        &mut Discarded,
+    ) {
+        Err(again) if is_same(again, error) => place_among(&traced, measure),
         _ => Place::Whole,
     }
 }
 
-/// The place where a command refuses so the second that is given beside its files.
-fn place_in_second<F: Reopens>(
-    alloc: Global,
-    files: &F,
-    call: &Call<'_>,
-    error: CheckError,
-    measure: Measure,
-) -> Place
-    requires limit { IsLimit call.now.limit }
-    requires paths { length call.now.paths.now ≡ paths_of call.now.command }
-    requires further { length call.now.further.now ≡ beside_of call.now.command }
-    requires small { step_of call.now.command < 2 ^ 32 }
-    ensures { IfSome (word_of subjects.Step (map string_bytes call.now.paths.now)
-        (map string_bytes call.now.further.now)) (λ path. IsRunPlace (F.opens files.now) F.File.left
-        call.now.limit call.now.command (map string_bytes call.now.paths.now) path error measure
-        result) }
-{
-    match (call.command, call.further) {
-        (Command::Pair(command), [base, step]) => {
-            let (base, step) = (base.as_str(), step.as_str());
-            place_of_step(
-                alloc, call.limit, files, command, call.paths, base, step, error, measure,
-            )
-        }
-        (
-            Command::Safe {
-                k,
-                form,
-                base_optimize,
-                step_optimize,
-            },
-            [base, step],
-        ) => {
-            let path = call.paths[0].as_str();
-            place_of_safe_step(
-                alloc,
-                call.limit,
-                files,
-                k,
-                form,
-                base_optimize,
-                step_optimize,
-                path,
-                base.as_str(),
-                step.as_str(),
-                error,
-                measure,
-            )
-        }
-        (Command::EqualBy { optimize }, [certificate, base, step]) => {
-            place_of_compared_base(
-                alloc,
-                call.limit,
-                files,
-                optimize,
-                call.paths,
-                certificate.as_str(),
-                base.as_str(),
-                step.as_str(),
-                error,
-                measure,
-            )
-        }
-        _ => Place::Whole,
-    }
-}
-
-/// The place where a command refuses so the third that is given beside its files.
-fn place_in_third<F: Reopens>(
-    alloc: Global,
-    files: &F,
-    call: &Call<'_>,
-    error: CheckError,
-    measure: Measure,
-) -> Place
-    requires limit { IsLimit call.now.limit }
-    requires paths { length call.now.paths.now ≡ paths_of call.now.command }
-    ensures { IfSome (word_of subjects.Third (map string_bytes call.now.paths.now)
-        (map string_bytes call.now.further.now)) (λ path. IsRunPlace (F.opens files.now) F.File.left
-        call.now.limit call.now.command (map string_bytes call.now.paths.now) path error measure
-        result) }
-{
-    match (call.command, call.further) {
-        (Command::EqualBy { optimize }, [certificate, base, step]) => {
-            place_of_compared_step(
-                alloc,
-                call.limit,
-                files,
-                optimize,
-                call.paths,
-                certificate.as_str(),
-                base.as_str(),
-                step.as_str(),
-                error,
-                measure,
-            )
-        }
-        _ => Place::Whole,
-    }
-}
-
-/// The place where a command refuses so what the error is about.
+/// The place where what words ask for refuses so what is given beside its files, of which this is the number: the first is 0.
 pub(crate) fn place_by_run<F: Reopens>(
     alloc: Global,
     files: &F,
     call: &Call<'_>,
-    subject: Subject,
+    number: usize,
     error: CheckError,
     measure: Measure,
 ) -> Place
-    requires limit { IsLimit call.now.limit }
-    requires paths { length call.now.paths.now ≡ paths_of call.now.command }
-    requires further { length call.now.further.now ≡ beside_of call.now.command }
-    requires small { step_of call.now.command < 2 ^ 32 }
-    ensures { IfSome (word_of subject (map string_bytes call.now.paths.now)
-        (map string_bytes call.now.further.now)) (λ path. IsRunPlace (F.opens files.now) F.File.left
-        call.now.limit call.now.command (map string_bytes call.now.paths.now) path error measure
-        result) }
+    requires { Fits call.now }
+    ensures { IsRunPlace (F.opens files.now) F.File.left call.now.limit call.now.asked
+        (map string_bytes call.now.paths.now) (map string_bytes call.now.further.now) number error
+        measure result }
 {
-    match subject {
-        Subject::Given => place_in_first(alloc, files, call, error, measure),
-        Subject::Step => place_in_second(alloc, files, call, error, measure),
-        Subject::Third => place_in_third(alloc, files, call, error, measure),
-        _ => Place::Whole,
+    if number >= call.further.len() {
+        return Place::Whole;
     }
+    let Ok((file, inputs)) = open_all(&Again::new(files), call.paths, call.further) else {
+        return Place::Whole;
+    };
+    let which = call.paths.len() - 1 + number;
+    place_in::<F::File, Brand>(alloc, call, file, inputs, which, error, measure)
 }

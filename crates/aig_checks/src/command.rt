@@ -2,11 +2,12 @@
 
 ghost use Rattle.std.specs.Prelude.{◌≡◌, ◌↔◌, ◌<◌, ◌^◌, Bool, IfNone, IfSome, List, Some, ℕ, length, map, string_bytes};
 ghost use Rattle.aig_command_line.specs.Arguments.{Arguments, seen};
-ghost use Rattle.aig_command_line.specs.Limits.{IsLimit};
+ghost use Rattle.aig_checks.specs.Fits.{Fits};
 ghost use Rattle.aig_checks.specs.Words.{AreCommand, Give, IsAlone, IsCall, IsWhole, beside_of, command_of, form_of, name_of, on_certificate, on_step, paths_of, raw_alone, raw_word, step_of, window_of};
+ghost use Rattle.aig_checks.specs.declared.command.Asked.{Asked};
 ghost use Rattle.aig_checks.specs.declared.command.Command.{Command};
 
-use crate::justice::{FairCommand, Justice, LassoCommand, command_by, is_word, justice_first};
+use crate::justice::{Justice, is_asked, is_word, justice_first};
 use aig_answers::Window;
 use aig_command_line::{Form, Given, HasForm, Step, find, limited};
 
@@ -128,36 +129,21 @@ pub enum Command {
         /// Whether they have in the question of STEP.
         step_optimize: bool,
     },
-    /// Check proofs that no bad state is reached at any step of FILE, of which one is of each of the steps 0 to `k`.
-    SafeBySteps {
-        /// How many steps come before the last two of a window.
-        k: usize,
-        /// Which windows are looked at.
-        form: Window,
-        /// Whether exclusive ors and choices have clauses of their own in the questions of the steps.
-        base_optimize: bool,
-        /// Whether they have in the question of STEP.
-        step_optimize: bool,
-    },
     /// Check that a certificate of the miter shows that the machines of FILE and OTHER are equal at every step.
     EqualBy {
         /// Whether exclusive ors and choices have clauses of their own.
         optimize: bool,
     },
-    /// A command about the fair runs of FILE.
-    Fair {
-        /// The justice property.
-        justice: Justice,
-        /// What is asked.
-        command: FairCommand,
-    },
-    /// A command about the fair lassos of FILE.
-    Lasso {
-        /// The number of the justice property.
-        property: usize,
-        /// What is asked.
-        command: LassoCommand,
-    },
+}
+
+/// What the program is asked to do, and of which property of FILE.
+#[derive(Clone, Copy)]
+pub struct Asked {
+    /// The justice property of FILE that is asked about, or none where it is the bad states. The command is then on the file that is made
+    /// of FILE for it.
+    pub justice: Option<Justice>,
+    /// The command.
+    pub command: Command,
 }
 
 /// A command without K and its settings.
@@ -193,8 +179,6 @@ pub enum Action {
     AlwaysEqual,
     /// `equal FILE OTHER by CERT BASE STEP [raw]`.
     EqualBy,
-    /// `safe FILE each K P0 .. PK STEP [distinct] [raw | raw-base | raw-step]`.
-    SafeBySteps,
 }
 
 /// The form of a command on so many files and a step.
@@ -242,7 +226,7 @@ impl HasForm for Action {
             Action::Bounded => "bounded",
             Action::RefutedTo => "refuted",
             Action::WitnessTo => "witness",
-            Action::Safe | Action::SafeBySteps => "safe",
+            Action::Safe => "safe",
             Action::AlwaysEqual | Action::EqualBy => "equal",
         }
     }
@@ -255,7 +239,6 @@ impl HasForm for Action {
             Action::RefutedTo | Action::WitnessTo => on_step(1, Step::UpTo, 1, false),
             Action::Inductive => on_step(1, Step::At, 1, true),
             Action::Safe => on_step(1, Step::UpTo, 2, true),
-            Action::SafeBySteps => on_step(1, Step::Each, 1, true),
             Action::Equal => on_step(2, Step::At, 1, false),
             Action::AlwaysEqual => on_step(2, Step::UpTo, 2, true),
             Action::EqualBy => on_step(2, Step::By, 3, false),
@@ -285,7 +268,7 @@ fn window_of(distinct: bool) -> Window
 
 impl Action {
     /// Each of them.
-    const ALL: [Action; 16] = [
+    const ALL: [Action; 15] = [
         Action::Clauses,
         Action::Window,
         Action::Refuted,
@@ -301,7 +284,6 @@ impl Action {
         Action::Safe,
         Action::AlwaysEqual,
         Action::EqualBy,
-        Action::SafeBySteps,
     ];
 
     /// The command, with K and the settings that its words give to each of its proofs.
@@ -335,12 +317,6 @@ impl Action {
                 step_optimize: optimize,
             }),
             Action::EqualBy => Command::EqualBy { optimize },
-            Action::SafeBySteps => Command::SafeBySteps {
-                k,
-                form,
-                base_optimize: optimize,
-                step_optimize: optimize,
-            },
         }
     }
 }
@@ -350,11 +326,11 @@ impl Action {
 pub struct Call<'a> {
     /// The limit on the nodes of a circuit.
     pub limit: usize,
-    /// The command.
-    pub command: Command,
+    /// The command, and the property.
+    pub asked: Asked,
     /// FILE, and CERT or OTHER, where the command wants one.
     pub paths: &'a [String],
-    /// PROOF, SOLUTION or WITNESS, or BASE and STEP, behind CERT after the word `by`, or P0 to PK and STEP, where the command wants them.
+    /// PROOF, SOLUTION or WITNESS, or BASE and STEP, behind CERT after the word `by`, where the command wants them.
     pub further: &'a [String],
 }
 
@@ -381,12 +357,6 @@ fn raw_alone(step_optimize: bool, command: Command) -> Option<Command>
     let base_optimize = !step_optimize;
     match command {
         Command::Safe { k, form, .. } => Some(Command::Safe {
-            k,
-            form,
-            base_optimize,
-            step_optimize,
-        }),
-        Command::SafeBySteps { k, form, .. } => Some(Command::SafeBySteps {
             k,
             form,
             base_optimize,
@@ -456,38 +426,37 @@ fn command_first(words: &[String]) -> Option<(Command, Given<'_>)>
 /// N of `--rounds N`, where these come, and then the command and what it takes. Words that fit no command may end with `raw-base` or
 /// `raw-step` behind those of `safe` or of `equal` with `to`, without `raw`. It takes no memory.
 pub fn call_of(words: &[String]) -> Option<Call<'_>>
-    ensures some { IfSome result (λ c. IsCall (map string_bytes words.now) c.limit c.command
+    ensures some { IfSome result (λ c. IsCall (map string_bytes words.now) c.limit c.asked
         (map string_bytes c.paths.now) (map string_bytes c.further.now)) }
-    ensures none { IfNone result ((limit : ℕ) (c : Command) (paths further : List (List ℕ))
+    ensures none { IfNone result ((limit : ℕ) (c : Asked) (paths further : List (List ℕ))
         → ¬ IsCall (map string_bytes words.now) limit c paths further) }
-    ensures limit { IfSome result (λ c. IsLimit c.limit) }
-    ensures paths { IfSome result (λ c. length c.paths.now ≡ paths_of c.command) }
-    ensures further { IfSome result (λ c. length c.further.now ≡ beside_of c.command) }
-    ensures small { IfSome result (λ c. step_of c.command < 2 ^ 32) }
+    ensures fits { IfSome result Fits }
 {
     let (limit, rest) = limited(words)?;
     let (justice, rest) = justice_first(rest)?;
     let (command, given) = command_first(rest)?;
+    if !is_asked(justice, command) {
+        return None;
+    }
     Some(Call {
         limit,
-        command: command_by(justice, command)?,
+        asked: Asked { justice, command },
         paths: given.paths,
         further: given.further,
     })
 }
 
-/// The command that the words after the program's name give, or none where they are wrong.
+/// What the words after the program's name ask for, or none where they are wrong.
 ///
-/// The words `--limit` and N may come first, and then `--justice` and J, and then `--rounds` and N. The word after the command's name is FILE. The next is WITNESS of `run`, CERT of `certified`
-/// and `obligations`, and OTHER of `equal`. Then comes K, where the command has one, after the word `to` where it is on the steps up to K,
-/// and the words after that are PROOF of `refuted`, `inductive` and `equal`, SOLUTION of `witness`, and BASE and STEP of `certified`, `safe`
-/// and `equal` with `to`. Of `equal` with the word `by` it is CERT, BASE and STEP that come after that, and of `safe` with the words `each`
-/// and K it is P0 to PK, one for each of the steps 0 to K, and STEP. The words `distinct` and `raw` may come last, where the command may
-/// have them, and in place of `raw` the word `raw-base` or `raw-step` of `safe` and of `equal` with `to`: the clauses of BASE alone are
-/// then raw, or those of all of P0 to PK, or those of STEP alone. It takes no memory.
-pub fn parse(words: &[String]) -> Option<Command>
-    ensures exact { (c : Command) → (result ≡ Some c) ↔ Give (map string_bytes words.now) c }
-    ensures small { IfSome result (λ c. step_of c < 2 ^ 32) }
+/// The words `--limit` and N may come first, and then `--justice` and J, and then `--rounds` and N. The word after the command's name is
+/// FILE. The next is WITNESS of `run`, CERT of `certified` and `obligations`, and OTHER of `equal`. Then comes K, where the command has one,
+/// after the word `to` where it is on the steps up to K, and the words after that are PROOF of `refuted`, `inductive` and `equal`, SOLUTION
+/// of `witness`, and BASE and STEP of `certified`, `safe` and `equal` with `to`. Of `equal` with the word `by` it is CERT, BASE and STEP that
+/// come after that. The words `distinct` and `raw` may come last, where the command may have them, and in place of `raw` the word `raw-base`
+/// or `raw-step` of `safe` and of `equal` with `to`: the clauses of BASE alone are then raw, or those of STEP alone. It takes no memory.
+pub fn parse(words: &[String]) -> Option<Asked>
+    ensures exact { (c : Asked) → (result ≡ Some c) ↔ Give (map string_bytes words.now) c }
+    ensures small { IfSome result (λ c. step_of c.command < 2 ^ 32) }
 {
-    Some(call_of(words)?.command)
+    Some(call_of(words)?.asked)
 }

@@ -1,12 +1,11 @@
 //! Which file a refusal is about, and where reading that file stopped.
 
-ghost use Rattle.std.specs.Prelude.{◌≡◌, ◌<◌, ◌^◌, ◌++◌, Contains, Err, IfNone, IfOk, IfSome, IsErr, IsNone, None, Some, length, map, string_bytes};
+ghost use Rattle.std.specs.Prelude.{◌≡◌, ◌++◌, Contains, Err, IfNone, IfOk, IfSome, IsErr, IsNone, None, Some, map, string_bytes};
 ghost use Rattle.aig_command_line.specs.Ending.{IsMapped};
 ghost use Rattle.aig_command_line.specs.Faults.{IsAlone};
 ghost use Rattle.aig_command_line.specs.declared.files.OpenError.TheVariants as opening;
-ghost use Rattle.aig_command_line.specs.Limits.{IsLimit};
-ghost use Rattle.aig_checks.specs.Explaining.{IsPathOf, IsPlaceOf, IsRun, Tells, TellsOf, word_of};
-ghost use Rattle.aig_checks.specs.Words.{beside_of, paths_of, step_of};
+ghost use Rattle.aig_checks.specs.Explaining.{IsPathOf, IsPlaceOf, Tells, TellsOf, number_of};
+ghost use Rattle.aig_checks.specs.Fits.{Fits};
 
 use crate::about::{About, Search, Subject, about_error};
 use crate::again::place_by_run;
@@ -58,8 +57,17 @@ fn path_of<'a, F: Reopens>(files: &F, call: &Call<'a>, subject: Subject) -> Opti
         Subject::Given => path_at(call.further, 0),
         Subject::Step => path_at(call.further, 1),
         Subject::Third => path_at(call.further, 2),
-        Subject::Nth(index) => path_at(call.further, index),
-        Subject::Last => path_at(call.further, call.further.len().saturating_sub(1)),
+    }
+}
+
+/// The number of the file that an error is about, among those that are given beside FILE and OTHER or CERT: the first is 0.
+fn number_of(subject: Subject) -> usize
+    ensures { result ≡ number_of subject }
+{
+    match subject {
+        Subject::Step => 1,
+        Subject::Third => 2,
+        _ => 0,
     }
 }
 
@@ -72,19 +80,18 @@ fn place_at<F: Reopens>(
     path: &str,
     error: CheckError,
 ) -> Place
-    requires limit { IsLimit call.now.limit }
-    requires paths { length call.now.paths.now ≡ paths_of call.now.command }
-    requires further { length call.now.further.now ≡ beside_of call.now.command }
-    requires small { step_of call.now.command < 2 ^ 32 }
-    requires path { IsRun about.search → word_of about.subject (map string_bytes call.now.paths.now)
-        (map string_bytes call.now.further.now) ≡ Some path.now }
-    ensures { IsPlaceOf (F.opens files.now) F.File.left call.now.limit call.now.command
-        (map string_bytes call.now.paths.now) path.now error about.search result }
+    requires { Fits call.now }
+    ensures { IsPlaceOf (F.opens files.now) F.File.left call.now.limit call.now.asked
+        (map string_bytes call.now.paths.now) (map string_bytes call.now.further.now) path.now error
+        about.subject about.search result }
 {
     match about.search {
         Search::Nowhere => Place::Whole,
         Search::Read(error) => place_in_file(alloc, files, path, error, call.limit),
-        Search::Run(measure) => place_by_run(alloc, files, call, about.subject, error, measure),
+        Search::Run(measure) => {
+            let number = number_of(about.subject);
+            place_by_run(alloc, files, call, number, error, measure)
+        }
     }
 }
 
@@ -95,11 +102,8 @@ fn fault_of<'a, F: Reopens>(
     call: &Call<'a>,
     error: CheckError,
 ) -> Fault<'a, CheckError>
-    requires limit { IsLimit call.now.limit }
-    requires paths { length call.now.paths.now ≡ paths_of call.now.command }
-    requires further { length call.now.further.now ≡ beside_of call.now.command }
-    requires small { step_of call.now.command < 2 ^ 32 }
-    ensures { Tells (F.opens files.now) F.File.left call.now.limit call.now.command
+    requires { Fits call.now }
+    ensures { Tells (F.opens files.now) F.File.left call.now.limit call.now.asked
         (map string_bytes call.now.paths.now) (map string_bytes call.now.further.now) error result }
 {
     let about = about_error(error);

@@ -2,13 +2,10 @@
 
 ghost use Rattle.std.specs.Prelude.{◌≡◌, ◌↔◌, ◌∷◌, true, ℕ, IfNone, IfSome, List, Option, map, string_bytes};
 ghost use Rattle.aig_format.specs.Text.{IsNumber};
-ghost use Rattle.aig_checks.specs.Justice.{AreJustice, IsNumbered, check_of, command_by, fair_command, lasso_command, lassos_of, print_of};
-ghost use Rattle.aig_checks.specs.Words.{beside_of, paths_of, step_of};
-ghost use Rattle.aig_checks.specs.declared.command.Command.TheVariants as commands;
+ghost use Rattle.aig_checks.specs.Justice.{AreJustice, IsNumbered, is_asked};
 ghost use Rattle.aig_checks.specs.declared.justice.Justice.{Justice};
 
 use crate::command::{Command, FileCommand, PairCommand};
-use aig_answers::Window;
 use aig_command_line::steps;
 
 /// Which justice property of FILE is asked about, by which file that is made of it.
@@ -18,126 +15,6 @@ pub struct Justice {
     pub property: usize,
     /// How many rounds the bad states of the made file count, or none where they are fair lassos.
     pub rounds: Option<usize>,
-}
-
-/// Which clauses of the made file are printed.
-#[derive(Clone, Copy)]
-pub enum FairPrint {
-    /// Those that ask for a bad state at step `k`.
-    Clauses {
-        /// The step.
-        k: usize,
-        /// Whether exclusive ors and choices have clauses of their own.
-        optimize: bool,
-    },
-    /// Those that ask for a window of `k + 2` steps with a bad state first at its end.
-    Window {
-        /// How many steps come before the last two.
-        k: usize,
-        /// Which windows are looked at.
-        form: Window,
-        /// Whether exclusive ors and choices have clauses of their own.
-        optimize: bool,
-    },
-    /// Those that ask for a bad state up to step `k`.
-    Bounded {
-        /// The step.
-        k: usize,
-        /// Whether exclusive ors and choices have clauses of their own.
-        optimize: bool,
-    },
-}
-
-/// What is asked about the fair runs of FILE.
-#[derive(Clone, Copy)]
-pub enum FairCommand {
-    /// Print clauses of the made file.
-    Print(FairPrint),
-    /// Print the clauses of which the proofs of `Certified` are.
-    Obligations {
-        /// Whether exclusive ors and choices have clauses of their own.
-        optimize: bool,
-    },
-    /// Check proofs that a certificate shows that there is none.
-    Certified {
-        /// Whether exclusive ors and choices have clauses of their own.
-        optimize: bool,
-    },
-    /// Check proofs that there is none.
-    Safe {
-        /// How many steps come before the last two of a window.
-        k: usize,
-        /// Which windows are looked at.
-        form: Window,
-        /// Whether exclusive ors and choices have clauses of their own in the question of BASE.
-        base_optimize: bool,
-        /// Whether they have in the question of STEP.
-        step_optimize: bool,
-    },
-}
-
-/// What is asked about the fair lassos of FILE.
-#[derive(Clone, Copy)]
-pub enum LassoCommand {
-    /// Check a proof that there is none of `k + 1` steps.
-    Refuted {
-        /// The last step.
-        k: usize,
-        /// Whether exclusive ors and choices have clauses of their own.
-        optimize: bool,
-    },
-    /// Check a proof that there is none of at most `k + 1` steps.
-    RefutedTo {
-        /// The last step.
-        k: usize,
-        /// Whether exclusive ors and choices have clauses of their own.
-        optimize: bool,
-    },
-    /// Check a proof that there is no fair run, if there is no fair lasso of at most `k + 1` steps.
-    Inductive {
-        /// How many steps come before the last two of a window.
-        k: usize,
-        /// Which windows are looked at.
-        form: Window,
-        /// Whether exclusive ors and choices have clauses of their own.
-        optimize: bool,
-    },
-}
-
-/// The justice property whose fair lassos are asked about.
-pub(crate) fn lassos_of(property: usize) -> Justice
-    ensures { result ≡ lassos_of property }
-{
-    Justice {
-        property,
-        rounds: None,
-    }
-}
-
-/// The command that prints these clauses of a file.
-pub(crate) fn print_of(command: FairPrint) -> FileCommand
-    ensures exact { result ≡ print_of command }
-    ensures beside { beside_of (commands.File result) ≡ 0 }
-{
-    match command {
-        FairPrint::Clauses { k, optimize } => FileCommand::Clauses { k, optimize },
-        FairPrint::Window { k, form, optimize } => FileCommand::Window { k, form, optimize },
-        FairPrint::Bounded { k, optimize } => FileCommand::Bounded { k, optimize },
-    }
-}
-
-/// The command that checks the proof of a file.
-pub(crate) fn check_of(command: LassoCommand) -> FileCommand
-    ensures exact { result ≡ check_of command }
-    ensures beside { beside_of (commands.File result) ≡ 1 }
-{
-    match command {
-        LassoCommand::Refuted { k, optimize } => FileCommand::Refuted { k, optimize },
-        LassoCommand::RefutedTo { k, optimize } => FileCommand::RefutedTo { k, optimize },
-        LassoCommand::Inductive { k, form, optimize } => {
-            FileCommand::Inductive { k, form, optimize }
-        }
-    }
 }
 
 /// Whether a word is this one.
@@ -203,71 +80,23 @@ pub(crate) fn justice_first(words: &[String]) -> Option<(Option<Justice>, &[Stri
     Some((Some(Justice { property, rounds }), rest))
 }
 
-/// The command about fair lassos, where no rounds are asked about.
-fn lasso_command(justice: Justice, command: LassoCommand) -> Option<Command>
-    ensures { result ≡ lasso_command justice.rounds justice.property command }
+/// Whether a command is asked of a justice property, where one is given: those of one proof are asked of its fair lassos alone.
+pub(crate) fn is_asked(justice: Option<Justice>, command: Command) -> bool
+    ensures { result ≡ is_asked justice command }
 {
-    match justice.rounds {
-        None => Some(Command::Lasso {
-            property: justice.property,
-            command,
-        }),
-        Some(_) => None,
-    }
-}
-
-/// The command on the file that is made for a justice property, where there is one.
-fn fair_command(justice: Justice, command: Command) -> Option<Command>
-    ensures { result ≡ fair_command justice command }
-{
-    let command = match command {
-        Command::File(FileCommand::Clauses { k, optimize }) => {
-            FairCommand::Print(FairPrint::Clauses { k, optimize })
-        }
-        Command::File(FileCommand::Window { k, form, optimize }) => {
-            FairCommand::Print(FairPrint::Window { k, form, optimize })
-        }
-        Command::File(FileCommand::Bounded { k, optimize }) => {
-            FairCommand::Print(FairPrint::Bounded { k, optimize })
-        }
-        Command::File(FileCommand::Refuted { k, optimize }) => {
-            return lasso_command(justice, LassoCommand::Refuted { k, optimize });
-        }
-        Command::File(FileCommand::RefutedTo { k, optimize }) => {
-            return lasso_command(justice, LassoCommand::RefutedTo { k, optimize });
-        }
-        Command::File(FileCommand::Inductive { k, form, optimize }) => {
-            return lasso_command(justice, LassoCommand::Inductive { k, form, optimize });
-        }
-        Command::Pair(PairCommand::Certified { optimize }) => FairCommand::Certified { optimize },
-        Command::Pair(PairCommand::Obligations { optimize }) => {
-            FairCommand::Obligations { optimize }
-        }
-        Command::Safe {
-            k,
-            form,
-            base_optimize,
-            step_optimize,
-        } => FairCommand::Safe {
-            k,
-            form,
-            base_optimize,
-            step_optimize,
-        },
-        _ => return None,
+    let Some(justice) = justice else {
+        return true;
     };
-    Some(Command::Fair { justice, command })
-}
-
-/// The command, where it is asked of a justice property: on the file that is made for it, if there is such a command.
-pub(crate) fn command_by(justice: Option<Justice>, command: Command) -> Option<Command>
-    ensures exact { result ≡ command_by justice command }
-    ensures paths { IfSome result (λ c. paths_of c ≡ paths_of command) }
-    ensures beside { IfSome result (λ c. beside_of c ≡ beside_of command) }
-    ensures step { IfSome result (λ c. step_of c ≡ step_of command) }
-{
-    match justice {
-        None => Some(command),
-        Some(justice) => fair_command(justice, command),
+    match command {
+        Command::File(FileCommand::Witness { .. } | FileCommand::Run) => false,
+        Command::File(FileCommand::WitnessTo { .. }) => false,
+        Command::File(
+            FileCommand::Refuted { .. }
+            | FileCommand::RefutedTo { .. }
+            | FileCommand::Inductive { .. },
+        ) => justice.rounds.is_none(),
+        Command::Pair(PairCommand::Equal { .. } | PairCommand::AlwaysEqual { .. }) => false,
+        Command::EqualBy { .. } => false,
+        _ => true,
     }
 }

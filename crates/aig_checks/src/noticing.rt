@@ -3,29 +3,22 @@
 ghost use Rattle.std.specs.Prelude.{◌≡◌, ◌↔◌, true, IfOk, IfSome, IsErr, IsNone, map, string_bytes};
 ghost use Rattle.aig_checks.specs.Noticing.{IsAnswer, TellsBeside, regard_of};
 
-use crate::command::{Command, FileCommand, PairCommand, call_of};
+use crate::command::{Asked, Command, FileCommand, PairCommand, call_of};
 use crate::tool::CheckError;
 use aig_base::MemoryError;
 use aig_command_line::{Ending, Headers, Regard, Tells, tell_of_files};
 
-/// Whether a command answers without a look at justice and fairness: each but those about a justice property, and `run`, which names the
-/// property that the witness shows.
-fn leaves_out(command: Command) -> bool
-    ensures { result ≡ (regard_of command).leaves_out }
-{
-    match command {
-        Command::File(FileCommand::Run) | Command::Fair { .. } | Command::Lasso { .. } => false,
-        _ => true,
-    }
-}
-
-/// What a command does with parts of its files that its answer isn't about.
-fn regard_of(command: Command) -> Regard
-    ensures { result ≡ regard_of command }
+/// What a command does with parts of its files that its answer isn't about: it answers without a look at justice and fairness, but where a
+/// justice property is asked about, and `run`, which names the property that the witness shows.
+fn regard_of(asked: Asked) -> Regard
+    ensures { result ≡ regard_of asked }
 {
     Regard {
-        leaves_out: leaves_out(command),
-        compares: match command {
+        leaves_out: match asked.command {
+            Command::File(FileCommand::Run) => false,
+            _ => asked.justice.is_none(),
+        },
+        compares: match asked.command {
             Command::Pair(PairCommand::Equal { .. } | PairCommand::AlwaysEqual { .. }) => true,
             Command::EqualBy { .. } => true,
             _ => false,
@@ -62,7 +55,7 @@ fn tell_beside<T: Tells>(
     tell_of_files(
         "aigcheck",
         call.paths,
-        regard_of(call.command),
+        regard_of(call.asked),
         headers,
         errors,
     );

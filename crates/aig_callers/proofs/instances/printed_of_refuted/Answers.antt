@@ -1,12 +1,10 @@
 use Rattle.aig_base.proofs.Words.{[], ◌∷◌, Some, true, ap, sym, ◌∙◌, codes}
-use Rattle.aig_checks.specs.declared.command.Command.TheVariants as commands
-use Rattle.aig_checks.specs.declared.command.FileCommand.TheVariants as on_file
-use Rattle.aig_callers.proofs.Known.{refuted_call, refuted_done}
+use Rattle.aig_callers.proofs.Known.{refuted_asked, refuted_call, refuted_done}
 use Rattle.aig_callers.proofs.instances.printed_of_refuted.Goals as goal
 
 pub returns-in-Done : goal.returns-in-Done
 returns-in-Done c =
-    let acts = c.in-Done.ensures.words.acts 16777216 (commands.File (on_file.Refuted 0 true))
+    let acts = c.in-Done.ensures.words.acts 16777216 refuted_asked
     (codes "FILE" ∷ []) (codes "PROOF" ∷ []) (refuted_call _ c.in_ok-words_of_refuted.ensures)
     in
     refuted_done c.args.file.now c.args.proof.now _ _ _ _ (λ w. true) c.new-out.result c.act.new.w

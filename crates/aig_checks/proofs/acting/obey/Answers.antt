@@ -39,9 +39,9 @@ returns g c =
     let some = c.in-Some-call_of.ensures.some in
     record {
       tells = λ q are. elim (c.in_default.not-Some q ((c.asked.ensures q).1 are)) [ ];
-      none = (λ e. absurd (never_none c.print.result (sym c.of-2.ensures ∙ e)), λ no. absurd (no.0 call.command (call.limit, paths, beside, some)));
+      none = (λ e. absurd (never_none c.print.result (sym c.of-2.ensures ∙ e)), λ no. absurd (no.0 call.asked (call.limit, paths, beside, some)));
       kept = λ e. absurd (never_none c.print.result (sym c.of-2.ensures ∙ e));
       acts = λ limit d names further h.
-          let same = one_call words limit call.limit d call.command names paths further beside h some in
+          let same = one_call words limit call.limit d call.asked names paths further beside h some in
           rw (same.0, same.1, same.2, same.3) (c.print.result, c.of-2.ensures, c.print.ensures.acts, c.print.ensures.done);
     }

@@ -18,30 +18,30 @@ returns-in_err-command-clause-none c =
     (fits_none _ _ _ c.in_ok-limit.limit c.in_ok-justice.justice c.in_ok-limit.ensures.some
     c.in_ok-justice.ensures.some c.in_err-command.ensures.none)
 
-pub returns-in_err-command_by-clause-none : goal.returns-in_err-command_by-clause-none
-returns-in_err-command_by-clause-none c =
-    rw c.from_residual-in_err-command_by.ensures
-    (unasked_none _ _ _ c.in_ok-limit.limit c.in_ok-justice.justice c.in_ok-command.command _
+pub returns-then-not-is_asked-clause-none : goal.returns-then-not-is_asked-clause-none
+returns-then-not-is_asked-clause-none c =
+    unasked_none _ _ _ c.in_ok-limit.limit c.in_ok-justice.justice c.in_ok-command.command _
     c.in_ok-limit.ensures.some c.in_ok-justice.ensures.some c.in_ok-command.ensures.some
-    (sym c.in_err-command_by.ensures.exact))
+    (sym c.is_asked.ensures ∙ c.if-not-is_asked.true)
 
 pub returns-clause-some : goal.returns-clause-some
 returns-clause-some c = record {
   rest = _;
   limited = c.in_ok-limit.ensures.some;
-  justice = c.in_ok-justice.justice;
   more = _;
   asked = c.in_ok-justice.ensures.some;
-  usual = c.in_ok-command.command;
   arguments = _;
   gives = c.in_ok-command.ensures.some;
-  command = sym c.in_ok-command_by.ensures.exact;
+  allowed = sym c.is_asked.ensures ∙ c.if-not-is_asked.false;
   on = refl;
   beside = refl;
 }
 
-pub returns-clause-paths : goal.returns-clause-paths
-returns-clause-paths c = c.in_ok-command.ensures.paths ∙ sym c.in_ok-command_by.ensures.paths
-
-pub returns-clause-further : goal.returns-clause-further
-returns-clause-further c = c.in_ok-command.ensures.further ∙ sym c.in_ok-command_by.ensures.beside
+pub returns-clause-fits : goal.returns-clause-fits
+returns-clause-fits c = record {
+  limit = c.in_ok-limit.ensures.limit;
+  asked = sym c.is_asked.ensures ∙ c.if-not-is_asked.false;
+  paths = c.in_ok-command.ensures.paths;
+  further = c.in_ok-command.ensures.further;
+  small = c.in_ok-command.ensures.small;
+}

@@ -8,7 +8,7 @@ returns-in-Some g c = record {
   told = λ limit d paths further h.
       let words = map string_bytes c.args.words.now in
       let call = c.in-Some.call in
-      let same = one_call words limit call.limit d call.command paths (map string_bytes call.paths.now) further
+      let same = one_call words limit call.limit d call.asked paths (map string_bytes call.paths.now) further
       (map string_bytes call.further.now) h c.in-Some.ensures.some in
       rw (same.0, same.1, same.2, same.3) c.fault_of.ensures;
 }

@@ -26,8 +26,8 @@ returns g c =
     let given = c.in-Some.ensures.some in
     record {
       answered = λ is limit d others further h.
-          let same = one_call words limit call.limit d call.command others paths further beside h given in
+          let same = one_call words limit call.limit d call.asked others paths further beside h given in
           rw (same.1, same.2, ← c.regard_of.ensures) c.tell_of_files.ensures;
       otherwise = λ not. absurd (not (c.is_answer.ensures.0 (search rules)));
-      nothing = λ none. absurd (none call.limit call.command paths beside given);
+      nothing = λ none. absurd (none call.limit call.asked paths beside given);
     }

@@ -1,0 +1,171 @@
+-- Files that are opened in order.
+use Rattle.aig_base.proofs.Words.{◌≡◌, ◌<◌, ◌+◌, ℕ, zero, suc, Global, List, String, [], ◌∷◌, ◌++◌, ◌∙◌, Ok, Err, ap, arith, get_or, length, length-append, length-map, map, refl, string_bytes, subst, sym, take}
+use Rattle.std.specs.Prelude.{Result}
+use Rattle.aig_command_line.specs.declared.files.OpenError.{OpenError}
+use Rattle.aig_checks.specs.declared.command.Command.{Command}
+use Rattle.aig_checks.specs.declared.command.Command.TheVariants as commands
+use Rattle.aig_checks.specs.declared.inputs.Inputs.{Inputs}
+use Rattle.aig_checks.specs.declared.tool.CheckError.{CheckError}
+use Rattle.aig_checks.specs.Inputs.{listed}
+use Rattle.aig_checks.specs.Words.{paths_of}
+use Rattle.aig_checks.specs.Opening.{AreOpened, OnOpening, OpensAll, unopened}
+
+module _ {F : Type 0} (opens : List ℕ → Result F OpenError → Type 0) where
+  leads_on : (Holds Also : F → Type 0) (Fails AlsoFails : CheckError → Type 0)
+      → ((f : F) → Holds f → Also f) → ((e : CheckError) → Fails e → AlsoFails e)
+      → (file : Result F OpenError) → OnOpening Holds Fails file → OnOpening Also AlsoFails file
+  leads_on Holds Also Fails AlsoFails on off (Ok f) leads = on f leads
+  leads_on Holds Also Fails AlsoFails on off (Err e) leads = off _ leads
+
+  -- what holds of the files, or of the error, may be another thing that follows
+  pub opens_on : (paths : List (List ℕ)) (Holds Also : List F → Type 0)
+      (Fails AlsoFails : CheckError → Type 0)
+      → ((fs : List F) → Holds fs → Also fs) → ((e : CheckError) → Fails e → AlsoFails e)
+      → OpensAll opens paths Holds Fails → OpensAll opens paths Also AlsoFails
+  opens_on [] Holds Also Fails AlsoFails on off o = on [] o
+  opens_on (path ∷ paths) Holds Also Fails AlsoFails on off o = record {
+    file = o.file;
+    opened = o.opened;
+    leads = leads_on _ _ Fails AlsoFails
+        (λ f. opens_on paths (λ fs. Holds (f ∷ fs)) (λ fs. Also (f ∷ fs)) Fails AlsoFails
+        (λ fs. on (f ∷ fs)) off) off o.file o.leads;
+  }
+
+  -- where some were opened, what holds of the others behind them
+  pub opens_then : (paths more : List (List ℕ)) {Mid : List F → Type 0}
+      {Fails : CheckError → Type 0} → OpensAll opens paths Mid Fails → (Holds : List F → Type 0)
+      (AlsoFails : CheckError → Type 0)
+      → ((fs : List F) → Mid fs → OpensAll opens more (λ gs. Holds (fs ++ gs)) AlsoFails)
+      → ((e : CheckError) → Fails e → AlsoFails e)
+      → OpensAll opens (paths ++ more) Holds AlsoFails
+  opens_then [] more o Holds AlsoFails on off = on [] o
+  opens_then (path ∷ paths) more {Mid} {Fails} o Holds AlsoFails on off = record {
+    file = o.file;
+    opened = o.opened;
+    leads = leads_on _ _ Fails AlsoFails
+        (λ f rest. opens_then paths more {Mid = λ fs. Mid (f ∷ fs)} {Fails = Fails} rest
+        (λ fs. Holds (f ∷ fs)) AlsoFails (λ fs. on (f ∷ fs)) off) off o.file o.leads;
+  }
+
+  -- where all were
+  pub opens_as : (paths : List (List ℕ)) (fs : List F) (Holds : List F → Type 0)
+      (Fails : CheckError → Type 0) → AreOpened opens paths fs → Holds fs
+      → OpensAll opens paths Holds Fails
+  opens_as [] [] Holds Fails are holds = holds
+  opens_as (path ∷ paths) (f ∷ fs) Holds Fails are holds = record {
+    file = Ok f;
+    opened = are.0;
+    leads = opens_as paths fs (λ gs. Holds (f ∷ gs)) Fails are.1 holds;
+  }
+  opens_as [] (f ∷ fs) Holds Fails are holds = absurd are
+  opens_as (path ∷ paths) [] Holds Fails are holds = absurd are
+
+  -- where those before one were, and that was not
+  pub opens_until : (words : List (String Global)) (i : ℕ) (word : String Global) (fs : List F)
+      (Holds : List F → Type 0) (Fails : CheckError → Type 0) (o : OpenError)
+      → i < length words → word ≡ get_or words i word
+      → AreOpened opens (map string_bytes (take i words)) fs → opens (string_bytes word) (Err o)
+      → Fails (unopened o) → OpensAll opens (map string_bytes words) Holds Fails
+  opens_until [] i word fs Holds Fails o low at are failed fails = absurd (omega (arith, low))
+  opens_until (first ∷ words) zero word fs Holds Fails o low at are failed fails = record {
+    file = Err o;
+    opened = subst (λ w. opens (string_bytes w) (Err o)) at failed;
+    leads = fails;
+  }
+  opens_until (first ∷ words) (suc i) word (f ∷ fs) Holds Fails o low at are failed fails = record {
+    file = Ok f;
+    opened = are.0;
+    leads = opens_until words i word fs (λ gs. Holds (f ∷ gs)) Fails o (omega (arith, low)) at are.1
+        failed fails;
+  }
+  opens_until (first ∷ words) (suc i) word [] Holds Fails o low at are failed fails = absurd are
+
+  -- they are as many
+  pub opened_length : (paths : List (List ℕ)) (fs : List F) → AreOpened opens paths fs
+      → length fs ≡ length paths
+  opened_length [] [] are = refl
+  opened_length (path ∷ paths) (f ∷ fs) are = omega (arith, opened_length paths fs are.1)
+  opened_length [] (f ∷ fs) are = absurd are
+  opened_length (path ∷ paths) [] are = absurd are
+
+  -- one more was opened
+  pub opened_more : (paths : List (List ℕ)) (fs : List F) (path : List ℕ) (f : F)
+      → AreOpened opens paths fs → opens path (Ok f)
+      → AreOpened opens (paths ++ path ∷ []) (fs ++ f ∷ [])
+  opened_more [] [] path f are is = (is, tt)
+  opened_more (first ∷ paths) (g ∷ fs) path f are is = (are.0, opened_more paths fs path f are.1 is)
+  opened_more [] (g ∷ fs) path f are is = absurd are
+  opened_more (first ∷ paths) [] path f are is = absurd are
+
+  module _ (path : List ℕ) (Holds : F → Type 0) (Fails : CheckError → Type 0)
+      (never : (e : CheckError) → ¬ Fails e) where
+    which_of : (file : Result F OpenError) → opens path file → OnOpening Holds Fails file
+        → (f : F) × opens path (Ok f) × Holds f
+    which_of (Ok f) opened leads = (f, opened, leads)
+    which_of (Err e) opened leads = absurd (never _ leads)
+
+  -- those that were opened
+  pub which_opened : (paths : List (List ℕ)) (Holds : List F → Type 0)
+      (Fails : CheckError → Type 0) → ((e : CheckError) → ¬ Fails e)
+      → OpensAll opens paths Holds Fails
+      → (fs : List F) × AreOpened opens paths fs × Holds fs
+  which_opened [] Holds Fails never o = ([], tt, o)
+  which_opened (path ∷ paths) Holds Fails never o =
+      let first = which_of path (λ f. OpensAll opens paths (λ fs. Holds (f ∷ fs)) Fails) Fails never
+      o.file o.opened o.leads in
+      let rest = which_opened paths (λ fs. Holds (first.0 ∷ fs)) Fails never first.2 in
+      (first.0 ∷ rest.0, (first.1, rest.1), rest.2)
+
+-- ---- FILE and the files behind it
+
+-- what a result tells of them
+abbrev pub Tells : {F : Type 0} → Result (F × Inputs F) CheckError → List F → Type 0
+Tells {F} result opened =
+    (all : F × Inputs F) × (result ≡ Ok all) × (opened ≡ all.0 ∷ listed all.1)
+
+pub opened_are : {F : Type 0} (file : F) (inputs : Inputs F)
+    (result : Result (F × Inputs F) CheckError) → result ≡ Ok (file, inputs)
+    → (opened : List F) → Tells result opened → file ∷ listed inputs ≡ opened
+opened_are file inputs result was opened told =
+    let is = sym was ∙ told.1 in
+    let one : file ≡ told.0.0 = cc in
+    let others : inputs ≡ told.0.1 = cc in
+    ap (λ f. f ∷ listed inputs) one ∙ ap (λ i. told.0.0 ∷ listed i) others ∙ sym told.2
+
+pub not_refused : {F : Type 0} (all : F × Inputs F) (e : CheckError)
+    (result : Result (F × Inputs F) CheckError) → result ≡ Ok all → ¬ (result ≡ Err e)
+not_refused all e result was is = let no = sym was ∙ is in cc
+
+pub all_opened : {F : Type 0} (opens : List ℕ → Result F OpenError → Type 0)
+    (names : List (List ℕ)) (file : F) (inputs : Inputs F)
+    (result : Result (F × Inputs F) CheckError) → result ≡ Ok (file, inputs)
+    → OpensAll opens names (Tells result) (λ e. result ≡ Err e)
+    → AreOpened opens names (file ∷ listed inputs)
+all_opened opens names file inputs result was o =
+    let opened = which_opened opens names _ _ (λ e. not_refused (file, inputs) e result was) o in
+    subst (AreOpened opens names) (sym (opened_are file inputs result was opened.0 opened.2))
+    opened.1
+
+-- they are as many as the words name
+pub inputs_fit : {F : Type 0} (opens : List ℕ → Result F OpenError → Type 0)
+    (paths further : List (String Global)) (file : F) (files : List F) (p b : ℕ)
+    → AreOpened opens (map string_bytes paths ++ map string_bytes further) (file ∷ files)
+    → length paths ≡ p → length further ≡ b → length files + 1 ≡ p + b
+inputs_fit opens paths further file files p b are first second =
+    let many = opened_length opens _ (file ∷ files) are in
+    let parts = length-append (map string_bytes paths) (map string_bytes further) in
+    omega (
+      arith,
+      many,
+      parts,
+      length-map paths string_bytes,
+      length-map further string_bytes,
+      first,
+      second,
+    )
+
+pub some_paths : (c : Command) → 0 < paths_of c
+some_paths (commands.File c) = omega arith
+some_paths (commands.Pair c) = omega arith
+some_paths (commands.Safe k form o p) = omega arith
+some_paths (commands.EqualBy o) = omega arith

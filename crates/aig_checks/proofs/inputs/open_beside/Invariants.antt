@@ -1,0 +1,9 @@
+use Rattle.std.proofs.Common.{◌≡◌, ◌++◌, List, map, string_bytes, take}
+use Rattle.aig_checks.specs.Inputs.{listed}
+use Rattle.aig_checks.specs.Opening.{AreOpened}
+use Rattle.aig_checks.proofs.inputs.open_beside.Given as goal
+
+abbrev pub invariant-loop-path : goal.invariant-loop-path
+invariant-loop-path g l = (files : List g.row.F-File.Denot)
+    × AreOpened (g.F.Opens.opens l.files) (map string_bytes (take l.path-index l.paths)) files
+    × (listed l.inputs ≡ listed l.fn.opened ++ files)
