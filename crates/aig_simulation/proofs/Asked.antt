@@ -1,9 +1,8 @@
 -- The circuit of a question, and what it means that all are never true.
-use Rattle.aig_base.proofs.Words.{◌≡◌, ◌≢◌, ℕ, ◌<◌, ◌≤◌, ◌↔◌, Bool, true, false, not, IsTrue, Option, Some, None, IfSome, List, [], ◌∷◌, ◌++◌, length, map, filter, get_or, refl, sym, ap, subst, ◌∙◌, arith, All, AllPairs, Contains, All-cons, All-nil, All-weaker, append-nil, contains_key, empty, false≢true, get-empty, is_some, nat_cmp}
+use Rattle.aig_base.proofs.Words.{ℕ, ◌≤◌, IsTrue, List, [], ◌∷◌, refl, sym, ap, subst, ◌∙◌, arith, All, Contains, All-cons, All-nil, All-weaker, append-nil, contains_key, empty, false≢true, get-empty, is_some, nat_cmp}
 use Rattle.aig_circuit.specs.declared.edge.AigEdge.{AigEdge}
-use Rattle.aig_circuit.specs.declared.node.AigLatch.{AigLatch}
 use Rattle.aig_circuit.specs.declared.node.AigNode.{AigNode}
-use Rattle.aig_circuit.proofs.Words.{AllProperties, AreNodes, Circuit, IsCircuit, IsClosed, IsInRange, IsLatch, IsLeaf, edge_value, latch_leaves, no_properties}
+use Rattle.aig_circuit.proofs.Words.{AreNodes, Circuit, IsCircuit, IsInRange, IsLatch, IsLeaf, no_properties}
 use Rattle.aig_unroll.specs.Places.{leaves_after}
 use Rattle.aig_unroll.proofs.Added.{following-are, following-distinct, following-have}
 use Rattle.aig_simulation.specs.Asking.{AsksWhether}

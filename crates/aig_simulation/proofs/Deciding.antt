@@ -1,5 +1,5 @@
 -- What the edge of each question decides: that it is never true is that the condition holds.
-use Rattle.aig_base.proofs.Words.{◌≡◌, ◌≢◌, ℕ, ◌<◌, ◌≤◌, ◌↔◌, Bool, true, false, not, cond, List, [], ◌∷◌, length, map, filter, get_or, refl, sym, ap, subst, ◌∙◌, arith, All, All-cons, All-filter, All-head, All-nil, All-tail, false≢true, filter_passes}
+use Rattle.aig_base.proofs.Words.{◌≡◌, ℕ, ◌<◌, ◌≤◌, Bool, true, false, not, cond, List, [], ◌∷◌, length, map, filter, get_or, refl, sym, ap, subst, ◌∙◌, arith, All, All-cons, All-filter, All-head, All-nil, All-tail, false≢true, filter_passes}
 use Rattle.aig_circuit.specs.declared.edge.AigEdge.{AigEdge}
 use Rattle.aig_circuit.specs.declared.node.AigLatch.{AigLatch}
 use Rattle.aig_circuit.specs.declared.node.AigNode.{AigNode}
@@ -9,7 +9,7 @@ use Rattle.aig_circuit.proofs.Building.{Grows-then}
 use Rattle.aig_circuit.proofs.Trees.{kind_at-within}
 use Rattle.aig_join.specs.Pairs.{IsGoodState, MeetsConstraints}
 use Rattle.aig_renumber.proofs.Kept.{is_in-back, is_in-there}
-use Rattle.aig_unroll.specs.Frame.{image_at, image_in}
+use Rattle.aig_unroll.specs.Frame.{image_at}
 use Rattle.aig_simulation.specs.Asking.{AsksWhether, IsFalseWhere}
 use Rattle.aig_simulation.specs.Frames.{IsCopy, IsFrame, own_among, read}
 use Rattle.aig_simulation.specs.Questions.{CanShareLeaves}

@@ -2,7 +2,7 @@
 -- The conditions of a certificate, each asked of a solver: a circuit of gates over inputs whose one
 -- bad edge some values of the inputs make true, or none. (Certificates of the hardware model
 -- checking competition, which a checker judges by one question for each condition.)
-use Rattle.std.specs.Prelude.{◌≡◌, ◌≢◌, ℕ, ◌↔◌, Bool, false, List, [], ◌∷◌, map, All, AllPairs}
+use Rattle.std.specs.Prelude.{◌≡◌, ℕ, ◌↔◌, Bool, false, [], ◌∷◌, All}
 use Rattle.std.specs.FinMap.{empty}
 use Rattle.aig_circuit.specs.declared.edge.AigEdge.{AigEdge}
 use Rattle.aig_circuit.specs.Circuit.{Circuit, IsCircuit, IsClosed, IsLeaf}

@@ -1,4 +1,4 @@
-use Rattle.aig_base.proofs.Words.{◌≡◌, ◌++◌, ℕ, Bool, IfOk-weaker, List, [], map}
+use Rattle.aig_base.proofs.Words.{◌≡◌, ◌++◌, IfOk-weaker, List, [], map}
 use Rattle.aig_circuit.specs.declared.edge.AigEdge.{AigEdge}
 use Rattle.aig_circuit.specs.declared.node.AigNode.{AigNode}
 use Rattle.aig_circuit.proofs.Words.{Circuit, Grows, IsCircuit, IsInitial, inverse}

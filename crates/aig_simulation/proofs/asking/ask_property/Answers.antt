@@ -1,8 +1,8 @@
-use Rattle.aig_base.proofs.Words.{◌≡◌, ◌++◌, ◌∙◌, ℕ, Bool, IfOk-weaker, List, [], All, ap, map, subst, sym}
+use Rattle.aig_base.proofs.Words.{◌≡◌, ◌++◌, ℕ, Bool, IfOk-weaker, List, [], map}
 use Rattle.aig_circuit.specs.declared.edge.AigEdge.{AigEdge}
 use Rattle.aig_circuit.specs.declared.node.AigNode.{AigNode}
 use Rattle.aig_circuit.proofs.Building.{Grows-itself}
-use Rattle.aig_circuit.proofs.Words.{AreNodes, Circuit, IsCircuit, IsInRange, inverse}
+use Rattle.aig_circuit.proofs.Words.{AreNodes, Circuit, IsCircuit, inverse}
 use Rattle.aig_join.specs.Pairs.{IsGoodState, MeetsConstraints}
 use Rattle.aig_unroll.specs.Frame.{image_in}
 use Rattle.aig_simulation.specs.Asking.{HoldWhere}

@@ -1,4 +1,4 @@
-use Rattle.aig_base.proofs.Words.{◌∙◌, ◌<◌, All, ap, length, map, subst, sym, ℕ, Bool}
+use Rattle.aig_base.proofs.Words.{◌∙◌, All, ap, map, subst, sym}
 use Rattle.aig_circuit.proofs.Building.{Grows-itself}
 use Rattle.aig_circuit.proofs.Words.{IsInitial}
 use Rattle.aig_join.specs.Pairs.{MeetsConstraints}

@@ -1,5 +1,4 @@
-use Rattle.aig_base.proofs.Words.{◌<◌, ◌≤◌, ◌≡◌, ◌+◌, ◌∷◌, ℕ, List, [], None, arith, get_or, length, subst, sym}
-use Rattle.aig_circuit.specs.declared.edge.AigEdge.{AigEdge}
+use Rattle.aig_base.proofs.Words.{◌<◌, ◌≤◌, ◌≡◌, ◌+◌, ℕ, arith, get_or, length, subst, sym}
 use Rattle.aig_circuit.proofs.Words.{IfAnd, IsInRange}
 use Rattle.aig_unroll.proofs.Added.{no_node}
 use Rattle.aig_simulation.specs.Copies.{Copies, CopiesNode, HasImage, given_at}

@@ -1,4 +1,4 @@
-use Rattle.aig_base.proofs.Words.{false, ℕ, ◌<◌, ◌≡◌, ◌+◌, ◌∙◌, List, Option, Some, ap, ap₂, arith, get_or, length, set, subst, sym, take}
+use Rattle.aig_base.proofs.Words.{ℕ, ◌<◌, ◌≡◌, ◌+◌, ◌∙◌, Some, ap, ap₂, arith, get_or, length, set, subst, sym, take}
 use Rattle.aig_circuit.specs.declared.edge.AigEdge.{AigEdge}
 use Rattle.aig_circuit.specs.declared.node.AigLatch.{AigLatch}
 use Rattle.aig_unroll.specs.Frame.{image_in}
