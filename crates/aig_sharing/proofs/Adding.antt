@@ -1,11 +1,11 @@
 -- Pairs that are found by names, one leaf after another.
-use Rattle.aig_base.proofs.Words.{◌≡◌, ◌≢◌, ℕ, zero, suc, ◌+◌, ◌<◌, ◌≤◌, ◌==◌, ◌⊎◌, ◌||◌, Bool, true, false, IsTrue, List, [], ◌∷◌, ◌++◌, length, map, take, set, get_or, refl, sym, ap, subst, ◌∙◌, arith, inl, inr, All, AllPairs, Contains, All-contains, All-nil, All-push, All-same, All-weaker, Contains-append_cases, Contains-append_left, Contains-append_right, Contains-get_or, Contains-push, Contains-push_cases, all_pairs_push, append-nil, append_assoc, eq-eqb, eqb-true, false≢true, get_or_default, length-set, get_or-set_other, get_or-set_same, get_or-take, length-take, list_any-append, map-append, ne_eqb, or-false, take_all, take_more}
+use Rattle.aig_base.proofs.Words.{◌≡◌, ◌≢◌, ℕ, ◌+◌, ◌<◌, ◌≤◌, ◌==◌, ◌⊎◌, ◌||◌, Bool, true, false, List, [], ◌∷◌, ◌++◌, length, map, take, set, get_or, refl, sym, ap, subst, ◌∙◌, arith, inl, inr, All, AllPairs, Contains, All-contains, All-nil, All-push, Contains-append_cases, Contains-append_left, Contains-get_or, Contains-push, Contains-push_cases, all_pairs_push, append-nil, append_assoc, eq-eqb, eqb-true, false≢true, get_or_default, length-set, get_or-set_other, get_or-set_same, get_or-take, length-take, list_any-append, map-append, or-false, take_all, take_more}
 use Rattle.aig_circuit.specs.Renumber.{is_in}
 use Rattle.aig_renumber.proofs.Kept.{is_in-back, is_in-there}
 use Rattle.aig_renumber.proofs.Places.{Contains-map, Contains-map_back}
 use Rattle.aig_simulation.specs.Simulation.{IsSharing, Sharing}
-use Rattle.aig_sharing.specs.Marked.{AddsNamed, IsAt, IsRefused, Marks}
-use Rattle.aig_sharing.specs.Named.{AreNamed, HasForm, IsFor, IsNamed, Names}
+use Rattle.aig_sharing.specs.Marked.{AddsNamed, IsRefused, Marks}
+use Rattle.aig_sharing.specs.Named.{HasForm, IsFor, IsNamed, Names}
 use Rattle.aig_sharing.specs.declared.error.SharingError.TheVariants as errors
 
 -- the model's leaves of pairs, and those that stand for them

@@ -1,11 +1,10 @@
 -- The pairs that are shared.
-use Rattle.aig_base.proofs.Words.{◌≡◌, ◌≢◌, ℕ, zero, suc, ◌+◌, ◌<◌, ◌≤◌, ◌⊎◌, Bool, true, false, List, [], ◌∷◌, ◌++◌, length, map, take, drop, get_or, refl, sym, ap, ap₂, subst, ◌∙◌, arith, inl, inr, All, AllPairs, Contains, All-append, All-contains, All-map, All-same, All-weaker, Contains-append_cases, Contains-append_left, Contains-append_right, Contains-get_or, cases_lt, get_or-take, length-take, map-append, zip}
+use Rattle.aig_base.proofs.Words.{◌≡◌, ◌≢◌, ℕ, zero, suc, ◌<◌, List, [], ◌∷◌, ◌++◌, length, map, take, get_or, refl, sym, ap, ap₂, subst, ◌∙◌, arith, inl, inr, All, AllPairs, Contains, All-append, All-contains, All-same, Contains-append_cases, Contains-append_left, Contains-append_right, Contains-get_or, get_or-take, length-take, map-append, zip}
 use Rattle.aig_circuit.proofs.Circuits.{AllPairs-append, latch_leaves-leaves}
 use Rattle.aig_circuit.proofs.Words.{Circuit, IsCircuit, IsLeaf, latch_leaves}
-use Rattle.aig_renumber.proofs.Places.{Contains-map}
 use Rattle.aig_simulation.specs.Questions.{CanShareLeaves}
-use Rattle.aig_simulation.specs.Simulation.{IsSharing, Sharing}
-use Rattle.aig_sharing.specs.Named.{AreNamed, HasForm, HasNoForm, IsFor, IsNamed, Names, Shares, SharesByName, in_order}
+use Rattle.aig_simulation.specs.Simulation.{Sharing}
+use Rattle.aig_sharing.specs.Named.{AreNamed, HasForm, HasNoForm, IsFor, IsNamed, Names, SharesByName, in_order}
 use Rattle.aig_sharing.proofs.Adding.{form_of}
 
 -- ---- by names

@@ -1,5 +1,5 @@
 -- The pairs that both lists of leaves give by their names.
-use Rattle.aig_base.proofs.Words.{◌≡◌, ◌≢◌, ℕ, ◌<◌, ◌≤◌, ◌⊎◌, Bool, true, false, List, [], ◌++◌, length, map, get_or, refl, sym, ap, subst, ◌∙◌, arith, inl, inr, All, AllPairs, Contains, All-contains, Contains-append_left, Contains-append_right, Contains-get_or, cases_lt, false≢true}
+use Rattle.aig_base.proofs.Words.{◌≡◌, ℕ, ◌<◌, Bool, false, List, [], ◌++◌, length, map, get_or, sym, ap, subst, ◌∙◌, arith, inl, inr, All, Contains, All-contains, Contains-append_left, Contains-append_right, cases_lt, false≢true}
 use Rattle.std.proofs.lemmas.List.{get_or_past}
 use Rattle.aig_circuit.specs.declared.node.AigNodeType.TheVariants.{Leaf}
 use Rattle.aig_circuit.proofs.Circuits.{latch_leaves-leaves}
@@ -9,7 +9,7 @@ use Rattle.aig_renumber.proofs.Kept.{is_in-back, is_in-there}
 use Rattle.aig_renumber.proofs.Places.{Contains-map_back}
 use Rattle.aig_simulation.specs.Simulation.{Sharing}
 use Rattle.aig_sharing.specs.Marked.{AddsNamed, IsAt, IsRefused, Marks}
-use Rattle.aig_sharing.specs.Named.{AreNamed, HasForm, IsFault, IsFor, IsNamed, IsTwice, IsUnknown, Names, SharesByName}
+use Rattle.aig_sharing.specs.Named.{AreNamed, IsFault, IsFor, IsNamed, Names, SharesByName}
 use Rattle.aig_sharing.specs.declared.error.SharingError.{SharingError}
 use Rattle.aig_sharing.specs.declared.error.SharingError.TheVariants as errors
 

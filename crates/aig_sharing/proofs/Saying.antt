@@ -1,8 +1,7 @@
 -- What a name says, and pairs by order.
-use Rattle.aig_base.proofs.Words.{◌≡◌, ◌≢◌, ℕ, zero, suc, ◌+◌, ◌*◌, ◌<◌, ◌≤◌, Bool, true, false, Option, Some, None, List, [], ◌∷◌, ◌++◌, length, map, take, get_or, refl, sym, ap, subst, ◌∙◌, arith, MatchOption, same_Some, zip, add-one}
+use Rattle.aig_base.proofs.Words.{◌≡◌, ◌≢◌, ℕ, zero, suc, ◌+◌, ◌<◌, ◌≤◌, Bool, Option, Some, None, List, [], ◌∷◌, ◌++◌, length, take, get_or, refl, sym, ap, subst, ◌∙◌, arith, MatchOption, same_Some, zip, add-one}
 use Rattle.std.proofs.Common.{Bor}
 use Rattle.std.specs.FinMap.{get}
-use Rattle.aig_format.specs.Text.{IsNumber}
 use Rattle.aig_sharing.specs.Marked.{IsAt}
 use Rattle.aig_sharing.specs.Named.{HasForm, IsFor, IsNamed, Names, sharing_prefix}
 

@@ -2,7 +2,7 @@
 -- Which leaves of a witness circuit stand for leaves of a model. (Certificates of the hardware
 -- model checking competition: by the symbol table of the witness circuit, where a name is `= ` and
 -- a literal of the model; with no such name by order.)
-use Rattle.std.specs.Prelude.{◌≡◌, ◌≢◌, ℕ, ◌*◌, ◌⊎◌, Bool, codes, Some, List, [], ◌∷◌, ◌++◌, map, All, AllPairs, Contains, Result, Ok, Err}
+use Rattle.std.specs.Prelude.{◌≡◌, ◌≢◌, ℕ, ◌*◌, ◌⊎◌, codes, Some, List, ◌++◌, map, All, AllPairs, Contains}
 use Rattle.std.specs.List.{zip}
 use Rattle.std.specs.FinMap.{FinMap, get}
 use Rattle.std.specs.Ordering.{nat_cmp}

@@ -1,4 +1,4 @@
-use Rattle.aig_base.proofs.Words.{◌≡◌, ◌∙◌, ◌*◌, ◌/◌, ◌<◌, ℕ, false, ap, arith, false≢true, get_or, length, refl, same_Some, subst, sym}
+use Rattle.aig_base.proofs.Words.{◌≡◌, ◌∙◌, ◌*◌, ◌/◌, ◌<◌, false, ap, arith, false≢true, get_or, length, refl, same_Some, subst, sym}
 use Rattle.std.proofs.lemmas.Option.{none-some}
 use Rattle.aig_format.specs.Text.{IsNumber}
 use Rattle.aig_sharing.proofs.Found.{at_within}

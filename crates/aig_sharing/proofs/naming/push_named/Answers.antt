@@ -1,4 +1,4 @@
-use Rattle.aig_base.proofs.Words.{◌≡◌, ◌<◌, ◌+◌, ◌++◌, ◌∷◌, ◌∙◌, ℕ, Bool, List, [], Vec, Global, Some, None, MatchOption, ap, arith, err_from_is_err_and, get_or, length, set, true, subst, sym, take, Contains-get_or}
+use Rattle.aig_base.proofs.Words.{◌≡◌, ◌<◌, ◌+◌, ◌++◌, ◌∷◌, ◌∙◌, ℕ, [], Vec, Global, ap, arith, err_from_is_err_and, get_or, length, subst, sym, take, Contains-get_or}
 use Rattle.aig_circuit.specs.View.{names_of}
 use Rattle.aig_sharing.specs.Marked.{AddsNamed, IsAt, IsRefused}
 use Rattle.aig_sharing.proofs.Adding.{adds_pair, adds_skip, twice}

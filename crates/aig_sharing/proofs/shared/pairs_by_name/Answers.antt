@@ -1,4 +1,4 @@
-use Rattle.aig_base.proofs.Words.{◌≡◌, ◌∙◌, ◌<◌, ℕ, List, [], Bool, All, Contains, ap, arith, err_from_is_err_and, length, map, subst, sym}
+use Rattle.aig_base.proofs.Words.{◌∙◌, ◌<◌, ℕ, [], All, Contains, ap, arith, err_from_is_err_and, length, map, subst, sym}
 use Rattle.aig_circuit.specs.declared.node.AigNodeType.TheVariants.{Leaf}
 use Rattle.aig_circuit.proofs.Circuits.{latch_leaves-leaves}
 use Rattle.aig_circuit.proofs.Trees.{kind_at-within}

@@ -1,4 +1,4 @@
-use Rattle.aig_base.proofs.Words.{◌≡◌, ◌≤◌, ◌<◌, ◌++◌, ◌∙◌, ◌∷◌, ℕ, List, [], arith, ap, append_assoc, get_or, length, sym, take, zip}
+use Rattle.aig_base.proofs.Words.{◌≤◌, ◌<◌, ◌++◌, ◌∙◌, ◌∷◌, ℕ, [], arith, ap, append_assoc, get_or, length, sym, take, zip}
 use Rattle.aig_simulation.specs.Simulation.{Sharing}
 use Rattle.aig_sharing.proofs.Saying.{zip_long, zip_more, zip_short}
 use Rattle.aig_sharing.proofs.shared.push_in_order.Goals as goal

@@ -1,4 +1,4 @@
-use Rattle.aig_base.proofs.Words.{◌≡◌, ◌∙◌, ◌==◌, [], ap, arith, eqb-true, false≢true, inl, inr, length, subst, sym, vec_len}
+use Rattle.aig_base.proofs.Words.{◌≡◌, ◌∙◌, ◌==◌, ap, arith, eqb-true, false≢true, inl, inr, length, subst, sym, vec_len}
 use Rattle.aig_simulation.specs.Questions.{CanShareLeaves}
 use Rattle.aig_sharing.proofs.Allowed.{named_can, none_named, order_can, some_named}
 use Rattle.aig_sharing.proofs.Saying.{none_left}
