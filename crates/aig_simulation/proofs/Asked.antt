@@ -1,8 +1,10 @@
 -- The circuit of a question, and what it means that all are never true.
-use Rattle.aig_base.proofs.Words.{ℕ, ◌≤◌, IsTrue, List, [], ◌∷◌, refl, sym, ap, subst, ◌∙◌, arith, All, Contains, All-cons, All-nil, All-weaker, append-nil, contains_key, empty, false≢true, get-empty, is_some, nat_cmp}
+use Rattle.aig_base.proofs.Words.{All, All-cons, All-nil, All-same, All-weaker, Bool, Contains, IfSome, IsTrue, List, [], ap, append-nil, arith, contains_key, empty, false, false≢true, get-empty, is_some, list_any, nat_cmp, refl, subst, sym, true, ℕ, ◌||◌, ◌↔◌, ◌∙◌, ◌∷◌, ◌≡◌, ◌≤◌}
 use Rattle.aig_circuit.specs.declared.edge.AigEdge.{AigEdge}
+use Rattle.aig_circuit.specs.declared.node.AigLatch.{AigLatch}
 use Rattle.aig_circuit.specs.declared.node.AigNode.{AigNode}
-use Rattle.aig_circuit.proofs.Words.{AreNodes, Circuit, IsCircuit, IsInRange, IsLatch, IsLeaf, no_properties}
+use Rattle.aig_circuit.proofs.Words.{AreNodes, Circuit, IsCircuit, IsInRange, IsLatch, IsLeaf, edge_value, no_properties}
+use Rattle.aig_runs.specs.Safety.{IsCircuitSafeAt}
 use Rattle.aig_unroll.specs.Places.{leaves_after}
 use Rattle.aig_unroll.proofs.Added.{following-are, following-distinct, following-have}
 use Rattle.aig_simulation.specs.Asking.{AsksWhether}
@@ -79,3 +81,38 @@ shown_certify shared model witness sharing can shown = record {
   base = shown_holds (Holds Base shared model witness) (shown Base);
   step = shown_holds (Holds Step shared model witness) (shown Step);
 }
+
+-- the question is safe at its first step exactly where the claim holds
+pub safe_where_holds : (claim : Type 0) (q : Circuit) → AsksIf claim q
+    → claim ↔ IsCircuitSafeAt q 0
+safe_where_holds claim q asks = (
+  λ holds witness.
+      let bad = sym (ap (list_any (edge_value q.nodes (witness.0 0))) bads) ∙ witness.1.bad in
+      let never = ap (λ b. b || false) (asks.asks.0 holds (witness.0 0)) in
+      false≢true (sym never ∙ bad),
+  λ safe. asks.asks.1 (λ z. by safe z (edge_value q.nodes z asks.edge) refl),
+)
+  where
+    bads : q.properties.bads ≡ asks.edge ∷ []
+    bads = ap (λ (c : Circuit). c.properties.bads) asks.rest
+
+    by : IsCircuitSafeAt q 0 → (z : ℕ → Bool) (b : Bool) → edge_value q.nodes z asks.edge ≡ b
+        → edge_value q.nodes z asks.edge ≡ false
+    by safe z false is = is
+    by safe z true is = absurd (safe (
+      λ t. z,
+      record {
+        is_run = λ t h. absurd (omega (arith, h));
+        start = All-same P q.latchs [] (ap (λ (c : Circuit). c.latchs) asks.rest) (All-nil P);
+        constraints = λ t h.
+            All-same Q q.properties.constraints []
+            (ap (λ (c : Circuit). c.properties.constraints) asks.rest) (All-nil Q);
+        bad = ap (list_any (edge_value q.nodes z)) bads ∙ ap (λ b. b || false) is;
+      },
+    ))
+      where
+        P : AigLatch → Type 0
+        P latch = IfSome latch.init (λ e. edge_value q.nodes z e ≡ z latch.input)
+
+        Q : AigEdge → Type 0
+        Q e = IsTrue (edge_value q.nodes z e)

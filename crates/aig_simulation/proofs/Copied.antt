@@ -54,7 +54,7 @@ module _ (source : List AigNode) (are : AreNodes source) (given : List (Option A
         → edge_value new z (image_at more n) ≡ edge_value mid z (image_at images n)
     value_old z n h =
         ap (edge_value new z) (image_old n h)
-      ∙ grows.values z (image_at images n) (so_far.there n h)
+        ∙ grows.values z (image_at images n) (so_far.there n h)
 
     -- the value of node i's image
     value_here : (kind : AigNodeType) (g : Option AigEdge) → kind_at source i ≡ Some kind

@@ -9,7 +9,7 @@ mod error;
 mod frames;
 mod questions;
 
-ghost use Rattle.std.specs.Prelude.{◌≤◌, ℕ, All, Bool};
+ghost use Rattle.std.specs.Prelude.{◌≤◌, ◌↔◌, ℕ, All, Bool};
 ghost use Rattle.aig_change.specs.Runs.{IsAllowedRun};
 ghost use Rattle.aig_circuit.specs.Circuit.{Circuit, IsCircuit};
 ghost use Rattle.aig_circuit.specs.Edges.{HasConstantInit};
@@ -54,4 +54,11 @@ pub fn unanswered_questions_certify()
         → ((condition : Condition) → (q : Circuit)
         × (asks : AsksIf (Holds condition shared model witness) q) × IsNeverTrue q asks.edge)
         → IsCertificate shared model witness }
+{}
+
+/// Law: a question is safe at its first step, which a solver can be asked for by its query, exactly where the condition holds.
+pub fn conditions_hold_where_questions_are_safe()
+    ensures { (condition : Condition) (shared : Sharing) (model witness q : Circuit)
+        → AsksIf (Holds condition shared model witness) q
+        → Holds condition shared model witness ↔ IsCircuitSafeAt q 0 }
 {}
