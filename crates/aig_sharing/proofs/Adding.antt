@@ -1,10 +1,10 @@
 -- Pairs that are found by names, one leaf after another.
-use Rattle.aig_base.proofs.Words.{◌≡◌, ◌≢◌, ℕ, ◌+◌, ◌<◌, ◌≤◌, ◌==◌, ◌⊎◌, ◌||◌, Bool, true, false, List, [], ◌∷◌, ◌++◌, length, map, take, set, get_or, refl, sym, ap, subst, ◌∙◌, arith, inl, inr, All, AllPairs, Contains, All-contains, All-nil, All-push, Contains-append_cases, Contains-append_left, Contains-get_or, Contains-push, Contains-push_cases, all_pairs_push, append-nil, append_assoc, eq-eqb, eqb-true, false≢true, get_or_default, length-set, get_or-set_other, get_or-set_same, get_or-take, length-take, list_any-append, map-append, or-false, take_all, take_more}
+use Rattle.aig_base.proofs.Words.{◌≡◌, ◌≢◌, ℕ, ◌+◌, ◌<◌, ◌==◌, ◌⊎◌, ◌||◌, Bool, true, false, List, [], ◌∷◌, ◌++◌, length, map, take, set, get_or, refl, sym, ap, subst, ◌∙◌, arith, inl, inr, All, AllPairs, Contains, All-contains, All-push, Contains-append_cases, Contains-append_left, Contains-get_or, Contains-push, Contains-push_cases, all_pairs_push, append_assoc, eq-eqb, eqb-true, false≢true, get_or_default, length-set, get_or-set_other, get_or-set_same, get_or-take, length-take, list_any-append, map-append, or-false, take_more}
 use Rattle.aig_circuit.specs.Renumber.{is_in}
 use Rattle.aig_renumber.proofs.Kept.{is_in-back, is_in-there}
 use Rattle.aig_renumber.proofs.Places.{Contains-map, Contains-map_back}
-use Rattle.aig_simulation.specs.Simulation.{IsSharing, Sharing}
-use Rattle.aig_sharing.specs.Marked.{AddsNamed, IsRefused, Marks}
+use Rattle.aig_simulation.specs.Simulation.{Sharing}
+use Rattle.aig_sharing.specs.Marked.{AddsNamed, IsRefused}
 use Rattle.aig_sharing.specs.Named.{HasForm, IsFor, IsNamed, Names}
 use Rattle.aig_sharing.specs.declared.error.SharingError.TheVariants as errors
 
@@ -54,28 +54,10 @@ later_is_new leaves i d within apart has =
     apart k i n low within (at ∙ sym same)
 
 module _ (names : Names) (leaves : List ℕ) (P : ℕ → Type 0) (before : Sharing) where
-  -- nothing is added yet
-  pub adds_none : (marks : List Bool) → Marks marks (firsts before) → AreApart (firsts before)
-      → IsSharing before → AddsNamed names (take 0 leaves) P before before marks
-  adds_none marks taken once sharing = record {
-    added = [];
-    pairs = sym (append-nil before);
-    named = record {
-      each = All-nil (λ p. IsNamed (IsFor p.0) names p.1 × P p.0 × Contains (take 0 leaves) p.1);
-      all = λ n has form. absurd (omega (arith, has.1));
-    };
-    taken = taken;
-    once = once;
-    sharing = sharing;
-  }
-
   module _ (after : Sharing) (marks : List Bool) (i d : ℕ) (within : i < length leaves)
       (so_far : AddsNamed names (take i leaves) P before after marks) where
     abbrev leaf : ℕ
     leaf = get_or leaves i d
-
-    IsOf : ℕ × ℕ → Type 0
-    IsOf p = IsNamed (IsFor p.0) names p.1 × P p.0 × Contains (take (i + 1) leaves) p.1
 
     old_each : All (λ p. IsNamed (IsFor p.0) names p.1 × P p.0 × Contains (take (i + 1) leaves) p.1)
         so_far.added
@@ -230,10 +212,3 @@ module _ (names : Names) (leaves : List ℕ) (P : ℕ → Type 0) (before : Shar
             let low : has.0 < j = omega (arith, has.1, length-take j ns) in
             let high : has.0 < length ns = omega (arith, has.1, length-take j ns) in
             (has.0, high, sym (get_or-take j ns has.0 n low) ∙ has.2)
-
-  -- all leaves
-  pub adds_all : (after : Sharing) (marks : List Bool) (i : ℕ) → length leaves ≤ i
-      → AddsNamed names (take i leaves) P before after marks
-      → AddsNamed names leaves P before after marks
-  adds_all after marks i past adds =
-      subst (λ l. AddsNamed names l P before after marks) (take_all i leaves past) adds

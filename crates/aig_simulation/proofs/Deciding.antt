@@ -77,10 +77,6 @@ carried : (old new : List AigNode) → AreNodes old → Grows old new → (image
 carried old new are grows images v w first n there =
     grows.values w (image_at images n) there ∙ same_below old are w v first (image_at images n)
 
--- lists that are the same
-pub carry : {A : Type 0} (P : A → Type 0) (a a' : A) → a ≡ a' → P a → P a'
-carry P a a' same p = subst P same p
-
 pub carry2 : {A B : Type 0} (P : A → B → Type 0) (a a' : A) (b b' : B) → a ≡ a' → b ≡ b' → P a b
     → P a' b'
 carry2 P a a' b b' first second p = subst (P a') second (subst (λ x. P x b) first p)
@@ -209,10 +205,6 @@ module _ (shared : Sharing) (model witness : Circuit) (is_model : IsCircuit mode
 
     pub copy_second : IsCopy witness.nodes last second
     copy_second = copy_stays witness.nodes base last second is_witness.nodes grown frame_y.copy
-
-    pub copy_third : IsCopy model.nodes last third
-    copy_third =
-        copy_stays model.nodes far last third is_model.nodes frame_z.grows frame_next.copy
 
     copy_far : IsCopy witness.nodes far second
     copy_far =

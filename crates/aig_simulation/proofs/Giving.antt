@@ -18,10 +18,6 @@ use Rattle.aig_simulation.specs.Simulation.{AllOwn, IsOwn, Sharing}
 -- ---- what is given
 
 module _ {X : Type 0} (leaf : X → ℕ) (edge : X → AigEdge) where
-  -- nothing is given yet
-  pub gives_none : (given : List (Option AigEdge)) → GivesAll leaf edge [] given given
-  gives_none given = record { each = λ k d h. absurd (omega (arith, h)); kept = λ n not. refl }
-
   -- one entry more
   pub gives_more : (xs : List X) (before mid : List (Option AigEdge)) (i : ℕ) (d : X)
       → i < length xs → AllPairs (λ m n. m ≢ n) (map leaf xs)

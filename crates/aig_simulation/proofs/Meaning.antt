@@ -197,16 +197,6 @@ refuting_by base old new premises conclusions e P Q R first second is same = rec
 
 -- ---- pairs, one after another
 
--- no pair
-pub adds_none : (nodes : List AigNode) (es : List AigEdge) (ps : List Pair) → AreNodes nodes
-    → All (IsInRange nodes) es
-    → Adds nodes nodes es es (λ z. All (IsEqual nodes z) (take 0 ps))
-adds_none nodes es ps are there = record {
-  grows = Grows-itself nodes are;
-  there = there;
-  holds = λ z. (λ all. (all, λ k d h. absurd (omega (arith, h))), λ p. p.0);
-}
-
 -- one pair more, for which there is an edge
 pub adds_more : (old mid new : List AigNode) (es more : List AigEdge) (ps : List Pair) (i : ℕ)
     (d : Pair) (e : AigEdge) → i < length ps → All (IsPair old) ps
@@ -296,18 +286,6 @@ refuting_made old one two new premises conclusions asked shown turned e there fi
           ∙ list_all_same (edge_value one z) (edge_value old z) conclusions
           (λ k d h. first.grows.values z (get_or conclusions k d) (there k d h))));
     })
-
--- what is pushed is there
-pub pushed_there : (nodes : List AigNode) (old new : List AigEdge) (f : AigEdge → AigEdge)
-    (es : List AigEdge) → All (IsInRange nodes) old → All (λ e. IsInRange nodes (f e)) es
-    → new ≡ old ++ map f es → All (IsInRange nodes) new
-pushed_there nodes old new f es first there is =
-    All-same (IsInRange nodes) new (old ++ map f es) is
-    (All-append (IsInRange nodes) old (map f es) first (All-map (IsInRange nodes) f es there))
-
--- no edge is there yet
-pub none_there : (nodes : List AigNode) (es : List AigEdge) → es ≡ [] → All (IsInRange nodes) es
-none_there nodes es is = All-same (IsInRange nodes) es [] is (All-nil (IsInRange nodes))
 
 -- and none has to hold
 pub hold_none_yet : (base nodes : List AigNode) (es : List AigEdge) → Grows base nodes → es ≡ []

@@ -57,35 +57,12 @@ moves_same c is x y x' y' same same' all k d h =
 
 module _ (c : Circuit) (base : List AigNode) (images : List AigEdge)
     (copy : IsCopy c.nodes base images) where
-  -- an edge's node has its image
-  pub image_there : (e : AigEdge) → IsInRange c.nodes e → IsInRange base (image_in images e)
-  image_there e h = copy.there e.node_id h
-
+  -- a node's image is there
   pub has_image : (n : ℕ) → n < length c.nodes → HasImage base images n
   has_image n h =
       let count : length images ≡ length c.nodes = copy.count in
       let within : n < length images = omega arith in
       (within, copy.there n h)
-
-  pub edges_below : (es : List AigEdge) → All (IsInRange c.nodes) es
-      → AreNodesBelow (length images) es
-  edges_below es all k d h =
-      let count : length images ≡ length c.nodes = copy.count in
-      let within : IsInRange c.nodes (get_or es k d) = all k d h in
-      omega arith
-
-  pub latches_below : (latchs : List AigLatch) → All (IsLatch c.nodes) latchs
-      → All (IsLatchIn (λ n. n < length images)) latchs
-  latches_below latchs all k d h = subst (λ n. IsLatchIn (λ m. m < n) (get_or latchs k d)) (sym
-      copy.count) (below (get_or latchs k d) (all k d h))
-    where
-      below : (latch : AigLatch) → IsLatch c.nodes latch
-          → IsLatchIn (λ n. n < length c.nodes) latch
-      below latch is_latch = record {
-        leaf = kind_at-within c.nodes latch.input Leaf is_latch.leaf;
-        next = is_latch.next;
-        init = is_latch.init;
-      }
 
   pub images_there : (es : List AigEdge) → All (IsInRange c.nodes) es
       → All (λ e. IsInRange base (image_in images e)) es
