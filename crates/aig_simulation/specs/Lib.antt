@@ -1,2 +1,6 @@
 pub mod Simulation
 pub mod Stratified
+pub mod Questions
+pub mod Copies
+pub mod Frames
+pub mod Asking

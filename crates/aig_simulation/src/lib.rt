@@ -1,13 +1,28 @@
 //! Witness circuits that simulate a model.
 #![tactic(auto)]
 
-ghost use Rattle.std.specs.Prelude.{◌≤◌, ℕ, Bool};
+mod asking;
+mod condition;
+mod copying;
+mod edges;
+mod error;
+mod frames;
+mod questions;
+
+ghost use Rattle.std.specs.Prelude.{◌≤◌, ◌↔◌, ℕ, All, Bool};
 ghost use Rattle.aig_change.specs.Runs.{IsAllowedRun};
 ghost use Rattle.aig_circuit.specs.Circuit.{Circuit, IsCircuit};
+ghost use Rattle.aig_circuit.specs.Edges.{HasConstantInit};
 ghost use Rattle.aig_join.specs.Pairs.{IsGoodState};
 ghost use Rattle.aig_runs.specs.Safety.{IsCircuitSafeAt};
-ghost use Rattle.aig_simulation.specs.Simulation.{Agrees, CanStart, IsCertificate, Sharing};
+ghost use Rattle.aig_simulation.specs.Questions.{AsksIf, Holds, IsNeverTrue};
+ghost use Rattle.aig_simulation.specs.Simulation.{Agrees, CanStart, IsCertificate, IsSharing, Sharing};
 ghost use Rattle.aig_simulation.specs.Stratified.{IsStratified};
+ghost use Rattle.aig_simulation.specs.declared.condition.Condition.{Condition};
+
+pub use condition::Condition;
+pub use error::QuestionError;
+pub use questions::question;
 
 /// Law: a model with a certificate is safe at every step, since beside each of its runs from an initial state that meet the constraints
 /// goes one of the witness circuit, which agrees with it on the shared leaves and whose states are good.
@@ -24,4 +39,26 @@ pub fn certified_models_are_safe()
 /// Law: latches whose resets don't depend on one another in a circle can start.
 pub fn stratified_resets_can_start()
     ensures { (shared : Sharing) (c : Circuit) → IsStratified shared c → CanStart shared c }
+{}
+
+/// Law: latches whose resets are constant or open are in an order in which none depends on another.
+pub fn constant_resets_are_stratified()
+    ensures { (shared : Sharing) (c : Circuit) → IsCircuit c → All HasConstantInit c.latchs
+        → IsStratified shared c }
+{}
+
+/// Law: where for each condition there is a question that no values answer, the witness circuit certifies the model.
+pub fn unanswered_questions_certify()
+    ensures { (shared : Sharing) (model witness : Circuit) → IsSharing shared
+        → CanStart shared witness
+        → ((condition : Condition) → (q : Circuit)
+        × (asks : AsksIf (Holds condition shared model witness) q) × IsNeverTrue q asks.edge)
+        → IsCertificate shared model witness }
+{}
+
+/// Law: a question is safe at its first step, which a solver can be asked for by its query, exactly where the condition holds.
+pub fn conditions_hold_where_questions_are_safe()
+    ensures { (condition : Condition) (shared : Sharing) (model witness q : Circuit)
+        → AsksIf (Holds condition shared model witness) q
+        → Holds condition shared model witness ↔ IsCircuitSafeAt q 0 }
 {}

@@ -1,0 +1,4 @@
+pub mod Adding
+pub mod Allowed
+pub mod Found
+pub mod Saying

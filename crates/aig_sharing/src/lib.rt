@@ -1,0 +1,11 @@
+//! Which leaves of a witness circuit stand for leaves of a model.
+#![tactic(auto)]
+
+mod error;
+mod marks;
+mod named;
+mod naming;
+mod shared;
+
+pub use error::SharingError;
+pub use shared::shared_leaves;

@@ -1,0 +1,71 @@
+-- Constant resets stand in an order.
+use Rattle.aig_base.proofs.Words.{◌≡◌, ◌≢◌, ℕ, suc, ◌<◌, Bool, false, Option, Some, None, IfSome, List, [], ◌∷◌, length, get_or, sym, ap, ◌∙◌, arith, All, AllPairs, All-filter, All-tail, AllPairs-filter, Contains, Contains-get_or, filter_passes, get_or-map, length-map}
+use Rattle.aig_circuit.specs.declared.edge.AigEdge.{AigEdge}
+use Rattle.aig_circuit.specs.declared.node.AigLatch.{AigLatch}
+use Rattle.aig_circuit.proofs.Words.{Circuit, HasConstantInit, IsCircuit, edge_value, inverted_if, latch_leaves, node_value}
+use Rattle.aig_circuit.proofs.Trees.{node_value-false}
+use Rattle.aig_renumber.proofs.Places.{Contains-map_back}
+use Rattle.aig_simulation.specs.Frames.{own_among}
+use Rattle.aig_simulation.specs.Simulation.{Sharing}
+use Rattle.aig_simulation.specs.Stratified.{IsInOrder, IsIndependent, IsStratified}
+use Rattle.aig_simulation.proofs.Deciding.{filter_each, is_own, owns, passes}
+
+-- the latches have different leaves
+abbrev AreApart : List AigLatch → Type 0
+AreApart latchs = AllPairs (λ a b. a.input ≢ b.input) latchs
+
+module _ (c : Circuit) (is : IsCircuit c) where
+  -- a constant depends on no leaf
+  constant : (leaves : List ℕ) (init : Option AigEdge) → IfSome init (λ e. e.node_id ≡ 0)
+      → IfSome init (IsIndependent c leaves)
+  constant leaves None zero_node = tt
+  constant leaves (Some e) zero_node = λ y z same. value y ∙ sym (value z)
+    where
+      value : (x : ℕ → Bool) → edge_value c.nodes x e ≡ inverted_if e.compl false
+      value x =
+          ap (λ n. inverted_if e.compl (node_value c.nodes x n)) zero_node
+          ∙ ap (inverted_if e.compl) (node_value-false c.nodes x 0 is.nodes.false_first)
+
+  in_order : (latchs : List AigLatch) → AreApart latchs → All HasConstantInit latchs
+      → IsInOrder c latchs
+  in_order [] apart constants = tt
+  in_order (latch ∷ later) apart constants = (
+    λ has.
+        let found = Contains-map_back (λ (l : AigLatch). l.input) later latch.input has in
+        let place = found.1 in
+        let first : latch.input ≢ (get_or later place.0 found.0).input =
+        apart 0 (suc place.0) found.0 (omega arith) (omega (arith, place.1)) in
+        first (sym (ap (λ (l : AigLatch). l.input) place.2 ∙ found.2)),
+    constant (latch_leaves (latch ∷ later)) latch.init (constants 0 latch (omega arith)),
+    in_order later
+        (λ i j d lt less. apart (suc i) (suc j) d (omega (arith, lt)) (omega (arith, less)))
+        (All-tail HasConstantInit latch later constants),
+  )
+
+-- latches whose resets are constant or open, in their own order
+pub constant_are_stratified : (shared : Sharing) (c : Circuit) → IsCircuit c
+    → All HasConstantInit c.latchs → IsStratified shared c
+constant_are_stratified shared c is constants = record {
+  order = own_among shared c.latchs;
+  in_order = in_order c is (own_among shared c.latchs)
+      (AllPairs-filter (λ (a : AigLatch) b. a.input ≢ b.input) (is_own shared) c.latchs apart)
+      (All-filter (is_own shared) HasConstantInit c.latchs constants);
+  own = λ k d h.
+      owns shared (get_or (own_among shared c.latchs) k d)
+      (filter_passes (is_own shared) c.latchs k d h);
+  all = λ k d h own.
+      filter_each (is_own shared) (Contains (own_among shared c.latchs)) c.latchs
+      (λ i e l. Contains-get_or (own_among shared c.latchs) i e l) k d h
+      (passes shared (get_or c.latchs k d) own);
+}
+  where
+    apart : AreApart c.latchs
+    apart i j d lt less =
+        let first : i < length c.latchs = omega (arith, lt, less) in
+        let count : length (latch_leaves c.latchs) ≡ length c.latchs =
+        length-map c.latchs (λ (l : AigLatch). l.input) in
+        let differ = is.latchs_distinct i j d.input lt (omega (arith, less, count)) in
+        λ same. differ
+        (get_or-map (λ (l : AigLatch). l.input) c.latchs i d d.input first
+        ∙ same
+        ∙ sym (get_or-map (λ (l : AigLatch). l.input) c.latchs j d d.input less))

@@ -1,0 +1,59 @@
+use Rattle.aig_base.proofs.Words.{◌≡◌, ◌++◌, IfOk-weaker, List, [], map}
+use Rattle.aig_circuit.specs.declared.edge.AigEdge.{AigEdge}
+use Rattle.aig_circuit.specs.declared.node.AigNode.{AigNode}
+use Rattle.aig_circuit.proofs.Words.{Circuit, Grows, IsCircuit, IsInitial, inverse}
+use Rattle.aig_join.specs.Pairs.{IsGoodState, MeetsConstraints}
+use Rattle.aig_unroll.specs.Frame.{image_in}
+use Rattle.aig_simulation.specs.Asking.{HoldWhere}
+use Rattle.aig_simulation.specs.Frames.{IsCopy, read}
+use Rattle.aig_simulation.proofs.Meaning.{hold_none_yet, hold_same, refuting_by}
+use Rattle.aig_simulation.proofs.Reading.{hold_good}
+use Rattle.aig_simulation.proofs.asking.ask_base.Goals as goal
+
+conclusions : (witness : Circuit) → IsCircuit witness → (base new : List AigNode)
+    (y : List AigEdge) → IsCopy witness.nodes base y → Grows base new
+    → (none one last bads : List AigEdge) → none ≡ [] → bads ≡ witness.properties.bads
+    → one ≡ none ++ map (λ e. inverse (image_in y e)) bads → last ≡ one
+    → HoldWhere base new last (λ z. Unit {0} × IsGoodState witness (read base y z))
+conclusions witness is base new y copy grows none one last bads is_none is_bads pushed is_last =
+    hold_same base new one last (λ z. Unit {0} × IsGoodState witness (read base y z)) is_last
+    (hold_good witness is base new y copy none (λ z. Unit {0})
+    (hold_none_yet base new none grows is_none) bads one is_bads pushed)
+
+pub refuting_edge-requires-clause-premises : goal.refuting_edge-requires-clause-premises
+refuting_edge-requires-clause-premises c =
+    (hold_same c.args.nodes.now.items c.initial_edges.new.nodes.items
+    c.in_ok-premises.premises.items
+    c.deref.result.now _ c.deref.ensures.value c.in_ok-premises.ensures.edges).there
+
+pub refuting_edge-requires-clause-conclusions : goal.refuting_edge-requires-clause-conclusions
+refuting_edge-requires-clause-conclusions c =
+    (conclusions c.args.witness.now c.bads.ensures.circuit c.args.nodes.now.items
+    c.initial_edges.new.nodes.items c.args.y.now c.requires.witness
+    c.in_ok-premises.ensures.edges.grows c.new-conclusions.result.items
+    c.push_inverses.new.all.items c.deref-2.result.now c.bads.result.now
+    c.new-conclusions.ensures.items c.bads.ensures.value c.in_ok-push_inverses.ensures
+    c.deref-2.ensures.value).there
+
+pub returns : goal.returns
+returns c =
+    let witness = c.args.witness.now in
+    let base = c.args.nodes.now.items in
+    let new = c.initial_edges.new.nodes.items in
+    let y = c.args.y.now in
+    IfOk-weaker c.refuting_edge.result _ _
+    (λ e is.
+    refuting_by base new c.refuting_edge.new.nodes.items c.deref.result.now c.deref-2.result.now e
+    (λ z. IsInitial witness (read base y z) × MeetsConstraints witness (read base y z))
+    (λ z. Unit {0} × IsGoodState witness (read base y z))
+    (λ z. IsInitial witness (read base y z) × MeetsConstraints witness (read base y z)
+    → IsGoodState witness (read base y z))
+    (hold_same base new c.in_ok-premises.premises.items c.deref.result.now
+    (λ z. IsInitial witness (read base y z) × MeetsConstraints witness (read base y z))
+    c.deref.ensures.value c.in_ok-premises.ensures.edges)
+    (conclusions witness c.bads.ensures.circuit base new y c.requires.witness
+    c.in_ok-premises.ensures.edges.grows c.new-conclusions.result.items
+    c.push_inverses.new.all.items c.deref-2.result.now c.bads.result.now
+    c.new-conclusions.ensures.items c.bads.ensures.value c.in_ok-push_inverses.ensures
+    c.deref-2.ensures.value) is
+    (λ z. (λ f p. (f p).1, λ f p. (tt, f p)))) c.refuting_edge.ensures

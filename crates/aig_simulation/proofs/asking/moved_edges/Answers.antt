@@ -1,0 +1,48 @@
+use Rattle.aig_base.proofs.Words.{◌∙◌, All, ap, map, subst, sym}
+use Rattle.aig_circuit.proofs.Building.{Grows-itself}
+use Rattle.aig_join.specs.Pairs.{MeetsConstraints}
+use Rattle.aig_simulation.specs.Asking.{move_pair}
+use Rattle.aig_simulation.specs.Frames.{read}
+use Rattle.aig_simulation.specs.Simulation.{IsMove}
+use Rattle.aig_simulation.proofs.Meaning.{IsPair, hold_none_yet, hold_words}
+use Rattle.aig_simulation.proofs.Reading.{hold_constraints, hold_moves, moves_there}
+use Rattle.aig_simulation.proofs.asking.moved_edges.Goals as goal
+
+pub push_equal-requires-clause-pairs : goal.push_equal-requires-clause-pairs
+push_equal-requires-clause-pairs c =
+    let circuit = c.args.circuit.now in
+    let before = c.args.before.now in
+    let after = c.args.after.now in
+    let base = c.args.nodes.now.items in
+    let is = c.latchs.ensures.circuit in
+    let made = c.deref.ensures.value ∙ c.in_ok-move_pairs.ensures
+    ∙ ap (map (move_pair before after)) c.latchs.ensures.value in
+    subst (All (IsPair base)) (sym made)
+    (moves_there circuit is base before after c.requires.before c.requires.after)
+
+pub returns : goal.returns
+returns c =
+    let circuit = c.args.circuit.now in
+    let before = c.args.before.now in
+    let after = c.args.after.now in
+    let base = c.args.nodes.now.items in
+    let is = c.latchs.ensures.circuit in
+    let new = c.push_equal.new.nodes.items in
+    let first = c.new-all.result.items in
+    let mid = c.push_equal.new.all.items in
+    let last = c.push_images.new.all.items in
+    let made = c.deref.ensures.value ∙ c.in_ok-move_pairs.ensures
+    ∙ ap (map (move_pair before after)) c.latchs.ensures.value in
+    let none = hold_none_yet base base first (Grows-itself base c.requires.sound)
+    c.new-all.ensures.items in
+    let moved = hold_moves circuit is base new before after mid c.requires.before c.requires.after
+    c.deref.result.now made first (λ z. Unit {0}) none c.in_ok-push_equal.ensures in
+    hold_words base new last
+    (λ z. (Unit {0} × IsMove circuit (read base before z) (read base after z))
+    × MeetsConstraints circuit (read base after z))
+    (λ z. IsMove circuit (read base before z) (read base after z)
+    × MeetsConstraints circuit (read base after z))
+    (λ z. (λ p. (p.0.1, p.1), λ p. ((tt, p.0), p.1)))
+    (hold_constraints circuit is base new after c.requires.after mid
+    (λ z. Unit {0} × IsMove circuit (read base before z) (read base after z)) moved
+    c.constraints.result.now last c.constraints.ensures.value c.in_ok-push_images.ensures)

@@ -1,0 +1,33 @@
+use Rattle.aig_base.proofs.Words.{◌+◌, false, All, get_or, subst, sym, take}
+use Rattle.aig_circuit.proofs.Words.{edge_to, edge_value}
+use Rattle.aig_circuit.proofs.Joining.{true_where_equal}
+use Rattle.aig_simulation.specs.Asking.{Adds, IsEqual, Pair}
+use Rattle.aig_simulation.proofs.Meaning.{adds_all, adds_more}
+use Rattle.aig_simulation.proofs.edges.push_equal.Goals as goal
+
+abbrev no_pair : Pair
+no_pair = (edge_to 0 false, edge_to 0 false)
+
+pub loop-pair-preserved : goal.loop-pair-preserved
+loop-pair-preserved c =
+    let old = c.args.nodes.now.items in
+    let mid = c.loop-pair.nodes.items in
+    let new = c.new_eq_node.new.nodes.items in
+    let first = c.args.all.now.items in
+    let pairs = c.args.pairs.now in
+    let i = c.loop-pair.pair-index in
+    let e = c.in_ok-equal.equal in
+    let pair = get_or pairs i no_pair in
+    subst (λ l. Adds old new first l (λ z. All (IsEqual old z) (take (i + 1) pairs)))
+    (sym c.in_ok-push.ensures.items)
+    (adds_more old mid new first c.loop-pair.all.items pairs i no_pair e c.loop-pair-test.true
+    c.requires.pairs c.loop-pair.invariant c.in_ok-equal.ensures.gates.grows
+    c.in_ok-equal.ensures.gives.there
+    (λ z. true_where_equal new e (λ x. edge_value mid x pair.0) (λ x. edge_value mid x pair.1)
+    c.in_ok-equal.ensures.gives z))
+
+pub returns : goal.returns
+returns c =
+    adds_all c.args.nodes.now.items c.loop-pair.nodes.items c.args.all.now.items
+    c.loop-pair.all.items c.args.pairs.now c.loop-pair.pair-index c.loop-pair-test.false
+    c.loop-pair.invariant

@@ -1,0 +1,10 @@
+use Rattle.std.proofs.Common.{take}
+use Rattle.aig_circuit.specs.declared.node.AigLatch.{AigLatch}
+use Rattle.aig_unroll.specs.Frame.{image_in}
+use Rattle.aig_simulation.specs.Frames.{GivesAll}
+use Rattle.aig_simulation.proofs.frames.give_next.Given as goal
+
+abbrev pub invariant-loop-latch : goal.invariant-loop-latch
+invariant-loop-latch l =
+    GivesAll (λ (x : AigLatch). x.input) (λ x. image_in l.images x.next)
+    (take l.latch-index l.latchs) l.initial.given l.given

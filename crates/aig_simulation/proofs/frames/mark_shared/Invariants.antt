@@ -1,0 +1,6 @@
+use Rattle.std.proofs.Common.{take}
+use Rattle.aig_simulation.specs.Frames.{MarksShared}
+use Rattle.aig_simulation.proofs.frames.mark_shared.Given as goal
+
+abbrev pub invariant-loop-pair : goal.invariant-loop-pair
+invariant-loop-pair l = MarksShared (take l.pair-index l.shared) l.initial.marks l.marks

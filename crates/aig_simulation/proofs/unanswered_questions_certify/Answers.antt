@@ -1,0 +1,5 @@
+use Rattle.aig_simulation.proofs.Asked.{shown_certify}
+use Rattle.aig_simulation.proofs.unanswered_questions_certify.Goals as goal
+
+pub returns : goal.returns
+returns c = shown_certify

@@ -1,0 +1,96 @@
+//! Copies of a circuit in a question: one state of it, beside other copies.
+
+ghost use Rattle.std.specs.Prelude.{◌≡◌, ◌≢◌, ◌<◌, ℕ, IfOk, All, AllPairs, length};
+ghost use Rattle.aig_circuit.specs.Circuit.{AreNodes, IsCircuit, IsLatch, IsLeaf, latch_leaves};
+ghost use Rattle.aig_simulation.specs.Copies.{HasImage};
+ghost use Rattle.aig_simulation.specs.Frames.{GivesAll, IsFrame, MarksShared, own_among};
+ghost use Rattle.aig_simulation.specs.Simulation.{IsSharing};
+ghost use Rattle.aig_unroll.specs.Frame.{image_at, image_in};
+
+use crate::copying::{copy_nodes, image_of};
+use aig_base::MemoryError;
+use aig_circuit::{AigEdge, AigLatch, AigNode, CircuitView};
+use std::alloc::Global;
+
+/// Gives for each latch's leaf the image of its next edge.
+fn give_next(given: &mut [Option<AigEdge>], latchs: &[AigLatch], images: &[AigEdge])
+    requires leaves { All (λ l. l.input < length given.old) latchs.now }
+    requires next { All (λ l. l.next.node_id < length images.now) latchs.now }
+    requires distinct { AllPairs (λ m n. m ≢ n) (latch_leaves latchs.now) }
+    ensures { GivesAll (λ l. l.input) (λ l. image_in images.now l.next) latchs.now
+        given.old given.new }
+{
+    for latch in latchs {
+        given[latch.input()] = Some(image_of(images, latch.next()));
+    }
+}
+
+/// Gives for each shared leaf the image of the one that it stands for.
+fn give_shared(given: &mut [Option<AigEdge>], shared: &[(usize, usize)], images: &[AigEdge])
+    requires leaves { All (λ p. p.1 < length given.old) shared.now }
+    requires images { All (λ p. p.0 < length images.now) shared.now }
+    requires distinct { IsSharing shared.now }
+    ensures { GivesAll (λ p. p.1) (λ p. image_at images.now p.0) shared.now given.old given.new }
+{
+    for pair in shared {
+        given[pair.1] = Some(images[pair.0]);
+    }
+}
+
+/// Appends a copy of the circuit, and returns the image of each node. A shared leaf is the image in `others` of the leaf that it
+/// stands for, and the leaf of any other of these latches is the image of its next edge in `before`.
+pub(crate) fn copy_circuit(
+    alloc: Global,
+    nodes: &mut Vec<AigNode>,
+    circuit: &CircuitView<'_>,
+    latchs: &[AigLatch],
+    before: &[AigEdge],
+    shared: &[(usize, usize)],
+    others: &[AigEdge],
+) -> Result<Vec<AigEdge>, MemoryError>
+    requires sound { AreNodes nodes.old.items }
+    requires latchs { All (IsLatch circuit.now.nodes) latchs.now }
+    requires next { All (λ l. HasImage nodes.old.items before.now l.next.node_id) latchs.now }
+    requires distinct { AllPairs (λ m n. m ≢ n) (latch_leaves latchs.now) }
+    requires shared { All (λ p. IsLeaf circuit.now.nodes p.1) shared.now }
+    requires others { All (λ p. HasImage nodes.old.items others.now p.0) shared.now }
+    requires sharing { IsSharing shared.now }
+    ensures frame { IfOk result (λ images. IsFrame circuit.now latchs.now before.now shared.now
+        others.now nodes.old.items nodes.new.items images.items) }
+    ensures circuit { IsCircuit circuit.now }
+{
+    let mut given = vec![in alloc; None; circuit.nodes().len()]?;
+    give_next(&mut given, latchs, before);
+    give_shared(&mut given, shared, others);
+    copy_nodes(alloc, nodes, circuit.nodes(), &given)
+}
+
+/// Marks the shared leaves.
+fn mark_shared(marks: &mut [bool], shared: &[(usize, usize)])
+    requires { All (λ p. p.1 < length marks.old) shared.now }
+    ensures { MarksShared shared.now marks.old marks.new }
+{
+    for pair in shared {
+        marks[pair.1] = true;
+    }
+}
+
+/// The latches of the witness circuit whose leaves aren't shared.
+pub(crate) fn own_latches(
+    alloc: Global,
+    witness: &CircuitView<'_>,
+    shared: &[(usize, usize)],
+) -> Result<Vec<AigLatch>, MemoryError>
+    requires { All (λ p. p.1 < length witness.now.nodes) shared.now }
+    ensures { IfOk result (λ own. own.items ≡ own_among shared.now witness.now.latchs) }
+{
+    let mut marks = vec![in alloc; false; witness.nodes().len()]?;
+    mark_shared(&mut marks, shared);
+    let mut own = Vec::new(alloc);
+    for latch in witness.latchs() {
+        if !marks[latch.input()] {
+            own.push(*latch)?;
+        }
+    }
+    Ok(own)
+}

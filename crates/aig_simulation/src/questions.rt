@@ -1,0 +1,213 @@
+//! The questions as circuits.
+
+ghost use Rattle.std.specs.Prelude.{◌≡◌, ◌<◌, ◌≤◌, ◌∷◌, [], IfErr, IfOk, IsErrOf, length, map, filter};
+ghost use Rattle.std.specs.FinMap.{empty};
+ghost use Rattle.aig_circuit.specs.Circuit.{AreNodes, Circuit};
+ghost use Rattle.aig_circuit.specs.Properties.{no_properties};
+ghost use Rattle.aig_circuit.specs.View.{lists_circuit};
+ghost use Rattle.aig_simulation.specs.Asking.{AsksWhether};
+ghost use Rattle.aig_simulation.specs.Questions.{AsksIf, CanShareLeaves, Holds};
+ghost use Rattle.aig_simulation.specs.Simulation.{BaseHolds, PropertyHolds, ResetHolds, StepHolds, TransitionHolds};
+ghost use Rattle.aig_simulation.specs.declared.condition.Condition.TheVariants as conditions;
+ghost use Rattle.aig_simulation.specs.declared.error.QuestionError.TheVariants as errors;
+ghost use Rattle.aig_unroll.specs.Places.{leaves_after};
+
+use crate::asking::{ask_base, ask_property, ask_reset, ask_step, ask_transition};
+use crate::condition::Condition;
+use crate::error::QuestionError;
+use crate::frames::{copy_circuit, own_latches};
+use aig_base::MemoryError;
+use aig_circuit::{AigEdge, AigNode, CircuitLists, CircuitView, Properties, false_node};
+use std::alloc::Global;
+use std::collections::HashMap;
+
+/// The edge that is never true exactly where the resets fit.
+fn reset(
+    alloc: Global,
+    nodes: &mut Vec<AigNode>,
+    model: &CircuitView<'_>,
+    witness: &CircuitView<'_>,
+    shared: &[(usize, usize)],
+) -> Result<AigEdge, MemoryError>
+    requires sound { AreNodes nodes.old.items }
+    requires shared { CanShareLeaves shared.now model.now witness.now }
+    ensures { IfOk result (AsksWhether (ResetHolds shared.now model.now witness.now)
+        nodes.old.items nodes.new.items) }
+{
+    let x = copy_circuit(alloc, nodes, model, &[], &[], &[], &[])?;
+    let y = copy_circuit(alloc, nodes, witness, &[], &[], shared, &x)?;
+    let own = own_latches(alloc, witness, shared)?;
+    ask_reset(alloc, nodes, model, witness, &own, &x, &y)
+}
+
+/// The edge that is never true exactly where the steps fit.
+fn transition(
+    alloc: Global,
+    nodes: &mut Vec<AigNode>,
+    model: &CircuitView<'_>,
+    witness: &CircuitView<'_>,
+    shared: &[(usize, usize)],
+) -> Result<AigEdge, MemoryError>
+    requires sound { AreNodes nodes.old.items }
+    requires shared { CanShareLeaves shared.now model.now witness.now }
+    ensures { IfOk result (AsksWhether (TransitionHolds shared.now model.now witness.now)
+        nodes.old.items nodes.new.items) }
+{
+    let x = copy_circuit(alloc, nodes, model, &[], &[], &[], &[])?;
+    let y = copy_circuit(alloc, nodes, witness, &[], &[], shared, &x)?;
+    let next = copy_circuit(alloc, nodes, model, model.latchs(), &x, &[], &[])?;
+    let z = copy_circuit(alloc, nodes, witness, witness.latchs(), &y, shared, &next)?;
+    ask_transition(alloc, nodes, model, witness, &x, &next, &y, &z)
+}
+
+/// The edge that is never true exactly where the properties fit.
+fn property(
+    alloc: Global,
+    nodes: &mut Vec<AigNode>,
+    model: &CircuitView<'_>,
+    witness: &CircuitView<'_>,
+    shared: &[(usize, usize)],
+) -> Result<AigEdge, MemoryError>
+    requires sound { AreNodes nodes.old.items }
+    requires shared { CanShareLeaves shared.now model.now witness.now }
+    ensures { IfOk result (AsksWhether (PropertyHolds shared.now model.now witness.now)
+        nodes.old.items nodes.new.items) }
+{
+    let x = copy_circuit(alloc, nodes, model, &[], &[], &[], &[])?;
+    let y = copy_circuit(alloc, nodes, witness, &[], &[], shared, &x)?;
+    ask_property(alloc, nodes, model, witness, &x, &y)
+}
+
+/// The edge that is never true exactly where initial states are good.
+fn base(
+    alloc: Global,
+    nodes: &mut Vec<AigNode>,
+    witness: &CircuitView<'_>,
+) -> Result<AigEdge, MemoryError>
+    requires { AreNodes nodes.old.items }
+    ensures { IfOk result (AsksWhether (BaseHolds witness.now) nodes.old.items nodes.new.items) }
+{
+    let y = copy_circuit(alloc, nodes, witness, &[], &[], &[], &[])?;
+    ask_base(alloc, nodes, witness, &y)
+}
+
+/// The edge that is never true exactly where steps lead from good states to good ones.
+fn step(
+    alloc: Global,
+    nodes: &mut Vec<AigNode>,
+    witness: &CircuitView<'_>,
+) -> Result<AigEdge, MemoryError>
+    requires { AreNodes nodes.old.items }
+    ensures { IfOk result (AsksWhether (StepHolds witness.now) nodes.old.items nodes.new.items) }
+{
+    let y = copy_circuit(alloc, nodes, witness, &[], &[], &[], &[])?;
+    let z = copy_circuit(alloc, nodes, witness, witness.latchs(), &y, &[], &[])?;
+    ask_step(alloc, nodes, witness, &y, &z)
+}
+
+/// The edge that is never true exactly where the condition holds.
+fn asking_edge(
+    alloc: Global,
+    nodes: &mut Vec<AigNode>,
+    condition: Condition,
+    model: &CircuitView<'_>,
+    witness: &CircuitView<'_>,
+    shared: &[(usize, usize)],
+) -> Result<AigEdge, MemoryError>
+    requires sound { AreNodes nodes.old.items }
+    requires shared { CanShareLeaves shared.now model.now witness.now }
+    ensures { IfOk result (AsksWhether (Holds condition shared.now model.now witness.now)
+        nodes.old.items nodes.new.items) }
+{
+    match condition {
+        Condition::Reset => reset(alloc, nodes, model, witness, shared),
+        Condition::Transition => transition(alloc, nodes, model, witness, shared),
+        Condition::Property => property(alloc, nodes, model, witness, shared),
+        Condition::Base => base(alloc, nodes, witness),
+        Condition::Step => step(alloc, nodes, witness),
+    }
+}
+
+/// The numbers of the leaves.
+fn leaves(alloc: Global, nodes: &[AigNode]) -> Result<Vec<usize>, MemoryError>
+    ensures { IfOk result (λ leaves. leaves.items ≡ leaves_after 0 nodes.now) }
+{
+    let mut leaves = Vec::new(alloc);
+    for node in nodes {
+        if node.is_leaf() {
+            leaves.push(node.node_id())?;
+        }
+    }
+    Ok(leaves)
+}
+
+/// The circuit of these nodes, whose leaves are inputs, with one bad edge.
+fn with_bad(alloc: Global, nodes: Vec<AigNode>, bad: AigEdge) -> Result<CircuitLists, MemoryError>
+    ensures { IfOk result (λ lists. lists_circuit lists ≡ record {
+      nodes = nodes.items;
+      inputs = leaves_after 0 nodes.items;
+      latchs = [];
+      properties = record no_properties { bads = bad ∷ [] };
+      names = empty;
+    }) }
+{
+    let inputs = leaves(alloc, &nodes)?;
+    let mut properties = Properties::new(alloc);
+    properties.bads.push(bad)?;
+    Ok(CircuitLists {
+        nodes,
+        inputs,
+        latchs: Vec::new(alloc),
+        properties,
+        names: HashMap::new(alloc),
+    })
+}
+
+/// The question for a condition, of any size.
+fn whole_question(
+    alloc: Global,
+    condition: Condition,
+    model: &CircuitView<'_>,
+    witness: &CircuitView<'_>,
+    shared: &[(usize, usize)],
+) -> Result<CircuitLists, MemoryError>
+    requires { CanShareLeaves shared.now model.now witness.now }
+    ensures { IfOk result (λ lists.
+        AsksIf (Holds condition shared.now model.now witness.now) (lists_circuit lists)) }
+{
+    let mut nodes = Vec::new(alloc);
+    nodes.push(false_node())?;
+    let bad = asking_edge(alloc, &mut nodes, condition, model, witness, shared)?;
+    with_bad(alloc, nodes, bad)
+}
+
+/// The question for a condition that a witness circuit meets as a certificate of a model: a circuit of gates over inputs, with one
+/// bad edge, which no values of the inputs make true exactly where the condition holds. Each pair of `shared` has a leaf of
+/// the model and the one of the witness circuit that stands for it, and no leaf of the witness circuit stands in two. In the
+/// question a shared leaf is the model's, and where a step is asked for, a latch's leaf after it is its next edge before it.
+///
+/// # Errors
+///
+/// - `Memory`: memory was refused.
+/// - `TooLarge`: the question has more than `limit` nodes.
+pub fn question(
+    alloc: Global,
+    limit: usize,
+    condition: Condition,
+    model: &CircuitView<'_>,
+    witness: &CircuitView<'_>,
+    shared: &[(usize, usize)],
+) -> Result<CircuitLists, QuestionError>
+    requires { CanShareLeaves shared.now model.now witness.now }
+    ensures asks { IfOk result (λ lists.
+        AsksIf (Holds condition shared.now model.now witness.now) (lists_circuit lists)) }
+    ensures few { IfOk result (λ lists. length (lists_circuit lists).nodes ≤ limit) }
+    ensures large { IsErrOf result QuestionError.TooLarge → (q : Circuit)
+        × AsksIf (Holds condition shared.now model.now witness.now) q × (limit < length q.nodes) }
+{
+    let question = whole_question(alloc, condition, model, witness, shared)?;
+    if question.nodes.len() > limit {
+        return Err(QuestionError::TooLarge);
+    }
+    Ok(question)
+}
