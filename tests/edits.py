@@ -53,8 +53,11 @@ class Edit:
         return refusals.place_at(file, text, text.index(old)) if old in text else None
 
     def asked(self):
-        """What a check is asked for to judge it: the functions that it is in by their names in its file, or else their modules."""
-        named = {place: refusals.at_place(place, self.refused) for place in self.places if place}
+        """What a check is asked for to judge it: the functions that it is in by their names in its file, or else their modules. Where it
+        touches anything else, all that its file names; with none the whole crate."""
+        if None in self.places:
+            return set(self.refused)
+        named = {place: refusals.at_place(place, self.refused) for place in self.places}
         return {name for (module, function), names in named.items() for name in names or [module or function]}
 
     def applied(self, texts):
@@ -150,7 +153,7 @@ class Batch:
     def in_one(self, edits, whole):
         """What refuses each edit of one round. Where it doesn't compile, its halves are tried; what another hides is left out."""
         chosen, texts = together(edits)
-        asked = set() if whole or None in chosen[0].places else set().union(*(edit.asked() for edit in chosen))
+        asked = set() if whole else set().union(*(edit.asked() for edit in chosen))
         states = refusals.states(self.check(texts, asked))
         if states:
             found = {edit: judged(edit, states) for edit in chosen}
