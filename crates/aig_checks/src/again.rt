@@ -1,6 +1,6 @@
 //! The place where what is given beside a file is refused, found by running the command again.
 
-ghost use Rattle.std.specs.Prelude.{◌≡◌, ◌+◌, ◌<◌, ◌⊎◌, ◌∷◌, IsTrue, Some, length, map, slice_get, string_bytes, true};
+ghost use Rattle.std.specs.Prelude.{◌≡◌, ◌+◌, ◌<◌, ◌⊎◌, ◌∷◌, IfSome, IsTrue, Some, length, map, slice_get, string_bytes, true};
 ghost use Rattle.aig_command_line.specs.declared.tally.Place.TheVariants as places;
 ghost use Rattle.aig_command_line.specs.Came.{IsPlaceIn};
 ghost use Rattle.aig_checks.specs.Explaining.{IsRefusedIn, IsRunPlace};
@@ -146,8 +146,8 @@ fn place_told<R: Source, B: Origin>(counted: &Counted<R, B>, measure: Measure) -
 enum Traced<R, C> {
     /// One that is read as it is.
     Plain(R),
-    /// The one of which the place is looked for: its bytes are counted.
-    Counted(C),
+    /// The one of which the place is looked for: its bytes are counted. It has a buffer, which isn't on the stack.
+    Counted(Box<C>),
 }
 
 impl<R: Source, C: Source> Source for Traced<R, C> {
@@ -162,7 +162,7 @@ impl<R: Source, C: Source> Source for Traced<R, C> {
     fn pull(&mut self, buf: &mut [u8]) -> Result<usize, StreamFault> {
         match self {
             Traced::Plain(source) => source.pull(buf),
-            Traced::Counted(source) => source.pull(buf),
+            Traced::Counted(source) => (**source).pull(buf),
         }
     }
 }
@@ -170,45 +170,56 @@ impl<R: Source, C: Source> Source for Traced<R, C> {
 /// Inputs of which one may be counted.
 type Trace<R, B> = Inputs<Traced<R, Counted<R, B>>>;
 
-/// An input, counted or not.
-fn counted_if<R: Source + Drop, B: Origin>(source: R, is_counted: bool) -> Traced<R, Counted<R, B>>
+/// An input, counted or not, if there is memory for that.
+// It is never inlined: else its buffer is on the stack while the command is run.
+#[inline(never)]
+fn counted_if<R: Source + Drop, B: Origin>(
+    alloc: Global,
+    source: R,
+    is_counted: bool,
+) -> Option<Traced<R, Counted<R, B>>>
     requires { IsTrue is_counted → R.left source ≡ B.bytes }
-    ensures { ⟦<Traced<R, Counted<R, B>> as Source>⟧.left result ≡ R.left source }
+    ensures { IfSome result (λ input. ⟦<Traced<R, Counted<R, B>> as Source>⟧.left input
+        ≡ R.left source) }
 {
-    if is_counted {
-        Traced::Counted(Counted::new(source))
-    } else {
-        Traced::Plain(source)
+    if !is_counted {
+        return Some(Traced::Plain(source));
+    }
+    match Box::new(alloc, Counted::new(source)) {
+        Ok(counted) => Some(Traced::Counted(counted)),
+        Err(_) => None,
     }
 }
 
-/// The inputs, of which the one of this number, the first of which is 0, is counted.
-fn trace<R: Source + Drop, B: Origin>(inputs: Inputs<R>, which: usize) -> Trace<R, B>
+/// The inputs, of which the one of this number, the first of which is 0, is counted, if there is memory for that.
+fn trace<R: Source + Drop, B: Origin>(
+    alloc: Global,
+    inputs: Inputs<R>,
+    which: usize,
+) -> Option<Trace<R, B>>
     requires { slice_get (map R.left (listed inputs)) which ≡ Some B.bytes }
-    ensures { map ⟦<Traced<R, Counted<R, B>> as Source>⟧.left (listed result)
-        ≡ map R.left (listed inputs) }
+    ensures { IfSome result (λ traced. map ⟦<Traced<R, Counted<R, B>> as Source>⟧.left
+        (listed traced) ≡ map R.left (listed inputs)) }
 {
-    match inputs {
+    Some(match inputs {
         Inputs::Empty => Inputs::Empty,
-        Inputs::One(first) => Inputs::One(counted_if(first, which == 0)),
-        Inputs::Two(first, second) => {
-            Inputs::Two(
-                counted_if(first, which == 0),
-                counted_if(second, which == 1),
-            )
-        }
+        Inputs::One(first) => Inputs::One(counted_if(alloc, first, which == 0)?),
+        Inputs::Two(first, second) => Inputs::Two(
+            counted_if(alloc, first, which == 0)?,
+            counted_if(alloc, second, which == 1)?,
+        ),
         Inputs::Three(first, second, third) => Inputs::Three(
-            counted_if(first, which == 0),
-            counted_if(second, which == 1),
-            counted_if(third, which == 2),
+            counted_if(alloc, first, which == 0)?,
+            counted_if(alloc, second, which == 1)?,
+            counted_if(alloc, third, which == 2)?,
         ),
         Inputs::Four(first, second, third, fourth) => Inputs::Four(
-            counted_if(first, which == 0),
-            counted_if(second, which == 1),
-            counted_if(third, which == 2),
-            counted_if(fourth, which == 3),
+            counted_if(alloc, first, which == 0)?,
+            counted_if(alloc, second, which == 1)?,
+            counted_if(alloc, third, which == 2)?,
+            counted_if(alloc, fourth, which == 3)?,
         ),
-    }
+    })
 }
 
 /// The place that is told of the counted input.
@@ -225,7 +236,7 @@ fn place_among<R: Source, B: Origin>(inputs: &Trace<R, B>, measure: Measure) -> 
         | Inputs::Four(Traced::Counted(counted), _, _, _)
         | Inputs::Four(_, Traced::Counted(counted), _, _)
         | Inputs::Four(_, _, Traced::Counted(counted), _)
-        | Inputs::Four(_, _, _, Traced::Counted(counted)) => place_told(counted, measure),
+        | Inputs::Four(_, _, _, Traced::Counted(counted)) => place_told(&**counted, measure),
         _ => Place::Whole,
     }
 }
@@ -250,7 +261,9 @@ fn place_in<R: Source + Drop, B: Origin>(
     ensures { (result ≡ places.Whole) ⊎ IsRefusedIn call.now.limit call.now.asked
         (R.left file ∷ map R.left (listed inputs)) (which + 1) error measure result }
 {
-    let mut traced = trace::<R, B>(inputs, which);
+    let Some(mut traced) = trace::<R, B>(alloc, inputs, which) else {
+        return Place::Whole;
+    };
     match check_asked(
         alloc,
         call.limit,
