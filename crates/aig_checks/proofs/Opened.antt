@@ -169,3 +169,4 @@ some_paths (commands.File c) = omega arith
 some_paths (commands.Pair c) = omega arith
 some_paths (commands.Safe k form o p) = omega arith
 some_paths (commands.EqualBy o) = omega arith
+some_paths (commands.SafeBySteps k form o p) = omega arith
