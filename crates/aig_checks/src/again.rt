@@ -279,7 +279,10 @@ pub(crate) fn place_by_run<F: Reopens>(
         (map string_bytes call.now.paths.now) (map string_bytes call.now.further.now) number error
         measure result }
 {
-    if number >= call.further.len() || is_each(call.asked.command) {
+    if number >= call.further.len() {
+        return Place::Whole;
+    }
+    if is_each(call.asked.command) {
         return Place::Whole;
     }
     let Ok((file, inputs)) = open_all(&Again::new(files), call.paths, call.further) else {

@@ -1,7 +1,7 @@
-use Rattle.aig_base.proofs.Words.{◌≡◌, ◌++◌, ◌∙◌, Err, ap, err_from_is_err_and, inl, inr, map, refl, string_bytes, subst, sym}
+use Rattle.aig_base.proofs.Words.{◌≡◌, ◌++◌, ◌∙◌, arith, Err, ap, err_from_is_err_and, inl, inr, map, refl, string_bytes, subst, sym}
 use Rattle.aig_checks.specs.Acting.{RanOn}
 use Rattle.aig_checks.specs.Inputs.{listed}
-use Rattle.aig_checks.proofs.Opened.{all_opened, inputs_fit, not_refused, opened_are, opens_on}
+use Rattle.aig_checks.proofs.Opened.{all_opened, few_files, inputs_fit, not_refused, opened_are, opens_on}
 use Rattle.aig_checks.proofs.acting.act_on.Goals as goal
 
 pub run-requires-clause-fits : goal.run-requires-clause-fits
@@ -40,3 +40,12 @@ returns g c =
 
 pub returns-then-is_each : goal.returns-then-is_each
 returns-then-is_each g c = inr c.act_by_steps.ensures
+
+pub open_all-requires-clause-few : goal.open_all-requires-clause-few
+open_all-requires-clause-few g c =
+    omega (
+      arith,
+      few_files c.args.call.now.asked.command (sym c.is_each.ensures ∙ c.if-is_each.false),
+      c.requires.paths,
+      c.requires.further,
+    )
