@@ -20,8 +20,8 @@
  * pointed to is as it was. Asking for the size does all the work: keep a buffer, and grow it after AIG_SMALL.
  *
  * `k` is the number of a step, from 0 on. `optimize` says whether exclusive ors and choices have clauses of their own; the programs'
- * word `raw` says the opposite. A proof and a solver's answer are of the clauses of the same `k` and `optimize`. A proof is in LRAT, as
- * text (cadical --lrat --no-binary), or in DRAT, as text or binary. A solver's answer is its lines `s SATISFIABLE` and `v ..`.
+ * word `raw` says the opposite. A proof and a solver's answer are of the clauses of the same `k` and `optimize`. A proof is in LRAT
+ * or in DRAT, as text or binary. A solver's answer is its lines `s SATISFIABLE` and `v ..`.
  *
  * Bad states are reached on runs that meet every constraint at each step: where there is no such run, none is (`aig_possible` asks for
  * one). Justice and fairness are read, and only `aig_live`, `aig_rounds`, `aig_check_lasso`, `aig_check_no_lasso`,
@@ -96,7 +96,7 @@ enum aig_status {
   AIG_PROOF_LARGE = 45,      /* A number is 65,540 or more above four times how many were used. */
   AIG_PROOF_STEP = 46,       /* A clause doesn't follow. */
   AIG_PROOF_ASYMMETRY = 47,  /* A step with hints for other clauses has not the RAT property. */
-  AIG_PROOF_BINARY = 48,     /* Neither text nor binary DRAT. */
+  AIG_PROOF_BINARY = 48,     /* Neither a text nor a binary proof. */
   AIG_PROOF_UNFINISHED = 49, /* The proof ends before the empty clause. */
 
   /* A witness is refused. */

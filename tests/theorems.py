@@ -19,8 +19,8 @@ PAGE = promises.TOP / "docs" / "PROMISES.md"
 CLAUSES = promises.TOP / "tests" / "theorems.tsv"
 ROWS = promises.TOP / "tests" / "rows.tsv"
 NAMED = re.compile(r"`([^`]+)`")
-# A row, an item of a list: names of calls or laws, and what is told of them. Behind `of` stands the crate whose names they are.
-ROW = re.compile(r"^- ((?:`[^`]+`(?:, )?)+)(?: of `(\w+)`)?: (.*)$", re.MULTILINE)
+# A row of a table: names of calls or laws, and what is told of them. Behind `of` stands the crate whose names they are.
+ROW = re.compile(r"^\| ((?:`[^`]+`(?:, )?)+)(?: of `(\w+)`)? \| (.*) \|$", re.MULTILINE)
 BLOCK = re.compile(r"^```.*?^```$", re.DOTALL | re.MULTILINE)
 QUOTED = re.compile(r"\]\(([^)\s]+\.antt)\)[^\n]*\n\n?```antt\n(.*?)```", re.DOTALL)
 

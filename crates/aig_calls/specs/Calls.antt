@@ -5,7 +5,7 @@
 use Rattle.std.specs.Prelude.{◌≡◌, ℕ, ◌<◌, ◌≤◌, ◌^◌, ◌++◌, if◌then◌else◌, Bool, List, length, drop, Option, Some, Result, Ok, Err, IfErr, IfOk, Vec, ℤ}
 use Rattle.std.specs.declared.alloc.Global.{Global}
 use Rattle.aig_answers.specs.Answers as answering
-use Rattle.aig_answers.specs.Answers.{IsAsked, asked_verdict}
+use Rattle.aig_answers.specs.Answers.{IsAsked, IsOfQuery, asked_verdict}
 use Rattle.aig_answers.specs.declared.error.AnswerError.{AnswerError}
 use Rattle.aig_checks.specs.Comparing.{RunsComparing}
 use Rattle.aig_checks.specs.Pairs.{RunsPair}
@@ -194,6 +194,7 @@ pub record Lists (limit k : ℕ) (optimize : Bool) (r rest : Memory)
       (IsReadAs (IsAsked limit k) (IsListing k optimize) (bytes_of r) (bytes_of rest))
   pub verdict : Judges (asked_verdict limit k) limit (bytes_of r) (bytes_of rest)
       (has_failed rest) (verdict_by answering.verdict_of result)
+  pub own : IfErr result IsOfQuery
 
 -- ---- what is told
 

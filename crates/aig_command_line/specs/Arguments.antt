@@ -24,8 +24,8 @@ abbrev pub word_if : Bool → List ℕ → List (List ℕ)
 word_if true word = word ∷ []
 word_if false word = []
 
--- the words of step K: none, K, or the word `to` or `each` and K, which has one or more digits and a
--- value of at most 2^32 - 1; or the word `by`, and no step
+-- the words of step K: none, K, or the word `to` or `each` and K, which has one or more digits and
+-- a value of at most 2^32 - 1; or the word `by`, and no step
 abbrev pub AreStep : Step → ℕ → List (List ℕ) → Type 0
 AreStep Absent k words = (k ≡ 0) × (words ≡ [])
 AreStep At k words = (word : List ℕ) × (words ≡ word ∷ []) × IsNumber k word

@@ -1,6 +1,7 @@
 -- Binary LRAT proofs as they are written, and the steps that are read of them.
-use Rattle.aig_base.proofs.Words.{◌≡◌, ◌⊎◌, ℕ, ◌+◌, ◌*◌, ◌/◌, ◌%◌, ◌^◌, ◌<◌, ◌==◌, nat_lt, Bool, true, false, List, [], ◌∷◌, ◌++◌, map, Some, None, Result, Ok, Err, refl, sym, ap, ◌∙◌, append_assoc, append-nil, arith, flat_map, nat_tests, if◌then◌else◌, AllByRecursion, All, recursion_from_All, option_map}
+use Rattle.aig_base.proofs.Words.{◌≡◌, ◌⊎◌, ℕ, ◌+◌, ◌*◌, ◌/◌, ◌%◌, ◌^◌, ◌<◌, ◌==◌, nat_lt, Bool, true, false, List, [], ◌∷◌, ◌++◌, map, drop, Option, Some, None, Result, Ok, Err, refl, sym, ap, ◌∙◌, append_assoc, append-nil, arith, codes, flat_map, nat_tests, if◌then◌else◌, AllByRecursion, All, recursion_from_All, option_map}
 use Rattle.aig_base.specs.declared.logic.literal.Lit.{Lit}
+use Rattle.aig_base.specs.Clauses.{variable_of}
 use Rattle.aig_format.specs.Parse.{parse_delta, parse_groups}
 use Rattle.aig_format.specs.Text.{Groups}
 use Rattle.aig_format.specs.Written.{delta_of}
@@ -10,12 +11,12 @@ use Rattle.aig_refutation.specs.declared.error.RefutationError.{RefutationError}
 use Rattle.aig_refutation.specs.declared.error.RefutationError.TheVariants as errors
 use Rattle.aig_refutation.specs.Binary.{groups_in, item_said, literal_by, step_before}
 use Rattle.aig_refutation.specs.BinaryNumbered.{Adding, Deleting, Hinting, Listing, deleted_by, hint_by, numbered_script, numbered_steps_in}
-use Rattle.aig_refutation.specs.Checking.{Shows, all_live, are_all_in, outcome}
-use Rattle.aig_refutation.specs.Forms.{steps_in}
-use Rattle.aig_refutation.specs.Proofs.{adds, allowed, groups_at, widened}
-use Rattle.aig_refutation.specs.ReadingBinary.{items_from, numbered_left}
+use Rattle.aig_refutation.specs.Checking.{Shows, all_live, are_all_in, outcome, shown_by}
+use Rattle.aig_refutation.specs.Forms.{has_word, steps_in}
+use Rattle.aig_refutation.specs.Proofs.{adds, allowed, groups_at, hints_at, widened}
+use Rattle.aig_refutation.specs.ReadingBinary.{items_after, items_from, numbered_left}
 use Rattle.aig_refutation.specs.Steps.{Step, Adds, Deletes}
-use Rattle.aig_refutation.specs.Written.{AreWithin, IsBinaryStep, IsNumber, IsStep, hint_bytes, literal_bytes, number_bytes, numbered_bytes, numbered_text, worded_text}
+use Rattle.aig_refutation.specs.Written.{AreGroups, AreWithin, IsBinaryStep, IsClause, IsNumber, IsStep, hint_bytes, literal_bytes, number_bytes, numbered_bytes, numbered_text, worded_text}
 use Rattle.aig_refutation.proofs.Formulas.{word_form}
 use Rattle.aig_refutation.proofs.NumberedSteps.{after_list, deleted_said, hints_said, literals_said, number_word}
 use Rattle.aig_refutation.proofs.WrittenBinary.{Fits, all_fit, groups_in-clause, groups_in-number, literal_said-written}

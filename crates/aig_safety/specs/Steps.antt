@@ -1,7 +1,7 @@
 -- Part of what is promised.
--- What an answer says of a circuit or a file, of the proofs that its machine reaches no bad state at
--- the steps 0 to k, one for each, and of the proof of its window; and what its errors say. (Temporal
--- induction: Sheeran, Singh and Stålmarck, 2000.)
+-- What an answer says of a circuit or a file, of the proofs that its machine reaches no bad state
+-- at the steps 0 to k, one for each, and of the proof of its window; and what its errors say.
+-- (Temporal induction: Sheeran, Singh and Stålmarck, 2000.)
 use Rattle.std.specs.Prelude.{◌≡◌, ℕ, ◌+◌, ◌<◌, ◌≤◌, Bool, List, Option, Some, Result, Ok, Err, OnOk, slice_get}
 use Rattle.aig_answers.specs.Answers as answering
 use Rattle.aig_answers.specs.Answers.{IsOfWindow, TellsOfCircuit, TellsOfCircuitWindow, TellsOfStep, TellsOfWindow}

@@ -92,8 +92,8 @@ fn check_each<P: Source>(
         (λ n text. TellsOfCircuit n optimize text circuit.now) bases.old result }
     ensures unread { (n : ℕ) → LeavesBase n result
         → slice_get bases.new n ≡ slice_get bases.old n }
-    ensures stream { (n : ℕ) → IsErrOf result (errors.At n (answers.Refutation RefutationError.Stream))
-        → HasAt bases.new n (λ p. IsTrue (P.failed p)) }
+    ensures stream { (n : ℕ) → let e = answers.Refutation RefutationError.Stream in
+        IsErrOf result (errors.At n e) → HasAt bases.new n (λ p. IsTrue (P.failed p)) }
 {
     for (step, base) in bases.iter_mut().enumerate() {
         if let Err(error) = check_at(alloc, circuit, step, optimize, base) {

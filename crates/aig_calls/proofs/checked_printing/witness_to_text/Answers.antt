@@ -5,12 +5,24 @@ use Rattle.aig_calls.proofs.checked_printing.witness_to_text.Goals as goal
 pub returns-in_err-print_witness_to : goal.returns-in_err-print_witness_to
 returns-in_err-print_witness_to c =
     let p = err_from_is_err_and c.from_residual.result c.from_residual.ensures.1 in
-    rw (p.1, p.2) (wrote c.new-sink.result, wrote c.print_witness_to.new.w, (on c.new-source.result c.print_witness_to.new.r c.new-source.ensures.reader (on c.new-answer.result c.print_witness_to.new.solution c.new-answer.ensures.reader (runs_seen c.in_err-print_witness_to.ensures))))
+    rw (p.1, p.2) (
+      wrote c.new-sink.result,
+      wrote c.print_witness_to.new.w,
+      (on c.new-source.result
+          c.print_witness_to.new.r c.new-source.ensures.reader (on c.new-answer.result
+          c.print_witness_to.new.solution c.new-answer.ensures.reader (runs_seen
+          c.in_err-print_witness_to.ensures))),
+    )
 
 pub returns : goal.returns
 returns c = (
   wrote c.new-sink.result,
   wrote c.print_witness_to.new.w,
   held_nothing c.new-sink.ensures.writer c.new.ensures.items,
-  (held_all c.into_inner.ensures, (on c.new-source.result c.print_witness_to.new.r c.new-source.ensures.reader (on c.new-answer.result c.print_witness_to.new.solution c.new-answer.ensures.reader (runs_seen c.in_ok-print_witness_to.ensures)))),
+  (
+    held_all c.into_inner.ensures,
+    (on c.new-source.result c.print_witness_to.new.r
+        c.new-source.ensures.reader (on c.new-answer.result c.print_witness_to.new.solution
+        c.new-answer.ensures.reader (runs_seen c.in_ok-print_witness_to.ensures))),
+  ),
 )

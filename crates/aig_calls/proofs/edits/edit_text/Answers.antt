@@ -7,12 +7,24 @@ use Rattle.aig_calls.proofs.edits.edit_text.Goals as goal
 pub returns-in_err-print_edit : goal.returns-in_err-print_edit
 returns-in_err-print_edit c =
     let p = err_from_is_err_and c.from_residual.result c.from_residual.ensures.1 in
-    rw (p.1, p.2) (wrote c.new-sink.result, wrote c.print_edit.new.w, (on c.new-source.result c.print_edit.new.r c.new-source.ensures.reader (file_seen (λ f. edit_seen c.new-sink.result c.print_edit.new.w c.args.edit.now LIMIT f (Err c.in_err-print_edit.field-0.0)) c.in_err-print_edit.ensures.reads)))
+    rw (p.1, p.2) (
+      wrote c.new-sink.result,
+      wrote c.print_edit.new.w,
+      (on c.new-source.result
+          c.print_edit.new.r c.new-source.ensures.reader (file_seen (λ f. edit_seen c.new-sink.result
+          c.print_edit.new.w c.args.edit.now LIMIT f (Err c.in_err-print_edit.field-0.0))
+          c.in_err-print_edit.ensures.reads)),
+    )
 
 pub returns : goal.returns
 returns c = (
   wrote c.new-sink.result,
   wrote c.print_edit.new.w,
   held_nothing c.new-sink.ensures.writer c.new.ensures.items,
-  (held_all c.into_inner.ensures, (on c.new-source.result c.print_edit.new.r c.new-source.ensures.reader (file_seen (λ f. edit_seen c.new-sink.result c.print_edit.new.w c.args.edit.now LIMIT f (Ok tt)) c.in_ok-print_edit.ensures.reads))),
+  (
+    held_all c.into_inner.ensures,
+    (on c.new-source.result c.print_edit.new.r
+        c.new-source.ensures.reader (file_seen (λ f. edit_seen c.new-sink.result c.print_edit.new.w
+        c.args.edit.now LIMIT f (Ok tt)) c.in_ok-print_edit.ensures.reads)),
+  ),
 )

@@ -7,12 +7,24 @@ use Rattle.aig_calls.proofs.edits.question_text.Goals as goal
 pub returns-in_err-print_question : goal.returns-in_err-print_question
 returns-in_err-print_question c =
     let p = err_from_is_err_and c.from_residual.result c.from_residual.ensures.1 in
-    rw (p.1, p.2) (wrote c.new-sink.result, wrote c.print_question.new.w, (on c.new-source.result c.print_question.new.r c.new-source.ensures.reader (file_seen (λ f. question_seen c.new-sink.result c.print_question.new.w c.args.k LIMIT f (Err c.in_err-print_question.field-0.0)) c.in_err-print_question.ensures.reads)))
+    rw (p.1, p.2) (
+      wrote c.new-sink.result,
+      wrote c.print_question.new.w,
+      (on c.new-source.result
+          c.print_question.new.r c.new-source.ensures.reader (file_seen (λ f. question_seen
+          c.new-sink.result c.print_question.new.w c.args.k LIMIT f (Err
+          c.in_err-print_question.field-0.0)) c.in_err-print_question.ensures.reads)),
+    )
 
 pub returns : goal.returns
 returns c = (
   wrote c.new-sink.result,
   wrote c.print_question.new.w,
   held_nothing c.new-sink.ensures.writer c.new.ensures.items,
-  (held_all c.into_inner.ensures, (on c.new-source.result c.print_question.new.r c.new-source.ensures.reader (file_seen (λ f. question_seen c.new-sink.result c.print_question.new.w c.args.k LIMIT f (Ok tt)) c.in_ok-print_question.ensures.reads))),
+  (
+    held_all c.into_inner.ensures,
+    (on c.new-source.result c.print_question.new.r
+        c.new-source.ensures.reader (file_seen (λ f. question_seen c.new-sink.result
+        c.print_question.new.w c.args.k LIMIT f (Ok tt)) c.in_ok-print_question.ensures.reads)),
+  ),
 )

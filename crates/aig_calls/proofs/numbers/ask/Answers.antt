@@ -5,13 +5,21 @@ use Rattle.aig_calls.proofs.numbers.ask.Goals as goal
 pub returns-in_err-asked : goal.returns-in_err-asked
 returns-in_err-asked c =
     let p = err_from_is_err_and c.from_residual.result c.from_residual.ensures.1 in
-    rw (p.1, p.2) (on c.new-source.result c.asked_query.new.r c.new-source.ensures.reader (record { answer = tt; verdict = c.in_err-asked.ensures.verdict }))
+    rw (p.1, p.2) (on c.new-source.result c.asked_query.new.r c.new-source.ensures.reader (record {
+      answer = tt;
+      verdict = c.in_err-asked.ensures.verdict;
+      own = c.in_err-asked.ensures.own;
+    }))
 
 pub returns-in_err-list : goal.returns-in_err-list
 returns-in_err-list c =
     let p = err_from_is_err_and c.from_residual-in_err-list.result
     c.from_residual-in_err-list.ensures.1 in
-    rw (p.1, p.2) (on c.new-source.result c.asked_query.new.r c.new-source.ensures.reader (record { answer = tt; verdict = short c.in_ok-asked.ensures.verdict }))
+    rw (p.1, p.2) (on c.new-source.result c.asked_query.new.r c.new-source.ensures.reader (record {
+      answer = tt;
+      verdict = short c.in_ok-asked.ensures.verdict;
+      own = λ is. cc;
+    }))
 
 pub returns : goal.returns
 returns c =
@@ -25,4 +33,5 @@ returns c =
         taken = asked.answer.taken;
       };
       verdict = asked.verdict;
+      own = tt;
     })

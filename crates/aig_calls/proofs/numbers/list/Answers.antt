@@ -4,4 +4,7 @@ use Rattle.aig_calls.proofs.numbers.list.Goals as goal
 
 pub push_list-requires : goal.push_list-requires
 push_list-requires c =
-    below_more (length c.args.asked.now.encoded.clauses) (2 ^ 31 - 1) (omega (arith, c.requires.few)) c.args.asked.now.extra c.requires.below
+    below_more (length c.args.asked.now.encoded.clauses) (2 ^ 31 - 1) (omega (
+      arith,
+      c.requires.few,
+    )) c.args.asked.now.extra c.requires.below
