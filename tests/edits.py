@@ -2,10 +2,11 @@
 """Tries wrong bodies, which the prover has to refuse: edits.py [--all] [--write] [--selftest] [--jobs N] [--told FOLDER] [NAME ..]
 
 The wrong bodies of a crate are the edits in tests/edits/NAME, and in crates/NAME/must-fail, which the gate tries too. All that touch
-different functions are put into a copy of the crate, which is checked once, over what is proved already; what is left takes further
-rounds. The function of each has to be refused at the goals that the lines `refused:` of its file name: of a clause, an invariant or a law.
-It fails if it no longer applies, doesn't compile, is proved, or is refused elsewhere. One is refused for a name alone if a proof names
-what the body lacks and no goal speaks: it fails too, unless tests/edits/lemmas.tsv names the lemma that rejects what such a body gives.
+different functions are put into a copy of the crate, of which a check proves those functions and what they call, over what is proved
+already; what is left takes further rounds, and what isn't refused so a check of the whole crate. The function of each has to be refused
+at the goals that the lines `refused:` of its file name: of a clause, an invariant or a law. It fails if it no longer applies, doesn't
+compile, is proved, or is refused elsewhere. One is refused for a name alone if a proof names what the body lacks and no goal speaks: it
+fails too, unless tests/edits/lemmas.tsv names the lemma that rejects what such a body gives.
 
 With no words this tries the crates whose texts, edits and crates below aren't those that tests/edits/tried.tsv has a hash of; --all
 tries all. A crate that has no row there, as its edits don't all name their goals yet, is named and passed over. --write writes the lines
@@ -50,6 +51,14 @@ class Edit:
         """The function that a text is in; None where it isn't in one."""
         text = (self.folder / file).read_text(encoding="utf-8")
         return refusals.place_at(file, text, text.index(old)) if old in text else None
+
+    def asked(self):
+        """What a check is asked for to judge it: the functions that it is in by their names in its file, or else their modules. Where it
+        touches anything else, all that its file names; with none the whole crate."""
+        if None in self.places:
+            return set(self.refused)
+        named = {place: refusals.at_place(place, self.refused) for place in self.places}
+        return {name for (module, function), names in named.items() for name in names or [module or function]}
 
     def applied(self, texts):
         """The texts of files with this edit, from those that other edits changed; None where a text isn't there just once."""
@@ -123,15 +132,15 @@ class Batch:
         if (self.folder / "out" / "incremental").is_dir():
             shutil.copytree(self.folder / "out" / "incremental", kept)
 
-    def check(self, texts):
-        """What a check says of a copy of the crate with these texts."""
+    def check(self, texts, asked):
+        """What a check says of a copy of the crate with these texts: of the functions that it is asked for, or else of all."""
         with new_folder() as room:
             for part in kit.TEXTS:
                 if (self.folder / part).is_dir():
                     shutil.copytree(self.folder / part, room / part)
             harness.write_files(room, {path: text.encode() for path, text in texts.items()})
             jobs = ["--jobs", "1" if self.kept.exists() else "2"]
-            words = [*self.crate.words(jobs, keeps=False), "--incremental", self.kept]
+            words = [*self.crate.words(jobs, keeps=False), "--incremental", self.kept, *(f"--only={it}" for it in sorted(asked))]
             how = {"cwd": room, "stdin": subprocess.DEVNULL, "stderr": subprocess.STDOUT, "timeout": None}
             status, said, _ = harness.run([kit.rtlib().RATTLE, "check", *words], **how)
         self.rounds += 1
@@ -141,22 +150,23 @@ class Batch:
             raise MemoryError(f"{self.crate.name}: a check was killed, most likely for memory")
         return said.decode("utf-8", "replace")
 
-    def in_one(self, edits):
+    def in_one(self, edits, whole):
         """What refuses each edit of one round. Where it doesn't compile, its halves are tried; what another hides is left out."""
         chosen, texts = together(edits)
-        states = refusals.states(self.check(texts))
+        asked = set() if whole else set().union(*(edit.asked() for edit in chosen))
+        states = refusals.states(self.check(texts, asked))
         if states:
             found = {edit: judged(edit, states) for edit in chosen}
             return {edit: it for edit, it in found.items() if it[1] != HIDDEN or len(chosen) == 1}
         half = len(chosen) // 2
-        return {**self.tried(chosen[:half]), **self.tried(chosen[half:])} if half else {chosen[0]: ({}, NOT_COMPILED)}
+        return {**self.tried(chosen[:half], whole), **self.tried(chosen[half:], whole)} if half else {chosen[0]: ({}, NOT_COMPILED)}
 
-    def tried(self, edits):
-        """What refuses each edit."""
+    def tried(self, edits, whole=False):
+        """What refuses each edit, by checks of the functions that they touch, or of the whole crate."""
         results = {}
         while left := [edit for edit in edits if edit not in results]:
-            found = self.in_one(left)
-            results |= found or self.in_one(left[:1])
+            found = self.in_one(left, whole)
+            results |= found or self.in_one(left[:1], whole)
         return results
 
 
@@ -200,7 +210,9 @@ def try_all(crate, edits, told):
     """At which goals each edit of a crate is refused, and what is wrong, if anything is."""
     applied = [edit for edit in edits if edit.applied({}) is not None]
     with new_folder() as room:
-        results = Batch(crate, room / "kept", told).tried(applied)
+        batch = Batch(crate, room / "kept", told)
+        results = batch.tried(applied)
+        results |= batch.tried([edit for edit, (found, _) in results.items() if not found], whole=True)
     return {edit: results.get(edit, ({}, NOT_APPLIED)) for edit in edits}
 
 
