@@ -7,7 +7,7 @@ witness `aigcheck run` takes. Asked about one step after the other, as by aigpro
 step first. Where a question is settled at once, the search has to find no bad state either. The file of `aigedit
 question` has an output that can be true exactly where the search finds one. Where a bad state is reached, mangled proofs are refused.
 Where none is, `aigcheck window` is asked, too: by cadical's proofs of both `aigcheck safe` says that no step is bad, and by neither of
-them for both, nor by that of a window where the first is refused.
+them for both, nor by that of a window where the first is refused; and the same by cadical's proofs of each step.
 
 It ends with the first that differs, and else prints one line. It needs cadical, and is no part of tests/run."""
 import itertools
@@ -109,12 +109,27 @@ class Trial(Files):
             self.fail(f"safe {form}: {shown}, and cadical ends with {status}")
         if self.first is not None and self.is_safe(base, base, *form):
             self.fail(f"safe {form}: by one proof for both")
+        bases = [self.proof_at(n) for n in range(self.step + 1)]
+        if self.is_safe_by(["each", str(self.step), *bases], step, *form) != shown:
+            self.fail(f"safe {form} by each step: not {shown}")
         self.counts["safe" if shown else "no window"] += 1
+
+    def proof_at(self, step):
+        """cadical's proof that no bad state is reached at a step."""
+        asked = output([CHECK, "clauses", self.file, str(step), *self.setting])
+        path, proof = self.put(f"clauses_{step}.cnf", asked), str(self.folder / f"proof_{step}")
+        status, _, _ = harness.run(["cadical", "-q", "--no-binary", path, proof])
+        if status != 20:
+            self.fail(f"step {step}: cadical ends with {status}")
+        return proof
 
     def is_safe(self, base, step, *form):
         """Whether aigcheck takes proofs that no bad state is reached at any step."""
-        words = [self.file, "to", str(self.step), base, step, *form, *self.setting]
-        return self.takes("no bad state at any step", "safe", *words)
+        return self.is_safe_by(["to", str(self.step), base], step, *form)
+
+    def is_safe_by(self, bases, step, *form):
+        """The same by proofs of the first steps as the words say."""
+        return self.takes("no bad state at any step", "safe", self.file, *bases, step, *form, *self.setting)
 
     def compare_witness(self, solution):
         """Compares the witness of a solution."""

@@ -32,6 +32,7 @@ USAGE = {
     b"certified FILE CERT BASE STEP [raw], equal FILE OTHER K PROOF [raw], obligations FILE CERT [raw], "
     b"bounded FILE K [raw], refuted FILE to K PROOF [raw], witness FILE to K SOLUTION [raw], "
     b"safe FILE to K BASE STEP [distinct] [raw | raw-base | raw-step], "
+    b"safe FILE each K P0 .. PK STEP [distinct] [raw | raw-base | raw-step], "
     b"equal FILE OTHER to K BASE STEP [distinct] [raw | raw-base | raw-step], "
     b"equal FILE OTHER by CERT BASE STEP [raw]\n",
 }

@@ -1,7 +1,7 @@
 //! The numbers by which calls say how they ended.
 
 ghost use Rattle.std.specs.Prelude.{◌≡◌, ◌<◌, ◌≤◌, ℕ};
-ghost use Rattle.aig_calls.specs.Statuses.{answer_status, base_status, bounded_status, certificate_status, check_status, claim_status, edit_status, encode_status, equality_status, fault_status, flagged, lasso_status, live_status, made_status, memory, miter_status, pair_status, read_status, refutation_status, safety_status, section_number, show_status, solution_status, status_by, step_status, tool_status, witness_status};
+ghost use Rattle.aig_calls.specs.Statuses.{answer_status, base_status, bounded_status, certificate_status, check_status, claim_status, edit_status, encode_status, equality_status, fault_status, flagged, lasso_status, live_status, made_status, memory, miter_status, pair_status, read_status, refutation_status, safety_status, section_number, show_status, solution_status, status_by, step_status, steps_status, tool_status, witness_status};
 
 use aig::ReadError;
 use aig_answers::AnswerError;
@@ -18,7 +18,7 @@ use aig_fair::{ClaimError, LassoFault};
 use aig_liveness::LivenessError;
 use aig_reader::Section;
 use aig_refutation::RefutationError;
-use aig_safety::SafetyError;
+use aig_safety::{SafetyError, StepsError};
 use aig_solutions::SolutionError;
 use aig_witness::{ShowError, WitnessError, WitnessFault};
 
@@ -346,6 +346,22 @@ fn of_safety(error: SafetyError) -> u32
     }
 }
 
+/// The status of a file whose machine isn't shown to be safe by a proof for each of the first steps. Which one is refused isn't told.
+fn of_steps(error: StepsError) -> u32
+    ensures { result ≡ steps_status error }
+{
+    match error {
+        StepsError::File(error) => of_answer(error),
+        StepsError::At {
+            error: AnswerError::Refutation(error),
+            ..
+        } => flagged(BASE, of_refutation(error)),
+        // A step's query has no other error but that memory ran out.
+        StepsError::At { .. } => MEMORY,
+        StepsError::Step(error) => of_step(error),
+    }
+}
+
 /// The status of what is made of files, where it isn't shown to be safe.
 fn of_made(error: SafetyError) -> u32
     ensures { result ≡ made_status error }
@@ -428,6 +444,7 @@ fn of_check(error: CheckError) -> u32
         CheckError::Lasso(fault) => of_lasso(fault),
         CheckError::Bounded(error) => of_bounded(error),
         CheckError::Safe(error) => of_safety(error),
+        CheckError::Steps(error) => of_steps(error),
         CheckError::Certificate(error) => of_certificate(error),
         CheckError::Equality(error) => of_equality(error),
         CheckError::Miter(error) => of_miter(error),

@@ -8,7 +8,7 @@ use Rattle.aig_command_line.specs.About.{word_of}
 use Rattle.aig_command_line.specs.declared.status.Ending.TheVariants as endings
 use Rattle.aig_command_line.specs.Ending.{ended}
 use Rattle.aig_runs.specs.declared.window.Window.{Window}
-use Rattle.aig_command_line.specs.Arguments.{Arguments, Gives}
+use Rattle.aig_command_line.specs.Arguments.{Arguments, Gives, further_of}
 use Rattle.aig_command_line.specs.declared.arguments.Given.{Given}
 use Rattle.aig_command_line.specs.Limits.{IsLimited}
 use Rattle.aig_command_line.proofs.Apart as apart
@@ -39,6 +39,7 @@ among actions.WitnessTo = (11, omega arith, refl)
 among actions.Safe = (12, omega arith, refl)
 among actions.AlwaysEqual = (13, omega arith, refl)
 among actions.EqualBy = (14, omega arith, refl)
+among actions.SafeBySteps = (15, omega arith, refl)
 
 -- what holds of each in the list holds of each
 pub each : (P : Action → Type 0) → All P ALL → (a : Action) → P a
@@ -383,10 +384,11 @@ paths_fit actions.WitnessTo k d o = refl
 paths_fit actions.Safe k d o = refl
 paths_fit actions.AlwaysEqual k d o = refl
 paths_fit actions.EqualBy k d o = refl
+paths_fit actions.SafeBySteps k d o = refl
 
 -- and as many beside them
-pub beside_fit : (a : Action) (k : ℕ) (d o : Bool) → beside_of (command_of a k d o) ≡ (form_of
-    a).further
+pub beside_fit : (a : Action) (k : ℕ) (d o : Bool) → beside_of (command_of a k d o)
+    ≡ further_of (form_of a) k
 beside_fit actions.Clauses k d o = refl
 beside_fit actions.Window k d o = refl
 beside_fit actions.Refuted k d o = refl
@@ -402,3 +404,4 @@ beside_fit actions.WitnessTo k d o = refl
 beside_fit actions.Safe k d o = refl
 beside_fit actions.AlwaysEqual k d o = refl
 beside_fit actions.EqualBy k d o = refl
+beside_fit actions.SafeBySteps k d o = omega arith

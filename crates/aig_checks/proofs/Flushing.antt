@@ -1,5 +1,5 @@
 -- What a command printed on files that were opened, and was flushed.
-use Rattle.aig_base.proofs.Words.{◌≡◌, Bool, true, false, List, [], ◌∷◌, ◌++◌, ℕ, Option, None, Some, Ok, Err, refl, Appends, Keeps}
+use Rattle.aig_base.proofs.Words.{◌≡◌, Bool, true, false, List, [], ◌∷◌, ◌++◌, ℕ, Option, None, Some, Ok, Err, inl, inr, refl, Appends, Keeps}
 use Rattle.std.specs.Prelude.{IfErr, IsTrue, Result}
 use Rattle.aig_command_line.proofs.Kept.{appends_kept, stops_unflushed}
 use Rattle.aig_command_line.specs.declared.files.OpenError.{OpenError}
@@ -25,6 +25,7 @@ use Rattle.aig_checks.specs.Living.{ChecksText, Concludes, IsMadeOwn, IsOfMaking
 use Rattle.aig_checks.specs.Pairs.{IsErrorOfPair, RunsPair, TellsOfPair, always_line, other_verdict_of, safe_line}
 use Rattle.aig_checks.specs.Running.{Runs, nothing_fails, nothing_given, verdict_of}
 use Rattle.aig_checks.specs.Safe.{RunsSafe}
+use Rattle.aig_checks.specs.SafeBySteps.{ActsBySteps, RunsSafeBySteps}
 use Rattle.aig_checks.specs.Words.{prints}
 use Rattle.aig_checks.proofs.Opened.{opens_on}
 
@@ -153,6 +154,49 @@ module _ {W : Type 0} (held : W → Option (List ℕ)) (write_failed : W → Boo
         }
     safe_ended left failed base_left base_failed step_left step_failed k form base_optimize
         step_optimize limit r rest p used q spent (Err e) runs never = absurd never
+
+    steps_ended : {R P Q : Type 0} (left : R → Option (List ℕ)) (failed : R → Bool)
+        (base_left : P → Option (List ℕ)) (base_failed : P → Bool)
+        (step_left : Q → Option (List ℕ)) (step_failed : Q → Bool) (k : ℕ) (form : Window)
+        (base_optimize step_optimize : Bool) (limit : ℕ) (r rest : R) (ps used : List P)
+        (q spent : Q)
+        (done : Result Unit CheckError)
+        → RunsSafeBySteps left failed base_left base_failed step_left step_failed held write_failed
+        k form base_optimize step_optimize limit r ps q w (Ok u) rest used spent made
+        → EndsBy (write_failed flat) done
+        → RunsSafeBySteps left failed base_left base_failed step_left step_failed held write_failed
+        k form base_optimize step_optimize limit r ps q w done rest used spent flat
+    steps_ended left failed base_left base_failed step_left step_failed k form base_optimize
+        step_optimize limit r rest ps used q spent (Ok v) runs sound = record {
+          verdict = runs.verdict;
+          own = tt;
+          safe = λ taken. runs.safe tt;
+          ok = (appends_kept (held w) (held made) (held flat) safe_line runs.ok.0 keeps, sound);
+          stopped = λ is. cc;
+          kept = tt;
+          refusal = tt;
+          base_unread = tt;
+          step_unread = tt;
+          base_stream = λ n is. cc;
+          step_stream = λ is. cc;
+        }
+    steps_ended left failed base_left base_failed step_left step_failed k form base_optimize
+        step_optimize limit r rest ps used q spent (Err errors.Write) runs lost = record {
+          verdict = runs.verdict;
+          own = tt;
+          safe = λ taken. runs.safe tt;
+          ok = tt;
+          stopped = λ is. stops safe_line runs.ok.0 lost;
+          kept = λ not. absurd (not refl);
+          refusal = tt;
+          base_unread = λ n no. absurd no;
+          step_unread = λ no. absurd no;
+          base_stream = λ n is. cc;
+          step_stream = λ is. cc;
+        }
+    steps_ended left failed base_left base_failed step_left step_failed k form base_optimize
+        step_optimize limit r rest ps used q spent (Err e) runs never = absurd never
+
 
     module _ {R S C P Q : Type 0} (left : R → Option (List ℕ)) (failed : R → Bool)
         (left_of : S → Option (List ℕ)) (failed_of : S → Bool) (given : C → Option (List ℕ))
@@ -347,9 +391,32 @@ module _ {W : Type 0} (held : W → Option (List ℕ)) (write_failed : W → Boo
       by_ended left failed left failed c.command r ran.0 files ran.1 c.justice ran.2,
     )
 
+    by_steps_ended : (d : Command) (paths : List (List ℕ))
+        → ActsBySteps opens left failed held write_failed limit d paths w (Ok u) made
+        → ActsBySteps opens left failed held write_failed limit d paths w done flat
+    by_steps_ended (commands.SafeBySteps k form base_optimize step_optimize) paths (inl short) =
+        let is = short.0 in cc
+    by_steps_ended (commands.SafeBySteps k form base_optimize step_optimize) paths (inr opened) =
+        inr (opens_on opens paths _ _ _ _
+        (λ fs ran. (
+          ran.0,
+          ran.1,
+          ran.2,
+          ran.3,
+          ran.4,
+          ran.5,
+          ran.6,
+          steps_ended held write_failed w made flat keeps u left failed left failed left failed k
+              form base_optimize step_optimize limit ran.0 ran.4 ran.1 ran.5 ran.2 ran.6 done ran.7
+              ends,
+        ))
+        (λ e no. let is = no.0 in cc) opened)
+    by_steps_ended d paths acts = absurd acts
+
     -- what was asked was done, and what that printed is flushed
     pub acts_ended : (paths further : List (List ℕ))
         → Acts opens left failed held write_failed limit c paths further w (Ok u) made
         → Acts opens left failed held write_failed limit c paths further w done flat
-    acts_ended paths further acts =
-        opens_on opens (paths ++ further) _ _ _ _ on_ended (λ e no. let is = no.0 in cc) acts
+    acts_ended paths further (inl acts) =
+        inl (opens_on opens (paths ++ further) _ _ _ _ on_ended (λ e no. let is = no.0 in cc) acts)
+    acts_ended paths further (inr acts) = inr (by_steps_ended c.command (paths ++ further) acts)

@@ -9,6 +9,8 @@ mod Outcomes
 mod Pairing
 mod Placing
 mod Proving
+mod ProvingSteps
+mod OpeningAll
 mod Refusing
 mod Shown
 mod Viewed

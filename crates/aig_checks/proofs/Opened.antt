@@ -1,13 +1,16 @@
 -- Files that are opened in order.
-use Rattle.aig_base.proofs.Words.{◌≡◌, ◌<◌, ◌+◌, ℕ, zero, suc, Global, List, String, [], ◌∷◌, ◌++◌, ◌∙◌, Ok, Err, ap, arith, get_or, length, length-append, length-map, map, refl, string_bytes, subst, sym, take}
+use Rattle.aig_base.proofs.Words.{◌≡◌, ◌≢◌, ◌<◌, ◌≤◌, ◌+◌, Bool, true, false, true≢false, ℕ, zero, suc, Global, List, String, [], ◌∷◌, ◌++◌, ◌∙◌, Ok, Err, ap, arith, get_or, length, length-append, length-map, map, refl, string_bytes, subst, sym, take}
 use Rattle.std.specs.Prelude.{Result}
 use Rattle.aig_command_line.specs.declared.files.OpenError.{OpenError}
+use Rattle.aig_runs.specs.declared.window.Window.{Window}
 use Rattle.aig_checks.specs.declared.command.Command.{Command}
 use Rattle.aig_checks.specs.declared.command.Command.TheVariants as commands
+use Rattle.aig_checks.specs.declared.command.FileCommand.TheVariants as on_file
+use Rattle.aig_checks.specs.declared.command.PairCommand.TheVariants as on_pair
 use Rattle.aig_checks.specs.declared.inputs.Inputs.{Inputs}
 use Rattle.aig_checks.specs.declared.tool.CheckError.{CheckError}
 use Rattle.aig_checks.specs.Inputs.{listed}
-use Rattle.aig_checks.specs.Words.{paths_of}
+use Rattle.aig_checks.specs.Words.{beside_of, is_each, paths_of}
 use Rattle.aig_checks.specs.Opening.{AreOpened, OnOpening, OpensAll, unopened}
 
 module _ {F : Type 0} (opens : List ℕ → Result F OpenError → Type 0) where
@@ -169,3 +172,32 @@ some_paths (commands.File c) = omega arith
 some_paths (commands.Pair c) = omega arith
 some_paths (commands.Safe k form o p) = omega arith
 some_paths (commands.EqualBy o) = omega arith
+some_paths (commands.SafeBySteps k form o p) = omega arith
+
+-- they are at most five
+pub few_files : (c : Command) → is_each c ≡ false → paths_of c + beside_of c ≤ 5
+few_files (commands.File (on_file.Clauses k o)) few = omega arith
+few_files (commands.File (on_file.Window k form o)) few = omega arith
+few_files (commands.File (on_file.Refuted k o)) few = omega arith
+few_files (commands.File (on_file.Inductive k form o)) few = omega arith
+few_files (commands.File (on_file.Witness k o)) few = omega arith
+few_files (commands.File on_file.Run) few = omega arith
+few_files (commands.File (on_file.Bounded k o)) few = omega arith
+few_files (commands.File (on_file.RefutedTo k o)) few = omega arith
+few_files (commands.File (on_file.WitnessTo k o)) few = omega arith
+few_files (commands.Pair (on_pair.Certified o)) few = omega arith
+few_files (commands.Pair (on_pair.Equal k o)) few = omega arith
+few_files (commands.Pair (on_pair.Obligations o)) few = omega arith
+few_files (commands.Pair (on_pair.AlwaysEqual k form o p)) few = omega arith
+few_files (commands.Safe k form o p) few = omega arith
+few_files (commands.EqualBy o) few = omega arith
+few_files (commands.SafeBySteps k form o p) few = absurd (true≢false few)
+
+-- the others are those of a proof for each step
+pub is_by_steps : (c : Command) → is_each c ≡ true
+    → ((k : ℕ) (form : Window) (o p : Bool) → c ≢ commands.SafeBySteps k form o p) → ⊥
+is_by_steps (commands.SafeBySteps k form o p) each not = not k form o p refl
+is_by_steps (commands.File c) each not = true≢false (sym each)
+is_by_steps (commands.Pair c) each not = true≢false (sym each)
+is_by_steps (commands.Safe k form o p) each not = true≢false (sym each)
+is_by_steps (commands.EqualBy o) each not = true≢false (sym each)

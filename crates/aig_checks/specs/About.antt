@@ -27,6 +27,8 @@ use Rattle.aig_refutation.specs.declared.error.RefutationError.{RefutationError}
 use Rattle.aig_refutation.specs.declared.error.RefutationError.TheVariants as refutation
 use Rattle.aig_safety.specs.declared.error.SafetyError.{SafetyError}
 use Rattle.aig_safety.specs.declared.error.SafetyError.TheVariants as safety
+use Rattle.aig_safety.specs.declared.error.StepsError.{StepsError}
+use Rattle.aig_safety.specs.declared.error.StepsError.TheVariants as steps
 use Rattle.aig_solutions.specs.declared.error.SolutionError.{SolutionError}
 use Rattle.aig_solutions.specs.declared.error.SolutionError.TheVariants as solution
 use Rattle.aig_witness.specs.declared.error.WitnessError.{WitnessError}
@@ -157,6 +159,12 @@ about_safety (safety.File e) = about_answer subjects.Given e
 about_safety (safety.Base e) = about_bounded e
 about_safety (safety.Step e) = about_answer subjects.Step e
 
+-- FILE, or the proof of one of the steps, or of the window, as a whole
+abbrev pub about_steps : StepsError → About
+about_steps (steps.File e) = about_answer subjects.Given e
+about_steps (steps.At n e) = whole (about_answer (subjects.Nth n) e).subject
+about_steps (steps.Step e) = whole (about_answer subjects.Last e).subject
+
 -- one of two files, or of the proofs that their machines are equal at every step
 abbrev pub about_equality : EqualityError → About
 about_equality (equality.Pair e) = about_pair e
@@ -194,3 +202,4 @@ about_error (errors.Equality e) = about_equality e
 about_error (errors.Lasso fault) = about_lasso fault
 about_error (errors.Miter e) = about_miter e
 about_error (errors.Unmade e) = about_edit e
+about_error (errors.Steps e) = about_steps e

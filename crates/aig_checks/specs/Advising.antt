@@ -15,6 +15,8 @@ use Rattle.aig_refutation.specs.declared.error.RefutationError.{RefutationError}
 use Rattle.aig_refutation.specs.declared.error.RefutationError.TheVariants as refutation
 use Rattle.aig_safety.specs.declared.error.SafetyError.{SafetyError}
 use Rattle.aig_safety.specs.declared.error.SafetyError.TheVariants as safety
+use Rattle.aig_safety.specs.declared.error.StepsError.{StepsError}
+use Rattle.aig_safety.specs.declared.error.StepsError.TheVariants as steps
 use Rattle.aig_checks.specs.declared.tool.CheckError.{CheckError}
 use Rattle.aig_checks.specs.declared.tool.CheckError.TheVariants as errors
 
@@ -44,6 +46,12 @@ misfits_safety (safety.File e) = misfits_answer e
 misfits_safety (safety.Base e) = misfits_bounded e
 misfits_safety (safety.Step e) = misfits_answer e
 
+-- of those for each step
+abbrev pub misfits_steps : StepsError → Bool
+misfits_steps (steps.File e) = misfits_answer e
+misfits_steps (steps.At n e) = misfits_answer e
+misfits_steps (steps.Step e) = misfits_answer e
+
 -- and of those about two files
 abbrev pub misfits_certificate : CertificateError → Bool
 misfits_certificate (certificate.Pair e) = false
@@ -55,6 +63,7 @@ abbrev pub has_misfit : Ending CheckError → Bool
 has_misfit (endings.Refused (errors.Answer e)) = misfits_answer e
 has_misfit (endings.Refused (errors.Bounded e)) = misfits_bounded e
 has_misfit (endings.Refused (errors.Safe e)) = misfits_safety e
+has_misfit (endings.Refused (errors.Steps e)) = misfits_steps e
 has_misfit (endings.Refused (errors.Certificate e)) = misfits_certificate e
 has_misfit (endings.Refused (errors.Equality (equality.Miter e))) = misfits_safety e
 has_misfit (endings.Refused (errors.Miter (miter.Certificate e))) = misfits_certificate e

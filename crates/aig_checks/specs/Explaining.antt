@@ -1,7 +1,7 @@
 -- Part of what is promised.
 -- What is told of an error: the path of the file that it is about, and the place where reading that
 -- file stopped.
-use Rattle.std.specs.Prelude.{◌≡◌, ℕ, ◌+◌, ◌⊎◌, List, ◌∷◌, ◌++◌, Contains, Option, None, Some, Result, Err, IfSome, length, map, slice_get}
+use Rattle.std.specs.Prelude.{◌≡◌, ℕ, ◌+◌, ◌-◌, ◌⊎◌, List, ◌∷◌, ◌++◌, Contains, Option, None, Some, Result, Err, IfSome, length, map, slice_get}
 use Rattle.aig_command_line.specs.Came.{IsPlaceIn}
 use Rattle.aig_command_line.specs.Faults.{error_of, path_of, place_in}
 use Rattle.aig_command_line.specs.Places.{IsPlaced}
@@ -34,6 +34,8 @@ word_of subjects.Other paths further = slice_get paths 1
 word_of subjects.Given paths further = slice_get further 0
 word_of subjects.Step paths further = slice_get further 1
 word_of subjects.Third paths further = slice_get further 2
+word_of (subjects.Nth n) paths further = slice_get further n
+word_of subjects.Last paths further = slice_get further (length further - 1)
 word_of subject paths further = None
 
 -- it is that word, or one of those at which no file is opened

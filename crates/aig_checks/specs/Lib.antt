@@ -14,6 +14,7 @@ pub mod Asked
 pub mod Opening
 pub mod Living
 pub mod LivingParts
+pub mod SafeBySteps
 pub mod Acting
 pub mod About
 pub mod Explaining

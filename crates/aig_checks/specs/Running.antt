@@ -45,6 +45,7 @@ use Rattle.aig_certificates.specs.Comparing as comparing
 use Rattle.aig_edits.specs.Edits.{edit_verdict}
 use Rattle.aig_equality.specs.Equality as equality
 use Rattle.aig_safety.specs.Safety as safety
+use Rattle.aig_safety.specs.Steps as stepping
 use Rattle.aig_solutions.specs.declared.error.SolutionError.{SolutionError}
 use Rattle.aig_solutions.specs.Checked.{RefusesSolution, SaysWitness}
 use Rattle.aig_titles.specs.Sums.{IsSum}
@@ -196,6 +197,7 @@ verdict_of (errors.Equality e) = equality.first_verdict e
 verdict_of (errors.Lasso e) = showing.verdict_of (claims.Lasso e)
 verdict_of (errors.Miter e) = comparing.first_verdict e
 verdict_of (errors.Unmade e) = edit_verdict e
+verdict_of (errors.Steps e) = stepping.verdict_of e
 
 -- the error of a witness that is refused
 abbrev pub error_of_claim : ClaimError → CheckError

@@ -1,11 +1,11 @@
 -- Part of what is promised.
 -- Which words give which command.
-use Rattle.std.specs.Prelude.{◌≡◌, ◌⊎◌, ◌==◌, ◌++◌, ◌∷◌, [], ℕ, Bool, true, false, not, IsTrue, List, None, Option, Some, codes}
+use Rattle.std.specs.Prelude.{◌≡◌, ◌⊎◌, ◌==◌, ◌+◌, ◌++◌, ◌∷◌, [], ℕ, Bool, true, false, not, IsTrue, List, None, Option, Some, codes}
 use Rattle.aig_runs.specs.declared.window.Window.{Window}
 use Rattle.aig_runs.specs.declared.window.Window.TheVariants.{Plain, Distinct}
 use Rattle.aig_command_line.specs.declared.arguments.Form.{Form}
 use Rattle.aig_command_line.specs.declared.arguments.Step.{Step}
-use Rattle.aig_command_line.specs.declared.arguments.Step.TheVariants.{Absent, At, UpTo, By}
+use Rattle.aig_command_line.specs.declared.arguments.Step.TheVariants.{Absent, At, UpTo, By, Each}
 use Rattle.aig_command_line.specs.Arguments.{Arguments, Gives}
 use Rattle.aig_command_line.specs.Limits.{IsLimited}
 use Rattle.aig_checks.specs.declared.command.Action.{Action}
@@ -34,6 +34,7 @@ name_of actions.WitnessTo = codes "witness"
 name_of actions.Safe = codes "safe"
 name_of actions.AlwaysEqual = codes "equal"
 name_of actions.EqualBy = codes "equal"
+name_of actions.SafeBySteps = codes "safe"
 
 -- so many paths and a step, so many further paths, `distinct` or nothing where it may be there, and
 -- `raw` or nothing
@@ -47,7 +48,7 @@ on_certificate further =
     record { paths = 2; step = Absent; further = further; distinct = false; raw = true }
 
 -- What comes after it: the paths are FILE, and CERT or OTHER; the further ones are PROOF, SOLUTION
--- or WITNESS, or BASE and STEP, behind CERT where that comes after OTHER.
+-- or WITNESS, or BASE and STEP, behind CERT where that comes after OTHER; or P0 to PK and STEP.
 abbrev pub form_of : Action → Form
 form_of actions.Clauses = on_step 1 At 0 false
 form_of actions.Window = on_step 1 At 0 true
@@ -65,6 +66,7 @@ form_of actions.WitnessTo = on_step 1 UpTo 1 false
 form_of actions.Safe = on_step 1 UpTo 2 true
 form_of actions.AlwaysEqual = on_step 2 UpTo 2 true
 form_of actions.EqualBy = on_step 2 By 3 false
+form_of actions.SafeBySteps = on_step 1 Each 1 true
 
 -- the form of windows
 abbrev pub window_of : Bool → Window
@@ -92,8 +94,11 @@ command_of actions.Safe k distinct optimize =
 command_of actions.AlwaysEqual k distinct optimize =
     commands.Pair (on_pair.AlwaysEqual k (window_of distinct) optimize optimize)
 command_of actions.EqualBy k distinct optimize = commands.EqualBy optimize
+command_of actions.SafeBySteps k distinct optimize =
+    commands.SafeBySteps k (window_of distinct) optimize optimize
 
--- the word of raw clauses of BASE alone, where those of STEP are optimised, or of STEP alone
+-- the word of raw clauses of BASE alone, or of P0 to PK, where those of STEP are optimised, or of
+-- STEP alone
 abbrev pub raw_word : Bool → List ℕ
 raw_word true = codes "raw-base"
 raw_word false = codes "raw-step"
@@ -104,6 +109,8 @@ raw_alone step (commands.Safe k form base_optimize step_optimize) =
     Some (commands.Safe k form (not step) step)
 raw_alone step (commands.Pair (on_pair.AlwaysEqual k form base_optimize step_optimize)) =
     Some (commands.Pair (on_pair.AlwaysEqual k form (not step) step))
+raw_alone step (commands.SafeBySteps k form base_optimize step_optimize) =
+    Some (commands.SafeBySteps k form (not step) step)
 raw_alone step c = None
 
 -- the words fit the command, with one setting for all its proofs
@@ -162,6 +169,7 @@ step_of (commands.File (on_file.WitnessTo k optimize)) = k
 step_of (commands.Pair (on_pair.Equal k optimize)) = k
 step_of (commands.Pair (on_pair.AlwaysEqual k form base_optimize step_optimize)) = k
 step_of (commands.Safe k form base_optimize step_optimize) = k
+step_of (commands.SafeBySteps k form base_optimize step_optimize) = k
 step_of c = 0
 
 -- on how many files it is
@@ -169,6 +177,7 @@ abbrev pub paths_of : Command → ℕ
 paths_of (commands.File c) = 1
 paths_of (commands.Pair c) = 2
 paths_of (commands.Safe k form base_optimize step_optimize) = 1
+paths_of (commands.SafeBySteps k form base_optimize step_optimize) = 1
 paths_of (commands.EqualBy optimize) = 2
 
 -- how many are given beside these
@@ -180,8 +189,14 @@ beside_of (commands.Pair (on_pair.Certified optimize)) = 2
 beside_of (commands.Pair (on_pair.Obligations optimize)) = 0
 beside_of (commands.Pair (on_pair.AlwaysEqual k form base_optimize step_optimize)) = 2
 beside_of (commands.Safe k form base_optimize step_optimize) = 2
+beside_of (commands.SafeBySteps k form base_optimize step_optimize) = k + 2
 beside_of (commands.EqualBy optimize) = 3
 beside_of c = 1
+
+-- it takes a proof of each step: it reads as many files as its words say
+abbrev pub is_each : Command → Bool
+is_each (commands.SafeBySteps k form base_optimize step_optimize) = true
+is_each c = false
 
 -- it prints clauses, and takes nothing beside its files
 abbrev pub prints : Command → Bool

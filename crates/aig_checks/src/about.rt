@@ -15,7 +15,7 @@ use aig_equality::EqualityError;
 use aig_fair::LassoFault;
 use aig_reader::ReadError;
 use aig_refutation::RefutationError;
-use aig_safety::SafetyError;
+use aig_safety::{SafetyError, StepsError};
 use aig_solutions::SolutionError;
 use aig_witness::{ShowError, WitnessError, WitnessFault};
 
@@ -36,6 +36,10 @@ pub(crate) enum Subject {
     Step,
     /// STEP behind CERT and BASE.
     Third,
+    /// The proof of this step, of P0 to PK.
+    Nth(usize),
+    /// STEP behind P0 to PK.
+    Last,
 }
 
 /// How the place is found where reading stopped.
@@ -250,6 +254,20 @@ fn about_safety(error: SafetyError) -> About
     }
 }
 
+/// What an error of a proof for each step that a machine is safe is about.
+fn about_steps(error: StepsError) -> About
+    ensures { result ≡ specs.about_steps error }
+{
+    match error {
+        StepsError::File(error) => about_answer(Subject::Given, error),
+        StepsError::At { step, error } => {
+            let subject = Subject::Nth(step);
+            whole(about_answer(subject, error).subject)
+        }
+        StepsError::Step(error) => whole(about_answer(Subject::Last, error).subject),
+    }
+}
+
 /// What an error of the proofs that two machines are equal is about.
 fn about_equality(error: EqualityError) -> About
     ensures { result ≡ specs.about_equality error }
@@ -307,5 +325,6 @@ pub(crate) fn about_error(error: CheckError) -> About
         CheckError::Lasso(fault) => about_lasso(fault),
         CheckError::Miter(error) => about_miter(error),
         CheckError::Unmade(error) => about_edit(error),
+        CheckError::Steps(error) => about_steps(error),
     }
 }

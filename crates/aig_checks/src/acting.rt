@@ -10,7 +10,8 @@ ghost use Rattle.aig_checks.specs.Opening.{unopened};
 
 use crate::command::{Call, call_of};
 use crate::inputs::open_all;
-use crate::running::run;
+use crate::running::{is_each, run};
+use crate::safe_by_steps::act_by_steps;
 use crate::tool::CheckError;
 use aig_base::{MemoryError, Sink};
 use aig_command_line::{Ending, Flush, OpenError, Opens, Question, asked, write_text};
@@ -23,6 +24,7 @@ pub const USAGE: &str =
     certified FILE CERT BASE STEP [raw], equal FILE OTHER K PROOF [raw], obligations FILE CERT [raw], \
     bounded FILE K [raw], refuted FILE to K PROOF [raw], witness FILE to K SOLUTION [raw], \
     safe FILE to K BASE STEP [distinct] [raw | raw-base | raw-step], \
+    safe FILE each K P0 .. PK STEP [distinct] [raw | raw-base | raw-step], \
     equal FILE OTHER to K BASE STEP [distinct] [raw | raw-base | raw-step], \
     equal FILE OTHER by CERT BASE STEP [raw]";
 
@@ -52,6 +54,9 @@ fn act_on<F: Opens, W: Sink>(
         call.now.asked (map string_bytes call.now.paths.now)
         (map string_bytes call.now.further.now) w.old result w.new }
 {
+    if is_each(call.asked.command) {
+        return act_by_steps(alloc, files, call, w);
+    }
     let (file, inputs) = open_all(files, call.paths, call.further)?;
     run(alloc, call.limit, call.asked, file, inputs, w)
 }

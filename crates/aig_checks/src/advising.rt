@@ -1,7 +1,7 @@
 //! What may be the matter with a proof that is refused.
 
 ghost use Rattle.std.specs.Prelude.{◌≡◌};
-ghost use Rattle.aig_checks.specs.Advising.{Advises, has_misfit, is_misfit, misfits_answer, misfits_bounded, misfits_certificate, misfits_safety};
+ghost use Rattle.aig_checks.specs.Advising.{Advises, has_misfit, is_misfit, misfits_answer, misfits_bounded, misfits_certificate, misfits_safety, misfits_steps};
 
 use crate::tool::CheckError;
 use aig_answers::AnswerError;
@@ -10,7 +10,7 @@ use aig_certificates::{CertificateError, MiterError};
 use aig_command_line::{Ending, Tells};
 use aig_equality::EqualityError;
 use aig_refutation::RefutationError;
-use aig_safety::SafetyError;
+use aig_safety::{SafetyError, StepsError};
 
 /// Whether a proof is refused as one of other clauses is: a step doesn't follow, it names a literal or a clause that isn't theirs, or
 /// it is unfinished.
@@ -57,6 +57,16 @@ fn misfits_safety(error: SafetyError) -> bool
     }
 }
 
+/// The same of a proof for each step that a machine is safe.
+fn misfits_steps(error: StepsError) -> bool
+    ensures { result ≡ misfits_steps error }
+{
+    match error {
+        StepsError::File(error) | StepsError::Step(error) => misfits_answer(error),
+        StepsError::At { error, .. } => misfits_answer(error),
+    }
+}
+
 /// The same of proofs about two files.
 fn misfits_certificate(error: CertificateError) -> bool
     ensures { result ≡ misfits_certificate error }
@@ -75,6 +85,7 @@ fn has_misfit(ending: Ending<CheckError>) -> bool
         Ending::Refused(CheckError::Answer(error)) => misfits_answer(error),
         Ending::Refused(CheckError::Bounded(error)) => misfits_bounded(error),
         Ending::Refused(CheckError::Safe(error)) => misfits_safety(error),
+        Ending::Refused(CheckError::Steps(error)) => misfits_steps(error),
         Ending::Refused(CheckError::Certificate(error)) => misfits_certificate(error),
         Ending::Refused(CheckError::Equality(EqualityError::Miter(error))) => misfits_safety(error),
         Ending::Refused(CheckError::Miter(MiterError::Certificate(error))) => {

@@ -1,16 +1,16 @@
 //! The place where what is given beside a file is refused, found by running the command again.
 
-ghost use Rattle.std.specs.Prelude.{◌≡◌, ◌+◌, ◌<◌, ◌⊎◌, ◌∷◌, IfSome, IsTrue, Some, length, map, slice_get, string_bytes, true};
+ghost use Rattle.std.specs.Prelude.{◌≡◌, ◌+◌, ◌<◌, ◌⊎◌, ◌∷◌, IfSome, IsTrue, Some, length, map, slice_get, string_bytes, false, true};
 ghost use Rattle.aig_command_line.specs.declared.tally.Place.TheVariants as places;
 ghost use Rattle.aig_command_line.specs.Came.{IsPlaceIn};
 ghost use Rattle.aig_checks.specs.Explaining.{IsRefusedIn, IsRunPlace};
 ghost use Rattle.aig_checks.specs.Fits.{Fits};
 ghost use Rattle.aig_checks.specs.Inputs.{listed};
-ghost use Rattle.aig_checks.specs.Words.{beside_of, paths_of};
+ghost use Rattle.aig_checks.specs.Words.{beside_of, is_each, paths_of};
 
 use crate::command::Call;
 use crate::inputs::{Again, Inputs, open_all};
-use crate::running::check_asked;
+use crate::running::{check_asked, is_each};
 use crate::tool::CheckError;
 use aig_answers::AnswerError;
 use aig_base::{Source, StreamFault};
@@ -255,6 +255,7 @@ fn place_in<R: Source + Drop, B: Origin>(
 ) -> Place
     requires fits { Fits call.now }
     requires checks { 0 < beside_of call.now.asked.command }
+    requires few { is_each call.now.asked.command ≡ false }
     requires inputs { length (listed inputs) + 1
         ≡ paths_of call.now.asked.command + beside_of call.now.asked.command }
     requires origin { slice_get (map R.left (listed inputs)) which ≡ Some B.bytes }
@@ -292,6 +293,9 @@ pub(crate) fn place_by_run<F: Reopens>(
         measure result }
 {
     if number >= call.further.len() {
+        return Place::Whole;
+    }
+    if is_each(call.asked.command) {
         return Place::Whole;
     }
     let Ok((file, inputs)) = open_all(&Again::new(files), call.paths, call.further) else {

@@ -129,6 +129,17 @@ pub enum Command {
         /// Whether they have in the question of STEP.
         step_optimize: bool,
     },
+    /// Check proofs that no bad state is reached at any step of FILE, of which one is of each of the steps 0 to `k`.
+    SafeBySteps {
+        /// How many steps come before the last two of a window.
+        k: usize,
+        /// Which windows are looked at.
+        form: Window,
+        /// Whether exclusive ors and choices have clauses of their own in the questions of the steps.
+        base_optimize: bool,
+        /// Whether they have in the question of STEP.
+        step_optimize: bool,
+    },
     /// Check that a certificate of the miter shows that the machines of FILE and OTHER are equal at every step.
     EqualBy {
         /// Whether exclusive ors and choices have clauses of their own.
@@ -179,6 +190,8 @@ pub enum Action {
     AlwaysEqual,
     /// `equal FILE OTHER by CERT BASE STEP [raw]`.
     EqualBy,
+    /// `safe FILE each K P0 .. PK STEP [distinct] [raw | raw-base | raw-step]`.
+    SafeBySteps,
 }
 
 /// The form of a command on so many files and a step.
@@ -226,7 +239,7 @@ impl HasForm for Action {
             Action::Bounded => "bounded",
             Action::RefutedTo => "refuted",
             Action::WitnessTo => "witness",
-            Action::Safe => "safe",
+            Action::Safe | Action::SafeBySteps => "safe",
             Action::AlwaysEqual | Action::EqualBy => "equal",
         }
     }
@@ -239,6 +252,7 @@ impl HasForm for Action {
             Action::RefutedTo | Action::WitnessTo => on_step(1, Step::UpTo, 1, false),
             Action::Inductive => on_step(1, Step::At, 1, true),
             Action::Safe => on_step(1, Step::UpTo, 2, true),
+            Action::SafeBySteps => on_step(1, Step::Each, 1, true),
             Action::Equal => on_step(2, Step::At, 1, false),
             Action::AlwaysEqual => on_step(2, Step::UpTo, 2, true),
             Action::EqualBy => on_step(2, Step::By, 3, false),
@@ -268,7 +282,7 @@ fn window_of(distinct: bool) -> Window
 
 impl Action {
     /// Each of them.
-    const ALL: [Action; 15] = [
+    const ALL: [Action; 16] = [
         Action::Clauses,
         Action::Window,
         Action::Refuted,
@@ -284,6 +298,7 @@ impl Action {
         Action::Safe,
         Action::AlwaysEqual,
         Action::EqualBy,
+        Action::SafeBySteps,
     ];
 
     /// The command, with K and the settings that its words give to each of its proofs.
@@ -317,6 +332,12 @@ impl Action {
                 step_optimize: optimize,
             }),
             Action::EqualBy => Command::EqualBy { optimize },
+            Action::SafeBySteps => Command::SafeBySteps {
+                k,
+                form,
+                base_optimize: optimize,
+                step_optimize: optimize,
+            },
         }
     }
 }
@@ -330,7 +351,7 @@ pub struct Call<'a> {
     pub asked: Asked,
     /// FILE, and CERT or OTHER, where the command wants one.
     pub paths: &'a [String],
-    /// PROOF, SOLUTION or WITNESS, or BASE and STEP, behind CERT after the word `by`, where the command wants them.
+    /// PROOF, SOLUTION or WITNESS, or BASE and STEP, behind CERT after the word `by`, or P0 to PK and STEP, where the command wants them.
     pub further: &'a [String],
 }
 
@@ -357,6 +378,12 @@ fn raw_alone(step_optimize: bool, command: Command) -> Option<Command>
     let base_optimize = !step_optimize;
     match command {
         Command::Safe { k, form, .. } => Some(Command::Safe {
+            k,
+            form,
+            base_optimize,
+            step_optimize,
+        }),
+        Command::SafeBySteps { k, form, .. } => Some(Command::SafeBySteps {
             k,
             form,
             base_optimize,
@@ -452,8 +479,9 @@ pub fn call_of(words: &[String]) -> Option<Call<'_>>
 /// FILE. The next is WITNESS of `run`, CERT of `certified` and `obligations`, and OTHER of `equal`. Then comes K, where the command has one,
 /// after the word `to` where it is on the steps up to K, and the words after that are PROOF of `refuted`, `inductive` and `equal`, SOLUTION
 /// of `witness`, and BASE and STEP of `certified`, `safe` and `equal` with `to`. Of `equal` with the word `by` it is CERT, BASE and STEP that
-/// come after that. The words `distinct` and `raw` may come last, where the command may have them, and in place of `raw` the word `raw-base`
-/// or `raw-step` of `safe` and of `equal` with `to`: the clauses of BASE alone are then raw, or those of STEP alone. It takes no memory.
+/// come after that, and of `safe` with the words `each` and K it is P0 to PK, one for each of the steps 0 to K, and STEP. The words
+/// `distinct` and `raw` may come last, where the command may have them, and in place of `raw` the word `raw-base` or `raw-step` of `safe` and
+/// of `equal` with `to`: the clauses of BASE alone, or those of all of P0 to PK, are then raw, or those of STEP alone. It takes no memory.
 pub fn parse(words: &[String]) -> Option<Asked>
     ensures exact { (c : Asked) → (result ≡ Some c) ↔ Give (map string_bytes words.now) c }
     ensures small { IfSome result (λ c. step_of c.command < 2 ^ 32) }

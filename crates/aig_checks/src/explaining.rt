@@ -57,6 +57,8 @@ fn path_of<'a, F: Reopens>(files: &F, call: &Call<'a>, subject: Subject) -> Opti
         Subject::Given => path_at(call.further, 0),
         Subject::Step => path_at(call.further, 1),
         Subject::Third => path_at(call.further, 2),
+        Subject::Nth(index) => path_at(call.further, index),
+        Subject::Last => path_at(call.further, call.further.len().saturating_sub(1)),
     }
 }
 

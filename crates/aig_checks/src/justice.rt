@@ -96,7 +96,7 @@ pub(crate) fn is_asked(justice: Option<Justice>, command: Command) -> bool
             | FileCommand::Inductive { .. },
         ) => justice.rounds.is_none(),
         Command::Pair(PairCommand::Equal { .. } | PairCommand::AlwaysEqual { .. }) => false,
-        Command::EqualBy { .. } => false,
+        Command::EqualBy { .. } | Command::SafeBySteps { .. } => false,
         _ => true,
     }
 }

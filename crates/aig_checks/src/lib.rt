@@ -20,6 +20,7 @@ mod pairs;
 mod run;
 mod running;
 mod safe;
+mod safe_by_steps;
 mod tool;
 
 pub use acting::{USAGE, act};
@@ -34,6 +35,7 @@ pub use noticing::notice;
 pub use pairs::{print_certified, print_equal, print_obligations};
 pub use run::print_run;
 pub use safe::print_safe;
+pub use safe_by_steps::print_safe_by_steps;
 pub use tool::{
     CheckError, print_clauses, print_inductive, print_refuted, print_window, print_witness,
 };

@@ -1,6 +1,6 @@
 //! What a command does with the files that were opened for it.
 
-ghost use Rattle.std.specs.Prelude.{◌≡◌, ◌+◌, ◌<◌, ◌^◌, IsTrue, List, Some, length};
+ghost use Rattle.std.specs.Prelude.{◌≡◌, ◌+◌, ◌<◌, ◌^◌, false, IsTrue, List, Some, length};
 ghost use Rattle.aig_command_line.specs.Limits.{IsLimit};
 ghost use Rattle.aig_checks.specs.Acting.{RanBy};
 ghost use Rattle.aig_checks.specs.Inputs.{Ran, listed};
@@ -8,7 +8,7 @@ ghost use Rattle.aig_checks.specs.Justice.{is_asked};
 ghost use Rattle.aig_checks.specs.Living.{ChecksMade, PrintsMade, RunsMade};
 ghost use Rattle.aig_checks.specs.Pairs.{RunsPair};
 ghost use Rattle.aig_checks.specs.Running.{Runs, nothing_fails, nothing_given};
-ghost use Rattle.aig_checks.specs.Words.{beside_of, paths_of, prints, step_of};
+ghost use Rattle.aig_checks.specs.Words.{beside_of, is_each, paths_of, prints, step_of};
 
 use crate::bounded::{print_bounded, print_refuted_to, print_witness_to};
 use crate::command::{Asked, Command, FileCommand, PairCommand};
@@ -123,6 +123,16 @@ fn prints(command: Command) -> bool
     }
 }
 
+/// Whether a command takes a proof of each step.
+pub(crate) fn is_each(command: Command) -> bool
+    ensures { result ≡ is_each command }
+{
+    match command {
+        Command::SafeBySteps { .. } => true,
+        _ => false,
+    }
+}
+
 /// Runs a command that checks what is given beside its files.
 fn check<R: Source, S: Source, W: Sink>(
     alloc: Global,
@@ -134,6 +144,7 @@ fn check<R: Source, S: Source, W: Sink>(
 ) -> Result<(), CheckError>
     requires limit { IsLimit limit }
     requires checks { 0 < beside_of command }
+    requires few { is_each command ≡ false }
     requires fits { length (listed inputs.old) + 1 ≡ paths_of command + beside_of command }
     requires small { step_of command < 2 ^ 32 }
     ensures { Ran R.left R.failed S.left S.failed W.held W.failed limit command file.old
@@ -248,6 +259,7 @@ fn check_made<R: Source, S: Source, W: Sink>(
     requires limit { IsLimit limit }
     requires asked { IsTrue (is_asked (Some justice) command) }
     requires checks { 0 < beside_of command }
+    requires few { is_each command ≡ false }
     requires fits { length (listed inputs.old) + 1 ≡ paths_of command + beside_of command }
     requires small { step_of command < 2 ^ 32 }
     ensures { RunsMade R.left R.failed limit justice
@@ -297,6 +309,7 @@ pub(crate) fn check_asked<R: Source, S: Source, W: Sink>(
     requires limit { IsLimit limit }
     requires asked { IsTrue (is_asked asked.justice asked.command) }
     requires checks { 0 < beside_of asked.command }
+    requires few { is_each asked.command ≡ false }
     requires fits { length (listed inputs.old) + 1
         ≡ paths_of asked.command + beside_of asked.command }
     requires small { step_of asked.command < 2 ^ 32 }
@@ -321,6 +334,7 @@ pub(crate) fn run<R: Source + Drop, S: Source + Drop, W: Sink>(
 ) -> Result<(), CheckError>
     requires limit { IsLimit limit }
     requires asked { IsTrue (is_asked asked.justice asked.command) }
+    requires few { is_each asked.command ≡ false }
     requires fits { length (listed inputs) + 1 ≡ paths_of asked.command + beside_of asked.command }
     requires small { step_of asked.command < 2 ^ 32 }
     ensures { (rest : R) × (others : List S) × RanBy R.left R.failed S.left S.failed W.held W.failed

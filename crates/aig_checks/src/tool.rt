@@ -34,7 +34,7 @@ use aig_equality::EqualityError;
 use aig_fair::{ClaimError, LassoFault};
 use aig_output::OutputBuffer;
 use aig_runs::{Unrolled, inductive_windows_are_safe};
-use aig_safety::SafetyError;
+use aig_safety::{SafetyError, StepsError};
 use aig_solutions::{Places, SolutionError, checked_witness};
 use aig_titles::{Question, Summed, Title, write_title};
 use aig_witness::{ShowError, known_witnesses_show, write_witness};
@@ -87,6 +87,9 @@ pub enum CheckError {
     /// The file is refused, or nothing is made of it to ask about a justice property.
     #[error("{0}")]
     Unmade(EditError),
+    /// It isn't shown, by a proof for each step, that no bad state is reached at any.
+    #[error("{0}")]
+    Steps(StepsError),
 }
 
 impl HasStatus for CheckError {
@@ -180,6 +183,14 @@ impl From<EditError> for CheckError {
 
     fn from(error: EditError) -> CheckError {
         CheckError::Unmade(error)
+    }
+}
+
+impl From<StepsError> for CheckError {
+    ghost from_gives = { λ e r. r ≡ errors.Steps e };
+
+    fn from(error: StepsError) -> CheckError {
+        CheckError::Steps(error)
     }
 }
 

@@ -1,10 +1,10 @@
-use Rattle.aig_base.proofs.Words.{◌≡◌, ◌+◌, ◌-◌, ◌++◌, ◌∷◌, None, Ok, arith, inl, inr, length, length-map, List, map, slice_get-get_or, string_bytes, subst, ℕ}
+use Rattle.aig_base.proofs.Words.{◌≡◌, ◌+◌, ◌-◌, ◌++◌, ◌∷◌, None, Ok, arith, inl, inr, length, length-map, List, map, slice_get-get_or, string_bytes, subst, sym, ◌∙◌, ℕ}
 use Rattle.std.specs.Prelude.{IfOk, Result}
 use Rattle.aig_command_line.specs.declared.files.OpenError.{OpenError}
 use Rattle.aig_checks.specs.Explaining.{IsRefusedIn}
 use Rattle.aig_checks.specs.Inputs.{listed}
 use Rattle.aig_checks.specs.Opening.{AreOpened}
-use Rattle.aig_checks.proofs.Opened.{all_opened, inputs_fit, some_paths}
+use Rattle.aig_checks.proofs.Opened.{all_opened, few_files, inputs_fit, some_paths}
 use Rattle.aig_checks.proofs.Refusing.{opened_again}
 use Rattle.aig_checks.proofs.again.place_by_run.Goals as goal
 
@@ -66,3 +66,12 @@ returns g c =
             c.args.error c.args.measure c.place_in.result) number refused;
       }
     ]
+
+pub open_all-requires-clause-few : goal.open_all-requires-clause-few
+open_all-requires-clause-few g c =
+    omega (
+      arith,
+      few_files c.args.call.now.asked.command (sym c.is_each.ensures ∙ c.if-is_each.false),
+      c.requires.paths,
+      c.requires.further,
+    )
