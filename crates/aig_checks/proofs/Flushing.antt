@@ -197,7 +197,6 @@ module _ {W : Type 0} (held : W → Option (List ℕ)) (write_failed : W → Boo
     steps_ended left failed base_left base_failed step_left step_failed k form base_optimize
         step_optimize limit r rest ps used q spent (Err e) runs never = absurd never
 
-
     module _ {R S C P Q : Type 0} (left : R → Option (List ℕ)) (failed : R → Bool)
         (left_of : S → Option (List ℕ)) (failed_of : S → Bool) (given : C → Option (List ℕ))
         (given_failed : C → Bool) (base_left : P → Option (List ℕ)) (base_failed : P → Bool)
