@@ -1,6 +1,6 @@
 -- Part of what is promised.
--- What a command does with the bytes of a file, of a proof for each of its first steps, and of one of
--- its window, that its machine is safe: what it puts into its writer, and why it refuses them.
+-- What a command does with the bytes of a file, of a proof for each of its first steps, and of one
+-- of its window, that its machine is safe: what it puts into its writer, and why it refuses them.
 use Rattle.std.specs.Prelude.{◌≡◌, ◌≢◌, ◌⊎◌, ℕ, ◌+◌, ◌++◌, ◌∷◌, [], Bool, false, IsTrue, List, Option, Result, Ok, Err, IfErr, IsErrOf, OnOk, slice_get}
 use Rattle.std.specs.Io.KnownBytes.{Appends}
 use Rattle.aig_answers.specs.Answers.{IsAsked, window_verdict}
