@@ -9,7 +9,7 @@ compile, is proved, or is refused elsewhere. One is refused for a name alone if 
 fails too, unless tests/edits/lemmas.tsv names the lemma that rejects what such a body gives.
 
 With no words this tries the crates whose texts, edits and crates below aren't those that tests/edits/tried.tsv has a hash of; --all
-tries all. A crate that has no row there, as its edits don't all name their goals yet, is named and passed over. --write writes the lines
+tries all. A crate that has no row there is named and passed over. --write writes the lines
 `refused:` and the hash of each crate whose edits are all refused. --selftest tries those of tests/unfit, which have to fail as their
 lines `fails:` say.
 """
@@ -268,7 +268,7 @@ def changed(crates):
     """Those of some crates whose hash isn't that at which all their edits were refused. Crates that have none are named."""
     tried = dict(harness.rows(TRIED))
     if unknown := [crate.name for crate in crates if crate.name not in tried]:
-        print(f"not all edits name their goals yet, so none is tried: {', '.join(unknown)}")
+        print(f"without a row in {TRIED.name}, so no edit is tried: {', '.join(unknown)}")
     return [crate for crate in crates if crate.name in tried and tried[crate.name] != hash_of(crate)]
 
 
