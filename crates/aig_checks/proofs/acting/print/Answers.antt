@@ -21,3 +21,8 @@ returns-clause-acts g c =
     g.F.File.Source.left g.F.File.Source.failed c.args.call.now.asked
     (map string_bytes c.args.call.now.paths.now) (map string_bytes c.args.call.now.further.now)
     c.in_ok-act_on.ensures
+
+pub returns-in_err-act_on-clause-acts : goal.returns-in_err-act_on-clause-acts
+returns-in_err-act_on-clause-acts g c =
+    let p = err_from_is_err_and c.from_residual.result c.from_residual.ensures.1 in
+    rw (p.1, p.2) c.in_err-act_on.ensures
