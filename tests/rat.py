@@ -177,7 +177,7 @@ class Question(Files):
     def compare_mangled(self, rng, lines):
         """Compares mangled lines as text, and in the binary form where it has a place for each word."""
         self.compare_bytes("mangled", text_of(lines).encode())
-        if all(len(line) > 1 and "d" not in [line[0], *line[2:]] for line in lines):
+        if all(len(line) > 1 and "d" not in [line[0], *line[2:]] and int(line[0]) >= 0 for line in lines):
             self.compare_bytes("mangled, binary", rng.choice([WORD, b""]) + binary_of(lines))
 
     def compare_bytes(self, kind, proof):
