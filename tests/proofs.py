@@ -31,19 +31,22 @@ SETTINGS = [[], ["--plain"], ["--unsat"], ["--sat"], ["--no-elim"], ["--no-probe
 
 
 class Clauses:
-    """Clauses by their numbers, which have a literal, and the literals that were found to be true in any case."""
+    """Clauses by their numbers, those that have a literal, those of one at most, and the literals that were found to be true in any case."""
 
     def __init__(self, clauses=()):
-        self.all, self.having, self.fixed = {}, collections.defaultdict(set), set()
+        self.all, self.having, self.short, self.fixed = {}, collections.defaultdict(set), {}, set()
         for number, clause in enumerate(clauses, 1):
             self.add(number, clause)
 
     def add(self, number, clause):
         self.all[number] = clause
+        if len(set(clause)) < 2:
+            self.short[number] = clause
         for literal in clause:
             self.having[literal].add(number)
 
     def remove(self, number):
+        self.short.pop(number, None)
         for literal in self.all.pop(number):
             self.having[literal].discard(number)
 
@@ -58,7 +61,7 @@ class Clauses:
         true, hints = self.fixed.union(literals), []
         if any(-literal in true for literal in true):
             return hints
-        waiting = [number for number, clause in self.all.items() if len(set(clause)) < 2]
+        waiting = list(self.short)
         waiting += [number for literal in true for number in sorted(self.having[-literal])]
         for number in waiting:
             clause = self.all[number]
@@ -245,8 +248,8 @@ def parted(numbers):
 def is_rat(clauses, clause, hints, groups):
     """Whether what follows of a clause and each other one that has the inverse of its first literal does so along the hints and those
     for that other one (RAT)."""
-    opposed = [item for item in clauses.all.items() if clause and -clause[0] in item[1]]
-    resolvents = {number: [*clause, *(literal for literal in other if literal != -clause[0])] for number, other in opposed}
+    opposed = clauses.having[-clause[0]] if clause else ()
+    resolvents = {number: [*clause, *(literal for literal in clauses.all[number] if literal != -clause[0])] for number in opposed}
     return bool(clause) and all(follows(clauses, made, [*hints, *groups.get(number, [])]) for number, made in resolvents.items())
 
 
