@@ -89,7 +89,7 @@ fn words_of_given(status: u32) -> &'static [u8] {
         45 => b"number too large in proof",
         46 => b"proof step does not follow",
         47 => b"proof step has not the RAT property",
-        48 => b"bad binary proof; LRAT is taken as text (cadical --no-binary)",
+        48 => b"bad binary proof; behind the word lrat it is read as LRAT",
         49 => b"proof ends before the empty clause",
         60 => b"no status line 1",
         61 => b"bad property line",

@@ -42,7 +42,7 @@ pub enum RefutationError {
     #[error("proof step has not the RAT property")]
     Asymmetry,
     /// The proof is neither a text nor a binary one, or a binary one is cut or malformed in a step.
-    #[error("bad binary proof; LRAT is taken as text (cadical --no-binary)")]
+    #[error("bad binary proof; behind the word lrat it is read as LRAT")]
     Binary,
     /// The bytes end before the empty clause.
     #[error("proof ends before the empty clause")]
