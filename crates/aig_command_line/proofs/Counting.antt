@@ -1,11 +1,13 @@
 -- Counts with a further byte.
-use Rattle.aig_base.proofs.Words.{◌≡◌, ◌≢◌, ◌==◌, ℕ, ◌+◌, ◌-◌, ◌<◌, Bool, cond, false, append_assoc, eq-eqb, ne_eqb, List, [], ◌∷◌, ◌++◌, length, take, drop, get_or, refl, sym, ap, ◌∙◌, arith, subst, length-append, add-one, length-drop, Consumes, length-take}
+use Rattle.aig_base.proofs.Words.{◌≡◌, ◌≢◌, ◌==◌, ◌||◌, ℕ, zero, suc, ◌+◌, ◌-◌, ◌<◌, Bool, cond, false, append_assoc, eq-eqb, ne_eqb, List, [], ◌∷◌, ◌++◌, length, take, drop, get_or, refl, sym, ap, ◌∙◌, arith, subst, length-append, add-one, length-drop, Consumes, length-take}
+use Rattle.std.specs.List.{list_any}
 use Rattle.std.specs.Prelude.{Option, Some, None}
 use Rattle.std.proofs.lemmas.List.{length-append}
+use Rattle.std.proofs.lemmas.List.Folds.{list_any-append}
 use Rattle.std.proofs.lemmas.List.Sums.{sum_by-append}
 use Rattle.std.proofs.Math.Seq.{take-suc, drop-cons, take-append_seam}
 use Rattle.aig_command_line.specs.Came.{Came, IsPlaceIn}
-use Rattle.aig_command_line.specs.Counts.{IsTally, feeds_in, line_of, place_of}
+use Rattle.aig_command_line.specs.Counts.{IsTally, feeds_in, has_zero, line_of, place_of, telling}
 use Rattle.aig_command_line.specs.declared.tally.Measure.{Measure}
 use Rattle.aig_command_line.specs.declared.tally.Place.{Place}
 use Rattle.aig_command_line.specs.declared.tally.Tally.{Tally}
@@ -89,6 +91,22 @@ placed (Some bytes) left failed t measure place so at =
           counts,
     )
 placed None left failed t measure place so at = tt
+
+-- ---- the first bytes, where a piece comes
+
+-- the first of a list, and then of the piece
+take_over : (n : ℕ) (xs ys : List ℕ) → take n (xs ++ ys) ≡ take n xs ++ take (n - length xs) ys
+take_over zero xs ys = let e : zero - length xs ≡ zero = omega arith in rw e
+take_over (suc n) [] ys = let e : suc n - length {A = ℕ} [] ≡ suc n = omega arith in rw e
+take_over (suc n) (x ∷ xs) ys =
+    let e : suc n - length (x ∷ xs) ≡ n - length xs = omega arith in
+    rw e (ap (λ l. x ∷ l) (take_over n xs ys))
+
+pub zero_append : (came piece : List ℕ) → has_zero (came ++ piece)
+    ≡ (has_zero came || list_any (λ b. b == 0) (take (telling - length came) piece))
+zero_append came piece =
+    ap (list_any (λ b. b == 0)) (take_over telling came piece)
+    ∙ list_any-append (λ b. b == 0) (take telling came) (take (telling - length came) piece)
 
 -- ---- the counts with a piece
 

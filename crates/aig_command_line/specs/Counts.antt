@@ -1,6 +1,7 @@
 -- Part of what is promised.
 -- Counts of bytes that came, and the place of the last of them.
-use Rattle.std.specs.Prelude.{◌≡◌, ◌==◌, ℕ, ◌+◌, ◌-◌, ◌^◌, ◌≤◌, Bool, true, false, if◌then◌else◌, List, ◌++◌, length, take, get_or, count_by, Option, Some, None}
+use Rattle.std.specs.List.{list_any}
+use Rattle.std.specs.Prelude.{◌≡◌, ◌==◌, ◌&&◌, ◌||◌, ℕ, ◌+◌, ◌-◌, ◌^◌, ◌≤◌, Bool, true, false, if◌then◌else◌, List, ◌++◌, length, take, get_or, count_by, Option, Some, None}
 use Rattle.aig_command_line.specs.declared.tally.Measure.{Measure}
 use Rattle.aig_command_line.specs.declared.tally.Measure.TheVariants as measures
 use Rattle.aig_command_line.specs.declared.tally.Place.{Place}
@@ -15,14 +16,22 @@ feeds_in bytes = count_by (λ b. b == 10) bytes
 abbrev pub line_of : List ℕ → ℕ
 line_of came = 1 + feeds_in (take (length came - 1) came)
 
--- places are told by bytes: the second byte of a binary AIGER file is `i`, and the first of a
--- binary
--- proof `a`
+-- how many bytes at the front tell whether a proof that begins with `d` is binary
+abbrev pub telling : ℕ
+telling = 1024
+
+-- whether a byte 0 is among them
+abbrev pub has_zero : List ℕ → Bool
+has_zero came = list_any (λ b. b == 0) (take telling came)
+
+-- Places are told by bytes in a binary AIGER file, whose second byte is `i`, and in a binary proof:
+-- it begins with `a`, with the `l` of the word `lrat`, or with `d` and a byte 0 is among the first.
 abbrev pub is_by_bytes : Measure → List ℕ → Bool
 is_by_bytes measures.Line came = false
 is_by_bytes measures.Byte came = true
 is_by_bytes measures.Aiger came = get_or came 1 0 == 105
-is_by_bytes measures.Proof came = get_or came 0 0 == 97
+is_by_bytes measures.Proof came =
+    get_or came 0 0 == 97 || get_or came 0 0 == 108 || get_or came 0 0 == 100 && has_zero came
 
 -- the place of the last byte
 abbrev pub place_of : Measure → List ℕ → Place
@@ -36,6 +45,7 @@ pub record IsTally (t : Tally) (came : List ℕ) : Type 0 where
   pub line : t.line ≡ line_of came
   pub first : t.first ≡ get_or came 0 0
   pub second : t.second ≡ get_or came 1 0
+  pub zero : t.has_zero ≡ has_zero came
 
 -- the counts with the bytes of a piece, unless there were none, or there are too many bytes
 abbrev pub CountsWith : Option Tally → List ℕ → Option Tally → Type 0

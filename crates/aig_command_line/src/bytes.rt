@@ -1,6 +1,7 @@
 //! Single bytes of a piece.
 
-ghost use Rattle.std.specs.Prelude.{◌≡◌, ◌≤◌, get_or, length};
+ghost use Rattle.std.specs.List.{list_any};
+ghost use Rattle.std.specs.Prelude.{◌≡◌, ◌==◌, ◌≤◌, get_or, length, take};
 ghost use Rattle.aig_command_line.specs.Counts.{feeds_in};
 
 /// How many bytes are counted in a byte.
@@ -36,4 +37,11 @@ pub(crate) fn byte_at(bytes: &[u8], i: usize) -> u8
     ensures { result ≡ get_or bytes.now i 0 }
 {
     if i < bytes.len() { bytes[i] } else { 0 }
+}
+
+/// Whether a byte 0 is among so many at the front.
+pub(crate) fn has_zero(bytes: &[u8], count: usize) -> bool
+    ensures { result ≡ list_any (λ b. b == 0) (take count bytes.now) }
+{
+    bytes.iter().take(count).any(|b| *b == 0)
 }

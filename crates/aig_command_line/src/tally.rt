@@ -2,7 +2,10 @@
 
 ghost use Rattle.std.specs.Prelude.{◌≡◌, ◌+◌, ◌-◌, ◌<◌, ◌≤◌, ◌^◌, ◌++◌, ◌∷◌, [], List, ℕ, Some, false, get_or, length};
 
-use crate::bytes::{byte_at, feeds_in};
+use crate::bytes::{byte_at, feeds_in, has_zero};
+
+/// How many bytes at the front tell whether a proof that begins with `d` is binary.
+const TELLING: u64 = 1024;
 
 /// A place in a file.
 #[derive(Clone, Copy, Debug, PartialEq, Eq)]
@@ -24,7 +27,8 @@ pub enum Measure {
     Byte,
     /// By its byte in a binary AIGER file, whose second byte is `i`, and else by its line.
     Aiger,
-    /// By its byte in a binary proof, which begins with `a`, and else by its line.
+    /// By its byte in a binary proof, and else by its line. Such a proof begins with `a`, with the `l` of the word `lrat`, or with `d`
+    /// where a byte 0 is among the first 1,024.
     Proof,
 }
 
@@ -41,11 +45,13 @@ pub(crate) struct Tally {
     first: u8,
     /// The second one, and 0 where there is none.
     second: u8,
+    /// Whether a byte 0 is among the first 1,024.
+    has_zero: bool,
     ghost few: { feeds ≤ bytes },
 }
 
 impl Tally {
-    ghost use Rattle.aig_command_line.specs.Counts.{CountsWith, IsTally, is_by_bytes, place_of};
+    ghost use Rattle.aig_command_line.specs.Counts.{CountsWith, IsTally, has_zero, is_by_bytes, place_of};
 
     /// The counts of no bytes.
     pub(crate) fn new() -> Self
@@ -57,6 +63,7 @@ impl Tally {
             line: 1,
             first: 0,
             second: 0,
+            has_zero: false,
         }
     }
 
@@ -79,6 +86,7 @@ impl Tally {
             line: self.feeds + 1,
             first: if self.bytes == 0 { byte } else { self.first },
             second: if self.bytes == 1 { byte } else { self.second },
+            has_zero: self.zero_with(&[byte]),
         }
     }
 
@@ -97,6 +105,7 @@ impl Tally {
             line: feeds + 1,
             first: self.first_with(piece),
             second: self.second_with(piece),
+            has_zero: self.zero_with(piece),
         })
     }
 
@@ -124,6 +133,15 @@ impl Tally {
         }
     }
 
+    /// Whether a byte 0 is among the first, where a piece comes.
+    fn zero_with(&self, piece: &[u8]) -> bool
+        ensures { (came : List ℕ) → IsTally self.now came
+            → result ≡ has_zero (came ++ piece.now) }
+    {
+        let left = TELLING.saturating_sub(self.bytes) as usize;
+        self.has_zero || has_zero(piece, left)
+    }
+
     /// Whether places are told by bytes.
     fn is_by_bytes(&self, measure: Measure) -> bool
         ensures { (came : List ℕ) → IsTally self.now came → result ≡ is_by_bytes measure came }
@@ -132,7 +150,11 @@ impl Tally {
             Measure::Line => false,
             Measure::Byte => true,
             Measure::Aiger => self.second == b'i',
-            Measure::Proof => self.first == b'a',
+            Measure::Proof => match self.first {
+                b'a' | b'l' => true,
+                b'd' => self.has_zero,
+                _ => false,
+            },
         }
     }
 

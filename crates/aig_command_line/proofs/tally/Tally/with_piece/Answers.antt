@@ -26,4 +26,5 @@ returns c = λ came counts.
       line = omega (arith, line, feeds);
       first = c.first_with.ensures came counts;
       second = c.second_with.ensures came counts;
+      zero = c.zero_with.ensures came counts;
     }
