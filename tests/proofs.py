@@ -138,14 +138,14 @@ def steps_of(formula, lines):
 
 def binary_number(data):
     """The next number of a binary file: groups of seven bits, the lowest first, below 2^32."""
-    value = 0
-    for place in range(5):
-        byte = next(data, None)
-        needs(byte is not None)
-        value += (byte & 127) << 7 * place
+    value = place = 0
+    for byte in data:
+        value += (byte & 127) << place
         if byte < 128:
             needs(value < 1 << 32)
             return value
+        place += 7
+        needs(place < 35)
     raise Refusal
 
 
