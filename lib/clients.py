@@ -3,8 +3,8 @@
 
 The header's declarations and their comments are the table of the calls. Of it are made lib/rust/src/calls.rs and made.rs, what stands in
 lib/python/aig.py behind its line `# ---- made`, and tests/clients/made.h and made.rs, by which rows are run through each call that
-gives bytes or checks something. Calls with further results, and what they return, are written by hand. --check writes nothing, and
-fails where a file isn't what would be written.
+gives bytes or numbers or checks something. One number is returned alone, and several as what RESULTS says, which is written by hand, as
+is each call with other results. --check writes nothing, and fails where a file isn't what would be written.
 """
 import pathlib
 import re
@@ -21,9 +21,11 @@ RUST = {"const uint8_t*": "*const u8", "uint8_t*": "*mut u8", "int32_t*": "*mut 
 RUST |= {"size_t": "usize", "uint64_t": "u64", "uint32_t": "u32", "bool": "bool"}
 PYTHON = {"uint8_t*": "_U8", "int32_t*": "_I32", "size_t*": "_SIZES", "const uint8_t*": "_TEXT"}
 PYTHON |= {"size_t": "_size", "uint64_t": "_step", "uint32_t": "ctypes.c_uint32", "bool": "_bool"}
+# What clients in Rust and Python return of several numbers, whose fields have their names.
+RESULTS = {("bad", "step"): "Shown", ("justice", "start", "last"): "Lasso"}
 
 
-# What a call is made on in C, and the calls that give bytes and that check something.
+# What a call is made on in C, and the calls that give bytes, that check something and that tell numbers.
 WORDS = """#include "aig.h"
 
 struct bytes {
@@ -37,6 +39,7 @@ struct words {
 };
 typedef uint32_t answers(const struct words *, uint8_t *out, size_t out_len, size_t *needed);
 typedef uint32_t checks(const struct words *);
+typedef uint32_t tells(const struct words *, size_t *told);
 
 """
 
@@ -49,16 +52,24 @@ class Call:
         words = [re.fullmatch(r"(.*?)\s*(\w+)", re.sub(r"\s+", " ", it.strip())).groups() for it in given.split(",")]
         self.parameters = [(kind.replace(" *", "*"), word) for kind, word in words]
         self.gives = self.parameters[-3:] == OUT
-        taken = self.parameters[: -3 if self.gives else None]
+        # The numbers that it tells, where it gives no bytes.
+        self.told = [] if self.gives else [word for kind, word in self.parameters if kind == "size_t*"]
+        taken = self.parameters[: -3 if self.gives else len(self.parameters) - len(self.told)]
         # Each slice is one word, and its length none.
         self.taken = [(kind, word) for i, (kind, word) in enumerate(taken) if not (i and taken[i - 1][0].endswith("8_t*"))]
         # The rest is written by hand.
-        self.is_plain = self.name != "message" and not any(kind in ("size_t*", "int32_t*") for kind, _ in self.taken)
+        self.is_plain = self.name != "message" and not any(kind == "int32_t*" for kind, _ in self.taken)
 
     def says(self, settled, names):
         """The comment, as it is of another language."""
-        text = self.doc.replace("AIG_DONE only where", names).replace("AIG_SETTLED", settled)
+        text = self.doc.replace("AIG_DONE only where", names).replace("AIG_SETTLED", settled).replace("`*", "`")
         return re.sub(r"`aig_(\w+)`", r"`\1`", text)
+
+    def result(self, gives, nothing, number):
+        """What a client returns, by the names of its language."""
+        if self.gives or not self.told:
+            return gives if self.gives else nothing
+        return RESULTS[tuple(self.told)] if self.told[1:] else number
 
 
 def calls():
@@ -86,11 +97,17 @@ def rust_declaration(call):
 def rust_call(call):
     takes = ", ".join(f"{word}: {'&[u8]' if kind.endswith('*') else RUST[kind]}" for kind, word in call.taken)
     given = [f"{word}.as_ptr(), {word}.len()" if kind.endswith("*") else word for kind, word in call.taken]
-    result, words = ("Vec<u8>", [*given, "out", "len", "needed"]) if call.gives else ("()", given)
+    result = call.result("Vec<u8>", "()", "usize")
+    words = [*given, "out", "len", "needed"] if call.gives else [*given, *(f"&mut {word}" for word in call.told)]
     made = f"calls::{call.full}({', '.join(words)})"
     body = f"given(ROOM, |out, len, needed| unsafe {{ {made} }})" if call.gives else f"held(unsafe {{ {made} }})"
+    body += "?;" * bool(call.told)
     if len(body) + 4 > WIDTH:
         body = f"{body[: body.index('{ ') + 1]}\n        {made}\n    {body[body.rindex(' }') + 1 :]}"
+    if call.told:
+        numbers = "".join(f"let mut {word} = 0;\n    " for word in call.told)
+        told = ", ".join(call.told)
+        body = f"{numbers}{body}\n    Ok({f'{result} {{ {told} }}' if call.told[1:] else told})"
     doc = comment(call.says("`Status::SETTLED`", "Done only where"), "/// ")
     return f"{doc}\npub fn {call.name}({takes}) -> Result<{result}> {{\n    {body}\n}}\n"
 
@@ -98,12 +115,13 @@ def rust_call(call):
 def rust_files(found):
     declared = "\n".join(map(rust_declaration, found))
     yield "lib/rust/src/calls.rs", f"//! The calls as `aig.h` declares them: {WRITTEN}.\n\nunsafe extern \"C\" {{\n{declared}\n}}\n"
-    head = f"//! Safe functions, each over its call: {WRITTEN}.\n\nuse crate::{{ROOM, Result, calls, given, held}};\n\n"
+    used = ", ".join(sorted(["ROOM", "Result", "calls", "given", "held", *RESULTS.values()]))
+    head = f"//! Safe functions, each over its call: {WRITTEN}.\n\nuse crate::{{{used}}};\n\n"
     safe = "// SAFETY: each pointer and length is of a slice that is borrowed for the call, and what is written is apart from it.\n\n"
     yield "lib/rust/src/made.rs", head + safe + "\n".join(rust_call(call) for call in found if call.is_plain)
-    rows = [f'        "{call.name}" => {rust_row(call)},' for call in found if call.is_plain]
+    rows = [f'        "{call.name}" => {rust_row(call)},' for call in found if call.is_plain and not call.told[1:]]
     text = f"//! Each call on the words of a row: {WRITTEN}.\n\n"
-    text += "/// What a call gives, if it is one; one that checks something gives nothing.\n"
+    text += "/// What a call gives, if it is one that tells at most one number; one that checks something gives nothing.\n"
     text += "pub fn answer(call: &str, files: &[&[u8]], numbers: &[u64], distinct: bool, optimize: bool) -> Option<aig::Result<Vec<u8>>> {\n"
     text += "    Some(match call {\n" + "\n".join(rows) + "\n        _ => return None,\n    })\n}\n"
     yield "tests/clients/made.rs", text
@@ -119,7 +137,8 @@ def word_of(call, file, number, setting):
 def rust_row(call):
     number = lambda i, kind: f"numbers[{i}]" + " as usize" * (kind == "size_t")
     words = ", ".join(word_of(call, "files[{}]".format, number, lambda word: "distinct" if word == "distinct" else "optimize"))
-    return f"aig::{call.name}({words})" + ("" if call.gives else ".map(|()| Vec::new())")
+    told = 'count| format!("{count}\\n").into_bytes()' if call.told else "()| Vec::new()"
+    return f"aig::{call.name}({words})" + ("" if call.gives else f".map(|{told})")
 
 
 # ---- Python
@@ -129,12 +148,15 @@ def python_call(call):
     settings = [f"{word}: bool = {word != 'distinct'}" for kind, word in call.taken if kind == "bool"]
     takes = [*plain, *(["*", *settings] if settings else [])]
     given = {"const uint8_t*": "*_given({})", "uint64_t": "_steps({})", "size_t": "_number({})", "bool": "{}"}
-    words = [f'"{call.full}"', *(given[kind].format(word) for kind, word in call.taken)]
-    does, result = ("return _bytes", "bytes") if call.gives else ("_hold", "None")
+    words = [f'"{call.full}"', *[str(len(call.told))] * bool(call.told), *(given[kind].format(word) for kind, word in call.taken)]
+    result = call.result("bytes", "None", "int")
+    does, end = ("return _bytes" if call.gives else "_hold", ")")
+    if call.told:
+        does, end = (f"return {result}(*_told", "))") if call.told[1:] else ("return _told", ")[0]")
     doc = comment(call.says("Raises `Settled`", "Returns only where"), "    ", 3)
     doc = f'    """{doc[4:]}"""' if len(doc) < WIDTH - 3 and "\n" not in doc else f'    """{doc[4:]}\n    """'
     head = laid_out(f"def {call.name}(", takes, f") -> {result}:")
-    return f"{head}\n{doc}\n{laid_out(f'{does}(', words, ')', '    ')}\n"
+    return f"{head}\n{doc}\n{laid_out(f'{does}(', words, end, '    ')}\n"
 
 
 def python_files(found):
@@ -151,8 +173,8 @@ def python_files(found):
 def c_row(call):
     words = [*word_of(call, lambda i: f"w->files[{i}].at, w->files[{i}].len", lambda i, _: f"w->numbers[{i}]",
                       lambda word: "w->distinct" if word == "distinct" else "w->optimize")]
-    takes = "const struct words *w" + (", uint8_t *out, size_t len, size_t *needed" if call.gives else "")
-    made = ", ".join([*words, *(["out", "len", "needed"] if call.gives else [])])
+    takes = "const struct words *w" + (", uint8_t *out, size_t len, size_t *needed" if call.gives else ", size_t *told" * bool(call.told))
+    made = ", ".join([*words, *(["out", "len", "needed"] if call.gives else (f"&told[{i}]" for i in range(len(call.told))))])
     return f"static uint32_t {call.name}_of({takes}) {{\n  return {call.full}({made});\n}}\n"
 
 
@@ -163,9 +185,10 @@ def c_table(name, kind, found):
 
 def c_files(found):
     plain = [call for call in found if call.is_plain]
-    answers, checks = [call for call in plain if call.gives], [call for call in plain if not call.gives]
     text = f"/* Each call on words as a row has them: {WRITTEN}. */\n{WORDS}" + "".join(map(c_row, plain))
-    text += c_table("ANSWERS", "answers *call;", answers) + c_table("CHECKS", "checks *call;", checks)
+    text += c_table("ANSWERS", "answers *call;", [call for call in plain if call.gives])
+    text += c_table("CHECKS", "checks *call;", [call for call in plain if not call.gives and not call.told])
+    text += c_table("TELLS", "tells *call;", [call for call in plain if call.told])
     yield "tests/clients/made.h", text
 
 

@@ -17,7 +17,7 @@ import os
 import pathlib
 from typing import NamedTuple
 
-__all__ = "Clauses Lasso Refused Settled Shown check_lasso check_run query_numbers".split()
+__all__ = "Clauses Lasso Refused Settled Shown query_numbers".split()
 
 DONE, SMALL, MEMORY, SETTLED = 0, 1, 2, 32
 
@@ -144,6 +144,13 @@ def _hold(name: str, *words) -> None:
         raise _refusal(status)
 
 
+def _told(name: str, count: int, *words) -> list[int]:
+    """So many numbers that a call tells."""
+    numbers = [_size() for _ in range(count)]
+    _hold(name, *words, *map(ctypes.byref, numbers))
+    return [number.value for number in numbers]
+
+
 def query_numbers(file: bytes, k: int, *, optimize: bool = True) -> Clauses:
     """The clauses of a file's query for step `k` as numbers, and their map. A file without bad state properties is refused."""
     whole = bytes(file)
@@ -154,20 +161,6 @@ def query_numbers(file: bytes, k: int, *, optimize: bool = True) -> Clauses:
     steps = [places[t * inputs : (t + 1) * inputs] for t in range(k + 1)]
     rest = places[(k + 1) * inputs :]
     return Clauses(variables, numbers, steps, rest[:latches], rest[latches:])
-
-
-def check_run(file: bytes, witness: bytes) -> Shown:
-    """Which bad state a witness shows, and at which step."""
-    bad, step = _size(), _size()
-    _hold("aig_check_run", *_given(file), *_given(witness), ctypes.byref(bad), ctypes.byref(step))
-    return Shown(bad.value, step.value)
-
-
-def check_lasso(file: bytes, witness: bytes) -> Lasso:
-    """Which fair lasso a witness of a justice property shows."""
-    justice, start, last = _size(), _size(), _size()
-    _hold("aig_check_lasso", *_given(file), *_given(witness), *map(ctypes.byref, (justice, start, last)))
-    return Lasso(justice.value, start.value, last.value)
 
 
 # ---- made: written by lib/clients.py from include/aig.h
@@ -222,8 +215,8 @@ _declare({
 __all__ += """
     text binary strash refine reencode unroll move_constraints compress_bads outputs_as_bads property_alone possible cone reduce
     question info cnf query clauses bounded window check_refuted check_refuted_to check_inductive check_safe check_certified
-    check_equal check_always_equal check_equal_by witness witness_to live rounds check_no_lasso check_no_lasso_to check_no_fair_run
-    miter join merge obligations
+    check_equal check_always_equal check_equal_by witness witness_to check_run check_lasso live rounds check_no_lasso
+    check_no_lasso_to check_no_fair_run miter join merge obligations
 """.split()
 
 
@@ -449,6 +442,23 @@ def witness_to(file: bytes, k: int, solution: bytes, *, optimize: bool = True) -
     80 on says why there is none.
     """
     return _bytes("aig_witness_to", *_given(file), _steps(k), optimize, *_given(solution))
+
+
+def check_run(file: bytes, witness: bytes) -> Shown:
+    """Returns only where the witness shows that a file's machine reaches a bad state. `bad` is which bad state property that is, and
+    `step` the step at which it is reached, both from 0 on. A status from 60 on says why that isn't shown. What follows the first
+    witness isn't read.
+    """
+    return Shown(*_told("aig_check_run", 2, *_given(file), *_given(witness)))
+
+
+def check_lasso(file: bytes, witness: bytes) -> Lasso:
+    """Returns only where the witness shows a fair lasso of a file's machine: that each run from an initial state with its values meets
+    every constraint, that the state before step `start` comes again after step `last`, and that in the loop between them each literal
+    of justice property `justice` and of fairness is true. All three count from 0 on. A status from 60 on says why that isn't shown.
+    What follows the first witness isn't read.
+    """
+    return Lasso(*_told("aig_check_lasso", 3, *_given(file), *_given(witness)))
 
 
 def live(file: bytes, j: int) -> bytes:

@@ -123,22 +123,18 @@ static void print_numbers(const struct words *w) {
   for (size_t i = 0; i < clauses_len; i++) printf(out[i] ? "%d " : "%d\n", out[i]);
 }
 
-/* Prints which bad state a witness shows. */
-static void print_run(const struct words *w) {
-  size_t bad = 0xa5a5, step = 0xa5a5;
-  uint32_t status = aig_check_run(w->files[0].at, w->files[0].len, w->files[1].at, w->files[1].len, &bad, &step);
-  if (status != AIG_DONE && (bad != 0xa5a5 || step != 0xa5a5)) wrong("numbers were written with no answer");
+/* Prints the numbers that a call tells, as the program does. */
+static void print_told(const char *name, tells *told_by, const struct words *w) {
+  size_t told[3] = {0xa5a5, 0xa5a5, 0xa5a5};
+  uint32_t status = told_by(w, told);
+  if (status != AIG_DONE && (told[0] != 0xa5a5 || told[1] != 0xa5a5 || told[2] != 0xa5a5)) wrong("numbers were written with no answer");
   hold(status);
-  printf("b%zu at step %zu\n", bad, step);
-}
-
-/* Prints which fair lasso one shows. */
-static void print_lasso(const struct words *w) {
-  size_t justice = 0xa5a5, start = 0xa5a5, last = 0xa5a5;
-  uint32_t status = aig_check_lasso(w->files[0].at, w->files[0].len, w->files[1].at, w->files[1].len, &justice, &start, &last);
-  if (status != AIG_DONE && (justice != 0xa5a5 || start != 0xa5a5 || last != 0xa5a5)) wrong("numbers were written with no answer");
-  hold(status);
-  printf("j%zu in a loop from step %zu to %zu\n", justice, start, last);
+  if (!strcmp(name, "check_run"))
+    printf("b%zu at step %zu\n", told[0], told[1]);
+  else if (!strcmp(name, "check_lasso"))
+    printf("j%zu in a loop from step %zu to %zu\n", told[0], told[1], told[2]);
+  else
+    printf("%zu\n", told[0]);
 }
 
 int main(int argc, char **argv) {
@@ -165,8 +161,8 @@ int main(int argc, char **argv) {
     if (!strcmp(command, ANSWERS[i].name) && count == ANSWERS[i].files) return print(ANSWERS[i].call, &w), 0;
   for (size_t i = 0; i < sizeof CHECKS / sizeof *CHECKS; i++)
     if (!strcmp(command, CHECKS[i].name) && count == CHECKS[i].files) return hold(CHECKS[i].call(&w)), 0;
+  for (size_t i = 0; i < sizeof TELLS / sizeof *TELLS; i++)
+    if (!strcmp(command, TELLS[i].name) && count == TELLS[i].files) return print_told(command, TELLS[i].call, &w), 0;
   if (!strcmp(command, "query_numbers")) return print_numbers(&w), 0;
-  if (!strcmp(command, "check_run") && count == 2) return print_run(&w), 0;
-  if (!strcmp(command, "check_lasso") && count == 2) return print_lasso(&w), 0;
   return 2;
 }

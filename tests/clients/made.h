@@ -12,6 +12,7 @@ struct words {
 };
 typedef uint32_t answers(const struct words *, uint8_t *out, size_t out_len, size_t *needed);
 typedef uint32_t checks(const struct words *);
+typedef uint32_t tells(const struct words *, size_t *told);
 
 static uint32_t text_of(const struct words *w, uint8_t *out, size_t len, size_t *needed) {
   return aig_text(w->files[0].at, w->files[0].len, out, len, needed);
@@ -103,6 +104,12 @@ static uint32_t witness_of(const struct words *w, uint8_t *out, size_t len, size
 static uint32_t witness_to_of(const struct words *w, uint8_t *out, size_t len, size_t *needed) {
   return aig_witness_to(w->files[0].at, w->files[0].len, w->numbers[0], w->optimize, w->files[1].at, w->files[1].len, out, len, needed);
 }
+static uint32_t check_run_of(const struct words *w, size_t *told) {
+  return aig_check_run(w->files[0].at, w->files[0].len, w->files[1].at, w->files[1].len, &told[0], &told[1]);
+}
+static uint32_t check_lasso_of(const struct words *w, size_t *told) {
+  return aig_check_lasso(w->files[0].at, w->files[0].len, w->files[1].at, w->files[1].len, &told[0], &told[1], &told[2]);
+}
 static uint32_t live_of(const struct words *w, uint8_t *out, size_t len, size_t *needed) {
   return aig_live(w->files[0].at, w->files[0].len, w->numbers[0], out, len, needed);
 }
@@ -180,4 +187,12 @@ static const struct {
   {"check_no_lasso", check_no_lasso_of, 2},
   {"check_no_lasso_to", check_no_lasso_to_of, 2},
   {"check_no_fair_run", check_no_fair_run_of, 3},
+};
+static const struct {
+  const char *name;
+  tells *call;
+  int files;
+} TELLS[] = {
+  {"check_run", check_run_of, 2},
+  {"check_lasso", check_lasso_of, 2},
 };

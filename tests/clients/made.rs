@@ -1,6 +1,6 @@
 //! Each call on the words of a row: written by lib/clients.py from include/aig.h.
 
-/// What a call gives, if it is one; one that checks something gives nothing.
+/// What a call gives, if it is one that tells at most one number; one that checks something gives nothing.
 pub fn answer(call: &str, files: &[&[u8]], numbers: &[u64], distinct: bool, optimize: bool) -> Option<aig::Result<Vec<u8>>> {
     Some(match call {
         "text" => aig::text(files[0]),

@@ -66,6 +66,8 @@ static const struct {
   {"check_equal_by", {WAITING, WAITING, COUNTER, CONFLICT, CONFLICT}, {0}},
   {"witness", {DELAYED, SOLUTION}, {1}},
   {"witness_to", {DELAYED, SOLVED}, {1}},
+  {"check_run", {COUNTER, WITNESS}, {0}},
+  {"check_lasso", {FED, LASSO}, {0}},
 };
 
 static struct words words_of(const char *name) {
@@ -77,32 +79,38 @@ static struct words words_of(const char *name) {
   return w;
 }
 
-/* The calls that have further results. */
-#define GIVEN(file) read[file], lens[file]
+/* The calls that have other results. */
 static uint32_t query_numbers(void) {
-  return aig_query_numbers(GIVEN(WHOLE), 2, true, (int32_t *)(void *)out, sizeof out / 4, &numbers[0], &numbers[1], &numbers[2]);
+  int32_t *at = (int32_t *)(void *)out;
+  return aig_query_numbers(read[WHOLE], lens[WHOLE], 2, true, at, sizeof out / 4, &numbers[0], &numbers[1], &numbers[2]);
 }
-static uint32_t check_run(void) { return aig_check_run(GIVEN(COUNTER), GIVEN(WITNESS), &numbers[0], &numbers[1]); }
-static uint32_t check_lasso(void) { return aig_check_lasso(GIVEN(FED), GIVEN(LASSO), &numbers[0], &numbers[1], &numbers[2]); }
 static uint32_t message(void) { return aig_message(AIG_OTHER + AIG_HEADER, out, sizeof out, &numbers[0]); }
 
 static const struct {
   const char *name;
   uint32_t (*call)(void);
-} OTHERS[] = {{"query_numbers", query_numbers}, {"check_run", check_run}, {"check_lasso", check_lasso}, {"message", message}};
+} OTHERS[] = {{"query_numbers", query_numbers}, {"message", message}};
 
-enum { GIVES = sizeof ANSWERS / sizeof *ANSWERS, HOLDS = sizeof CHECKS / sizeof *CHECKS, REST = sizeof OTHERS / sizeof *OTHERS };
+/* Where each table ends among all calls. */
+enum {
+  GIVEN = sizeof ANSWERS / sizeof *ANSWERS,
+  HELD = GIVEN + sizeof CHECKS / sizeof *CHECKS,
+  TOLD = HELD + sizeof TELLS / sizeof *TELLS,
+  ALL = TOLD + sizeof OTHERS / sizeof *OTHERS
+};
 
 /* The name of a call, by its number among all. */
 static const char *name_of(size_t i) {
-  return i < GIVES ? ANSWERS[i].name : i < GIVES + HOLDS ? CHECKS[i - GIVES].name : OTHERS[i - GIVES - HOLDS].name;
+  if (i < HELD) return i < GIVEN ? ANSWERS[i].name : CHECKS[i - GIVEN].name;
+  return i < TOLD ? TELLS[i - HELD].name : OTHERS[i - TOLD].name;
 }
 
 /* Makes it. */
 static uint32_t make(size_t i) {
   struct words w = words_of(name_of(i));
-  if (i < GIVES) return ANSWERS[i].call(&w, out, sizeof out, &numbers[0]);
-  return i < GIVES + HOLDS ? CHECKS[i - GIVES].call(&w) : OTHERS[i - GIVES - HOLDS].call();
+  if (i < GIVEN) return ANSWERS[i].call(&w, out, sizeof out, &numbers[0]);
+  if (i < HELD) return CHECKS[i - GIVEN].call(&w);
+  return i < TOLD ? TELLS[i - HELD].call(&w, numbers) : OTHERS[i - TOLD].call();
 }
 
 static void read_into(int file, const char *path) {
@@ -134,7 +142,7 @@ int main(int argc, char **argv) {
   for (int i = 0; i < FILES; i++) read_into(i, argv[1 + i]);
   memset(before, 7, sizeof before);
   int wrong = 0;
-  for (size_t i = 0; i < GIVES + HOLDS + REST; i++) {
+  for (size_t i = 0; i < ALL; i++) {
     const uint32_t whole = made(i, 0);
     const long all = requests;
     wrong += held != 0;

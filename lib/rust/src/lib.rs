@@ -125,21 +125,3 @@ pub fn query_numbers(file: &[u8], k: u64, optimize: bool) -> Result<Clauses> {
     let inputs = (0..steps).map(|t| places[t * input_count..][..input_count].to_vec()).collect();
     Ok(Clauses { variables: variables.get(), numbers, inputs, latches, bads })
 }
-
-/// Which bad state a witness shows, and at which step.
-pub fn check_run(file: &[u8], witness: &[u8]) -> Result<Shown> {
-    let (mut bad, mut step) = (0, 0);
-    held(unsafe {
-        calls::aig_check_run(file.as_ptr(), file.len(), witness.as_ptr(), witness.len(), &mut bad, &mut step)
-    })?;
-    Ok(Shown { bad, step })
-}
-
-/// Which fair lasso a witness of a justice property shows.
-pub fn check_lasso(file: &[u8], witness: &[u8]) -> Result<Lasso> {
-    let (mut justice, mut start, mut last) = (0, 0, 0);
-    held(unsafe {
-        calls::aig_check_lasso(file.as_ptr(), file.len(), witness.as_ptr(), witness.len(), &mut justice, &mut start, &mut last)
-    })?;
-    Ok(Lasso { justice, start, last })
-}

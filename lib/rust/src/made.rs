@@ -1,6 +1,6 @@
 //! Safe functions, each over its call: written by lib/clients.py from include/aig.h.
 
-use crate::{ROOM, Result, calls, given, held};
+use crate::{Lasso, ROOM, Result, Shown, calls, given, held};
 
 // SAFETY: each pointer and length is of a slice that is borrowed for the call, and what is written is apart from it.
 
@@ -190,6 +190,29 @@ pub fn witness_to(file: &[u8], k: u64, optimize: bool, solution: &[u8]) -> Resul
     given(ROOM, |out, len, needed| unsafe {
         calls::aig_witness_to(file.as_ptr(), file.len(), k, optimize, solution.as_ptr(), solution.len(), out, len, needed)
     })
+}
+
+/// Done only where the witness shows that a file's machine reaches a bad state. `bad` is which bad state property that is, and `step` the
+/// step at which it is reached, both from 0 on. A status from 60 on says why that isn't shown. What follows the first witness isn't read.
+pub fn check_run(file: &[u8], witness: &[u8]) -> Result<Shown> {
+    let mut bad = 0;
+    let mut step = 0;
+    held(unsafe { calls::aig_check_run(file.as_ptr(), file.len(), witness.as_ptr(), witness.len(), &mut bad, &mut step) })?;
+    Ok(Shown { bad, step })
+}
+
+/// Done only where the witness shows a fair lasso of a file's machine: that each run from an initial state with its values meets every
+/// constraint, that the state before step `start` comes again after step `last`, and that in the loop between them each literal of
+/// justice property `justice` and of fairness is true. All three count from 0 on. A status from 60 on says why that isn't shown. What
+/// follows the first witness isn't read.
+pub fn check_lasso(file: &[u8], witness: &[u8]) -> Result<Lasso> {
+    let mut justice = 0;
+    let mut start = 0;
+    let mut last = 0;
+    held(unsafe {
+        calls::aig_check_lasso(file.as_ptr(), file.len(), witness.as_ptr(), witness.len(), &mut justice, &mut start, &mut last)
+    })?;
+    Ok(Lasso { justice, start, last })
 }
 
 /// The text form of the live circuit of a file's justice property `j`, from 0 on: its bad state property holds at a step exactly where
