@@ -1,7 +1,7 @@
 -- Part of what is promised.
 -- What a command does with the list of the files that it reads: FILE, CERT or OTHER, and what is
 -- given beside these.
-use Rattle.std.specs.Prelude.{ℕ, Bool, List, [], ◌∷◌, Option, Result}
+use Rattle.std.specs.Prelude.{ℕ, Bool, List, [], ◌∷◌, Option, Result, vec_capacity}
 use Rattle.aig_checks.specs.declared.command.Command.{Command}
 use Rattle.aig_checks.specs.declared.command.Command.TheVariants as commands
 use Rattle.aig_checks.specs.declared.inputs.Inputs.{Inputs}
@@ -11,6 +11,7 @@ use Rattle.aig_checks.specs.Comparing.{RunsComparing}
 use Rattle.aig_checks.specs.Pairs.{RunsPair}
 use Rattle.aig_checks.specs.Running.{Runs, nothing_fails, nothing_given}
 use Rattle.aig_checks.specs.Safe.{RunsSafe}
+use Rattle.aig_checks.specs.SafeBySteps.{RunsOnProofs}
 
 -- the files, in order
 abbrev pub listed : {S : Type 0} → Inputs S → List S
@@ -19,6 +20,12 @@ listed (inputs.One a) = a ∷ []
 listed (inputs.Two a b) = a ∷ b ∷ []
 listed (inputs.Three a b c) = a ∷ b ∷ c ∷ []
 listed (inputs.Four a b c d) = a ∷ b ∷ c ∷ d ∷ []
+listed (inputs.More all) = all.items
+
+-- how many fit in without further memory
+abbrev pub room_of : {S : Type 0} → Inputs S → ℕ
+room_of (inputs.More all) = vec_capacity all
+room_of few = 4
 
 -- The command was run on FILE and on the files behind it: r, inputs and w are these and the writer
 -- before it; rest, others and made are they after it.
@@ -49,6 +56,10 @@ Ran left failed left_of failed_of held write_failed limit
     (used ∷ spent ∷ []) made =
     RunsSafe left failed left_of failed_of left_of failed_of held write_failed k form base_optimize
     step_optimize limit r p q w result rest used spent made
+Ran left failed left_of failed_of held write_failed limit
+    (commands.SafeBySteps k form base_optimize step_optimize) r proofs w result rest others made =
+    RunsOnProofs left failed left_of failed_of held write_failed k form base_optimize step_optimize
+    limit r proofs w result rest others made
 Ran left failed left_of failed_of held write_failed limit (commands.EqualBy optimize) r
     (s ∷ c ∷ p ∷ q ∷ []) w result rest (other ∷ tried ∷ used ∷ spent ∷ []) made =
     RunsComparing left failed left_of failed_of left_of failed_of left_of failed_of left_of

@@ -193,11 +193,6 @@ beside_of (commands.SafeBySteps k form base_optimize step_optimize) = k + 2
 beside_of (commands.EqualBy optimize) = 3
 beside_of c = 1
 
--- it takes a proof of each step: it reads as many files as its words say
-abbrev pub is_each : Command → Bool
-is_each (commands.SafeBySteps k form base_optimize step_optimize) = true
-is_each c = false
-
 -- it prints clauses, and takes nothing beside its files
 abbrev pub prints : Command → Bool
 prints c = beside_of c == 0
