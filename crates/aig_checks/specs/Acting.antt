@@ -2,7 +2,7 @@
 -- What the program does with its words. Files are opened as a trait says; of a file that is read it
 -- says the bytes that are left and whether a read failed, and of what is written to the bytes held,
 -- whether a write failed, and whether all of them are in their place.
-use Rattle.std.specs.Prelude.{◌≡◌, ◌↔◌, ◌⊎◌, ℕ, ◌+◌, ◌<◌, Bool, IsTrue, List, [], ◌∷◌, ◌++◌, Option, None, Some, Result, Err, OnOk}
+use Rattle.std.specs.Prelude.{◌≡◌, ◌↔◌, ◌⊎◌, ℕ, Bool, IsTrue, List, [], ◌∷◌, ◌++◌, Option, None, Some, Result, Err, OnOk}
 use Rattle.aig_command_line.specs.declared.about.Question.{Question}
 use Rattle.aig_command_line.specs.About.{word_of}
 use Rattle.aig_command_line.specs.declared.status.Ending.{Ending}
@@ -17,7 +17,7 @@ use Rattle.aig_checks.specs.declared.tool.CheckError.TheVariants as errors
 use Rattle.aig_checks.specs.Inputs.{Ran}
 use Rattle.aig_checks.specs.Living.{RanMade}
 use Rattle.aig_checks.specs.Opening.{OpensAll}
-use Rattle.aig_checks.specs.Words.{Give, IsCall, beside_of, paths_of}
+use Rattle.aig_checks.specs.Words.{Give, IsCall, has_list}
 
 -- the command was run on FILE and on the files behind it, or on what is made of FILE for the
 -- justice property
@@ -38,20 +38,16 @@ RanOn {F} left failed held write_failed limit c w result made (r ∷ files) =
     rest others made
 RanOn left failed held write_failed limit c w result made [] = ⊥
 
--- the command is on more than five files, and memory ran out before all were opened
-abbrev pub IsShort : {W : Type 0} → Command → W → Result Unit CheckError → W → Type 0
-IsShort c w result made = (5 < paths_of c + beside_of c) × (result ≡ Err errors.Memory) × (made ≡ w)
-
 -- What is done with the files at the paths, which are opened first, in order: FILE, the file beside
--- it, and what the words name beside these. Where one isn't opened, or memory for them runs out,
--- nothing is written.
+-- it, and what the words name beside these. Where one isn't opened, or memory for a list of them runs
+-- out, nothing is written.
 abbrev pub Acts : {F W : Type 0} → (List ℕ → Result F OpenError → Type 0)
     → (F → Option (List ℕ)) → (F → Bool) → (W → Option (List ℕ)) → (W → Bool) → ℕ → Asked
     → List (List ℕ) → List (List ℕ) → W → Result Unit CheckError → W → Type 0
 Acts opens left failed held write_failed limit c paths further w result made =
     OpensAll opens (paths ++ further) (RanOn left failed held write_failed limit c w result made)
     (λ e. (result ≡ Err e) × (made ≡ w))
-    ⊎ IsShort c.command w result made
+    ⊎ (IsTrue (has_list c.command) × (result ≡ Err errors.Memory) × (made ≡ w))
 
 -- what the words ask for was done, and how the program ends by it
 pub record Obeys {F W : Type 0} (opens : List ℕ → Result F OpenError → Type 0)

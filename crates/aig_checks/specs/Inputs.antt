@@ -1,7 +1,7 @@
 -- Part of what is promised.
 -- What a command does with the list of the files that it reads: FILE, CERT or OTHER, and what is
 -- given beside these.
-use Rattle.std.specs.Prelude.{ℕ, Bool, List, [], ◌∷◌, Option, Result, vec_capacity}
+use Rattle.std.specs.Prelude.{ℕ, Bool, List, [], ◌∷◌, Option, Result}
 use Rattle.aig_checks.specs.declared.command.Command.{Command}
 use Rattle.aig_checks.specs.declared.command.Command.TheVariants as commands
 use Rattle.aig_checks.specs.declared.inputs.Inputs.{Inputs}
@@ -20,12 +20,7 @@ listed (inputs.One a) = a ∷ []
 listed (inputs.Two a b) = a ∷ b ∷ []
 listed (inputs.Three a b c) = a ∷ b ∷ c ∷ []
 listed (inputs.Four a b c d) = a ∷ b ∷ c ∷ d ∷ []
-listed (inputs.More all) = all.items
-
--- how many fit in without further memory
-abbrev pub room_of : {S : Type 0} → Inputs S → ℕ
-room_of (inputs.More all) = vec_capacity all
-room_of few = 4
+listed (inputs.Each all) = all.items
 
 -- The command was run on FILE and on the files behind it: r, inputs and w are these and the writer
 -- before it; rest, others and made are they after it.
