@@ -212,21 +212,31 @@ fn counted_if<R: Source + Drop, B: Origin>(
     Ok(Traced::Counted(Box::new(alloc, Counted::new(source))?))
 }
 
+/// Inputs that are read as they are.
+fn plain<R: Drop, C: Drop>(alloc: Global, inputs: Vec<R>) -> Result<Vec<Traced<R, C>>, MemoryError>
+    ensures { IfOk result (λ traced. traced.items ≡ map (λ source. Traced.Plain source)
+        inputs.items) }
+{
+    let traced = inputs
+        .into_iter()
+        .map(|source| Traced::Plain(source))
+        .collect(alloc)?;
+    Ok(traced)
+}
+
 /// A list of inputs, of which the one of this number is counted.
 fn trace_each<R: Source + Drop, B: Origin>(
     alloc: Global,
-    inputs: Vec<R>,
+    mut inputs: Vec<R>,
     which: usize,
 ) -> Result<Vec<Trace<R, B>>, MemoryError>
     requires { slice_get (map R.left inputs.items) which ≡ Some B.bytes }
     ensures { IfOk result (λ traced. map ⟦<Traced<R, Counted<R, B>> as Source>⟧.left traced.items
         ≡ map R.left inputs.items) }
 {
-    let mut traced = Vec::with_capacity(alloc, inputs.len())?;
-    for source in inputs {
-        let is_counted = traced.len() == which;
-        traced.push(counted_if(alloc, source, is_counted)?)?;
-    }
+    let counted = counted_if(alloc, inputs.remove(which), true)?;
+    let mut traced = plain(alloc, inputs)?;
+    traced.insert(which, counted)?;
     Ok(traced)
 }
 
