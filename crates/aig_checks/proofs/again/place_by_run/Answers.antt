@@ -1,4 +1,4 @@
-use Rattle.aig_base.proofs.Words.{◌≡◌, ◌+◌, ◌-◌, ◌++◌, ◌∷◌, None, Ok, arith, inl, inr, length, length-map, List, map, slice_get-get_or, string_bytes, subst, sym, ◌∙◌, ℕ}
+use Rattle.aig_base.proofs.Words.{◌≡◌, ◌+◌, ◌-◌, ◌++◌, ◌∷◌, None, Ok, arith, inl, inr, length, length-map, List, map, slice_get-get_or, string_bytes, subst, ℕ}
 use Rattle.std.specs.Prelude.{IfOk, Result}
 use Rattle.aig_command_line.specs.declared.files.OpenError.{OpenError}
 use Rattle.aig_checks.specs.Explaining.{IsRefusedIn}

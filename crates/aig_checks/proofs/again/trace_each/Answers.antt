@@ -1,6 +1,5 @@
-use Rattle.aig_base.proofs.Words.{◌≡◌, ◌<◌, ◌∙◌, Some, ap, arith, length, length-map, map, refl, same_Some, slice_get-get_or, sym}
+use Rattle.aig_base.proofs.Words.{◌<◌, ◌∙◌, ap, arith, length, length-map, map, refl, same_Some, slice_get-get_or, sym}
 use Rattle.std.specs.Prelude.{option_map}
-use Rattle.std.specs.List.{insert, remove}
 use Rattle.std.proofs.lemmas.Option.{slice_get-map, slice_get_within}
 use Rattle.aig_checks.specs.declared.again.Traced.TheVariants.{Plain}
 use Rattle.aig_checks.proofs.Refusing.{put_back}

@@ -1,4 +1,4 @@
-use Rattle.aig_base.proofs.Words.{◌≡◌, ◌++◌, ◌∷◌, ◌∙◌, Err, Ok, List, String, Global, ap, arith, err_from_is_err_and, inl, inr, length, length-append, length-map, map, refl, string_bytes, subst, sym}
+use Rattle.aig_base.proofs.Words.{◌≡◌, ◌++◌, ◌∷◌, ◌∙◌, Err, Ok, List, String, Global, ap, arith, err_from_is_err_and, inl, length, length-append, length-map, map, refl, string_bytes, subst, sym}
 use Rattle.aig_checks.specs.Inputs.{listed}
 use Rattle.aig_checks.proofs.Opened.{has_room, opened_behind, opened_length, opens_on, opens_then}
 use Rattle.aig_checks.proofs.inputs.open_all.Goals as goal
