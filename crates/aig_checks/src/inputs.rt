@@ -27,7 +27,7 @@ pub(crate) enum Inputs<S> {
     Three(S, S, S),
     /// There are four.
     Four(S, S, S, S),
-    /// There is one for each step, and one behind these.
+    /// There are P0 to PK, and STEP.
     Each(Vec<S>),
 }
 
