@@ -189,7 +189,7 @@ module _ {F W : Type 0} (file proof : List ℕ) (left : F → Option (List ℕ))
         (codes "FILE" ∷ []) (codes "PROOF" ∷ []) w done made
         → IsRefuted
     refuted_done (Ok u) is (inl acts) = refuted_opened u acts.file acts.opened acts.leads
-    refuted_done (Ok u) is (inr never) = absurd never
+    refuted_done (Ok u) is (inr short) = let no = short.1 in cc
     refuted_done (Err e) is acts = cc
 
     -- the text of a circuit that has the bad edges as one

@@ -1,6 +1,6 @@
 -- What a call told of readers and writers it told of the bytes that they have left or hold.
 use Rattle.std.proofs.Common.{Bor}
-use Rattle.aig_base.proofs.Words.{◌≡◌, ◌≢◌, ℕ, Bool, false, List, [], Option, None, Some, Result, Ok, Err, Vec, Global, sym, ap, ◌∙◌, IfErr}
+use Rattle.aig_base.proofs.Words.{◌≡◌, ◌≢◌, ℕ, Bool, false, List, [], Option, None, Some, Result, Ok, Err, Vec, Global, refl, sym, ap, ◌∙◌, IfErr}
 use Rattle.aig_base.specs.declared.std_stream.FromRead.{FromRead}
 use Rattle.aig_base.specs.declared.std_stream.ToWrite.{ToWrite}
 use Rattle.aig_bounded_answers.specs.Asking.{AnswersCircuit}
@@ -13,7 +13,7 @@ use Rattle.aig_checks.specs.Comparing as comparing
 use Rattle.aig_checks.specs.Comparing.{RunsComparing, TellsOfComparing}
 use Rattle.aig_checks.specs.Pairs as pairs
 use Rattle.aig_checks.specs.Pairs.{RunsPair, TellsOfPair}
-use Rattle.aig_checks.specs.Running.{IsOfFileAlone, Runs}
+use Rattle.aig_checks.specs.Running.{IsOfFileAlone, Runs, nothing_fails, nothing_given}
 use Rattle.aig_checks.specs.Safe as safes
 use Rattle.aig_checks.specs.Safe.{RunsSafe, TellsWhy}
 use Rattle.aig_checks.specs.declared.command.FileCommand.{FileCommand}
@@ -41,7 +41,7 @@ use Rattle.aig_edits.specs.declared.error.PairError.{PairError}
 use Rattle.aig_edits.specs.declared.error.PairError.TheVariants as pair
 use Rattle.aig_edits.specs.declared.pairing.Pairing.{Pairing}
 use Rattle.aig_format.proofs.Words.{File}
-use Rattle.aig_liveness.specs.Liveness.{HasNoLassoTo, HasNoRun}
+use Rattle.aig_liveness.specs.Liveness.{HasNoLassoTo, HasNoRun, TellsOfQuestion, TellsOfSafety}
 use Rattle.aig_liveness.specs.declared.error.LivenessError.{LivenessError}
 use Rattle.aig_liveness.specs.declared.error.LivenessError.TheVariants as liveness
 use Rattle.aig_reader.specs.Reading.{IsReadAs}
@@ -50,7 +50,8 @@ use Rattle.aig_runs.specs.declared.window.Window.{Window}
 use Rattle.aig_safety.specs.Safety.{Shows, ShowsCircuit}
 use Rattle.aig_safety.specs.declared.error.SafetyError.{SafetyError}
 use Rattle.aig_safety.specs.declared.error.SafetyError.TheVariants as safety
-use Rattle.aig_calls.specs.Memory.{Memory, On, bytes_of, has_failed}
+use Rattle.aig_calls.specs.Calls.{RunsOn}
+use Rattle.aig_calls.specs.Memory.{Into, Memory, On, bytes_of, has_failed}
 
 -- what of a reader or a writer is seen
 abbrev pub seen : {R : Type 0} → (R → Option (List ℕ)) → (R → Bool) → R → Memory
@@ -203,6 +204,13 @@ held_nothing same none = ap (λ (x : Vec ℕ Global). Some x.items) same ∙ ap 
 pub held_all : {v inner : Vec ℕ Global} → v ≡ inner → Some inner.items ≡ Some v.items
 held_all same = ap (λ (x : Vec ℕ Global). Some x.items) (sym same)
 
+-- a text was written into memory that held nothing
+pub put_into : (w made : Writer) {empty text : Vec ℕ Global} {Does : Memory → Memory → Type 0}
+    → w.inner ≡ empty → empty.items ≡ [] → text ≡ made.inner → Does (wrote w) (wrote made)
+    → Into text.items Does
+put_into w made same none all does =
+    (wrote w, wrote made, held_nothing same none, (held_all all, does))
+
 -- a file that is taken, for which memory runs out then
 pub short : {of : File → Verdict} {limit : ℕ} {old new : Option (List ℕ)} {failed : Bool}
     → Judges of limit old new failed Accepted → Judges of limit old new failed Short
@@ -259,6 +267,14 @@ runs_seen {given = given} {given_failed = given_failed} {held = held} {write_fai
       unread = same_seen given given_failed p used IsOfFileAlone result runs.unread;
       refusal = runs.refusal;
     }
+
+-- a command was run on a file alone
+pub alone : {c : FileCommand} {limit : ℕ} {bytes : Bor (List ℕ)} {w made : Writer}
+    {result : Result (Unit {0}) CheckError} (r rest : Reader) → r.inner ≡ bytes
+    → Runs bytes_left read_failed nothing_given nothing_fails all_held put_failed c limit r tt w
+    result rest tt made
+    → RunsOn limit c bytes.now None result (wrote w) (wrote made)
+alone r rest same runs = on r rest same (nobody, nobody, refl, runs_seen runs)
 
 -- ---- two files
 
@@ -322,32 +338,24 @@ module _ {P : Type 0} (left : P → Option (List ℕ)) (failed : P → Bool) (p 
         },
   )
 
+  question_seen : (limit : ℕ) (c : Circuit) (r : Result (Unit {0}) BoundedAnswerError)
+      → TellsOfQuestion left limit k optimize p used c r
+      → TellsOfQuestion bytes_of limit k optimize (seen left failed p) (seen left failed used) c r
+  question_seen limit c r told = record {
+    said = told.said;
+    large = told.large;
+    shown = λ taken. base_seen c r (told.shown taken);
+  }
+
   pub lassos_seen : (limit j : ℕ) (f : File) (r : Result (Unit {0}) LivenessError)
       → HasNoLassoTo left limit j k optimize p used f r
       → HasNoLassoTo bytes_of limit j k optimize (seen left failed p) (seen left failed used)
       f r
-  lassos_seen limit j f (Ok done) told = (
-    told.0,
-    (
-      told.1.0,
-      told.1.1,
-      record {
-        said = told.1.2.said;
-        large = told.1.2.large;
-        shown = λ taken. base_seen _ (Ok tt) (told.1.2.shown taken);
-      },
-    ),
-  )
+  lassos_seen limit j f (Ok done) told =
+      (told.0, (told.1.0, told.1.1, question_seen limit told.1.0 (Ok tt) told.1.2))
   lassos_seen limit j f (Err (liveness.Live e)) told = told
-  lassos_seen limit j f (Err (liveness.Question e)) told = (
-    told.0,
-    told.1,
-    record {
-      said = told.2.said;
-      large = told.2.large;
-      shown = λ taken. base_seen _ (Err e) (told.2.shown taken);
-    },
-  )
+  lassos_seen limit j f (Err (liveness.Question e)) told =
+      (told.0, told.1, question_seen limit told.0 (Err e) told.2)
   lassos_seen limit j f (Err e) told = told
 
 module _ {P Q : Type 0} (left : P → Option (List ℕ)) (failed : P → Bool)
@@ -388,32 +396,25 @@ module _ {P Q : Type 0} (left : P → Option (List ℕ)) (failed : P → Bool)
   whys_seen limit old new (Err e) told = why_seen limit old new e told
 
   -- of a justice property
+  safety_seen : (limit : ℕ) (c : Circuit) (r : Result (Unit {0}) SafetyError)
+      → TellsOfSafety left left_of limit k base_optimize form step_optimize p used q c r
+      → TellsOfSafety bytes_of bytes_of limit k base_optimize form step_optimize
+      (seen left failed p) (seen left failed used) (seen left_of failed_of q) c r
+  safety_seen limit c r told = record {
+    said = told.said;
+    large = told.large;
+    shown = λ taken. circuit_seen c r (told.shown taken);
+  }
+
   pub no_run_seen : (limit j : ℕ) (f : File) (r : Result (Unit {0}) LivenessError)
       → HasNoRun left left_of limit j k base_optimize form step_optimize p used q f r
       → HasNoRun bytes_of bytes_of limit j k base_optimize form step_optimize (seen left failed p)
       (seen left failed used) (seen left_of failed_of q) f r
-  no_run_seen limit j f (Ok done) told = (
-    told.0,
-    (
-      told.1.0,
-      told.1.1,
-      record {
-        said = told.1.2.said;
-        large = told.1.2.large;
-        shown = λ taken. circuit_seen _ (Ok tt) (told.1.2.shown taken);
-      },
-    ),
-  )
+  no_run_seen limit j f (Ok done) told =
+      (told.0, (told.1.0, told.1.1, safety_seen limit told.1.0 (Ok tt) told.1.2))
   no_run_seen limit j f (Err (liveness.Live e)) told = told
-  no_run_seen limit j f (Err (liveness.Safety e)) told = (
-    told.0,
-    told.1,
-    record {
-      said = told.2.said;
-      large = told.2.large;
-      shown = λ taken. circuit_seen _ (Err e) (told.2.shown taken);
-    },
-  )
+  no_run_seen limit j f (Err (liveness.Safety e)) told =
+      (told.0, told.1, safety_seen limit told.0 (Err e) told.2)
   no_run_seen limit j f (Err e) told = told
 
 pub safe_seen : {R P Q W : Type 0} {file_left : R → Option (List ℕ)} {file_failed : R → Bool}

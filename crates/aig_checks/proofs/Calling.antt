@@ -1,5 +1,5 @@
 -- Words give one command.
-use Rattle.aig_base.proofs.Words.{◌≢◌, Bool, true, false, length, length-append, map, map-append, inl, inr, ◌++◌, Global, ◌≡◌, ◌↔◌, ℕ, List, ◌∷◌, [], Some, refl, sym, ap, ◌∙◌, arith, same_Some, true≢false}
+use Rattle.aig_base.proofs.Words.{Bool, true, false, length, length-append, map, map-append, inl, inr, ◌++◌, Global, ◌≡◌, ◌↔◌, ℕ, List, ◌∷◌, [], Some, refl, sym, ap, ◌∙◌, arith, same_Some, true≢false}
 use Rattle.std.specs.Prelude.{All, Contains, Err, IfNone, None, Ok, Option, Result, String, codes, slice_index, slice_index_or, string_bytes}
 use Rattle.aig_format.specs.Text.{IsNumber, value_of}
 use Rattle.aig_command_line.specs.declared.about.Question.{Question}
@@ -7,7 +7,6 @@ use Rattle.aig_command_line.specs.declared.about.Question.TheVariants.{Usage, Ve
 use Rattle.aig_command_line.specs.About.{word_of}
 use Rattle.aig_command_line.specs.declared.status.Ending.TheVariants as endings
 use Rattle.aig_command_line.specs.Ending.{ended}
-use Rattle.aig_runs.specs.declared.window.Window.{Window}
 use Rattle.aig_command_line.specs.Arguments.{Arguments, Gives, further_of}
 use Rattle.aig_command_line.specs.declared.arguments.Given.{Given}
 use Rattle.aig_command_line.specs.Limits.{IsLimited}

@@ -25,7 +25,7 @@ use Rattle.aig_checks.specs.Living.{ChecksText, Concludes, IsMadeOwn, IsOfMaking
 use Rattle.aig_checks.specs.Pairs.{IsErrorOfPair, RunsPair, TellsOfPair, always_line, other_verdict_of, safe_line}
 use Rattle.aig_checks.specs.Running.{Runs, nothing_fails, nothing_given, verdict_of}
 use Rattle.aig_checks.specs.Safe.{RunsSafe}
-use Rattle.aig_checks.specs.SafeBySteps.{ActsBySteps, RunsSafeBySteps}
+use Rattle.aig_checks.specs.SafeBySteps.{RunsSafeBySteps}
 use Rattle.aig_checks.specs.Words.{prints}
 use Rattle.aig_checks.proofs.Opened.{opens_on}
 
@@ -343,6 +343,18 @@ module _ {W : Type 0} (held : W → Option (List ℕ)) (write_failed : W → Boo
       (p ∷ q ∷ []) (used ∷ spent ∷ []) ran =
       safe_ended held write_failed w made flat keeps u left failed left_of failed_of left_of
       failed_of k form base_optimize step_optimize limit r rest p used q spent done ran ends
+  ran_ended left failed left_of failed_of
+      (commands.SafeBySteps k form base_optimize step_optimize) r rest files others ran = record {
+        bases = ran.bases;
+        step = ran.step;
+        are = ran.are;
+        used = ran.used;
+        spent = ran.spent;
+        become = ran.become;
+        runs = steps_ended held write_failed w made flat keeps u left failed left_of failed_of
+            left_of failed_of k form base_optimize step_optimize limit r rest ran.bases ran.used
+            ran.step ran.spent done ran.runs ends;
+      }
   ran_ended left failed left_of failed_of (commands.EqualBy optimize) r rest (s ∷ c ∷ p ∷ q ∷ [])
       (other ∷ tried ∷ used ∷ spent ∷ []) ran =
       compare_ended held write_failed w made flat keeps u left failed left_of failed_of left_of
@@ -390,32 +402,10 @@ module _ {W : Type 0} (held : W → Option (List ℕ)) (write_failed : W → Boo
       by_ended left failed left failed c.command r ran.0 files ran.1 c.justice ran.2,
     )
 
-    by_steps_ended : (d : Command) (paths : List (List ℕ))
-        → ActsBySteps opens left failed held write_failed limit d paths w (Ok u) made
-        → ActsBySteps opens left failed held write_failed limit d paths w done flat
-    by_steps_ended (commands.SafeBySteps k form base_optimize step_optimize) paths (inl short) =
-        let is = short.0 in cc
-    by_steps_ended (commands.SafeBySteps k form base_optimize step_optimize) paths (inr opened) =
-        inr (opens_on opens paths _ _ _ _
-        (λ fs ran. (
-          ran.0,
-          ran.1,
-          ran.2,
-          ran.3,
-          ran.4,
-          ran.5,
-          ran.6,
-          steps_ended held write_failed w made flat keeps u left failed left failed left failed k
-              form base_optimize step_optimize limit ran.0 ran.4 ran.1 ran.5 ran.2 ran.6 done ran.7
-              ends,
-        ))
-        (λ e no. let is = no.0 in cc) opened)
-    by_steps_ended d paths acts = absurd acts
-
     -- what was asked was done, and what that printed is flushed
     pub acts_ended : (paths further : List (List ℕ))
         → Acts opens left failed held write_failed limit c paths further w (Ok u) made
         → Acts opens left failed held write_failed limit c paths further w done flat
     acts_ended paths further (inl acts) =
         inl (opens_on opens (paths ++ further) _ _ _ _ on_ended (λ e no. let is = no.0 in cc) acts)
-    acts_ended paths further (inr acts) = inr (by_steps_ended c.command (paths ++ further) acts)
+    acts_ended paths further (inr short) = let is = short.1 in cc

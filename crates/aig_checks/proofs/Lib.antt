@@ -10,7 +10,6 @@ mod Pairing
 mod Placing
 mod Proving
 mod ProvingSteps
-mod OpeningAll
 mod Refusing
 mod Shown
 mod Viewed

@@ -41,6 +41,7 @@ use Rattle.aig_checks.specs.LivingParts.{MakesText, WritesMade, text_error}
 use Rattle.aig_checks.specs.Pairs.{IsErrorOfPair, RunsPair}
 use Rattle.aig_checks.specs.Running.{IsErrorOf, Runs}
 use Rattle.aig_checks.specs.Safe.{IsErrorOfSafe, RunsSafe}
+use Rattle.aig_checks.specs.SafeBySteps.{IsErrorOfSteps, RunsSafeBySteps}
 use Rattle.aig_checks.specs.Words.{beside_of, prints}
 use Rattle.aig_checks.proofs.Outcomes.{err_of}
 use Rattle.aig_checks.proofs.Viewed.{ran_seen}
@@ -192,6 +193,9 @@ module _ (runs_are : AreLassos) (limit : ℕ) (a : Justice) (f : File) (m : Circ
       no_run runs_are a f m made
       (read_back limit m (λ bytes g is. is.0.0) (made_again a f m made) (runs.verdict.whole tt).1
       (runs.safe tt)).0
+  ran_shows left_of failed_of (commands.SafeBySteps k form base_optimize step_optimize) files
+      others some asked ran =
+      absurd (true≢false (sym asked))
   ran_shows left_of failed_of (commands.EqualBy optimize) files others some asked ran =
       absurd (true≢false (sym asked))
   ran_shows left_of failed_of c files others some asked ran = absurd ran
@@ -343,6 +347,10 @@ safe_never_unmade : (e : CheckError) → IsErrorOfSafe e → ¬ IsOfMaking e
 safe_never_unmade (errors.Unmade e) own is = own
 safe_never_unmade e own is = is
 
+steps_never_unmade : (k : ℕ) (e : CheckError) → IsErrorOfSteps k e → ¬ IsOfMaking e
+steps_never_unmade k (errors.Unmade e) own is = own
+steps_never_unmade k e own is = is
+
 each_error : (IsOwn IsSuch : CheckError → Type 0) → ((e : CheckError) → IsOwn e → IsSuch e)
     → (result : Result (Unit {0}) CheckError) → IfErr result IsOwn → IfErr result IsSuch
 each_error IsOwn IsSuch so (Ok u) own = tt
@@ -377,6 +385,15 @@ safe_no_write : {R P Q : Type 0} {left : R → Option (List ℕ)} {failed : R �
     form base_optimize step_optimize limit r p q w (Err e) rest used spent made
     → e ≢ errors.Write
 safe_no_write e runs is = stops_never (runs.stopped (err_of e errors.Write is))
+
+steps_no_write : {R P Q : Type 0} {left : R → Option (List ℕ)} {failed : R → Bool}
+    {base_left : P → Option (List ℕ)} {base_failed : P → Bool} {step_left : Q → Option (List ℕ)}
+    {step_failed : Q → Bool} {k : ℕ} {form : Window} {base_optimize step_optimize : Bool}
+    {limit : ℕ} {r rest : R} {ps used : List P} {q spent : Q} {w made : Discarded} (e : CheckError)
+    → RunsSafeBySteps left failed base_left base_failed step_left step_failed keeps_nothing
+    never_fails k form base_optimize step_optimize limit r ps q w (Err e) rest used spent made
+    → e ≢ errors.Write
+steps_no_write e runs is = stops_never (runs.stopped (err_of e errors.Write is))
 
 pair_no_write : {R S P Q : Type 0} {left : R → Option (List ℕ)} {failed : R → Bool}
     {left_of : S → Option (List ℕ)} {failed_of : S → Bool} {base_left : P → Option (List ℕ)}
@@ -413,6 +430,8 @@ module _ {R S : Type 0} (left : R → Option (List ℕ)) (failed : R → Bool)
       pair_no_write e ran
   ran_no_write w made (commands.Safe k form o y) (p ∷ q ∷ []) (used ∷ spent ∷ []) e ran =
       safe_no_write e ran
+  ran_no_write w made (commands.SafeBySteps k form o y) files others e ran =
+      steps_no_write e ran.runs
   ran_no_write w made (commands.EqualBy o) (s ∷ c ∷ p ∷ q ∷ []) (other ∷ tried ∷ used ∷ spent ∷ []) e ran =
       comparing_no_write e ran
   ran_no_write w made c files others e ran = absurd ran
@@ -434,6 +453,8 @@ module _ {R S : Type 0} (left : R → Option (List ℕ)) (failed : R → Bool)
         each_error _ _ (pair_never_unmade c) result ran.reads.own
     ran_no_making (commands.Safe k form o y) (p ∷ q ∷ []) (used ∷ spent ∷ []) ran =
         each_error _ _ safe_never_unmade result ran.own
+    ran_no_making (commands.SafeBySteps k form o y) files others ran =
+        each_error _ _ (steps_never_unmade k) result ran.runs.own
     ran_no_making (commands.EqualBy o) (s ∷ c ∷ p ∷ q ∷ []) (other ∷ tried ∷ used ∷ spent ∷ []) ran =
         each_error _ _ compare_never_unmade result ran.reads.own
     ran_no_making c files others ran = absurd ran

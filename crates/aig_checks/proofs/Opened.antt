@@ -1,16 +1,18 @@
 -- Files that are opened in order.
-use Rattle.aig_base.proofs.Words.{◌≡◌, ◌≢◌, ◌<◌, ◌≤◌, ◌+◌, Bool, true, false, true≢false, ℕ, zero, suc, Global, List, String, [], ◌∷◌, ◌++◌, ◌∙◌, Ok, Err, ap, arith, get_or, length, length-append, length-map, map, refl, string_bytes, subst, sym, take}
-use Rattle.std.specs.Prelude.{Result}
+use Rattle.aig_base.proofs.Words.{◌≡◌, ◌<◌, ◌≤◌, ◌+◌, ◌⊎◌, false, true≢false, ℕ, zero, suc, Global, List, String, [], ◌∷◌, ◌++◌, ◌∙◌, Ok, Err, ap, arith, get_or, inl, inr, length, map, refl, string_bytes, subst, sym, take}
+use Rattle.std.specs.Prelude.{IsTrue, Result}
 use Rattle.aig_command_line.specs.declared.files.OpenError.{OpenError}
-use Rattle.aig_runs.specs.declared.window.Window.{Window}
 use Rattle.aig_checks.specs.declared.command.Command.{Command}
 use Rattle.aig_checks.specs.declared.command.Command.TheVariants as commands
 use Rattle.aig_checks.specs.declared.command.FileCommand.TheVariants as on_file
 use Rattle.aig_checks.specs.declared.command.PairCommand.TheVariants as on_pair
 use Rattle.aig_checks.specs.declared.inputs.Inputs.{Inputs}
+use Rattle.aig_checks.specs.declared.inputs.Inputs.TheVariants as inputs
 use Rattle.aig_checks.specs.declared.tool.CheckError.{CheckError}
+use Rattle.aig_checks.specs.declared.tool.CheckError.TheVariants as errors
+use Rattle.aig_checks.specs.Fits.{is_list, room_of}
 use Rattle.aig_checks.specs.Inputs.{listed}
-use Rattle.aig_checks.specs.Words.{beside_of, is_each, paths_of}
+use Rattle.aig_checks.specs.Words.{beside_of, has_list, paths_of}
 use Rattle.aig_checks.specs.Opening.{AreOpened, OnOpening, OpensAll, unopened}
 
 module _ {F : Type 0} (opens : List ℕ → Result F OpenError → Type 0) where
@@ -121,7 +123,31 @@ module _ {F : Type 0} (opens : List ℕ → Result F OpenError → Type 0) where
 
 -- ---- FILE and the files behind it
 
--- what a result tells of them
+-- what a result tells of those that were opened behind others
+abbrev pub Behind : {F : Type 0} → Inputs F → Result (Inputs F) CheckError → List F → Type 0
+Behind {F} before result more =
+    (all : Inputs F) × (result ≡ Ok all) × (listed all ≡ listed before ++ more)
+    × (is_list all ≡ is_list before) × (room_of all ≡ room_of before)
+
+pub opened_behind : {F : Type 0} (opens : List ℕ → Result F OpenError → Type 0)
+    (paths : List (List ℕ)) (before inputs : Inputs F) (result : Result (Inputs F) CheckError)
+    → result ≡ Ok inputs
+    → OpensAll opens paths (Behind before result) (λ e. result ≡ Err e)
+    → (more : List F) × AreOpened opens paths more × (listed inputs ≡ listed before ++ more)
+    × (is_list inputs ≡ is_list before) × (room_of inputs ≡ room_of before)
+opened_behind opens paths before inputs result was o =
+    let opened = which_opened opens paths _ _ (λ e is. let no = sym was ∙ is in cc) o in
+    let told = opened.2 in
+    let are = sym was ∙ told.1 in
+    let same : inputs ≡ told.0 = cc in (
+      opened.0,
+      opened.1,
+      ap listed same ∙ told.2,
+      ap is_list same ∙ told.3,
+      ap room_of same ∙ told.4,
+    )
+
+-- what a result tells of all
 abbrev pub Tells : {F : Type 0} → Result (F × Inputs F) CheckError → List F → Type 0
 Tells {F} result opened =
     (all : F × Inputs F) × (result ≡ Ok all) × (opened ≡ all.0 ∷ listed all.1)
@@ -139,33 +165,26 @@ pub not_refused : {F : Type 0} (all : F × Inputs F) (e : CheckError)
     (result : Result (F × Inputs F) CheckError) → result ≡ Ok all → ¬ (result ≡ Err e)
 not_refused all e result was is = let no = sym was ∙ is in cc
 
-pub all_opened : {F : Type 0} (opens : List ℕ → Result F OpenError → Type 0)
+-- memory for them did not run out
+pub was_opened : {F Opened Short : Type 0} (all : F × Inputs F)
+    (result : Result (F × Inputs F) CheckError) → result ≡ Ok all
+    → Opened ⊎ (Short × (result ≡ Err errors.Memory)) → Opened
+was_opened all result was (inl opened) = opened
+was_opened all result was (inr short) = absurd (not_refused all errors.Memory result was short.1)
+
+pub all_opened : {F Short : Type 0} (opens : List ℕ → Result F OpenError → Type 0)
     (names : List (List ℕ)) (file : F) (inputs : Inputs F)
     (result : Result (F × Inputs F) CheckError) → result ≡ Ok (file, inputs)
     → OpensAll opens names (Tells result) (λ e. result ≡ Err e)
+    ⊎ (Short × (result ≡ Err errors.Memory))
     → AreOpened opens names (file ∷ listed inputs)
 all_opened opens names file inputs result was o =
-    let opened = which_opened opens names _ _ (λ e. not_refused (file, inputs) e result was) o in
+    let opened = which_opened opens names _ _ (λ e. not_refused (file, inputs) e result was)
+    (was_opened (file, inputs) result was o) in
     subst (AreOpened opens names) (sym (opened_are file inputs result was opened.0 opened.2))
     opened.1
 
--- they are as many as the words name
-pub inputs_fit : {F : Type 0} (opens : List ℕ → Result F OpenError → Type 0)
-    (paths further : List (String Global)) (file : F) (files : List F) (p b : ℕ)
-    → AreOpened opens (map string_bytes paths ++ map string_bytes further) (file ∷ files)
-    → length paths ≡ p → length further ≡ b → length files + 1 ≡ p + b
-inputs_fit opens paths further file files p b are first second =
-    let many = opened_length opens _ (file ∷ files) are in
-    let parts = length-append (map string_bytes paths) (map string_bytes further) in
-    omega (
-      arith,
-      many,
-      parts,
-      length-map paths string_bytes,
-      length-map further string_bytes,
-      first,
-      second,
-    )
+-- ---- how many there are
 
 pub some_paths : (c : Command) → 0 < paths_of c
 some_paths (commands.File c) = omega arith
@@ -174,8 +193,8 @@ some_paths (commands.Safe k form o p) = omega arith
 some_paths (commands.EqualBy o) = omega arith
 some_paths (commands.SafeBySteps k form o p) = omega arith
 
--- they are at most five
-pub few_files : (c : Command) → is_each c ≡ false → paths_of c + beside_of c ≤ 5
+-- without a list they are at most five
+few_files : (c : Command) → has_list c ≡ false → paths_of c + beside_of c ≤ 5
 few_files (commands.File (on_file.Clauses k o)) few = omega arith
 few_files (commands.File (on_file.Window k form o)) few = omega arith
 few_files (commands.File (on_file.Refuted k o)) few = omega arith
@@ -193,11 +212,24 @@ few_files (commands.Safe k form o p) few = omega arith
 few_files (commands.EqualBy o) few = omega arith
 few_files (commands.SafeBySteps k form o p) few = absurd (true≢false few)
 
--- the others are those of a proof for each step
-pub is_by_steps : (c : Command) → is_each c ≡ true
-    → ((k : ℕ) (form : Window) (o p : Bool) → c ≢ commands.SafeBySteps k form o p) → ⊥
-is_by_steps (commands.SafeBySteps k form o p) each not = not k form o p refl
-is_by_steps (commands.File c) each not = true≢false (sym each)
-is_by_steps (commands.Pair c) each not = true≢false (sym each)
-is_by_steps (commands.Safe k form o p) each not = true≢false (sym each)
-is_by_steps (commands.EqualBy o) each not = true≢false (sym each)
+few_room : {F : Type 0} (i : Inputs F) → is_list i ≡ false → room_of i ≡ 4
+few_room inputs.Empty few = refl
+few_room (inputs.One a) few = refl
+few_room (inputs.Two a b) few = refl
+few_room (inputs.Three a b d) few = refl
+few_room (inputs.Four a b d e) few = refl
+few_room (inputs.Each all) few = absurd (true≢false few)
+
+-- there is room for those behind FILE
+pub has_room : {F : Type 0} (c : Command) (i : Inputs F) → is_list i ≡ has_list c
+    → (IsTrue (has_list c) → beside_of c ≤ room_of i)
+    → paths_of c + beside_of c ≤ room_of i + 1
+has_room (commands.SafeBySteps k form o p) i same room = omega (arith, room refl)
+has_room (commands.File c) i same room =
+    omega (arith, few_files (commands.File c) refl, few_room i same)
+has_room (commands.Pair c) i same room =
+    omega (arith, few_files (commands.Pair c) refl, few_room i same)
+has_room (commands.Safe k form o p) i same room =
+    omega (arith, few_files (commands.Safe k form o p) refl, few_room i same)
+has_room (commands.EqualBy o) i same room =
+    omega (arith, few_files (commands.EqualBy o) refl, few_room i same)

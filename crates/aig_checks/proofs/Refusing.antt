@@ -1,6 +1,7 @@
 -- What is asked is refused again, of which one input is counted.
-use Rattle.aig_base.proofs.Words.{◌≡◌, ◌==◌, ◌+◌, ℕ, suc, Bool, IsTrue, List, [], ◌∷◌, Option, Some, Ok, Err, ap, arith, eqb-true, map, map-map, same_Some, subst, sym, ◌∙◌}
+use Rattle.aig_base.proofs.Words.{◌≡◌, ◌+◌, ◌<◌, ℕ, zero, suc, Bool, List, [], ◌∷◌, Option, Some, Ok, Err, ap, arith, get_or, length, map, map-map, refl, subst, sym, ◌∙◌}
 use Rattle.std.specs.Prelude.{IfOk, Result, slice_get}
+use Rattle.std.specs.List.{insert, remove}
 use Rattle.aig_command_line.specs.declared.discarded.Discarded.{Discarded}
 use Rattle.aig_command_line.specs.declared.files.OpenError.{OpenError}
 use Rattle.aig_command_line.specs.declared.tally.Measure.{Measure}
@@ -15,12 +16,22 @@ use Rattle.aig_checks.specs.Living.{keeps_nothing, never_fails}
 use Rattle.aig_checks.specs.Opening.{AreOpened}
 use Rattle.aig_checks.proofs.Viewed.{by_seen}
 
--- the bytes of one of the files are those of the one that is told
-pub told_at : (known : List (Option (List ℕ))) (which i : ℕ) (told one : Option (List ℕ))
-    → slice_get known which ≡ Some told → slice_get known i ≡ Some one → IsTrue (which == i)
-    → one ≡ told
-told_at known which i told one is at same =
-    same_Some _ _ (sym at ∙ ap (slice_get known) (sym (eqb-true which i same)) ∙ is)
+-- one of a list was taken out, and what is seen as it is put back among the others
+module _ {X Y Z : Type 0} (plain : X → Y) (left : Y → Z) (of : X → Z)
+    (seen : (x : X) → left (plain x) ≡ of x) where
+  all_seen : (xs : List X) → map left (map plain xs) ≡ map of xs
+  all_seen [] = refl
+  all_seen (x ∷ xs) =
+      ap (λ z. z ∷ map left (map plain xs)) (seen x) ∙ ap (λ zs. of x ∷ zs) (all_seen xs)
+
+  pub put_back : (xs : List X) (i : ℕ) (x : X) (y : Y) → i < length xs → x ≡ get_or xs i x
+      → left y ≡ of x → map left (insert (map plain (remove xs i)) i y) ≡ map of xs
+  put_back [] i x y low at same = absurd (omega (arith, low))
+  put_back (z ∷ xs) zero x y low at same =
+      ap (λ h. h ∷ map left (map plain xs)) (same ∙ ap of at) ∙ ap (λ zs. of z ∷ zs) (all_seen xs)
+  put_back (z ∷ xs) (suc i) x y low at same =
+      ap (λ h. h ∷ map left (insert (map plain (remove xs i)) i y)) (seen z)
+      ∙ ap (λ zs. of z ∷ zs) (put_back xs i x y (omega (arith, low)) at same)
 
 -- files that are opened again are opened
 pub opened_again : {F : Type 0} (opens : List ℕ → Result F OpenError → Type 0)

@@ -1,6 +1,8 @@
 -- What a command does is so of what is seen of its files: of their bytes alone.
-use Rattle.aig_base.proofs.Words.{◌≡◌, ℕ, Bool, true, false, List, [], ◌∷◌, Option, None, Some, Ok, Err, ap, map}
-use Rattle.std.specs.Prelude.{IfErr, Result}
+use Rattle.aig_base.proofs.Words.{◌≡◌, ℕ, ◌+◌, Bool, true, false, List, [], ◌∷◌, Option, None, Some, Ok, Err, ap, map, map-append, sym, ◌∙◌}
+use Rattle.std.specs.Prelude.{IfErr, IsTrue, Result, option_map, slice_get}
+use Rattle.std.proofs.lemmas.Option.{slice_get-map}
+use Rattle.aig_answers.specs.Answers.{TellsOfStep, TellsOfWindow}
 use Rattle.aig_bounded_answers.specs.Asking.{AnswersCircuit}
 use Rattle.aig_bounded_answers.specs.declared.error.BoundedAnswerError.{BoundedAnswerError}
 use Rattle.aig_certificates.specs.Comparing.{CertifiesMiter, EqualsBy}
@@ -13,7 +15,10 @@ use Rattle.aig_reader.specs.Reading.{IsReadAs}
 use Rattle.aig_runs.specs.declared.window.Window.{Window}
 use Rattle.aig_safety.specs.Safety.{Shows, ShowsCircuit}
 use Rattle.aig_safety.specs.declared.error.SafetyError.{SafetyError}
+use Rattle.aig_safety.specs.Steps.{AreTaken, HasAt, Show, ShowEach, Told}
 use Rattle.aig_safety.specs.declared.error.SafetyError.TheVariants as proving
+use Rattle.aig_safety.specs.declared.error.StepsError.{StepsError}
+use Rattle.aig_safety.specs.declared.error.StepsError.TheVariants as stepping
 use Rattle.aig_checks.specs.declared.command.Command.{Command}
 use Rattle.aig_checks.specs.declared.command.Command.TheVariants as commands
 use Rattle.aig_checks.specs.declared.command.FileCommand.{FileCommand}
@@ -29,6 +34,8 @@ use Rattle.aig_checks.specs.Words.{prints}
 use Rattle.aig_checks.specs.Pairs.{RunsPair}
 use Rattle.aig_checks.specs.Running.{Runs, nothing_fails, nothing_given}
 use Rattle.aig_checks.specs.Safe.{RunsSafe, TellsWhy}
+use Rattle.aig_checks.specs.SafeBySteps as by_steps
+use Rattle.aig_checks.specs.SafeBySteps.{RunsOnProofs, RunsSafeBySteps}
 
 -- a value of the same file, with another meaning
 pub read_as : {T U : Type 0} {Holds : List ℕ → File → Type 0} (Means : File → T → Type 0)
@@ -92,6 +99,58 @@ module _ {P Q B C : Type 0} (by : P → B) (base_left : B → Option (List ℕ))
   why_seen limit old new (Err (errors.Safe e)) told =
       (λ is. read_as _ _ (λ f. shown_seen f (Err e)) (told.0 is), told.1)
   why_seen limit old new (Err e) told = told
+
+-- what holds of one of a list holds of it as it is seen
+at_seen : {A B : Type 0} (on : A → B) (xs : List A) (n : ℕ) (Holds : B → Type 0)
+    → HasAt xs n (λ x. Holds (on x)) → HasAt (map on xs) n Holds
+at_seen on xs n Holds at = (on at.0, slice_get-map on xs n ∙ ap (option_map on) at.1, at.2)
+
+module _ {S B : Type 0} (on : S → B) (left_of : B → Option (List ℕ)) (k : ℕ) (form : Window)
+    (base_optimize step_optimize : Bool) (bases : List S) (step : S) where
+  taken_seen : (OfStep : ℕ → Told) (n : ℕ) → AreTaken (λ y. left_of (on y)) OfStep bases n
+      → AreTaken left_of OfStep (map on bases) n
+  taken_seen OfStep n taken j low =
+      at_seen on bases j (λ y. OfStep j (left_of y) (Ok tt)) (taken j low)
+
+  each_seen : (OfStep : ℕ → Told) (OfWindow : Told) (x : Result (Unit {0}) StepsError)
+      → ShowEach (λ y. left_of (on y)) (λ y. left_of (on y)) OfStep OfWindow k bases step x
+      → ShowEach left_of left_of OfStep OfWindow k (map on bases) (on step) x
+  each_seen OfStep OfWindow (Ok u) told = (taken_seen OfStep (k + 1) told.0, told.1)
+  each_seen OfStep OfWindow (Err (stepping.File e)) told = absurd told
+  each_seen OfStep OfWindow (Err (stepping.At n e)) told =
+      (taken_seen OfStep n told.0, at_seen on bases n (λ y. OfStep n (left_of y) (Err e)) told.1)
+  each_seen OfStep OfWindow (Err (stepping.Step e)) told =
+      (taken_seen OfStep (k + 1) told.0, told.1)
+
+  show_seen : (f : File) (x : Result (Unit {0}) StepsError)
+      → Show (λ y. left_of (on y)) (λ y. left_of (on y)) k base_optimize form step_optimize bases
+      step f x
+      → Show left_of left_of k base_optimize form step_optimize (map on bases) (on step) f x
+  show_seen f x told = (
+    told.0,
+    each_seen (λ n text. TellsOfStep n base_optimize text f)
+        (λ text. TellsOfWindow form k step_optimize text f) x told.1,
+  )
+
+  tells_seen : (limit : ℕ) (old new : Option (List ℕ)) (x : Result (Unit {0}) CheckError)
+      → IfErr x (by_steps.TellsWhy (Show (λ y. left_of (on y)) (λ y. left_of (on y)) k
+      base_optimize form step_optimize bases step) limit k old new)
+      → IfErr x (by_steps.TellsWhy (Show left_of left_of k base_optimize form step_optimize
+      (map on bases) (on step)) limit k old new)
+  tells_seen limit old new (Ok u) told = tt
+  tells_seen limit old new (Err (errors.Steps e)) told =
+      λ is. read_as _ _ (λ f. show_seen f (Err e)) (told is)
+  tells_seen limit old new (Err e) told = told
+
+  -- so are those that aren't read
+  bases_left : (used : List S) (x : Result (Unit {0}) CheckError)
+      → IfErr x (λ e. (n : ℕ) → by_steps.LeavesBase n e → slice_get used n ≡ slice_get bases n)
+      → IfErr x (λ e. (n : ℕ) → by_steps.LeavesBase n e
+      → slice_get (map on used) n ≡ slice_get (map on bases) n)
+  bases_left used (Ok u) unread = tt
+  bases_left used (Err e) unread =
+      λ n is. slice_get-map on used n ∙ ap (option_map on) (unread n is)
+      ∙ sym (slice_get-map on bases n)
 
 module _ {S B : Type 0} (on : S → B) (left_of : B → Option (List ℕ)) (failed_of : B → Bool)
     (optimize : Bool) (limit : ℕ) (base step : Option (List ℕ)) (c tried : S) where
@@ -197,6 +256,49 @@ module _ {R A : Type 0} (to : R → A) (left : A → Option (List ℕ)) (failed 
     }
 
   module _ {S B : Type 0} (on : S → B) (left_of : B → Option (List ℕ)) (failed_of : B → Bool)
+      (k : ℕ) (form : Window) (base_optimize step_optimize : Bool) where
+    steps_seen : (bases used : List S) (step spent : S)
+        → RunsSafeBySteps (λ x. left (to x)) (λ x. failed (to x)) (λ x. left_of (on x))
+        (λ x. failed_of (on x)) (λ x. left_of (on x)) (λ x. failed_of (on x)) held write_failed k
+        form base_optimize step_optimize limit r bases step w result rest used spent made
+        → RunsSafeBySteps left failed left_of failed_of left_of failed_of held write_failed k form
+        base_optimize step_optimize limit (to r) (map on bases) (on step) w result (to rest)
+        (map on used) (on spent) made
+    steps_seen bases used step spent runs = record {
+      verdict = runs.verdict;
+      own = runs.own;
+      safe = λ taken. read_as _ _ (λ f. show_seen on left_of k form base_optimize step_optimize bases
+          step f (Ok tt)) (runs.safe taken);
+      ok = runs.ok;
+      stopped = runs.stopped;
+      kept = runs.kept;
+      refusal = tells_seen on left_of k form base_optimize step_optimize bases step limit
+          (left (to r)) (left (to rest)) result runs.refusal;
+      base_unread = bases_left on left_of k form base_optimize step_optimize bases step used result
+          runs.base_unread;
+      step_unread = left_as on _ step spent result runs.step_unread;
+      base_stream = λ n is.
+          at_seen on used n (λ p. IsTrue (failed_of p)) (runs.base_stream n is);
+      step_stream = runs.step_stream;
+    }
+
+    proofs_seen : (proofs others : List S)
+        → RunsOnProofs (λ x. left (to x)) (λ x. failed (to x)) (λ x. left_of (on x))
+        (λ x. failed_of (on x)) held write_failed k form base_optimize step_optimize limit r proofs w
+        result rest others made
+        → RunsOnProofs left failed left_of failed_of held write_failed k form base_optimize
+        step_optimize limit (to r) (map on proofs) w result (to rest) (map on others) made
+    proofs_seen proofs others ran = record {
+      bases = map on ran.bases;
+      step = on ran.step;
+      are = ap (λ (l : List S). map on l) ran.are ∙ map-append on ran.bases (ran.step ∷ []);
+      used = map on ran.used;
+      spent = on ran.spent;
+      become = ap (λ (l : List S). map on l) ran.become ∙ map-append on ran.used (ran.spent ∷ []);
+      runs = steps_seen ran.bases ran.used ran.step ran.spent ran.runs;
+    }
+
+  module _ {S B : Type 0} (on : S → B) (left_of : B → Option (List ℕ)) (failed_of : B → Bool)
       (optimize : Bool) (s other c tried p used q spent : S) where
     comparing_seen : RunsComparing (λ x. left (to x)) (λ x. failed (to x)) (λ x. left_of (on x))
         (λ x. failed_of (on x)) (λ x. left_of (on x)) (λ x. failed_of (on x)) (λ x. left_of (on x))
@@ -248,6 +350,9 @@ module _ {R A : Type 0} (to : R → A) (left : A → Option (List ℕ)) (failed 
       (used ∷ spent ∷ []) ran =
       safe_seen on left_of failed_of on left_of failed_of k form base_optimize step_optimize p used
       q spent ran
+  ran_seen on left_of failed_of (commands.SafeBySteps k form base_optimize step_optimize) proofs
+      others ran =
+      proofs_seen on left_of failed_of k form base_optimize step_optimize proofs others ran
   ran_seen on left_of failed_of (commands.EqualBy optimize) (s ∷ c ∷ p ∷ q ∷ [])
       (other ∷ tried ∷ used ∷ spent ∷ []) ran =
       comparing_seen on left_of failed_of optimize s other c tried p used q spent ran

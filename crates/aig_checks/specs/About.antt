@@ -159,11 +159,11 @@ about_safety (safety.File e) = about_answer subjects.Given e
 about_safety (safety.Base e) = about_bounded e
 about_safety (safety.Step e) = about_answer subjects.Step e
 
--- FILE, or the proof of one of the steps, or of the window, as a whole
+-- FILE, or the proof of one of the steps, or of the window
 abbrev pub about_steps : StepsError → About
 about_steps (steps.File e) = about_answer subjects.Given e
-about_steps (steps.At n e) = whole (about_answer (subjects.Nth n) e).subject
-about_steps (steps.Step e) = whole (about_answer subjects.Last e).subject
+about_steps (steps.At n e) = about_answer (subjects.Nth n) e
+about_steps (steps.Step e) = about_answer subjects.Last e
 
 -- one of two files, or of the proofs that their machines are equal at every step
 abbrev pub about_equality : EqualityError → About

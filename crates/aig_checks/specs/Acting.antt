@@ -17,8 +17,7 @@ use Rattle.aig_checks.specs.declared.tool.CheckError.TheVariants as errors
 use Rattle.aig_checks.specs.Inputs.{Ran}
 use Rattle.aig_checks.specs.Living.{RanMade}
 use Rattle.aig_checks.specs.Opening.{OpensAll}
-use Rattle.aig_checks.specs.SafeBySteps.{ActsBySteps}
-use Rattle.aig_checks.specs.Words.{Give, IsCall}
+use Rattle.aig_checks.specs.Words.{Give, IsCall, has_list}
 
 -- the command was run on FILE and on the files behind it, or on what is made of FILE for the
 -- justice property
@@ -40,16 +39,15 @@ RanOn {F} left failed held write_failed limit c w result made (r ∷ files) =
 RanOn left failed held write_failed limit c w result made [] = ⊥
 
 -- What is done with the files at the paths, which are opened first, in order: FILE, the file beside
--- it, and what the words name beside these. Where one isn't opened, nothing is written. `safe` with
--- `each` is on as many files as its words say.
+-- it, and what the words name beside these. Where one isn't opened, or memory for a list of them runs
+-- out, nothing is written.
 abbrev pub Acts : {F W : Type 0} → (List ℕ → Result F OpenError → Type 0)
     → (F → Option (List ℕ)) → (F → Bool) → (W → Option (List ℕ)) → (W → Bool) → ℕ → Asked
     → List (List ℕ) → List (List ℕ) → W → Result Unit CheckError → W → Type 0
 Acts opens left failed held write_failed limit c paths further w result made =
     OpensAll opens (paths ++ further) (RanOn left failed held write_failed limit c w result made)
     (λ e. (result ≡ Err e) × (made ≡ w))
-    ⊎ ActsBySteps opens left failed held write_failed limit c.command (paths ++ further) w result
-    made
+    ⊎ (IsTrue (has_list c.command) × (result ≡ Err errors.Memory) × (made ≡ w))
 
 -- what the words ask for was done, and how the program ends by it
 pub record Obeys {F W : Type 0} (opens : List ℕ → Result F OpenError → Type 0)

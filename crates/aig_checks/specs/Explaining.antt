@@ -27,16 +27,22 @@ use Rattle.aig_checks.specs.Words.{IsCall}
 
 -- ---- paths
 
+-- the number of what an error is about, among what is given beside the files, of which there are so
+-- many: the first is 0
+abbrev pub number_of : Subject → ℕ → ℕ
+number_of subjects.Step count = 1
+number_of subjects.Third count = 2
+number_of (subjects.Nth n) count = n
+number_of subjects.Last count = count - 1
+number_of subject count = 0
+
 -- the word that is the path of what an error is about, if there is one
 abbrev pub word_of : Subject → List (List ℕ) → List (List ℕ) → Option (List ℕ)
+word_of subjects.Nothing paths further = None
+word_of subjects.Unopened paths further = None
 word_of subjects.File paths further = slice_get paths 0
 word_of subjects.Other paths further = slice_get paths 1
-word_of subjects.Given paths further = slice_get further 0
-word_of subjects.Step paths further = slice_get further 1
-word_of subjects.Third paths further = slice_get further 2
-word_of (subjects.Nth n) paths further = slice_get further n
-word_of subjects.Last paths further = slice_get further (length further - 1)
-word_of subject paths further = None
+word_of subject paths further = slice_get further (number_of subject (length further))
 
 -- it is that word, or one of those at which no file is opened
 abbrev pub IsPathOf : {F : Type 0} → (List ℕ → Result F OpenError → Type 0) → Subject
@@ -80,12 +86,6 @@ IsRunPlace opens left limit c paths further number e measure place =
     (place ≡ Whole)
     ⊎ IsRunAgain opens left limit c (paths ++ further) (length paths + number) e measure place
 
--- the number of what an error is about, among what is given beside the files: the first is 0
-abbrev pub number_of : Subject → ℕ
-number_of subjects.Step = 1
-number_of subjects.Third = 2
-number_of subject = 0
-
 -- the place of what an error is about, as it is looked for
 abbrev pub IsPlaceOf : {F : Type 0} → (List ℕ → Result F OpenError → Type 0)
     → (F → Option (List ℕ)) → ℕ → Asked → List (List ℕ) → List (List ℕ) → List ℕ → CheckError
@@ -94,7 +94,7 @@ IsPlaceOf opens left limit c paths further path e subject searches.Nowhere place
 IsPlaceOf opens left limit c paths further path e subject (searches.Read error) place =
     IsPlaced opens left limit path error place
 IsPlaceOf opens left limit c paths further path e subject (searches.Run measure) place =
-    IsRunPlace opens left limit c paths further (number_of subject) e measure place
+    IsRunPlace opens left limit c paths further (number_of subject (length further)) e measure place
 
 -- ---- endings
 

@@ -11,6 +11,7 @@ use Rattle.aig_checks.specs.Comparing.{RunsComparing}
 use Rattle.aig_checks.specs.Pairs.{RunsPair}
 use Rattle.aig_checks.specs.Running.{Runs, nothing_fails, nothing_given}
 use Rattle.aig_checks.specs.Safe.{RunsSafe}
+use Rattle.aig_checks.specs.SafeBySteps.{RunsOnProofs}
 
 -- the files, in order
 abbrev pub listed : {S : Type 0} → Inputs S → List S
@@ -19,6 +20,7 @@ listed (inputs.One a) = a ∷ []
 listed (inputs.Two a b) = a ∷ b ∷ []
 listed (inputs.Three a b c) = a ∷ b ∷ c ∷ []
 listed (inputs.Four a b c d) = a ∷ b ∷ c ∷ d ∷ []
+listed (inputs.Each all) = all.items
 
 -- The command was run on FILE and on the files behind it: r, inputs and w are these and the writer
 -- before it; rest, others and made are they after it.
@@ -49,6 +51,10 @@ Ran left failed left_of failed_of held write_failed limit
     (used ∷ spent ∷ []) made =
     RunsSafe left failed left_of failed_of left_of failed_of held write_failed k form base_optimize
     step_optimize limit r p q w result rest used spent made
+Ran left failed left_of failed_of held write_failed limit
+    (commands.SafeBySteps k form base_optimize step_optimize) r proofs w result rest others made =
+    RunsOnProofs left failed left_of failed_of held write_failed k form base_optimize step_optimize
+    limit r proofs w result rest others made
 Ran left failed left_of failed_of held write_failed limit (commands.EqualBy optimize) r
     (s ∷ c ∷ p ∷ q ∷ []) w result rest (other ∷ tried ∷ used ∷ spent ∷ []) made =
     RunsComparing left failed left_of failed_of left_of failed_of left_of failed_of left_of

@@ -1,11 +1,10 @@
 -- Part of what is promised.
 -- What a command does with the bytes of a file, of a proof for each of its first steps, and of one
 -- of its window, that its machine is safe: what it puts into its writer, and why it refuses them.
-use Rattle.std.specs.Prelude.{◌≡◌, ◌≢◌, ◌⊎◌, ℕ, ◌+◌, ◌++◌, ◌∷◌, [], Bool, false, IsTrue, List, Option, Result, Ok, Err, IfErr, IsErrOf, OnOk, slice_get}
+use Rattle.std.specs.Prelude.{◌≡◌, ◌≢◌, ℕ, ◌+◌, ◌++◌, ◌∷◌, [], Bool, false, IsTrue, List, Option, Result, Ok, Err, IfErr, IsErrOf, OnOk, slice_get}
 use Rattle.std.specs.Io.KnownBytes.{Appends}
 use Rattle.aig_answers.specs.Answers.{IsAsked, window_verdict}
 use Rattle.aig_answers.specs.declared.error.AnswerError.TheVariants as answers
-use Rattle.aig_command_line.specs.declared.files.OpenError.{OpenError}
 use Rattle.aig_format.specs.File.{File}
 use Rattle.aig_output.specs.Sinks.{Stops}
 use Rattle.aig_reader.specs.Reading.{IsReadAs}
@@ -16,11 +15,8 @@ use Rattle.aig_safety.specs.Steps as safety
 use Rattle.aig_safety.specs.Steps.{HasAt, Show}
 use Rattle.aig_safety.specs.declared.error.StepsError.{StepsError}
 use Rattle.aig_safety.specs.declared.error.StepsError.TheVariants as proving
-use Rattle.aig_checks.specs.declared.command.Command.{Command}
-use Rattle.aig_checks.specs.declared.command.Command.TheVariants as commands
 use Rattle.aig_checks.specs.declared.tool.CheckError.{CheckError}
 use Rattle.aig_checks.specs.declared.tool.CheckError.TheVariants as errors
-use Rattle.aig_checks.specs.Opening.{OpensAll, unopened}
 use Rattle.aig_checks.specs.Pairs.{safe_line}
 use Rattle.aig_checks.specs.Running.{verdict_of}
 
@@ -95,37 +91,18 @@ pub record RunsSafeBySteps {R P Q W : Type 0} (left : R → Option (List ℕ)) (
         (errors.Steps (proving.Step (answers.Refutation refutation.Stream)))
         → IsTrue (step_failed spent)
 
--- ---- files
-
--- one of them is not opened, of this error, and all before it are
-abbrev pub IsUnopened : {F : Type 0} → (List ℕ → Result F OpenError → Type 0) → List (List ℕ)
-    → CheckError → Type 0
-IsUnopened opens [] e = ⊥
-IsUnopened {F} opens (path ∷ paths) e =
-    ((error : OpenError) × opens path (Err error) × (e ≡ unopened error))
-    ⊎ ((file : F) × opens path (Ok file) × IsUnopened opens paths e)
-
--- the command was run on these files: FILE, P0 to PK, and STEP
-abbrev pub RanBySteps : {F W : Type 0} → (F → Option (List ℕ)) → (F → Bool)
-    → (W → Option (List ℕ)) → (W → Bool) → ℕ → ℕ → Window → Bool → Bool → W
-    → Result Unit CheckError → W → List F → Type 0
-RanBySteps {F} left failed held write_failed limit k form base_optimize step_optimize w result made
-    files =
-    (r : F) × (ps : List F) × (q : F) × (files ≡ r ∷ (ps ++ q ∷ []))
-    × (rest : F) × (used : List F) × (spent : F)
-    × RunsSafeBySteps left failed left failed left failed held write_failed k form base_optimize
-    step_optimize limit r ps q w result rest used spent made
-
--- The command was run on the files at the paths, which were opened first, in order; or one wasn't
--- opened, or memory ran out before all were, and nothing is written.
-abbrev pub ActsBySteps : {F W : Type 0} → (List ℕ → Result F OpenError → Type 0)
-    → (F → Option (List ℕ)) → (F → Bool) → (W → Option (List ℕ)) → (W → Bool) → ℕ → Command
-    → List (List ℕ) → W → Result Unit CheckError → W → Type 0
-ActsBySteps opens left failed held write_failed limit
-    (commands.SafeBySteps k form base_optimize step_optimize) paths w result made =
-    ((result ≡ Err errors.Memory) × (made ≡ w))
-    ⊎ OpensAll opens paths
-    (RanBySteps left failed held write_failed limit k form base_optimize step_optimize w result
-    made)
-    (λ e. (result ≡ Err e) × (made ≡ w))
-ActsBySteps opens left failed held write_failed limit c paths w result made = ⊥
+-- What it does with the list of the proofs: P0 to PK, and STEP behind them.
+pub record RunsOnProofs {R S W : Type 0} (left : R → Option (List ℕ)) (read_failed : R → Bool)
+    (given : S → Option (List ℕ)) (given_failed : S → Bool) (held : W → Option (List ℕ))
+    (write_failed : W → Bool) (k : ℕ) (form : Window) (base_optimize step_optimize : Bool)
+    (limit : ℕ) (r : R) (proofs : List S) (w : W) (result : Result Unit CheckError) (rest : R)
+    (others : List S) (made : W) : Type 0 where
+  pub bases : List S
+  pub step : S
+  pub are : proofs ≡ bases ++ step ∷ []
+  pub used : List S
+  pub spent : S
+  pub become : others ≡ used ++ spent ∷ []
+  pub runs : RunsSafeBySteps left read_failed given given_failed given given_failed held
+      write_failed k form base_optimize step_optimize limit r bases step w result rest used spent
+      made

@@ -193,10 +193,10 @@ beside_of (commands.SafeBySteps k form base_optimize step_optimize) = k + 2
 beside_of (commands.EqualBy optimize) = 3
 beside_of c = 1
 
--- it takes a proof of each step: it reads as many files as its words say
-abbrev pub is_each : Command → Bool
-is_each (commands.SafeBySteps k form base_optimize step_optimize) = true
-is_each c = false
+-- its proofs are a list, as long as its words say
+abbrev pub has_list : Command → Bool
+has_list (commands.SafeBySteps k form base_optimize step_optimize) = true
+has_list c = false
 
 -- it prints clauses, and takes nothing beside its files
 abbrev pub prints : Command → Bool

@@ -260,11 +260,8 @@ fn about_steps(error: StepsError) -> About
 {
     match error {
         StepsError::File(error) => about_answer(Subject::Given, error),
-        StepsError::At { step, error } => {
-            let subject = Subject::Nth(step);
-            whole(about_answer(subject, error).subject)
-        }
-        StepsError::Step(error) => whole(about_answer(Subject::Last, error).subject),
+        StepsError::At { step, error } => about_answer(Subject::Nth(step), error),
+        StepsError::Step(error) => about_answer(Subject::Last, error),
     }
 }
 

@@ -10,8 +10,7 @@ ghost use Rattle.aig_checks.specs.Opening.{unopened};
 
 use crate::command::{Call, call_of};
 use crate::inputs::open_all;
-use crate::running::{is_each, run};
-use crate::safe_by_steps::act_by_steps;
+use crate::running::run;
 use crate::tool::CheckError;
 use aig_base::{MemoryError, Sink};
 use aig_command_line::{Ending, Flush, OpenError, Opens, Question, asked, write_text};
@@ -54,10 +53,7 @@ fn act_on<F: Opens, W: Sink>(
         call.now.asked (map string_bytes call.now.paths.now)
         (map string_bytes call.now.further.now) w.old result w.new }
 {
-    if is_each(call.asked.command) {
-        return act_by_steps(alloc, files, call, w);
-    }
-    let (file, inputs) = open_all(files, call.paths, call.further)?;
+    let (file, inputs) = open_all(alloc, files, call)?;
     run(alloc, call.limit, call.asked, file, inputs, w)
 }
 

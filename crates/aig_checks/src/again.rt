@@ -1,25 +1,25 @@
 //! The place where what is given beside a file is refused, found by running the command again.
 
-ghost use Rattle.std.specs.Prelude.{◌≡◌, ◌+◌, ◌<◌, ◌⊎◌, ◌∷◌, IfSome, IsTrue, Some, length, map, slice_get, string_bytes, false, true};
+ghost use Rattle.std.specs.Prelude.{◌≡◌, ◌+◌, ◌<◌, ◌⊎◌, ◌∷◌, IfOk, IsTrue, Some, length, map, slice_get, string_bytes, true};
 ghost use Rattle.aig_command_line.specs.declared.tally.Place.TheVariants as places;
 ghost use Rattle.aig_command_line.specs.Came.{IsPlaceIn};
 ghost use Rattle.aig_checks.specs.Explaining.{IsRefusedIn, IsRunPlace};
-ghost use Rattle.aig_checks.specs.Fits.{Fits};
+ghost use Rattle.aig_checks.specs.Fits.{AreFor, Fits, is_list};
 ghost use Rattle.aig_checks.specs.Inputs.{listed};
-ghost use Rattle.aig_checks.specs.Words.{beside_of, is_each, paths_of};
+ghost use Rattle.aig_checks.specs.Words.{beside_of};
 
 use crate::command::Call;
 use crate::inputs::{Again, Inputs, open_all};
-use crate::running::{check_asked, is_each};
+use crate::running::check_asked;
 use crate::tool::CheckError;
 use aig_answers::AnswerError;
-use aig_base::{Source, StreamFault};
+use aig_base::{MemoryError, Source, StreamFault};
 use aig_bounded_answers::BoundedAnswerError;
 use aig_certificates::{CertificateError, MiterError};
 use aig_command_line::{Counted, Discarded, Measure, Origin, Place, Reopens};
 use aig_equality::EqualityError;
 use aig_refutation::RefutationError;
-use aig_safety::SafetyError;
+use aig_safety::{SafetyError, StepsError};
 use aig_solutions::SolutionError;
 use aig_witness::{ShowError, WitnessError};
 use std::alloc::Global;
@@ -92,6 +92,29 @@ fn is_same_safety(first: SafetyError, second: SafetyError) -> bool
     }
 }
 
+/// Whether two errors of a proof for each step that a machine is safe are the same, and of a proof.
+fn is_same_steps(first: StepsError, second: StepsError) -> bool
+    ensures { result ≡ true → first ≡ second }
+{
+    match (first, second) {
+        (
+            StepsError::At {
+                step: first_step,
+                error: AnswerError::Refutation(first),
+            },
+            StepsError::At {
+                step: second_step,
+                error: AnswerError::Refutation(second),
+            },
+        ) => first_step == second_step && is_same_refutation(first, second),
+        (
+            StepsError::Step(AnswerError::Refutation(first)),
+            StepsError::Step(AnswerError::Refutation(second)),
+        ) => is_same_refutation(first, second),
+        _ => false,
+    }
+}
+
 /// Whether two errors are the same, and of what is given beside a file.
 fn is_same(first: CheckError, second: CheckError) -> bool
     ensures { result ≡ true → first ≡ second }
@@ -115,6 +138,7 @@ fn is_same(first: CheckError, second: CheckError) -> bool
             is_same_bounded(first, second)
         }
         (CheckError::Safe(first), CheckError::Safe(second)) => is_same_safety(first, second),
+        (CheckError::Steps(first), CheckError::Steps(second)) => is_same_steps(first, second),
         (
             CheckError::Equality(EqualityError::Miter(first)),
             CheckError::Equality(EqualityError::Miter(second)),
@@ -167,41 +191,67 @@ impl<R: Source, C: Source> Source for Traced<R, C> {
     }
 }
 
-/// Inputs of which one may be counted.
-type Trace<R, B> = Inputs<Traced<R, Counted<R, B>>>;
+/// An input that may be counted.
+type Trace<R, B> = Traced<R, Counted<R, B>>;
 
-/// An input, counted or not, if there is memory for that.
+/// An input, counted or not.
 // It is never inlined: else its buffer is on the stack while the command is run.
 #[inline(never)]
 fn counted_if<R: Source + Drop, B: Origin>(
     alloc: Global,
     source: R,
     is_counted: bool,
-) -> Option<Traced<R, Counted<R, B>>>
+) -> Result<Trace<R, B>, MemoryError>
     requires { IsTrue is_counted → R.left source ≡ B.bytes }
-    ensures { IfSome result (λ input. ⟦<Traced<R, Counted<R, B>> as Source>⟧.left input
+    ensures { IfOk result (λ input. ⟦<Traced<R, Counted<R, B>> as Source>⟧.left input
         ≡ R.left source) }
 {
     if !is_counted {
-        return Some(Traced::Plain(source));
+        return Ok(Traced::Plain(source));
     }
-    match Box::new(alloc, Counted::new(source)) {
-        Ok(counted) => Some(Traced::Counted(counted)),
-        Err(_) => None,
-    }
+    Ok(Traced::Counted(Box::new(alloc, Counted::new(source))?))
 }
 
-/// The inputs, of which the one of this number, the first of which is 0, is counted, if there is memory for that.
+/// Inputs that are read as they are.
+fn plain<R: Drop, C: Drop>(alloc: Global, inputs: Vec<R>) -> Result<Vec<Traced<R, C>>, MemoryError>
+    ensures { IfOk result (λ traced. traced.items ≡ map (λ source. Traced.Plain source)
+        inputs.items) }
+{
+    let traced = inputs
+        .into_iter()
+        .map(|source| Traced::Plain(source))
+        .collect(alloc)?;
+    Ok(traced)
+}
+
+/// A list of inputs, of which the one of this number is counted.
+fn trace_each<R: Source + Drop, B: Origin>(
+    alloc: Global,
+    mut inputs: Vec<R>,
+    which: usize,
+) -> Result<Vec<Trace<R, B>>, MemoryError>
+    requires { slice_get (map R.left inputs.items) which ≡ Some B.bytes }
+    ensures { IfOk result (λ traced. map ⟦<Traced<R, Counted<R, B>> as Source>⟧.left traced.items
+        ≡ map R.left inputs.items) }
+{
+    let counted = counted_if(alloc, inputs.remove(which), true)?;
+    let mut traced = plain(alloc, inputs)?;
+    traced.insert(which, counted)?;
+    Ok(traced)
+}
+
+/// The inputs, of which the one of this number, the first of which is 0, is counted.
 fn trace<R: Source + Drop, B: Origin>(
     alloc: Global,
     inputs: Inputs<R>,
     which: usize,
-) -> Option<Trace<R, B>>
+) -> Result<Inputs<Trace<R, B>>, MemoryError>
     requires { slice_get (map R.left (listed inputs)) which ≡ Some B.bytes }
-    ensures { IfSome result (λ traced. map ⟦<Traced<R, Counted<R, B>> as Source>⟧.left
+    ensures listed { IfOk result (λ traced. map ⟦<Traced<R, Counted<R, B>> as Source>⟧.left
         (listed traced) ≡ map R.left (listed inputs)) }
+    ensures form { IfOk result (λ traced. is_list traced ≡ is_list inputs) }
 {
-    Some(match inputs {
+    Ok(match inputs {
         Inputs::Empty => Inputs::Empty,
         Inputs::One(first) => Inputs::One(counted_if(alloc, first, which == 0)?),
         Inputs::Two(first, second) => Inputs::Two(
@@ -219,11 +269,24 @@ fn trace<R: Source + Drop, B: Origin>(
             counted_if(alloc, third, which == 2)?,
             counted_if(alloc, fourth, which == 3)?,
         ),
+        Inputs::Each(all) => Inputs::Each(trace_each(alloc, all, which)?),
     })
 }
 
+/// The place that is told of the counted one of a list of inputs.
+fn place_in_list<R: Source, B: Origin>(inputs: &[Trace<R, B>], measure: Measure) -> Place
+    ensures { (result ≡ places.Whole) ⊎ IsPlaceIn B.bytes measure result }
+{
+    for input in inputs {
+        if let Traced::Counted(counted) = input {
+            return place_told(&**counted, measure);
+        }
+    }
+    Place::Whole
+}
+
 /// The place that is told of the counted input.
-fn place_among<R: Source, B: Origin>(inputs: &Trace<R, B>, measure: Measure) -> Place
+fn place_among<R: Source, B: Origin>(inputs: &Inputs<Trace<R, B>>, measure: Measure) -> Place
     ensures { (result ≡ places.Whole) ⊎ IsPlaceIn B.bytes measure result }
 {
     match inputs {
@@ -237,6 +300,7 @@ fn place_among<R: Source, B: Origin>(inputs: &Trace<R, B>, measure: Measure) -> 
         | Inputs::Four(_, Traced::Counted(counted), _, _)
         | Inputs::Four(_, _, Traced::Counted(counted), _)
         | Inputs::Four(_, _, _, Traced::Counted(counted)) => place_told(&**counted, measure),
+        Inputs::Each(all) => place_in_list(all.as_slice(), measure),
         _ => Place::Whole,
     }
 }
@@ -255,14 +319,12 @@ fn place_in<R: Source + Drop, B: Origin>(
 ) -> Place
     requires fits { Fits call.now }
     requires checks { 0 < beside_of call.now.asked.command }
-    requires few { is_each call.now.asked.command ≡ false }
-    requires inputs { length (listed inputs) + 1
-        ≡ paths_of call.now.asked.command + beside_of call.now.asked.command }
+    requires inputs { AreFor call.now.asked.command inputs }
     requires origin { slice_get (map R.left (listed inputs)) which ≡ Some B.bytes }
     ensures { (result ≡ places.Whole) ⊎ IsRefusedIn call.now.limit call.now.asked
         (R.left file ∷ map R.left (listed inputs)) (which + 1) error measure result }
 {
-    let Some(mut traced) = trace::<R, B>(alloc, inputs, which) else {
+    let Ok(mut traced) = trace::<R, B>(alloc, inputs, which) else {
         return Place::Whole;
     };
     match check_asked(
@@ -295,10 +357,7 @@ pub(crate) fn place_by_run<F: Reopens>(
     if number >= call.further.len() {
         return Place::Whole;
     }
-    if is_each(call.asked.command) {
-        return Place::Whole;
-    }
-    let Ok((file, inputs)) = open_all(&Again::new(files), call.paths, call.further) else {
+    let Ok((file, inputs)) = open_all(alloc, &Again::new(files), call) else {
         return Place::Whole;
     };
     let which = call.paths.len() - 1 + number;

@@ -1,14 +1,20 @@
 //! The files that a command reads, in the order of the words that name them.
 
-ghost use Rattle.std.specs.Prelude.{◌≡◌, ◌+◌, ◌<◌, ◌≤◌, ◌++◌, ◌∷◌, [], Err, Ok, length, map, string_bytes};
+ghost use Rattle.std.specs.Prelude.{◌≡◌, ◌⊎◌, ◌+◌, ◌<◌, ◌≤◌, ◌++◌, ◌∷◌, [], Err, IfOk, IsErr, IsTrue, Ok, length, map, string_bytes};
+ghost use Rattle.aig_checks.specs.Fits.{AreFor, Fits, is_list, room_of};
 ghost use Rattle.aig_checks.specs.Inputs.{listed};
 ghost use Rattle.aig_checks.specs.Opening.{OpensAll};
+ghost use Rattle.aig_checks.specs.Words.{has_list};
+ghost use Rattle.aig_checks.specs.declared.tool.CheckError.TheVariants as errors;
 
+use crate::command::{Call, Command};
 use crate::tool::CheckError;
-use aig_base::Source;
+use aig_base::{MemoryError, Source};
 use aig_command_line::{OpenError, Opens, Reopens};
+use std::alloc::Global;
 
-/// The files behind FILE: CERT or OTHER, and what is given beside these. They are at most four, and take no memory.
+/// The files behind FILE: CERT or OTHER, and what is given beside these. They are at most four, and take no memory, but for a proof of
+/// each step.
 #[derive(Drop)]
 pub(crate) enum Inputs<S> {
     /// There is none.
@@ -21,13 +27,30 @@ pub(crate) enum Inputs<S> {
     Three(S, S, S),
     /// There are four.
     Four(S, S, S, S),
+    /// There are P0 to PK, and STEP.
+    Each(Vec<S>),
 }
 
 impl<S: Drop> Inputs<S> {
+    /// None yet, and room for so many of a command. Only a list takes memory.
+    fn room(alloc: Global, command: Command, count: usize) -> Result<Self, MemoryError>
+        ensures empty { IfOk result (λ all. listed all ≡ []) }
+        ensures form { IfOk result (λ all. is_list all ≡ has_list command) }
+        ensures room { IfOk result (λ all. IsTrue (has_list command) → count ≤ room_of all) }
+        ensures refused { IsErr result → IsTrue (has_list command) }
+    {
+        match command {
+            Command::SafeBySteps { .. } => Ok(Inputs::Each(Vec::with_capacity(alloc, count)?)),
+            _ => Ok(Inputs::Empty),
+        }
+    }
+
     /// These files, and another one behind them.
-    pub(crate) fn with(self, source: S) -> Self
-        requires { length (listed self) < 4 }
-        ensures { listed result ≡ listed self ++ source ∷ [] }
+    fn with(self, source: S) -> Self
+        requires { length (listed self) < room_of self }
+        ensures listed { listed result ≡ listed self ++ source ∷ [] }
+        ensures form { is_list result ≡ is_list self }
+        ensures room { room_of result ≡ room_of self }
     {
         match self {
             Inputs::Empty => Inputs::One(source),
@@ -35,6 +58,10 @@ impl<S: Drop> Inputs<S> {
             Inputs::Two(first, second) => Inputs::Three(first, second, source),
             Inputs::Three(first, second, third) => Inputs::Four(first, second, third, source),
             Inputs::Four(..) => unreachable!(),
+            Inputs::Each(mut all) => {
+                all.push_reserved(source);
+                Inputs::Each(all)
+            }
         }
     }
 }
@@ -45,9 +72,10 @@ fn open_beside<F: Opens>(
     paths: &[String],
     opened: Inputs<F::File>,
 ) -> Result<Inputs<F::File>, CheckError>
-    requires { length (listed opened) + length paths.now ≤ 4 }
+    requires { length (listed opened) + length paths.now ≤ room_of opened }
     ensures { OpensAll (F.opens files.now) (map string_bytes paths.now)
-        (λ more. (all : Inputs F.File) × (result ≡ Ok all) × (listed all ≡ listed opened ++ more))
+        (λ more. (all : Inputs F.File) × (result ≡ Ok all) × (listed all ≡ listed opened ++ more)
+        × (is_list all ≡ is_list opened) × (room_of all ≡ room_of opened))
         (λ e. result ≡ Err e) }
 {
     let mut inputs = opened;
@@ -59,24 +87,26 @@ fn open_beside<F: Opens>(
 
 /// Opens FILE, the file beside it, and then what is given beside these.
 pub(crate) fn open_all<F: Opens>(
+    alloc: Global,
     files: &F,
-    paths: &[String],
-    further: &[String],
+    call: &Call<'_>,
 ) -> Result<(F::File, Inputs<F::File>), CheckError>
-    requires some { 0 < length paths.now }
-    requires few { length paths.now + length further.now ≤ 5 }
-    ensures { OpensAll (F.opens files.now)
-        (map string_bytes paths.now ++ map string_bytes further.now)
+    requires { Fits call.now }
+    ensures opens { OpensAll (F.opens files.now)
+        (map string_bytes call.now.paths.now ++ map string_bytes call.now.further.now)
         (λ opened. (all : F.File × Inputs F.File) × (result ≡ Ok all)
         × (opened ≡ all.0 ∷ listed all.1))
-        (λ e. result ≡ Err e) }
+        (λ e. result ≡ Err e)
+        ⊎ (IsTrue (has_list call.now.asked.command) × (result ≡ Err errors.Memory)) }
+    ensures fits { IfOk result (λ all. AreFor call.now.asked.command all.1) }
 {
-    let Some((path, paths)) = paths.split_first() else {
+    let Some((path, paths)) = call.paths.split_first() else {
         unreachable!()
     };
     let file = files.open(path.as_str())?;
-    let inputs = open_beside(files, paths, Inputs::Empty)?;
-    Ok((file, open_beside(files, further, inputs)?))
+    let room = Inputs::room(alloc, call.asked.command, call.further.len())?;
+    let beside = open_beside(files, paths, room)?;
+    Ok((file, open_beside(files, call.further, beside)?))
 }
 
 /// Files that are opened a second time.

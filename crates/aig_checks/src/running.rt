@@ -1,14 +1,16 @@
 //! What a command does with the files that were opened for it.
 
-ghost use Rattle.std.specs.Prelude.{◌≡◌, ◌+◌, ◌<◌, ◌^◌, false, IsTrue, List, Some, length};
+ghost use Rattle.std.specs.Prelude.{◌≡◌, ◌+◌, ◌<◌, ◌^◌, IsTrue, List, Some, length};
 ghost use Rattle.aig_command_line.specs.Limits.{IsLimit};
 ghost use Rattle.aig_checks.specs.Acting.{RanBy};
+ghost use Rattle.aig_checks.specs.Fits.{AreFor};
 ghost use Rattle.aig_checks.specs.Inputs.{Ran, listed};
 ghost use Rattle.aig_checks.specs.Justice.{is_asked};
 ghost use Rattle.aig_checks.specs.Living.{ChecksMade, PrintsMade, RunsMade};
 ghost use Rattle.aig_checks.specs.Pairs.{RunsPair};
 ghost use Rattle.aig_checks.specs.Running.{Runs, nothing_fails, nothing_given};
-ghost use Rattle.aig_checks.specs.Words.{beside_of, is_each, paths_of, prints, step_of};
+ghost use Rattle.aig_checks.specs.SafeBySteps.{RunsOnProofs};
+ghost use Rattle.aig_checks.specs.Words.{beside_of, prints, step_of};
 
 use crate::bounded::{print_bounded, print_refuted_to, print_witness_to};
 use crate::command::{Asked, Command, FileCommand, PairCommand};
@@ -20,9 +22,11 @@ use crate::living::{made_text, write_fair};
 use crate::pairs::{print_certified, print_equal, print_obligations};
 use crate::run::print_run;
 use crate::safe::print_safe;
+use crate::safe_by_steps::print_safe_by_steps;
 use crate::tool::{
     CheckError, print_clauses, print_inductive, print_refuted, print_window, print_witness,
 };
+use aig_answers::Window;
 use aig_base::{FromRead, Sink, Source};
 use aig_command_line::Discarded;
 use aig_live_laws::fair_runs_are_lassos;
@@ -123,14 +127,39 @@ fn prints(command: Command) -> bool
     }
 }
 
-/// Whether a command takes a proof of each step.
-pub(crate) fn is_each(command: Command) -> bool
-    ensures { result ≡ is_each command }
+/// Runs `safe` on a file, and on a list of the proofs of steps, of which the last is that of a window.
+fn check_steps<R: Source, S: Source, W: Sink>(
+    alloc: Global,
+    limit: usize,
+    k: usize,
+    form: Window,
+    base_optimize: bool,
+    step_optimize: bool,
+    file: &mut R,
+    proofs: &mut [S],
+    w: &mut W,
+) -> Result<(), CheckError>
+    requires limit { IsLimit limit }
+    requires small { k < 2 ^ 32 }
+    requires each { length proofs.old ≡ k + 2 }
+    ensures { RunsOnProofs R.left R.failed S.left S.failed W.held W.failed k form base_optimize
+        step_optimize limit file.old proofs.old w.old result file.new proofs.new w.new }
 {
-    match command {
-        Command::SafeBySteps { .. } => true,
-        _ => false,
-    }
+    let Some((step, bases)) = proofs.split_last_mut() else {
+        unreachable!()
+    };
+    print_safe_by_steps(
+        alloc,
+        limit,
+        k,
+        form,
+        base_optimize,
+        step_optimize,
+        file,
+        bases,
+        step,
+        w,
+    )
 }
 
 /// Runs a command that checks what is given beside its files.
@@ -144,8 +173,7 @@ fn check<R: Source, S: Source, W: Sink>(
 ) -> Result<(), CheckError>
     requires limit { IsLimit limit }
     requires checks { 0 < beside_of command }
-    requires few { is_each command ≡ false }
-    requires fits { length (listed inputs.old) + 1 ≡ paths_of command + beside_of command }
+    requires fits { AreFor command inputs.old }
     requires small { step_of command < 2 ^ 32 }
     ensures { Ran R.left R.failed S.left S.failed W.held W.failed limit command file.old
         (listed inputs.old) w.old result file.new (listed inputs.new) w.new }
@@ -178,6 +206,25 @@ fn check<R: Source, S: Source, W: Sink>(
             file,
             base,
             step,
+            w,
+        ),
+        (
+            Command::SafeBySteps {
+                k,
+                form,
+                base_optimize,
+                step_optimize,
+            },
+            Inputs::Each(proofs),
+        ) => check_steps(
+            alloc,
+            limit,
+            k,
+            form,
+            base_optimize,
+            step_optimize,
+            file,
+            proofs.as_mut_slice(),
             w,
         ),
         (Command::EqualBy { optimize }, Inputs::Four(other, certificate, base, step)) => {
@@ -232,7 +279,7 @@ fn print<R: Source + Drop, S: Source + Drop, W: Sink>(
 ) -> Result<(), CheckError>
     requires limit { IsLimit limit }
     requires prints { beside_of command ≡ 0 }
-    requires fits { length (listed inputs) + 1 ≡ paths_of command + beside_of command }
+    requires fits { AreFor command inputs }
     requires small { step_of command < 2 ^ 32 }
     ensures { (rest : R) × (others : List S) × Ran R.left R.failed S.left S.failed W.held W.failed
         limit command file (listed inputs) w.old result rest others w.new }
@@ -259,8 +306,7 @@ fn check_made<R: Source, S: Source, W: Sink>(
     requires limit { IsLimit limit }
     requires asked { IsTrue (is_asked (Some justice) command) }
     requires checks { 0 < beside_of command }
-    requires few { is_each command ≡ false }
-    requires fits { length (listed inputs.old) + 1 ≡ paths_of command + beside_of command }
+    requires fits { AreFor command inputs.old }
     requires small { step_of command < 2 ^ 32 }
     ensures { RunsMade R.left R.failed limit justice
         (ChecksMade S.left S.failed W.held W.failed limit justice.property command
@@ -286,7 +332,7 @@ fn print_made<R: Source, S: Source + Drop, W: Sink>(
 ) -> Result<(), CheckError>
     requires limit { IsLimit limit }
     requires prints { beside_of command ≡ 0 }
-    requires fits { length (listed inputs) + 1 ≡ paths_of command + beside_of command }
+    requires fits { AreFor command inputs }
     requires small { step_of command < 2 ^ 32 }
     ensures { (others : List S) × RunsMade R.left R.failed limit justice
         (λ f. PrintsMade S.left S.failed W.held W.failed limit command (listed inputs) others w.old
@@ -309,9 +355,7 @@ pub(crate) fn check_asked<R: Source, S: Source, W: Sink>(
     requires limit { IsLimit limit }
     requires asked { IsTrue (is_asked asked.justice asked.command) }
     requires checks { 0 < beside_of asked.command }
-    requires few { is_each asked.command ≡ false }
-    requires fits { length (listed inputs.old) + 1
-        ≡ paths_of asked.command + beside_of asked.command }
+    requires fits { AreFor asked.command inputs.old }
     requires small { step_of asked.command < 2 ^ 32 }
     ensures { RanBy R.left R.failed S.left S.failed W.held W.failed limit asked.justice
         asked.command file.old (listed inputs.old) w.old result file.new (listed inputs.new) w.new }
@@ -334,8 +378,7 @@ pub(crate) fn run<R: Source + Drop, S: Source + Drop, W: Sink>(
 ) -> Result<(), CheckError>
     requires limit { IsLimit limit }
     requires asked { IsTrue (is_asked asked.justice asked.command) }
-    requires few { is_each asked.command ≡ false }
-    requires fits { length (listed inputs) + 1 ≡ paths_of asked.command + beside_of asked.command }
+    requires fits { AreFor asked.command inputs }
     requires small { step_of asked.command < 2 ^ 32 }
     ensures { (rest : R) × (others : List S) × RanBy R.left R.failed S.left S.failed W.held W.failed
         limit asked.justice asked.command file (listed inputs) w.old result rest others w.new }

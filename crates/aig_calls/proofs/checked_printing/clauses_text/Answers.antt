@@ -1,37 +1,19 @@
-use Rattle.std.proofs.Common.{refl}
 use Rattle.std.proofs.lemmas.Result.{err_from_is_err_and}
-use Rattle.aig_calls.proofs.Seen.{held_all, held_nothing, nobody, on, runs_seen, wrote}
+use Rattle.aig_calls.proofs.Seen.{alone, put_into, wrote}
 use Rattle.aig_calls.proofs.checked_printing.clauses_text.Goals as goal
 
 pub returns-in_err-print_clauses : goal.returns-in_err-print_clauses
 returns-in_err-print_clauses c =
     let p = err_from_is_err_and c.from_residual.result c.from_residual.ensures.1 in
+    let ran = c.in_err-print_clauses.ensures in
     rw (p.1, p.2) (
       wrote c.new-sink.result,
       wrote c.print_clauses.new.w,
-      (on c.new-source.result
-          c.in_err-print_clauses.ensures.0 c.new-source.ensures.reader (
-            nobody,
-            nobody,
-            refl,
-            runs_seen c.in_err-print_clauses.ensures.1,
-          )),
+      alone c.new-source.result ran.0 c.new-source.ensures.reader ran.1,
     )
 
 pub returns : goal.returns
-returns c = (
-  wrote c.new-sink.result,
-  wrote c.print_clauses.new.w,
-  held_nothing c.new-sink.ensures.writer c.new.ensures.items,
-  (
-    held_all c.into_inner.ensures,
-    (on c.new-source.result c.in_ok-print_clauses.ensures.0
-        c.new-source.ensures.reader (
-          nobody,
-          nobody,
-          refl,
-          runs_seen
-              c.in_ok-print_clauses.ensures.1,
-        )),
-  ),
-)
+returns c =
+    let ran = c.in_ok-print_clauses.ensures in
+    put_into c.new-sink.result c.print_clauses.new.w c.new-sink.ensures.writer c.new.ensures.items
+    c.into_inner.ensures (alone c.new-source.result ran.0 c.new-source.ensures.reader ran.1)

@@ -1,5 +1,5 @@
 use Rattle.std.proofs.lemmas.Result.{err_from_is_err_and}
-use Rattle.aig_calls.proofs.Seen.{held_all, held_nothing, on, runs_seen, wrote}
+use Rattle.aig_calls.proofs.Seen.{on, put_into, runs_seen, wrote}
 use Rattle.aig_calls.proofs.checked_printing.witness_to_text.Goals as goal
 
 pub returns-in_err-print_witness_to : goal.returns-in_err-print_witness_to
@@ -8,21 +8,13 @@ returns-in_err-print_witness_to c =
     rw (p.1, p.2) (
       wrote c.new-sink.result,
       wrote c.print_witness_to.new.w,
-      (on c.new-source.result
-          c.print_witness_to.new.r c.new-source.ensures.reader (on c.new-answer.result
-          c.print_witness_to.new.solution c.new-answer.ensures.reader (runs_seen
-          c.in_err-print_witness_to.ensures))),
+      on c.new-source.result c.print_witness_to.new.r c.new-source.ensures.reader (on c.new-answer.result
+          c.print_witness_to.new.solution c.new-answer.ensures.reader (runs_seen c.in_err-print_witness_to.ensures)),
     )
 
 pub returns : goal.returns
-returns c = (
-  wrote c.new-sink.result,
-  wrote c.print_witness_to.new.w,
-  held_nothing c.new-sink.ensures.writer c.new.ensures.items,
-  (
-    held_all c.into_inner.ensures,
-    (on c.new-source.result c.print_witness_to.new.r
-        c.new-source.ensures.reader (on c.new-answer.result c.print_witness_to.new.solution
-        c.new-answer.ensures.reader (runs_seen c.in_ok-print_witness_to.ensures))),
-  ),
-)
+returns c =
+    put_into c.new-sink.result c.print_witness_to.new.w c.new-sink.ensures.writer c.new.ensures.items
+    c.into_inner.ensures (on c.new-source.result c.print_witness_to.new.r c.new-source.ensures.reader
+    (on c.new-answer.result c.print_witness_to.new.solution c.new-answer.ensures.reader
+    (runs_seen c.in_ok-print_witness_to.ensures)))

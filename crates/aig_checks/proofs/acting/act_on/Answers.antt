@@ -1,28 +1,27 @@
-use Rattle.aig_base.proofs.Words.{◌≡◌, ◌++◌, ◌∙◌, arith, Err, ap, err_from_is_err_and, inl, inr, map, refl, string_bytes, subst, sym}
+use Rattle.aig_base.proofs.Words.{◌≡◌, ◌++◌, ◌∙◌, Err, ap, err_from_is_err_and, inl, inr, map, refl, string_bytes, subst, sym}
 use Rattle.aig_checks.specs.Acting.{RanOn}
-use Rattle.aig_checks.specs.Inputs.{listed}
-use Rattle.aig_checks.proofs.Opened.{all_opened, few_files, inputs_fit, not_refused, opened_are, opens_on}
+use Rattle.aig_checks.specs.declared.tool.CheckError.TheVariants as errors
+use Rattle.aig_checks.proofs.Opened.{not_refused, opened_are, opens_on, was_opened}
 use Rattle.aig_checks.proofs.acting.act_on.Goals as goal
-
-pub run-requires-clause-fits : goal.run-requires-clause-fits
-run-requires-clause-fits g c =
-    let call = c.args.call.now in
-    let opens = g.F.Opens.opens c.args.files.now in
-    inputs_fit opens call.paths.now call.further.now c.in_ok-file.file
-    (listed c.in_ok-file.inputs) _ _ (all_opened opens _ _ _ _ c.in_ok-file.was
-    c.open_all.ensures) c.requires.paths c.requires.further
 
 pub returns-in_err-file : goal.returns-in_err-file
 returns-in_err-file g c =
     let p = err_from_is_err_and c.from_residual.result c.from_residual.ensures.1 in
     let e = c.in_err-file.field-0.0 in
-    rw (p.1, p.2) (inl (opens_on (g.F.Opens.opens c.args.files.now)
-    (map string_bytes c.args.call.now.paths.now ++ map string_bytes c.args.call.now.further.now)
-    _ _ _ _ (λ fs mid. let no = sym c.in_err-file.was ∙ mid.1 in cc)
-    (λ x is.
-    let no = sym c.in_err-file.was ∙ is in
-    let same : e ≡ x = cc in
-    (ap (λ y. Err y) same, refl)) c.open_all.ensures))
+    rw (p.1, p.2) (elim c.open_all.ensures.opens [
+      | inl opens ↦ inl (opens_on (g.F.Opens.opens c.args.files.now)
+          (map string_bytes c.args.call.now.paths.now
+          ++ map string_bytes c.args.call.now.further.now) _ _ _ _
+          (λ fs mid. let no = sym c.in_err-file.was ∙ mid.1 in cc)
+          (λ x is.
+          let no = sym c.in_err-file.was ∙ is in
+          let same : e ≡ x = cc in
+          (ap (λ y. Err y) same, refl)) opens)
+      | inr short ↦
+          let is = sym c.in_err-file.was ∙ short.1 in
+          let same : e ≡ errors.Memory = cc in
+          inr (short.0, ap (λ y. Err y) same, refl)
+    ])
 
 pub returns : goal.returns
 returns g c =
@@ -36,16 +35,4 @@ returns g c =
     c.run.new.w) (opened_are file inputs c.open_all.result c.in_ok-file.was opened told)
     c.run.ensures)
     (λ e is. absurd (not_refused (file, inputs) e c.open_all.result c.in_ok-file.was is))
-    c.open_all.ensures)
-
-pub returns-then-is_each : goal.returns-then-is_each
-returns-then-is_each g c = inr c.act_by_steps.ensures
-
-pub open_all-requires-clause-few : goal.open_all-requires-clause-few
-open_all-requires-clause-few g c =
-    omega (
-      arith,
-      few_files c.args.call.now.asked.command (sym c.is_each.ensures ∙ c.if-is_each.false),
-      c.requires.paths,
-      c.requires.further,
-    )
+    (was_opened (file, inputs) c.open_all.result c.in_ok-file.was c.open_all.ensures.opens))

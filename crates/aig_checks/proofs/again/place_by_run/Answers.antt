@@ -1,37 +1,21 @@
-use Rattle.aig_base.proofs.Words.{◌≡◌, ◌+◌, ◌-◌, ◌++◌, ◌∷◌, None, Ok, arith, inl, inr, length, length-map, List, map, slice_get-get_or, string_bytes, subst, sym, ◌∙◌, ℕ}
+use Rattle.aig_base.proofs.Words.{◌≡◌, ◌+◌, ◌-◌, ◌++◌, ◌∷◌, None, Ok, arith, inl, inr, length, length-map, List, map, slice_get-get_or, string_bytes, subst, ℕ}
 use Rattle.std.specs.Prelude.{IfOk, Result}
 use Rattle.aig_command_line.specs.declared.files.OpenError.{OpenError}
 use Rattle.aig_checks.specs.Explaining.{IsRefusedIn}
 use Rattle.aig_checks.specs.Inputs.{listed}
 use Rattle.aig_checks.specs.Opening.{AreOpened}
-use Rattle.aig_checks.proofs.Opened.{all_opened, few_files, inputs_fit, some_paths}
+use Rattle.aig_checks.proofs.Opened.{all_opened, some_paths}
 use Rattle.aig_checks.proofs.Refusing.{opened_again}
 use Rattle.aig_checks.proofs.again.place_by_run.Goals as goal
-
-pub place_in-requires-clause-inputs : goal.place_in-requires-clause-inputs
-place_in-requires-clause-inputs g c =
-    let call = c.args.call.now in
-    let names = map string_bytes call.paths.now ++ map string_bytes call.further.now in
-    let again = λ (path : List ℕ). λ (opened : Result g.row.F-File.Denot OpenError).
-    IfOk opened (λ file. g.F.Opens.opens c.new.result.files.now path (Ok file)) in
-    inputs_fit again call.paths.now call.further.now c.in-Ok.file (listed c.in-Ok.inputs) _ _
-    (all_opened again names c.in-Ok.file c.in-Ok.inputs c.open_all.result c.in-Ok.is
-    c.open_all.ensures) c.requires.paths c.requires.further
 
 pub place_in-requires-clause-origin : goal.place_in-requires-clause-origin
 place_in-requires-clause-origin g c =
     let call = c.args.call.now in
-    let names = map string_bytes call.paths.now ++ map string_bytes call.further.now in
-    let again = λ (path : List ℕ). λ (opened : Result g.row.F-File.Denot OpenError).
-    IfOk opened (λ file. g.F.Opens.opens c.new.result.files.now path (Ok file)) in
     let files = listed c.in-Ok.inputs in
-    let many = inputs_fit again call.paths.now call.further.now c.in-Ok.file files _ _
-    (all_opened again names c.in-Ok.file c.in-Ok.inputs c.open_all.result c.in-Ok.is
-    c.open_all.ensures) c.requires.paths c.requires.further in
     slice_get-get_or (map g.F.File.Source.left files) (length call.paths.now - 1 + c.args.number)
     None (omega (
       arith,
-      many,
+      c.in-Ok.ensures.fits.count,
       length-map files g.F.File.Source.left,
       some_paths call.asked.command,
       c.requires.paths,
@@ -48,7 +32,7 @@ returns g c =
     let files = c.in-Ok.file ∷ listed c.in-Ok.inputs in
     let opened = opened_again (g.F.Opens.opens c.new.result.files.now) names files
     (all_opened again names c.in-Ok.file c.in-Ok.inputs c.open_all.result c.in-Ok.is
-    c.open_all.ensures) in
+    c.open_all.ensures.opens) in
     let number : length call.paths.now - 1 + c.args.number + 1
     ≡ length (map string_bytes call.paths.now) + c.args.number
     = omega (
@@ -66,12 +50,3 @@ returns g c =
             c.args.error c.args.measure c.place_in.result) number refused;
       }
     ]
-
-pub open_all-requires-clause-few : goal.open_all-requires-clause-few
-open_all-requires-clause-few g c =
-    omega (
-      arith,
-      few_files c.args.call.now.asked.command (sym c.is_each.ensures ∙ c.if-is_each.false),
-      c.requires.paths,
-      c.requires.further,
-    )

@@ -11,6 +11,6 @@ returns-in-Err g c =
       | inl whole ↦ inl whole
       | inr at ↦ inr (refused_again g.R.Source.left g.R.Source.failed _ _ c.args.call.now.limit c.args.which c.args.call.now.asked
           c.args.file _ _ _ (map g.R.Source.left (listed c.args.inputs)) g.B.Origin.bytes
-          c.in-Err.again c.args.error c.args.measure _ _ _ c.in-Some.ensures c.requires.origin at same
+          c.in-Err.again c.args.error c.args.measure _ _ _ c.in-Ok.ensures.listed c.requires.origin at same
           c.in-Err.ensures)
     ]

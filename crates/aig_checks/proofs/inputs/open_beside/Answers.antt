@@ -5,7 +5,7 @@ use Rattle.aig_checks.proofs.Opened.{opened_length, opened_more, opens_as, opens
 use Rattle.aig_checks.proofs.inputs.open_beside.Goals as goal
 
 pub loop-path-init : goal.loop-path-init
-loop-path-init g c = ([], tt, sym (append-nil _))
+loop-path-init g c = ([], tt, sym (append-nil _), refl, refl)
 
 pub returns-in_err-open : goal.returns-in_err-open
 returns-in_err-open g c =
@@ -26,7 +26,7 @@ with-inputs-requires g c =
     let many = opened_length (g.F.Opens.opens c.args.files.now) _ opened.0 opened.1
     ∙ length-map (take i paths) string_bytes in
     let few = length-take-le i paths in
-    omega (arith, count, many, few, c.loop-path-test.true, c.requires)
+    omega (arith, count, many, few, opened.4, c.loop-path-test.true, c.requires)
 
 pub loop-path-preserved : goal.loop-path-preserved
 loop-path-preserved g c =
@@ -43,8 +43,10 @@ loop-path-preserved g c =
       subst (λ ps. AreOpened opens ps (opened.0 ++ f ∷ [])) more
           (opened_more opens front opened.0 (string_bytes x) f opened.1
           (subst (λ p. opens p (Ok f)) c.as_str.ensures.value c.in_ok-open.ensures)),
-      c.with-inputs.ensures ∙ ap (λ l. l ++ f ∷ []) opened.2
+      c.with-inputs.ensures.listed ∙ ap (λ l. l ++ f ∷ []) opened.2
           ∙ append_assoc (listed c.args.opened) opened.0 (f ∷ []),
+      c.with-inputs.ensures.form ∙ opened.3,
+      c.with-inputs.ensures.room ∙ opened.4,
     )
 
 pub returns : goal.returns
@@ -56,4 +58,4 @@ returns g c =
     (take_all c.loop-path.path-index paths (omega (arith, c.loop-path-test.false))) in
     opens_as opens (map string_bytes paths) opened.0 _ _
     (subst (λ ps. AreOpened opens ps opened.0) all opened.1)
-    (c.loop-path.inputs, refl, opened.2)
+    (c.loop-path.inputs, refl, opened.2, opened.3, opened.4)
