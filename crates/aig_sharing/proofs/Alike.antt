@@ -1,6 +1,5 @@
 -- Lists of pairs that say the same of each leaf.
-use Rattle.aig_base.proofs.Words.{◌≡◌, ℕ, ◌*◌, Option, Some, None, List, ◌++◌, length, map, get_or, not, inl, inr, refl, sym, ap, subst, ◌∙◌, arith, All, All-append, All-same, All-weaker, Contains, Contains-append_left, Contains-append_right, false≢true, map-append, same_Some}
-use Rattle.std.specs.FinMap.{get}
+use Rattle.aig_base.proofs.Words.{◌≡◌, ℕ, ◌*◌, Option, Some, None, List, ◌++◌, map, get_or, not, inl, inr, refl, sym, ap, subst, ◌∙◌, arith, All, All-append, All-same, All-weaker, Contains, Contains-append_left, Contains-append_right, false≢true, map-append, same_Some}
 use Rattle.std.specs.Prelude.{is_none}
 use Rattle.aig_circuit.specs.Circuit.{Circuit, latch_leaves}
 use Rattle.aig_format.specs.Text.{value_of}
@@ -8,7 +7,7 @@ use Rattle.aig_renumber.proofs.Kept.{is_in-there}
 use Rattle.aig_simulation.specs.Exact.{model_leaf}
 use Rattle.aig_simulation.specs.Simulation.{Sharing}
 use Rattle.aig_simulation.proofs.Exactly.{model_leaf-found, stands_where_shared}
-use Rattle.aig_sharing.specs.Named.{AreNamed, HasForm, IsFor, IsNamed, Names, Shares, SharesByName, sharing_prefix}
+use Rattle.aig_sharing.specs.Named.{IsFor, IsNamed, Names, Shares, SharesByName, sharing_prefix}
 use Rattle.aig_sharing.proofs.Adding.{form_of}
 
 -- what follows the prefix

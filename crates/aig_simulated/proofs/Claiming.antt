@@ -1,7 +1,6 @@
 -- What the circuits of two files claim.
-use Rattle.aig_base.proofs.Words.{◌≡◌, ◌≢◌, ℕ, ◌∷◌, List, [], Result, Ok, Err, map, refl, sym, ap, subst, ◌∙◌, IfErr}
+use Rattle.aig_base.proofs.Words.{◌≡◌, ◌≢◌, ◌∷◌, List, [], Result, Ok, Err, map, refl, sym, ap, subst, ◌∙◌, IfErr}
 use Rattle.aig_circuit.specs.Circuit.{Circuit}
-use Rattle.aig_circuit.specs.View.{lists_circuit}
 use Rattle.aig_format.proofs.Words.{File, circuit_of, edge_of}
 use Rattle.aig_reader.specs.Verdicts.{Accepted, verdict_by}
 use Rattle.aig_sharing.specs.Named.{IsFault, Shares}

@@ -1,11 +1,10 @@
 -- What answers about the conditions of a claim tell of the two files.
-use Rattle.aig_base.proofs.Words.{◌≡◌, ◌≢◌, ℕ, ◌<◌, ◌≤◌, ◌++◌, Bool, List, [], Option, Result, Ok, Err, refl, sym, ap, subst, ◌∙◌, arith, length, All, IfErr, fun_ext}
-use Rattle.aig_answers.specs.Answers.{AskWith, IsCircuitQuery, query_with}
+use Rattle.aig_base.proofs.Words.{◌≡◌, ℕ, ◌≤◌, Bool, List, Option, Result, Ok, Err, refl, sym, ap, subst, ◌∙◌, IfErr, fun_ext}
+use Rattle.aig_answers.specs.Answers.{IsCircuitQuery, query_with}
 use Rattle.aig_answers.specs.declared.windows.WindowClauses.{WindowClauses}
 use Rattle.aig_circuit.specs.Circuit.{Circuit, IsCircuit}
 use Rattle.aig_circuit.specs.View.{lists_circuit}
 use Rattle.aig_format.proofs.Words.{Accepts, File, Fits, circuit_of}
-use Rattle.aig_format.proofs.Circuits.{IsCircuit-of_file}
 use Rattle.aig_reader.specs.Reading.{AreListsOf}
 use Rattle.aig_reader.specs.Verdicts.{Accepted, verdict_by}
 use Rattle.aig_runs.specs.Queries.{IsSafeTo}
@@ -18,13 +17,12 @@ use Rattle.aig_simulation.specs.declared.condition.Condition.{Condition}
 use Rattle.aig_simulation.specs.declared.condition.Condition.TheVariants.{Reset, Transition, Property, Base, Step}
 use Rattle.aig_simulation.specs.declared.error.QuestionError.{QuestionError}
 use Rattle.aig_simulated.specs.declared.claim.Claim.{Claim}
-use Rattle.aig_simulated.specs.declared.error.ConditionError.{ConditionError}
 use Rattle.aig_simulated.specs.declared.error.ConditionError.TheVariants as conditions
 use Rattle.aig_simulated.specs.declared.error.SimulationError.{SimulationError}
 use Rattle.aig_simulated.specs.declared.error.SimulationError.TheVariants as errors
 use Rattle.aig_simulated.specs.declared.obligation.Obligation.{Obligation}
 use Rattle.aig_simulated.specs.Parts.{ChecksClaim, HoldsIn, IsAsked}
-use Rattle.aig_simulated.specs.Simulated.{Certifies, Claims, IsClaim, IsNoQuestion, IsObligation, IsOfClaim, IsOfObligation, IsOwn, IsQuestionOf, Obliges, Proofs, TellsOfCondition, TellsOfQuestion, first_verdict, proof_for, question_in, second_verdict, turn_of}
+use Rattle.aig_simulated.specs.Simulated.{Certifies, Claims, IsClaim, IsNoQuestion, IsObligation, IsOfClaim, IsOfObligation, IsOwn, IsQuestionOf, Obliges, Proofs, first_verdict, proof_for, question_in, second_verdict}
 
 -- ---- the conditions
 
@@ -158,7 +156,8 @@ pub check_said : {P : Type 0} (limit : ℕ) (optimize : Bool) (left : P → Opti
     → (verdict_by first_verdict made ≡ Accepted) × (verdict_by second_verdict made ≡ Accepted)
     × IfErr made IsOwn
 check_said limit optimize left proofs claim (Ok done) told = (refl, refl, tt)
-check_said limit optimize left proofs claim (Err (errors.Condition failing e)) told = (refl, refl, tt)
+check_said limit optimize left proofs claim (Err (errors.Condition failing e)) told =
+    (refl, refl, tt)
 check_said limit optimize left proofs claim (Err (errors.Read e)) told = absurd told
 check_said limit optimize left proofs claim (Err (errors.Witness e)) told = absurd told
 check_said limit optimize left proofs claim (Err errors.NoBads) told = absurd told

@@ -54,7 +54,8 @@ abbrev pub TellsAt : ℕ → Bool → Option (List ℕ) → Claim → Condition 
 TellsAt limit optimize text claim condition (Ok done) =
     TellsOfQuestion limit optimize text (question_in condition claim) (Ok tt)
 TellsAt limit optimize text claim condition (Err (errors.Condition failing e)) =
-    (failing ≡ condition) × TellsOfQuestion limit optimize text (question_in condition claim) (Err e)
+    (failing ≡ condition)
+    × TellsOfQuestion limit optimize text (question_in condition claim) (Err e)
 TellsAt limit optimize text claim condition (Err e) = ⊥
 
 -- What a check of a condition does: p is the proof before it, and rest after it.

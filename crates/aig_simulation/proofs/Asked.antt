@@ -1,9 +1,9 @@
 -- The circuit of a question, and what it means that all are never true.
-use Rattle.aig_base.proofs.Words.{All, All-cons, All-nil, All-same, All-weaker, Bool, Contains, IfSome, IsTrue, List, [], ap, append-nil, arith, contains_key, empty, false, false≢true, get-empty, is_some, list_any, nat_cmp, refl, subst, sym, true, ℕ, ◌||◌, ◌↔◌, ◌∙◌, ◌∷◌, ◌≡◌, ◌≤◌}
+use Rattle.aig_base.proofs.Words.{All, All-cons, All-nil, All-same, All-weaker, Bool, Contains, IfSome, IsTrue, List, [], ap, append-nil, arith, contains_key, false, false≢true, get-empty, is_some, list_any, nat_cmp, refl, subst, sym, true, ℕ, ◌||◌, ◌↔◌, ◌∙◌, ◌∷◌, ◌≡◌, ◌≤◌}
 use Rattle.aig_circuit.specs.declared.edge.AigEdge.{AigEdge}
 use Rattle.aig_circuit.specs.declared.node.AigLatch.{AigLatch}
 use Rattle.aig_circuit.specs.declared.node.AigNode.{AigNode}
-use Rattle.aig_circuit.proofs.Words.{AreNodes, Circuit, IsCircuit, IsInRange, IsLatch, IsLeaf, edge_value, no_properties}
+use Rattle.aig_circuit.proofs.Words.{AreNodes, Circuit, IsCircuit, IsInRange, IsLatch, IsLeaf, edge_value}
 use Rattle.aig_runs.specs.Safety.{IsCircuitSafeAt}
 use Rattle.aig_unroll.specs.Places.{leaves_after}
 use Rattle.aig_unroll.proofs.Added.{following-are, following-distinct, following-have}

@@ -164,7 +164,8 @@ module _ (source : List AigNode) (are : AreNodes source) (given : List (Option A
         record {
           grows = Grows-then old mid new so_far.grows grows;
           count = omega (arith, length-append images (e ∷ []));
-          exact = frame_more source (given_at given) old mid new images i e kind at so_far.exact here;
+          exact = frame_more source (given_at given) old mid new images i e kind at so_far.exact
+              here;
           there = below_more (λ n. IsInRange new (image_at more n)) i
               (λ n h.
               let old_there : IsInRange mid (image_at images n) = so_far.there n h in

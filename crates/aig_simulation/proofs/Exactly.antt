@@ -1,5 +1,5 @@
 -- Which gates, edges and copies are made, one for one.
-use Rattle.aig_base.proofs.Words.{◌≡◌, ℕ, suc, ◌+◌, ◌<◌, ◌≤◌, ◌==◌, Bool, true, false, cond, not, ◌||◌, Option, Some, None, List, [], ◌∷◌, ◌++◌, length, map, filter, drop, get_or, option_map, refl, sym, ap, ap₂, subst, ◌∙◌, add-one, arith, inl, inr, All, All-contains, Contains, drop_more, eqb-true, false≢true, fun_ext, same_Some}
+use Rattle.aig_base.proofs.Words.{◌≡◌, ℕ, suc, ◌+◌, ◌<◌, ◌==◌, Bool, true, false, cond, not, ◌||◌, Option, Some, None, List, [], ◌∷◌, ◌++◌, length, map, filter, drop, get_or, option_map, refl, sym, ap, ap₂, subst, ◌∙◌, add-one, arith, inl, inr, All-contains, drop_more, eqb-true, false≢true, fun_ext, same_Some}
 use Rattle.std.specs.Prelude.{is_none}
 use Rattle.std.specs.Option.{option_or}
 use Rattle.aig_circuit.specs.declared.edge.AigEdge.{AigEdge}

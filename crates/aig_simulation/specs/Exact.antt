@@ -1,6 +1,6 @@
 -- Part of what is promised.
 -- Which question it is, node by node. (Constants are folded; no gate is shared.)
-use Rattle.std.specs.Prelude.{ℕ, ◌==◌, Bool, false, true, if◌then◌else◌, is_none, option_map, Option, Some, None, List, [], ◌∷◌, ◌++◌, length, map, filter}
+use Rattle.std.specs.Prelude.{ℕ, ◌==◌, false, true, if◌then◌else◌, is_none, option_map, Option, Some, None, List, [], ◌∷◌, ◌++◌, length, map, filter}
 use Rattle.std.specs.FinMap.{empty}
 use Rattle.std.specs.Option.{option_or}
 use Rattle.aig_circuit.specs.declared.edge.AigEdge.{AigEdge}

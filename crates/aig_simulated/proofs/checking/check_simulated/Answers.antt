@@ -12,10 +12,10 @@ returns-in_err-claim-clause-reads g c =
     let told = c.in_err-claim.ensures.reads in
     let limit = c.args.limit in
     let optimize = c.args.optimize in
-    let proofs = proofs_of c.args.reset.now c.args.transition.now c.args.property.now c.args.base.now
-    c.args.step.now in
-    let texts : Condition → Option (List ℕ) = λ condition. g.P.Source.left (proof_for proofs condition)
-    in
+    let proofs = proofs_of c.args.reset.now c.args.transition.now c.args.property.now
+    c.args.base.now c.args.step.now in
+    let texts : Condition → Option (List ℕ) =
+    λ condition. g.P.Source.left (proof_for proofs condition) in
     rw (p.1, p.2) (reads_on g.R.Source.left g.R.Source.failed g.S.Source.left g.S.Source.failed
     limit c.args.file.now c.args.witness.now _ _ (Certifies limit optimize texts) first_verdict
     second_verdict IsOwn (Err e) told refl refl (own_of_claim e told.own)
@@ -26,15 +26,16 @@ returns-clause-reads g c =
     let limit = c.args.limit in
     let optimize = c.args.optimize in
     let left = g.P.Source.left in
-    let proofs = proofs_of c.args.reset.now c.args.transition.now c.args.property.now c.args.base.now
-    c.args.step.now in
+    let proofs = proofs_of c.args.reset.now c.args.transition.now c.args.property.now
+    c.args.base.now c.args.step.now in
     let claim = c.in_ok-claim.claim in
     let made = c.check_claim.result in
     let told = c.check_claim.ensures.checks in
     let said = check_said limit optimize left proofs claim made told in
     let known : Known = record {
       certified = c.certified_models_are_safe.ensures.safe;
-      machines_back = λ f bound k fits. (c.safe_circuits_are_safe_machines.ensures f bound k fits).0;
+      machines_back = λ f bound k fits.
+          (c.safe_circuits_are_safe_machines.ensures f bound k fits).0;
       steps = c.safe_steps_are_safe.ensures;
     } in
     reads_on g.R.Source.left g.R.Source.failed g.S.Source.left g.S.Source.failed limit

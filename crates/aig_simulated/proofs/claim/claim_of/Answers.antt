@@ -1,4 +1,4 @@
-use Rattle.aig_base.proofs.Words.{◌==◌, ◌≡◌, ◌∙◌, ap, arith, eq-eqb, false≢true, length, refl, subst, sym, vec_len}
+use Rattle.aig_base.proofs.Words.{◌≡◌, ◌∙◌, ap, arith, eq-eqb, false≢true, length, refl, subst, sym, vec_len}
 use Rattle.aig_circuit.specs.Circuit.{Circuit}
 use Rattle.aig_circuit.specs.View.{lists_circuit}
 use Rattle.aig_sharing.specs.Named.{Shares}

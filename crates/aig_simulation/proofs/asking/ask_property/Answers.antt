@@ -7,7 +7,7 @@ use Rattle.aig_join.specs.Pairs.{IsGoodState, MeetsConstraints}
 use Rattle.aig_unroll.specs.Frame.{image_in}
 use Rattle.aig_simulation.specs.Asking.{HoldWhere}
 use Rattle.aig_simulation.specs.Frames.{IsCopy, read}
-use Rattle.aig_simulation.specs.Exact.{constraint_edges, made_in, make_refuting}
+use Rattle.aig_simulation.specs.Exact.{constraint_edges, make_refuting}
 use Rattle.aig_simulation.proofs.Exactly.{pushed_is}
 use Rattle.aig_simulation.proofs.Meaning.{hold_none_yet, hold_same, refuting_by}
 use Rattle.aig_simulation.proofs.Reading.{hold_constraints, hold_good}

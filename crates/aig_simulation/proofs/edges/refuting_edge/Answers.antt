@@ -1,4 +1,4 @@
-use Rattle.aig_base.proofs.Words.{◌∙◌, IfOk-weaker}
+use Rattle.aig_base.proofs.Words.{IfOk-weaker}
 use Rattle.aig_simulation.proofs.Exactly.{refuting_is}
 use Rattle.aig_simulation.proofs.Meaning.{refuting_made}
 use Rattle.aig_simulation.proofs.edges.refuting_edge.Goals as goal

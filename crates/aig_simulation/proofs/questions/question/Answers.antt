@@ -1,5 +1,5 @@
 use Rattle.aig_base.proofs.Words.{arith, ap, length, subst}
-use Rattle.aig_circuit.proofs.Words.{Circuit, lists_circuit}
+use Rattle.aig_circuit.proofs.Words.{Circuit}
 use Rattle.aig_simulation.specs.Questions.{AsksIf, Holds}
 use Rattle.aig_simulation.proofs.questions.question.Goals as goal
 
