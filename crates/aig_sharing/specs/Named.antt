@@ -1,4 +1,4 @@
--- Serves private clauses alone.
+-- Part of what is promised.
 -- Which leaves of a witness circuit stand for leaves of a model. (Certificates of the hardware
 -- model checking competition: by the symbol table of the witness circuit, where a name is `= ` and
 -- a literal of the model; with no such name by order.)

@@ -1,30 +1,21 @@
 -- The circuit of a question, and what it means that all are never true.
-use Rattle.aig_base.proofs.Words.{All, All-cons, All-nil, All-same, All-weaker, Bool, Contains, IfSome, IsTrue, List, [], ap, append-nil, arith, contains_key, empty, false, false≢true, get-empty, is_some, list_any, nat_cmp, refl, subst, sym, true, ℕ, ◌||◌, ◌↔◌, ◌∙◌, ◌∷◌, ◌≡◌, ◌≤◌}
+use Rattle.aig_base.proofs.Words.{All, All-cons, All-nil, All-same, All-weaker, Bool, Contains, IfSome, IsTrue, List, [], ap, append-nil, arith, contains_key, false, false≢true, get-empty, is_some, list_any, nat_cmp, refl, subst, sym, true, ℕ, ◌||◌, ◌↔◌, ◌∙◌, ◌∷◌, ◌≡◌, ◌≤◌}
 use Rattle.aig_circuit.specs.declared.edge.AigEdge.{AigEdge}
 use Rattle.aig_circuit.specs.declared.node.AigLatch.{AigLatch}
 use Rattle.aig_circuit.specs.declared.node.AigNode.{AigNode}
-use Rattle.aig_circuit.proofs.Words.{AreNodes, Circuit, IsCircuit, IsInRange, IsLatch, IsLeaf, edge_value, no_properties}
+use Rattle.aig_circuit.proofs.Words.{AreNodes, Circuit, IsCircuit, IsInRange, IsLatch, IsLeaf, edge_value}
 use Rattle.aig_runs.specs.Safety.{IsCircuitSafeAt}
 use Rattle.aig_unroll.specs.Places.{leaves_after}
 use Rattle.aig_unroll.proofs.Added.{following-are, following-distinct, following-have}
 use Rattle.aig_simulation.specs.Asking.{AsksWhether}
+use Rattle.aig_simulation.specs.Exact.{made_in, with_bad}
 use Rattle.aig_simulation.specs.Questions.{AsksIf, Holds, IsNeverTrue}
 use Rattle.aig_simulation.specs.Simulation.{CanStart, IsCertificate, IsSharing, Sharing}
 use Rattle.aig_simulation.specs.declared.condition.Condition.{Condition}
 use Rattle.aig_simulation.specs.declared.condition.Condition.TheVariants.{Base, Property, Reset, Step, Transition}
 
--- the circuit of these nodes, whose leaves are inputs, with one bad edge
-abbrev pub with_bad : List AigNode → AigEdge → Circuit
-with_bad nodes bad = record {
-  nodes = nodes;
-  inputs = leaves_after 0 nodes;
-  latchs = [];
-  properties = record no_properties { bads = bad ∷ [] };
-  names = empty;
-}
-
 is_circuit : (nodes : List AigNode) (bad : AigEdge) → AreNodes nodes → IsInRange nodes bad
-    → IsCircuit (with_bad nodes bad)
+    → IsCircuit (with_bad (made_in nodes bad))
 is_circuit nodes bad are there = record {
   nodes = are;
   inputs = All-weaker (λ n. IsLeaf nodes n × (0 ≤ n)) (IsLeaf nodes) (λ n h. h.0)
@@ -43,12 +34,12 @@ is_circuit nodes bad are there = record {
   named = λ n h. absurd (nothing_named n h);
 }
   where
-    nothing_named : (n : ℕ) → IsTrue (contains_key (with_bad nodes bad).names n) → ⊥
+    nothing_named : (n : ℕ) → IsTrue (contains_key (with_bad (made_in nodes bad)).names n) → ⊥
     nothing_named n h = absurd (false≢true (sym (ap is_some (get-empty nat_cmp n)) ∙ h))
 
 -- it asks what its edge does
 pub asks_if : (claim : Type 0) (old nodes : List AigNode) (bad : AigEdge)
-    → AsksWhether claim old nodes bad → AsksIf claim (with_bad nodes bad)
+    → AsksWhether claim old nodes bad → AsksIf claim (with_bad (made_in nodes bad))
 asks_if claim old nodes bad asks = record {
   circuit = is_circuit nodes bad asks.grows.sound asks.there;
   closed = λ n leaf.

@@ -9,9 +9,11 @@ use Rattle.aig_circuit.proofs.Words.{AreNodes, Grows, IfAnd, IsInRange, IsLeaf, 
 use Rattle.aig_circuit.proofs.Building.{Grows-itself, Grows-then}
 use Rattle.aig_circuit.proofs.Trees.{kind_at-last, kind_at-within, node_value-and, node_value-false, node_value-leaf}
 use Rattle.aig_circuit.proofs.Values.{edge_value_by_leaves}
-use Rattle.aig_unroll.specs.Frame.{image_at, image_in}
+use Rattle.aig_unroll.specs.Frame.{image_at, image_in, with_copy}
 use Rattle.aig_unroll.proofs.Copied.{edge_value-image_in}
 use Rattle.aig_simulation.specs.Copies.{Copies, CopiesNode, HasImage, given_at}
+use Rattle.aig_simulation.specs.Exact.{frame_in}
+use Rattle.aig_simulation.proofs.Exactly.{frame_more}
 use Rattle.aig_simulation.proofs.Putting.{put, put_other, put_same}
 
 -- edges have the same values where those of the first leaves are the same
@@ -28,6 +30,7 @@ pub copies_none : (source : List AigNode) (given : List (Option AigEdge)) (old :
 copies_none source given old are = record {
   grows = Grows-itself old are;
   count = refl;
+  exact = refl;
   there = λ n h. absurd (omega arith);
   kept = λ n e h leaf is. absurd (omega arith);
   value = λ z x leaves n h. absurd (omega arith);
@@ -153,13 +156,16 @@ module _ (source : List AigNode) (are : AreNodes source) (given : List (Option A
     pub copies_more : (kind : AigNodeType) → kind_at source i ≡ Some kind
         → CopiesNode kind (given_at given i) images mid new e → IsInRange new e
         → ((f : AigEdge) → given_at given i ≡ Some f → IsInRange old f)
+        → frame_in new more ≡ with_copy (given_at given i) (Some kind) (frame_in mid images)
         → Copies source given old new more (i + 1)
-    copies_more kind at copies there given_there =
+    copies_more kind at copies there given_there here =
         let g = given_at given i in
         let count : length images ≡ i = so_far.count in
         record {
           grows = Grows-then old mid new so_far.grows grows;
           count = omega (arith, length-append images (e ∷ []));
+          exact = frame_more source (given_at given) old mid new images i e kind at so_far.exact
+              here;
           there = below_more (λ n. IsInRange new (image_at more n)) i
               (λ n h.
               let old_there : IsInRange mid (image_at images n) = so_far.there n h in

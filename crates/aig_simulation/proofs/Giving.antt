@@ -14,6 +14,7 @@ use Rattle.aig_unroll.proofs.Copied.{edge_value-image_in}
 use Rattle.aig_simulation.specs.Copies.{Copies, HasImage, given_at}
 use Rattle.aig_simulation.specs.Frames.{GivesAll, IsCopy, IsFrame, read}
 use Rattle.aig_simulation.specs.Simulation.{AllOwn, IsOwn, Sharing}
+use Rattle.aig_simulation.proofs.Exactly.{copy_is}
 
 -- ---- what is given
 
@@ -180,6 +181,8 @@ is_frame c latchs before shared others old new none next given images is_none mo
     record {
       grows = copies.grows;
       copy = is_copy c.nodes given old new images sound copies;
+      exact = copy_is latchs before shared others none next given is_none moved shares c old new
+          images copies.exact;
       shares = λ k d h.
           let p = get_or shared k d in
           copies.kept p.1 (image_at others p.0)

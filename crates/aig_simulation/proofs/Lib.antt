@@ -1,6 +1,7 @@
 pub mod Putting
 pub mod Tracking
 pub mod Filling
+pub mod Exactly
 pub mod Copied
 pub mod Giving
 pub mod Meaning

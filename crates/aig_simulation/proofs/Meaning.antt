@@ -3,8 +3,8 @@ use Rattle.aig_base.proofs.Words.{◌≡◌, ℕ, ◌+◌, ◌<◌, ◌≤◌, �
 use Rattle.std.proofs.lemmas.List.Sums.{list_all-from_AllPass}
 use Rattle.aig_circuit.specs.declared.edge.AigEdge.{AigEdge}
 use Rattle.aig_circuit.specs.declared.node.AigNode.{AigNode}
-use Rattle.aig_circuit.proofs.Words.{AddsGates, AreNodes, GivesEdge, Grows, IsInRange, JoinsByAnd, edge_value, inverse}
-use Rattle.aig_circuit.proofs.Building.{Grows-itself, Grows-then}
+use Rattle.aig_circuit.proofs.Words.{AddsGates, GivesEdge, Grows, IsInRange, JoinsByAnd, edge_value, inverse}
+use Rattle.aig_circuit.proofs.Building.{Grows-then}
 use Rattle.aig_circuit.proofs.Joining.{edge_value-inverse}
 use Rattle.aig_circuit.proofs.Lists.{All-first, All-from_map, All-second}
 use Rattle.aig_simulation.specs.Asking.{Adds, AllHold, HoldWhere, IsEqual, IsFalseWhere, Pair}

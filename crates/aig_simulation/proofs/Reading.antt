@@ -10,9 +10,7 @@ use Rattle.aig_circuit.proofs.Lists.{All-from_map}
 use Rattle.aig_circuit.proofs.Trees.{kind_at-within}
 use Rattle.aig_circuit.proofs.Values.{edge_value_by_leaves}
 use Rattle.aig_join.specs.Pairs.{IsGoodState, MeetsConstraints}
-use Rattle.aig_renumber.specs.Numbers.{IsLatchIn}
 use Rattle.aig_unroll.specs.Frame.{image_at, image_in}
-use Rattle.aig_unroll.specs.Step.{AreNodesBelow}
 use Rattle.aig_simulation.specs.Asking.{Adds, HoldWhere, IsEqual, Pair, move_pair, start_image, start_pair}
 use Rattle.aig_simulation.specs.Copies.{HasImage}
 use Rattle.aig_simulation.specs.Frames.{IsCopy, read}

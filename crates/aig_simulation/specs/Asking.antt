@@ -1,4 +1,4 @@
--- Serves private clauses alone.
+-- Part of what is promised.
 -- Edges that are asked for: those that are to hold, and those of which one isn't to.
 use Rattle.std.specs.Prelude.{◌≡◌, ℕ, ◌↔◌, Bool, false, IsTrue, Option, Some, None, List, All}
 use Rattle.aig_circuit.specs.declared.edge.AigEdge.{AigEdge}

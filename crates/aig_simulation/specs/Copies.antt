@@ -9,7 +9,8 @@ use Rattle.aig_circuit.specs.Edge.{edge_to}
 use Rattle.aig_circuit.specs.Build.{GivesEdge, Grows, with_node}
 use Rattle.aig_circuit.specs.Circuit.{IsInRange, IsLeaf}
 use Rattle.aig_circuit.specs.Tree.{edge_value, node_value}
-use Rattle.aig_unroll.specs.Frame.{image_at, image_in}
+use Rattle.aig_unroll.specs.Frame.{frame_to, image_at, image_in}
+use Rattle.aig_simulation.specs.Exact.{frame_in}
 
 -- the edge that is given for node n, if one is
 abbrev pub given_at : List (Option AigEdge) → ℕ → Option AigEdge
@@ -37,6 +38,7 @@ pub record Copies (source : List AigNode) (given : List (Option AigEdge)) (old n
     (images : List AigEdge) (i : ℕ) : Type 0 where
   pub grows : Grows old new
   pub count : length images ≡ i
+  pub exact : frame_in new images ≡ frame_to source (given_at given) old i
   pub there : (n : ℕ) → n < i → IsInRange new (image_at images n)
   pub kept : (n : ℕ) (e : AigEdge) → n < i → IsLeaf source n → given_at given n ≡ Some e
       → image_at images n ≡ e

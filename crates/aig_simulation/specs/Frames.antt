@@ -10,6 +10,7 @@ use Rattle.aig_circuit.specs.Circuit.{AreNodes, Circuit, IsInRange, IsLeaf}
 use Rattle.aig_circuit.specs.Renumber.{is_in}
 use Rattle.aig_circuit.specs.Tree.{edge_value}
 use Rattle.aig_simulation.specs.Copies.{given_at}
+use Rattle.aig_simulation.specs.Exact.{copy_after, frame_in, model_leaf, next_leaves, shared_leaves}
 use Rattle.aig_simulation.specs.Simulation.{AllOwn, Sharing}
 use Rattle.aig_unroll.specs.Frame.{image_at, image_in}
 
@@ -57,6 +58,8 @@ pub record IsFrame (c : Circuit) (latchs : List AigLatch) (before : List AigEdge
     : Type 0 where
   pub grows : Grows old new
   pub copy : IsCopy c.nodes new images
+  pub exact : frame_in new images
+      ≡ copy_after old c (shared_leaves (model_leaf shared) others (next_leaves latchs before))
   pub shares : All (λ p. image_at images p.1 ≡ image_at others p.0) shared
   pub moves : AllOwn shared (λ l. image_at images l.input ≡ image_in before l.next) latchs
   pub each : (z y : ℕ → Bool)

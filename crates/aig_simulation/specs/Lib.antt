@@ -4,3 +4,5 @@ pub mod Questions
 pub mod Copies
 pub mod Frames
 pub mod Asking
+pub mod Exact
+pub mod Names

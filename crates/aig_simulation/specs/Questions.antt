@@ -1,4 +1,4 @@
--- Part of what laws say, and of no promise of a call.
+-- Part of what is promised.
 -- The conditions of a certificate, each asked of a solver: a circuit of gates over inputs whose one
 -- bad edge some values of the inputs make true, or none. (Certificates of the hardware model
 -- checking competition, which a checker judges by one question for each condition.)

@@ -1,4 +1,4 @@
--- Part of what laws say, and of no promise of a call.
+-- Part of what is promised.
 -- A witness circuit that simulates a model on the leaves that both share, and whose property is an
 -- inductive invariant. (Certificates of the hardware model checking competition; simulation with
 -- resets that are functions: Yu, Froleyks, Biere and Heljanko, 2022. AIGER 1.9, "Reset logic" and

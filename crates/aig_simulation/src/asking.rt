@@ -5,6 +5,7 @@ ghost use Rattle.aig_circuit.specs.Circuit.{AreNodes, IsCircuit, IsLatch};
 ghost use Rattle.aig_circuit.specs.Runs.{IsInitial};
 ghost use Rattle.aig_join.specs.Pairs.{IsGoodState, MeetsConstraints};
 ghost use Rattle.aig_simulation.specs.Asking.{HoldWhere, IsFalseWhere};
+ghost use Rattle.aig_simulation.specs.Exact.{listed_in, made_in, make_base, make_property, make_reset, make_step, make_transition, move_edges, start_edges};
 ghost use Rattle.aig_simulation.specs.Frames.{IsCopy, own_among, read};
 ghost use Rattle.aig_simulation.specs.Simulation.{IsMove, Starts};
 
@@ -27,6 +28,8 @@ fn initial_edges(
     ensures edges { let state = read nodes.old.items images.now in
         IfOk result (λ es. HoldWhere nodes.old.items nodes.new.items es.items (λ z.
         IsInitial circuit.now (state z) × MeetsConstraints circuit.now (state z))) }
+    ensures exact { IfOk result (λ es. listed_in nodes.new.items es.items
+        ≡ start_edges nodes.old.items circuit.now images.now) }
     ensures circuit { IfOk result (λ _. IsCircuit circuit.now) }
 {
     let mut all = Vec::new(alloc);
@@ -51,10 +54,12 @@ fn moved_edges(
     requires sound { AreNodes nodes.old.items }
     requires before { IsCopy circuit.now.nodes nodes.old.items before.now }
     requires after { IsCopy circuit.now.nodes nodes.old.items after.now }
-    ensures { let at = read nodes.old.items in
+    ensures edges { let at = read nodes.old.items in
         IfOk result (λ es. HoldWhere nodes.old.items nodes.new.items es.items (λ z.
         IsMove circuit.now (at before.now z) (at after.now z)
         × MeetsConstraints circuit.now (at after.now z))) }
+    ensures exact { IfOk result (λ es. listed_in nodes.new.items es.items
+        ≡ move_edges nodes.old.items circuit.now before.now after.now) }
 {
     let mut all = Vec::new(alloc);
     push_equal(
@@ -81,11 +86,13 @@ pub(crate) fn ask_reset(
     requires model { IsCopy model.now.nodes nodes.old.items x.now }
     requires witness { IsCopy witness.now.nodes nodes.old.items y.now }
     requires own { All (IsLatch witness.now.nodes) own.now }
-    ensures { let at = read nodes.old.items in
+    ensures refutes { let at = read nodes.old.items in
         IfOk result (λ e. IsFalseWhere nodes.old.items nodes.new.items e (λ z.
         (IsInitial model.now (at x.now z) × MeetsConstraints model.now (at x.now z))
         × All (Starts witness.now (at y.now z)) own.now
         → IsInitial witness.now (at y.now z) × MeetsConstraints witness.now (at y.now z))) }
+    ensures exact { IfOk result (λ e. made_in nodes.new.items e
+        ≡ make_reset nodes.old.items model.now witness.now own.now x.now y.now) }
 {
     let mut premises = initial_edges(alloc, nodes, model, x)?;
     push_equal(nodes, &mut premises, &start_pairs(alloc, own, y)?)?;
@@ -110,12 +117,14 @@ pub(crate) fn ask_transition(
     requires model_next { IsCopy model.now.nodes nodes.old.items next.now }
     requires witness { IsCopy witness.now.nodes nodes.old.items y.now }
     requires witness_next { IsCopy witness.now.nodes nodes.old.items z.now }
-    ensures { let at = read nodes.old.items in
+    ensures refutes { let at = read nodes.old.items in
         IfOk result (λ e. IsFalseWhere nodes.old.items nodes.new.items e (λ w.
         MeetsConstraints model.now (at x.now w) × MeetsConstraints model.now (at next.now w)
         × MeetsConstraints witness.now (at y.now w)
         → IsMove witness.now (at y.now w) (at z.now w)
         × MeetsConstraints witness.now (at z.now w))) }
+    ensures exact { IfOk result (λ e. made_in nodes.new.items e
+        ≡ make_transition nodes.old.items model.now witness.now x.now next.now y.now z.now) }
 {
     let mut premises = Vec::new(alloc);
     push_images(&mut premises, model.constraints(), x)?;
@@ -138,10 +147,12 @@ pub(crate) fn ask_property(
     requires sound { AreNodes nodes.old.items }
     requires model { IsCopy model.now.nodes nodes.old.items x.now }
     requires witness { IsCopy witness.now.nodes nodes.old.items y.now }
-    ensures { let at = read nodes.old.items in
+    ensures refutes { let at = read nodes.old.items in
         IfOk result (λ e. IsFalseWhere nodes.old.items nodes.new.items e (λ z.
         MeetsConstraints model.now (at x.now z) × MeetsConstraints witness.now (at y.now z)
         × IsGoodState witness.now (at y.now z) → IsGoodState model.now (at x.now z))) }
+    ensures exact { IfOk result (λ e. made_in nodes.new.items e
+        ≡ make_property nodes.old.items model.now witness.now x.now y.now) }
 {
     let mut premises = Vec::new(alloc);
     push_images(&mut premises, model.constraints(), x)?;
@@ -161,10 +172,12 @@ pub(crate) fn ask_base(
 ) -> Result<AigEdge, MemoryError>
     requires sound { AreNodes nodes.old.items }
     requires witness { IsCopy witness.now.nodes nodes.old.items y.now }
-    ensures { let at = read nodes.old.items in
+    ensures refutes { let at = read nodes.old.items in
         IfOk result (λ e. IsFalseWhere nodes.old.items nodes.new.items e (λ z.
         IsInitial witness.now (at y.now z) × MeetsConstraints witness.now (at y.now z)
         → IsGoodState witness.now (at y.now z))) }
+    ensures exact { IfOk result (λ e. made_in nodes.new.items e
+        ≡ make_base nodes.old.items witness.now y.now) }
 {
     let premises = initial_edges(alloc, nodes, witness, y)?;
     let mut conclusions = Vec::new(alloc);
@@ -184,10 +197,12 @@ pub(crate) fn ask_step(
     requires sound { AreNodes nodes.old.items }
     requires witness { IsCopy witness.now.nodes nodes.old.items y.now }
     requires next { IsCopy witness.now.nodes nodes.old.items z.now }
-    ensures { let at = read nodes.old.items in
+    ensures refutes { let at = read nodes.old.items in
         IfOk result (λ e. IsFalseWhere nodes.old.items nodes.new.items e (λ w.
         IsGoodState witness.now (at y.now w) × MeetsConstraints witness.now (at y.now w)
         × MeetsConstraints witness.now (at z.now w) → IsGoodState witness.now (at z.now w))) }
+    ensures exact { IfOk result (λ e. made_in nodes.new.items e
+        ≡ make_step nodes.old.items witness.now y.now z.now) }
 {
     let mut premises = Vec::new(alloc);
     push_inverses(&mut premises, witness.bads(), y)?;

@@ -1,11 +1,12 @@
 //! Copies of a circuit's nodes after other nodes, where some of its leaves are given as edges to these.
 
-ghost use Rattle.std.specs.Prelude.{◌≡◌, ◌<◌, ◌≤◌, ℕ, IfOk, IfSome, All, length};
+ghost use Rattle.std.specs.Prelude.{◌≡◌, ◌<◌, ◌≤◌, ◌++◌, ◌∷◌, [], ℕ, IfOk, IfSome, Some, All, length};
 ghost use Rattle.aig_circuit.specs.Build.{Grows};
 ghost use Rattle.aig_circuit.specs.Circuit.{AreNodes, IsInRange};
 ghost use Rattle.aig_circuit.specs.Node.{IfAnd};
 ghost use Rattle.aig_simulation.specs.Copies.{Copies, CopiesNode, HasImage};
-ghost use Rattle.aig_unroll.specs.Frame.{image_in};
+ghost use Rattle.aig_simulation.specs.Exact.{frame_in};
+ghost use Rattle.aig_unroll.specs.Frame.{image_in, with_copy};
 
 use aig_base::MemoryError;
 use aig_build::{new_and_node, new_leaf_node};
@@ -35,6 +36,8 @@ fn copy_node(
         CopiesNode node.now.typ given images.now nodes.old.items nodes.new.items e) }
     ensures edge { IfOk result (λ e. IsInRange nodes.new.items e) }
     ensures grows { IfOk result (λ _. Grows nodes.old.items nodes.new.items) }
+    ensures exact { IfOk result (λ e. frame_in nodes.new.items (images.now ++ e ∷ [])
+        ≡ with_copy given (Some node.now.typ) (frame_in nodes.old.items images.now)) }
 {
     match *node.typ() {
         AigNodeType::False => Ok(AigEdge::constant(false)),

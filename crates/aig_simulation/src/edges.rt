@@ -5,6 +5,7 @@ ghost use Rattle.aig_circuit.specs.Circuit.{AreNodes, IsInRange};
 ghost use Rattle.aig_circuit.specs.Edge.{inverse};
 ghost use Rattle.aig_renumber.specs.Numbers.{IsLatchIn};
 ghost use Rattle.aig_simulation.specs.Asking.{Adds, AllHold, IsEqual, IsFalseWhere, move_pair, start_image, start_pair};
+ghost use Rattle.aig_simulation.specs.Exact.{listed_in, made_in, make_refuting, with_equal};
 ghost use Rattle.aig_unroll.specs.Frame.{image_in};
 ghost use Rattle.aig_unroll.specs.Step.{AreNodesBelow};
 
@@ -101,8 +102,10 @@ pub(crate) fn push_equal(
     requires there { All (IsInRange nodes.old.items) all.old.items }
     requires pairs { All (λ p. IsInRange nodes.old.items p.0 × IsInRange nodes.old.items p.1)
         pairs.now }
-    ensures { OnOk result (Adds nodes.old.items nodes.new.items all.old.items all.new.items
+    ensures adds { OnOk result (Adds nodes.old.items nodes.new.items all.old.items all.new.items
         (λ z. All (IsEqual nodes.old.items z) pairs.now)) }
+    ensures exact { OnOk result (listed_in nodes.new.items all.new.items
+        ≡ with_equal (listed_in nodes.old.items all.old.items) pairs.now) }
 {
     for pair in pairs {
         let equal = new_eq_node(nodes, pair.0, pair.1)?;
@@ -120,8 +123,10 @@ pub(crate) fn refuting_edge(
     requires sound { AreNodes nodes.old.items }
     requires premises { All (IsInRange nodes.old.items) premises.now }
     requires conclusions { All (IsInRange nodes.old.items) conclusions.now }
-    ensures { IfOk result (λ e. IsFalseWhere nodes.old.items nodes.new.items e
+    ensures refutes { IfOk result (λ e. IsFalseWhere nodes.old.items nodes.new.items e
         (λ z. AllHold nodes.old.items z premises.now → AllHold nodes.old.items z conclusions.now)) }
+    ensures exact { IfOk result (λ e. made_in nodes.new.items e
+        ≡ make_refuting nodes.old.items premises.now conclusions.now) }
 {
     let asked = new_ands_node(nodes, premises)?;
     let shown = new_ands_node(nodes, conclusions)?;

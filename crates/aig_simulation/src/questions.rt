@@ -1,11 +1,10 @@
 //! The questions as circuits.
 
-ghost use Rattle.std.specs.Prelude.{◌≡◌, ◌<◌, ◌≤◌, ◌∷◌, [], IfErr, IfOk, IsErrOf, length, map, filter};
-ghost use Rattle.std.specs.FinMap.{empty};
+ghost use Rattle.std.specs.Prelude.{◌≡◌, ◌<◌, ◌≤◌, IfErr, IfOk, IsErrOf, length, map, filter};
 ghost use Rattle.aig_circuit.specs.Circuit.{AreNodes, Circuit};
-ghost use Rattle.aig_circuit.specs.Properties.{no_properties};
 ghost use Rattle.aig_circuit.specs.View.{lists_circuit};
 ghost use Rattle.aig_simulation.specs.Asking.{AsksWhether};
+ghost use Rattle.aig_simulation.specs.Exact.{asked_base, asked_of, asked_property, asked_reset, asked_step, asked_transition, made_in, model_leaf, question_of, with_bad};
 ghost use Rattle.aig_simulation.specs.Questions.{AsksIf, CanShareLeaves, Holds};
 ghost use Rattle.aig_simulation.specs.Simulation.{BaseHolds, PropertyHolds, ResetHolds, StepHolds, TransitionHolds};
 ghost use Rattle.aig_simulation.specs.declared.condition.Condition.TheVariants as conditions;
@@ -31,8 +30,10 @@ fn reset(
 ) -> Result<AigEdge, MemoryError>
     requires sound { AreNodes nodes.old.items }
     requires shared { CanShareLeaves shared.now model.now witness.now }
-    ensures { IfOk result (AsksWhether (ResetHolds shared.now model.now witness.now)
+    ensures asks { IfOk result (AsksWhether (ResetHolds shared.now model.now witness.now)
         nodes.old.items nodes.new.items) }
+    ensures exact { IfOk result (λ e. made_in nodes.new.items e
+        ≡ asked_reset nodes.old.items (model_leaf shared.now) model.now witness.now) }
 {
     let x = copy_circuit(alloc, nodes, model, &[], &[], &[], &[])?;
     let y = copy_circuit(alloc, nodes, witness, &[], &[], shared, &x)?;
@@ -50,8 +51,10 @@ fn transition(
 ) -> Result<AigEdge, MemoryError>
     requires sound { AreNodes nodes.old.items }
     requires shared { CanShareLeaves shared.now model.now witness.now }
-    ensures { IfOk result (AsksWhether (TransitionHolds shared.now model.now witness.now)
+    ensures asks { IfOk result (AsksWhether (TransitionHolds shared.now model.now witness.now)
         nodes.old.items nodes.new.items) }
+    ensures exact { IfOk result (λ e. made_in nodes.new.items e
+        ≡ asked_transition nodes.old.items (model_leaf shared.now) model.now witness.now) }
 {
     let x = copy_circuit(alloc, nodes, model, &[], &[], &[], &[])?;
     let y = copy_circuit(alloc, nodes, witness, &[], &[], shared, &x)?;
@@ -70,8 +73,10 @@ fn property(
 ) -> Result<AigEdge, MemoryError>
     requires sound { AreNodes nodes.old.items }
     requires shared { CanShareLeaves shared.now model.now witness.now }
-    ensures { IfOk result (AsksWhether (PropertyHolds shared.now model.now witness.now)
+    ensures asks { IfOk result (AsksWhether (PropertyHolds shared.now model.now witness.now)
         nodes.old.items nodes.new.items) }
+    ensures exact { IfOk result (λ e. made_in nodes.new.items e
+        ≡ asked_property nodes.old.items (model_leaf shared.now) model.now witness.now) }
 {
     let x = copy_circuit(alloc, nodes, model, &[], &[], &[], &[])?;
     let y = copy_circuit(alloc, nodes, witness, &[], &[], shared, &x)?;
@@ -85,7 +90,9 @@ fn base(
     witness: &CircuitView<'_>,
 ) -> Result<AigEdge, MemoryError>
     requires { AreNodes nodes.old.items }
-    ensures { IfOk result (AsksWhether (BaseHolds witness.now) nodes.old.items nodes.new.items) }
+    ensures asks { IfOk result (AsksWhether (BaseHolds witness.now) nodes.old.items nodes.new.items) }
+    ensures exact { IfOk result (λ e. made_in nodes.new.items e
+        ≡ asked_base nodes.old.items witness.now) }
 {
     let y = copy_circuit(alloc, nodes, witness, &[], &[], &[], &[])?;
     ask_base(alloc, nodes, witness, &y)
@@ -98,7 +105,9 @@ fn step(
     witness: &CircuitView<'_>,
 ) -> Result<AigEdge, MemoryError>
     requires { AreNodes nodes.old.items }
-    ensures { IfOk result (AsksWhether (StepHolds witness.now) nodes.old.items nodes.new.items) }
+    ensures asks { IfOk result (AsksWhether (StepHolds witness.now) nodes.old.items nodes.new.items) }
+    ensures exact { IfOk result (λ e. made_in nodes.new.items e
+        ≡ asked_step nodes.old.items witness.now) }
 {
     let y = copy_circuit(alloc, nodes, witness, &[], &[], &[], &[])?;
     let z = copy_circuit(alloc, nodes, witness, witness.latchs(), &y, &[], &[])?;
@@ -116,8 +125,10 @@ fn asking_edge(
 ) -> Result<AigEdge, MemoryError>
     requires sound { AreNodes nodes.old.items }
     requires shared { CanShareLeaves shared.now model.now witness.now }
-    ensures { IfOk result (AsksWhether (Holds condition shared.now model.now witness.now)
+    ensures asks { IfOk result (AsksWhether (Holds condition shared.now model.now witness.now)
         nodes.old.items nodes.new.items) }
+    ensures exact { IfOk result (λ e. made_in nodes.new.items e
+        ≡ asked_of condition nodes.old.items (model_leaf shared.now) model.now witness.now) }
 {
     match condition {
         Condition::Reset => reset(alloc, nodes, model, witness, shared),
@@ -143,13 +154,7 @@ fn leaves(alloc: Global, nodes: &[AigNode]) -> Result<Vec<usize>, MemoryError>
 
 /// The circuit of these nodes, whose leaves are inputs, with one bad edge.
 fn with_bad(alloc: Global, nodes: Vec<AigNode>, bad: AigEdge) -> Result<CircuitLists, MemoryError>
-    ensures { IfOk result (λ lists. lists_circuit lists ≡ record {
-      nodes = nodes.items;
-      inputs = leaves_after 0 nodes.items;
-      latchs = [];
-      properties = record no_properties { bads = bad ∷ [] };
-      names = empty;
-    }) }
+    ensures { IfOk result (λ lists. lists_circuit lists ≡ with_bad (made_in nodes.items bad)) }
 {
     let inputs = leaves(alloc, &nodes)?;
     let mut properties = Properties::new(alloc);
@@ -172,8 +177,10 @@ fn whole_question(
     shared: &[(usize, usize)],
 ) -> Result<CircuitLists, MemoryError>
     requires { CanShareLeaves shared.now model.now witness.now }
-    ensures { IfOk result (λ lists.
+    ensures asks { IfOk result (λ lists.
         AsksIf (Holds condition shared.now model.now witness.now) (lists_circuit lists)) }
+    ensures exact { IfOk result (λ lists. lists_circuit lists
+        ≡ question_of condition (model_leaf shared.now) model.now witness.now) }
 {
     let mut nodes = Vec::new(alloc);
     nodes.push(false_node())?;
@@ -201,9 +208,13 @@ pub fn question(
     requires { CanShareLeaves shared.now model.now witness.now }
     ensures asks { IfOk result (λ lists.
         AsksIf (Holds condition shared.now model.now witness.now) (lists_circuit lists)) }
+    // And it is this one, node by node.
+    ensures exact { IfOk result (λ lists. lists_circuit lists
+        ≡ question_of condition (model_leaf shared.now) model.now witness.now) }
     ensures few { IfOk result (λ lists. length (lists_circuit lists).nodes ≤ limit) }
-    ensures large { IsErrOf result QuestionError.TooLarge → (q : Circuit)
-        × AsksIf (Holds condition shared.now model.now witness.now) q × (limit < length q.nodes) }
+    ensures large { IsErrOf result QuestionError.TooLarge
+        → let q = question_of condition (model_leaf shared.now) model.now witness.now in
+        AsksIf (Holds condition shared.now model.now witness.now) q × (limit < length q.nodes) }
 {
     let question = whole_question(alloc, condition, model, witness, shared)?;
     if question.nodes.len() > limit {

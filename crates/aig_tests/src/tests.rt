@@ -7,6 +7,7 @@ mod binary_proofs;
 mod certificates;
 mod examples;
 mod sample;
+mod simulated;
 mod streams;
 mod taking;
 

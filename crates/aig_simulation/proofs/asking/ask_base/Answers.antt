@@ -1,4 +1,4 @@
-use Rattle.aig_base.proofs.Words.{◌≡◌, ◌++◌, IfOk-weaker, List, [], map}
+use Rattle.aig_base.proofs.Words.{◌≡◌, ◌∙◌, ◌++◌, IfOk-weaker, List, [], map}
 use Rattle.aig_circuit.specs.declared.edge.AigEdge.{AigEdge}
 use Rattle.aig_circuit.specs.declared.node.AigNode.{AigNode}
 use Rattle.aig_circuit.proofs.Words.{Circuit, Grows, IsCircuit, IsInitial, inverse}
@@ -6,6 +6,7 @@ use Rattle.aig_join.specs.Pairs.{IsGoodState, MeetsConstraints}
 use Rattle.aig_unroll.specs.Frame.{image_in}
 use Rattle.aig_simulation.specs.Asking.{HoldWhere}
 use Rattle.aig_simulation.specs.Frames.{IsCopy, read}
+use Rattle.aig_simulation.proofs.Exactly.{base_is, pushed_is}
 use Rattle.aig_simulation.proofs.Meaning.{hold_none_yet, hold_same, refuting_by}
 use Rattle.aig_simulation.proofs.Reading.{hold_good}
 use Rattle.aig_simulation.proofs.asking.ask_base.Goals as goal
@@ -35,8 +36,8 @@ refuting_edge-requires-clause-conclusions c =
     c.new-conclusions.ensures.items c.bads.ensures.value c.in_ok-push_inverses.ensures
     c.deref-2.ensures.value).there
 
-pub returns : goal.returns
-returns c =
+pub returns-clause-refutes : goal.returns-clause-refutes
+returns-clause-refutes c =
     let witness = c.args.witness.now in
     let base = c.args.nodes.now.items in
     let new = c.initial_edges.new.nodes.items in
@@ -56,4 +57,18 @@ returns c =
     c.push_inverses.new.all.items c.deref-2.result.now c.bads.result.now
     c.new-conclusions.ensures.items c.bads.ensures.value c.in_ok-push_inverses.ensures
     c.deref-2.ensures.value) is
-    (λ z. (λ f p. (f p).1, λ f p. (tt, f p)))) c.refuting_edge.ensures
+    (λ z. (λ f p. (f p).1, λ f p. (tt, f p)))) c.refuting_edge.ensures.refutes
+
+pub returns-clause-exact : goal.returns-clause-exact
+returns-clause-exact c =
+    let witness = c.args.witness.now in
+    let y = c.args.y.now in
+    let last = pushed_is (λ e. inverse (image_in y e)) c.new-conclusions.result.items []
+    c.push_inverses.new.all.items c.bads.result.now witness.properties.bads
+    c.new-conclusions.ensures.items c.bads.ensures.value c.in_ok-push_inverses.ensures in
+    IfOk-weaker c.refuting_edge.result _ _
+    (λ e exact.
+    base_is c.args.nodes.now.items c.refuting_edge.new.nodes.items witness e
+    c.initial_edges.new.nodes.items c.in_ok-premises.premises.items c.deref.result.now
+    c.deref-2.result.now y c.in_ok-premises.ensures.exact c.deref.ensures.value
+    (c.deref-2.ensures.value ∙ last) exact) c.refuting_edge.ensures.exact

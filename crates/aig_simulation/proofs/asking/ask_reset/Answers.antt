@@ -10,6 +10,7 @@ use Rattle.aig_unroll.specs.Frame.{image_at}
 use Rattle.aig_simulation.specs.Asking.{start_pair}
 use Rattle.aig_simulation.specs.Frames.{IsCopy, read}
 use Rattle.aig_simulation.specs.Simulation.{Starts}
+use Rattle.aig_simulation.proofs.Exactly.{reset_is}
 use Rattle.aig_simulation.proofs.Giving.{copy_stays}
 use Rattle.aig_simulation.proofs.Meaning.{IsPair, hold_base, hold_later, hold_same, pairs-later, refuting_by}
 use Rattle.aig_simulation.proofs.Reading.{all_start_same, constraints_same, hold_starts, starts_there}
@@ -56,10 +57,10 @@ initial_edges-requires-2-clause-copy c =
     copy_stays c.args.witness.now.nodes c.args.nodes.now.items c.push_equal.new.nodes.items
     c.args.y.now c.requires.witness.sound
     (Grows-then c.args.nodes.now.items c.initial_edges.new.nodes.items c.push_equal.new.nodes.items
-    c.in_ok-premises.ensures.edges.grows c.in_ok-push_equal.ensures.grows) c.requires.witness
+    c.in_ok-premises.ensures.edges.grows c.in_ok-push_equal.ensures.adds.grows) c.requires.witness
 
-pub returns : goal.returns
-returns c =
+pub returns-clause-refutes : goal.returns-clause-refutes
+returns-clause-refutes c =
     let model = c.args.model.now in
     let witness = c.args.witness.now in
     let is_witness = c.in_ok-conclusions.ensures.circuit in
@@ -73,10 +74,10 @@ returns c =
     let first = c.in_ok-premises.ensures.edges in
     let more = c.push_equal.new.all.items in
     let made = c.deref.ensures.value ∙ c.in_ok-start_pairs.ensures in
-    let grown = Grows-then base one two first.grows c.in_ok-push_equal.ensures.grows in
+    let grown = Grows-then base one two first.grows c.in_ok-push_equal.ensures.adds.grows in
     let started = hold_starts witness is_witness base one y c.requires.witness
     c.in_ok-premises.premises.items (λ z. IsStart model (read base x z)) first own
-    c.deref.result.now two more c.requires.own made c.in_ok-push_equal.ensures in
+    c.deref.result.now two more c.requires.own made c.in_ok-push_equal.ensures.adds in
     let second = c.in_ok-conclusions.ensures.edges in
     let premises = hold_same base three more c.deref-2.result.now
     (λ z. IsStart model (read base x z) × All (Starts witness (read base y z)) own)
@@ -97,4 +98,17 @@ returns c =
     (λ z. IsStart witness (read base y z))
     (λ z. IsStart model (read base x z) × All (Starts witness (read base y z)) own
     → IsStart witness (read base y z)) premises conclusions is (λ z. (λ f. f, λ f. f)))
-    c.refuting_edge.ensures
+    c.refuting_edge.ensures.refutes
+
+pub returns-clause-exact : goal.returns-clause-exact
+returns-clause-exact c =
+    IfOk-weaker c.refuting_edge.result _ _
+    (λ e exact.
+    reset_is c.args.nodes.now.items c.refuting_edge.new.nodes.items c.args.model.now
+    c.args.witness.now e c.initial_edges.new.nodes.items c.push_equal.new.nodes.items
+    c.initial_edges-2.new.nodes.items c.in_ok-premises.premises.items c.push_equal.new.all.items
+    c.in_ok-conclusions.conclusions.items c.deref-2.result.now c.deref-3.result.now
+    c.deref.result.now c.args.own.now c.args.x.now c.args.y.now c.in_ok-premises.ensures.exact
+    (c.deref.ensures.value ∙ c.in_ok-start_pairs.ensures) c.in_ok-push_equal.ensures.exact
+    c.in_ok-conclusions.ensures.exact c.deref-2.ensures.value c.deref-3.ensures.value exact)
+    c.refuting_edge.ensures.exact

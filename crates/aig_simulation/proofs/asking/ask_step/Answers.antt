@@ -1,4 +1,4 @@
-use Rattle.aig_base.proofs.Words.{◌≡◌, ◌++◌, ℕ, Bool, IfOk-weaker, List, [], map}
+use Rattle.aig_base.proofs.Words.{◌≡◌, ◌∙◌, ◌++◌, ℕ, ap₂, Bool, IfOk-weaker, List, [], map}
 use Rattle.aig_circuit.specs.declared.edge.AigEdge.{AigEdge}
 use Rattle.aig_circuit.specs.declared.node.AigNode.{AigNode}
 use Rattle.aig_circuit.proofs.Building.{Grows-itself}
@@ -7,6 +7,8 @@ use Rattle.aig_join.specs.Pairs.{IsGoodState, MeetsConstraints}
 use Rattle.aig_unroll.specs.Frame.{image_in}
 use Rattle.aig_simulation.specs.Asking.{HoldWhere}
 use Rattle.aig_simulation.specs.Frames.{IsCopy, read}
+use Rattle.aig_simulation.specs.Exact.{constraint_edges, good_edges, make_refuting}
+use Rattle.aig_simulation.proofs.Exactly.{pushed_is}
 use Rattle.aig_simulation.proofs.Meaning.{hold_none_yet, hold_same, refuting_by}
 use Rattle.aig_simulation.proofs.Reading.{hold_constraints, hold_good}
 use Rattle.aig_simulation.proofs.asking.ask_step.Goals as goal
@@ -62,8 +64,8 @@ refuting_edge-requires-clause-conclusions c =
     c.new-conclusions.ensures.items c.bads-2.ensures.value c.in_ok-push_inverses-2.ensures
     c.deref-2.ensures.value).there
 
-pub returns : goal.returns
-returns c =
+pub returns-clause-refutes : goal.returns-clause-refutes
+returns-clause-refutes c =
     let witness = c.args.witness.now in
     let base = c.args.nodes.now.items in
     let y = c.args.y.now in
@@ -89,4 +91,31 @@ returns c =
     (λ w. (
       λ f p. (f (((tt, p.0), p.1), p.2)).1,
       λ f p. (tt, f (p.0.0.1, p.0.1, p.1)),
-    ))) c.refuting_edge.ensures
+    ))) c.refuting_edge.ensures.refutes
+
+pub returns-clause-exact : goal.returns-clause-exact
+returns-clause-exact c =
+    let witness = c.args.witness.now in
+    let y = c.args.y.now in
+    let z = c.args.z.now in
+    let one = c.push_inverses.new.all.items in
+    let two = c.push_images.new.all.items in
+    let three = c.push_images-2.new.all.items in
+    let good = good_edges witness y in
+    let of_y = good ++ constraint_edges witness y in
+    let first = pushed_is (λ e. inverse (image_in y e)) c.new-premises.result.items [] one
+    c.bads.result.now witness.properties.bads c.new-premises.ensures.items c.bads.ensures.value
+    c.in_ok-push_inverses.ensures in
+    let second = pushed_is (image_in y) one good two c.constraints.result.now
+    witness.properties.constraints first c.constraints.ensures.value c.in_ok-push_images.ensures in
+    let third = pushed_is (image_in z) two of_y three c.constraints-2.result.now
+    witness.properties.constraints second c.constraints-2.ensures.value
+    c.in_ok-push_images-2.ensures in
+    let last = pushed_is (λ e. inverse (image_in z e)) c.new-conclusions.result.items []
+    c.push_inverses-2.new.all.items c.bads-2.result.now witness.properties.bads
+    c.new-conclusions.ensures.items c.bads-2.ensures.value c.in_ok-push_inverses-2.ensures in
+    IfOk-weaker c.refuting_edge.result _ _
+    (λ e exact.
+    exact
+    ∙ ap₂ (make_refuting c.args.nodes.now.items) (c.deref.ensures.value ∙ third)
+    (c.deref-2.ensures.value ∙ last)) c.refuting_edge.ensures.exact

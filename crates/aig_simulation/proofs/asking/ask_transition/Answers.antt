@@ -1,4 +1,4 @@
-use Rattle.aig_base.proofs.Words.{◌≡◌, ◌++◌, ℕ, Bool, IfOk-weaker, List, [], map}
+use Rattle.aig_base.proofs.Words.{◌≡◌, ◌∙◌, ◌++◌, ℕ, Bool, IfOk-weaker, List, [], map}
 use Rattle.aig_circuit.specs.declared.edge.AigEdge.{AigEdge}
 use Rattle.aig_circuit.specs.declared.node.AigNode.{AigNode}
 use Rattle.aig_circuit.proofs.Building.{Grows-itself}
@@ -8,6 +8,8 @@ use Rattle.aig_unroll.specs.Frame.{image_in}
 use Rattle.aig_simulation.specs.Asking.{HoldWhere}
 use Rattle.aig_simulation.specs.Frames.{IsCopy, read}
 use Rattle.aig_simulation.specs.Simulation.{IsMove}
+use Rattle.aig_simulation.specs.Exact.{constraint_edges}
+use Rattle.aig_simulation.proofs.Exactly.{pushed_is, transition_is}
 use Rattle.aig_simulation.proofs.Meaning.{hold_later, hold_none_yet, hold_same, refuting_by}
 use Rattle.aig_simulation.proofs.Reading.{hold_constraints}
 use Rattle.aig_simulation.proofs.asking.ask_transition.Goals as goal
@@ -51,16 +53,16 @@ refuting_edge-requires-clause-premises c =
     c.constraints-2.result.now c.constraints-3.result.now c.moved_edges.new.nodes.items
     c.new-premises.ensures.items c.constraints.ensures.value c.in_ok-push_images.ensures
     c.constraints-2.ensures.value c.in_ok-push_images-2.ensures c.constraints-3.ensures.value
-    c.in_ok-push_images-3.ensures c.deref.ensures.value c.in_ok-conclusions.ensures.grows).there
+    c.in_ok-push_images-3.ensures c.deref.ensures.value c.in_ok-conclusions.ensures.edges.grows).there
 
 pub refuting_edge-requires-clause-conclusions : goal.refuting_edge-requires-clause-conclusions
 refuting_edge-requires-clause-conclusions c =
     (hold_same c.args.nodes.now.items c.moved_edges.new.nodes.items
     c.in_ok-conclusions.conclusions.items c.deref-2.result.now _ c.deref-2.ensures.value
-    c.in_ok-conclusions.ensures).there
+    c.in_ok-conclusions.ensures.edges).there
 
-pub returns : goal.returns
-returns c =
+pub returns-clause-refutes : goal.returns-clause-refutes
+returns-clause-refutes c =
     let model = c.args.model.now in
     let witness = c.args.witness.now in
     let base = c.args.nodes.now.items in
@@ -87,12 +89,40 @@ returns c =
     c.constraints-2.result.now c.constraints-3.result.now new c.new-premises.ensures.items
     c.constraints.ensures.value c.in_ok-push_images.ensures c.constraints-2.ensures.value
     c.in_ok-push_images-2.ensures c.constraints-3.ensures.value c.in_ok-push_images-3.ensures
-    c.deref.ensures.value c.in_ok-conclusions.ensures.grows)
+    c.deref.ensures.value c.in_ok-conclusions.ensures.edges.grows)
     (hold_same base new c.in_ok-conclusions.conclusions.items c.deref-2.result.now
     (λ w. IsMove witness (read base y w) (read base z w)
-    × MeetsConstraints witness (read base z w)) c.deref-2.ensures.value c.in_ok-conclusions.ensures)
+    × MeetsConstraints witness (read base z w)) c.deref-2.ensures.value c.in_ok-conclusions.ensures.edges)
     is
     (λ w. (
       λ f p. f (((tt, p.0), p.1), p.2),
       λ f p. f (p.0.0.1, p.0.1, p.1),
-    ))) c.refuting_edge.ensures
+    ))) c.refuting_edge.ensures.refutes
+
+pub returns-clause-exact : goal.returns-clause-exact
+returns-clause-exact c =
+    let model = c.args.model.now in
+    let witness = c.args.witness.now in
+    let x = c.args.x.now in
+    let next = c.args.next.now in
+    let y = c.args.y.now in
+    let one = c.push_images.new.all.items in
+    let two = c.push_images-2.new.all.items in
+    let three = c.push_images-3.new.all.items in
+    let of_x = constraint_edges model x in
+    let of_next = of_x ++ constraint_edges model next in
+    let first = pushed_is (image_in x) c.new-premises.result.items [] one c.constraints.result.now
+    model.properties.constraints c.new-premises.ensures.items c.constraints.ensures.value
+    c.in_ok-push_images.ensures in
+    let second = pushed_is (image_in next) one of_x two c.constraints-2.result.now
+    model.properties.constraints first c.constraints-2.ensures.value c.in_ok-push_images-2.ensures
+    in
+    let third = pushed_is (image_in y) two of_next three c.constraints-3.result.now
+    witness.properties.constraints second c.constraints-3.ensures.value
+    c.in_ok-push_images-3.ensures in
+    IfOk-weaker c.refuting_edge.result _ _
+    (λ e exact.
+    transition_is c.args.nodes.now.items c.refuting_edge.new.nodes.items model witness e
+    c.moved_edges.new.nodes.items c.in_ok-conclusions.conclusions.items c.deref.result.now
+    c.deref-2.result.now x next y c.args.z.now c.in_ok-conclusions.ensures.exact
+    (c.deref.ensures.value ∙ third) c.deref-2.ensures.value exact) c.refuting_edge.ensures.exact

@@ -2,8 +2,11 @@ use Rattle.aig_base.proofs.Words.{◌∙◌, All, ap, map, subst, sym}
 use Rattle.aig_circuit.proofs.Building.{Grows-itself}
 use Rattle.aig_circuit.proofs.Words.{IsInitial}
 use Rattle.aig_join.specs.Pairs.{MeetsConstraints}
+use Rattle.aig_unroll.specs.Frame.{image_in}
 use Rattle.aig_simulation.specs.Asking.{start_pair}
+use Rattle.aig_simulation.specs.Exact.{constraint_edges}
 use Rattle.aig_simulation.specs.Frames.{read}
+use Rattle.aig_simulation.proofs.Exactly.{listed_is}
 use Rattle.aig_simulation.proofs.Meaning.{IsPair, hold_none_yet, hold_words}
 use Rattle.aig_simulation.proofs.Reading.{hold_constraints, hold_starts, starts_there}
 use Rattle.aig_simulation.proofs.asking.initial_edges.Goals as goal
@@ -34,7 +37,7 @@ returns-clause-edges c =
     let none = hold_none_yet base base first (Grows-itself base c.requires.sound)
     c.new-all.ensures.items in
     let started = hold_starts circuit is base base images c.requires.copy first (λ z. Unit {0}) none
-    circuit.latchs c.deref.result.now new mid is.latchs made c.in_ok-push_equal.ensures in
+    circuit.latchs c.deref.result.now new mid is.latchs made c.in_ok-push_equal.ensures.adds in
     hold_words base new last
     (λ z. (Unit {0} × IsInitial circuit (read base images z)) × MeetsConstraints circuit (read base
     images z))
@@ -43,3 +46,16 @@ returns-clause-edges c =
     (hold_constraints circuit is base new images c.requires.copy mid
     (λ z. Unit {0} × IsInitial circuit (read base images z)) started c.constraints.result.now last
     c.constraints.ensures.value c.in_ok-push_images.ensures)
+
+pub returns-clause-exact : goal.returns-clause-exact
+returns-clause-exact c =
+    let circuit = c.args.circuit.now in
+    let images = c.args.images.now in
+    let made = c.deref.ensures.value ∙ c.in_ok-start_pairs.ensures
+    ∙ ap (map (start_pair images)) c.latchs.ensures.value in
+    listed_is c.args.nodes.now.items c.push_equal.new.nodes.items c.new-all.result.items
+    c.push_equal.new.all.items c.push_images.new.all.items
+    (map (image_in images) c.constraints.result.now) (constraint_edges circuit images)
+    c.deref.result.now (map (start_pair images) circuit.latchs) c.new-all.ensures.items made
+    c.in_ok-push_equal.ensures.exact (ap (map (image_in images)) c.constraints.ensures.value)
+    c.in_ok-push_images.ensures

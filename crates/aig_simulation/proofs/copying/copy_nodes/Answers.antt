@@ -1,6 +1,8 @@
-use Rattle.aig_base.proofs.Words.{◌<◌, ◌≤◌, ◌≡◌, ◌+◌, ℕ, arith, get_or, length, subst, sym}
+use Rattle.aig_base.proofs.Words.{◌<◌, ◌≤◌, ◌≡◌, ◌+◌, ◌++◌, ◌∷◌, [], ℕ, Some, arith, get_or, length, subst, sym}
 use Rattle.aig_circuit.proofs.Words.{IfAnd, IsInRange}
 use Rattle.aig_unroll.proofs.Added.{no_node}
+use Rattle.aig_unroll.specs.Frame.{with_copy}
+use Rattle.aig_simulation.specs.Exact.{frame_in}
 use Rattle.aig_simulation.specs.Copies.{Copies, CopiesNode, HasImage, given_at}
 use Rattle.aig_simulation.proofs.Copied.{copies_more, copies_none, given_there, kind_read, operands_have}
 use Rattle.aig_simulation.proofs.copying.copy_nodes.Goals as goal
@@ -42,7 +44,10 @@ loop-id-preserved c =
     (copies_more source c.requires.source given old mid new images i e c.requires.sound
     c.loop-id.invariant c.in_ok-image.ensures.grows node.typ (kind_read source i no_node within)
     copies c.in_ok-image.ensures.edge
-    (λ f is. given_there given (IsInRange old) c.requires.there i f inside is))
+    (λ f is. given_there given (IsInRange old) c.requires.there i f inside is)
+    (subst (λ l. frame_in new (l ++ e ∷ [])
+    ≡ with_copy (given_at given i) (Some node.typ) (frame_in mid l)) c.deref.ensures.value
+    c.in_ok-image.ensures.exact))
 
 -- two orders make one number
 reaches : (i n : ℕ) → i ≤ n → n ≤ i → i ≡ n

@@ -1,9 +1,12 @@
-use Rattle.std.proofs.Common.{take}
+use Rattle.std.proofs.Common.{◌≡◌, drop, take}
 use Rattle.std.specs.Prelude.{All}
 use Rattle.aig_simulation.specs.Asking.{Adds, IsEqual}
+use Rattle.aig_simulation.specs.Exact.{listed_in, with_equal}
 use Rattle.aig_simulation.proofs.edges.push_equal.Given as goal
 
 abbrev pub invariant-loop-pair : goal.invariant-loop-pair
 invariant-loop-pair l =
     Adds l.fn.nodes.items l.nodes.items l.fn.all.items l.all.items
     (λ z. All (IsEqual l.fn.nodes.items z) (take l.pair-index l.pairs))
+    × (with_equal (listed_in l.fn.nodes.items l.fn.all.items) l.pairs
+    ≡ with_equal (listed_in l.nodes.items l.all.items) (drop l.pair-index l.pairs))

@@ -1,13 +1,15 @@
-use Rattle.aig_base.proofs.Words.{◌∙◌, List, [], All, All-filter, IfOk-weaker, subst, sym}
+use Rattle.aig_base.proofs.Words.{◌≡◌, ◌∙◌, List, [], All, All-filter, IfOk-weaker, subst, sym}
 use Rattle.aig_circuit.specs.declared.edge.AigEdge.{AigEdge}
 use Rattle.aig_circuit.specs.declared.node.AigLatch.{AigLatch}
 use Rattle.aig_circuit.specs.declared.node.AigNode.{AigNode}
 use Rattle.aig_circuit.proofs.Words.{Circuit, IsInitial, IsLatch}
 use Rattle.aig_join.specs.Pairs.{MeetsConstraints}
 use Rattle.aig_simulation.specs.Asking.{IsFalseWhere}
+use Rattle.aig_simulation.specs.Exact.{made_in, make_reset, model_leaf}
 use Rattle.aig_simulation.specs.Frames.{IsCopy, IsFrame, own_among, read}
 use Rattle.aig_simulation.specs.Simulation.{Starts}
 use Rattle.aig_simulation.proofs.Deciding.{carry2, is_own, reset_decided}
+use Rattle.aig_simulation.proofs.Exactly.{own_is, reset_asked}
 use Rattle.aig_simulation.proofs.Giving.{copy_stays}
 use Rattle.aig_simulation.proofs.questions.reset.Goals as goal
 
@@ -34,8 +36,8 @@ ask_reset-requires-clause-own c =
     (All-filter (is_own c.args.shared.now) (IsLatch witness.nodes) witness.latchs
     c.copy_circuit-2.ensures.circuit.latchs)
 
-pub returns : goal.returns
-returns c =
+pub returns-clause-asks : goal.returns-clause-asks
+returns-clause-asks c =
     let shared = c.args.shared.now in
     let model = c.args.model.now in
     let witness = c.args.witness.now in
@@ -56,4 +58,28 @@ returns c =
     (carry2 (Refutes model witness base new e (own_among shared witness.latchs))
     c.deref-3.result.now x c.deref-4.result.now y c.deref-3.ensures.value c.deref-4.ensures.value
     (subst (λ l. Refutes model witness base new e l c.deref-3.result.now c.deref-4.result.now) own
-    is))) c.ask_reset.ensures
+    is))) c.ask_reset.ensures.refutes
+
+pub returns-clause-exact : goal.returns-clause-exact
+returns-clause-exact c =
+    let shared = c.args.shared.now in
+    let model = c.args.model.now in
+    let witness = c.args.witness.now in
+    let old = c.args.nodes.now.items in
+    let mid = c.copy_circuit.new.nodes.items in
+    let base = c.copy_circuit-2.new.nodes.items in
+    let new = c.ask_reset.new.nodes.items in
+    let x = c.in_ok-x.x.items in
+    let y = c.in_ok-y.y.items in
+    let frame_y = subst (λ l. IsFrame witness [] [] shared l mid base y) c.deref.ensures.value
+    c.in_ok-y.ensures.frame in
+    let own = c.deref-2.ensures.value ∙ c.in_ok-own.ensures in
+    IfOk-weaker c.ask_reset.result _ _
+    (λ e is.
+    reset_asked model witness (model_leaf shared) old new e mid base x y
+    c.in_ok-x.ensures.frame.exact frame_y.exact c.deref-2.result.now
+    (own ∙ own_is shared witness.latchs)
+    (carry2 (λ first second. made_in new e
+    ≡ make_reset base model witness c.deref-2.result.now first second) c.deref-3.result.now x
+    c.deref-4.result.now y c.deref-3.ensures.value c.deref-4.ensures.value is))
+    c.ask_reset.ensures.exact

@@ -1,4 +1,4 @@
-use Rattle.aig_base.proofs.Words.{All, List, [], IfOk-weaker, get_or, subst, sym}
+use Rattle.aig_base.proofs.Words.{◌≡◌, All, List, [], IfOk-weaker, get_or, subst, sym}
 use Rattle.aig_circuit.specs.declared.edge.AigEdge.{AigEdge}
 use Rattle.aig_circuit.specs.declared.node.AigNode.{AigNode}
 use Rattle.aig_circuit.specs.declared.node.AigNodeType.TheVariants.{Leaf}
@@ -8,9 +8,11 @@ use Rattle.aig_circuit.proofs.Words.{Circuit}
 use Rattle.aig_join.specs.Pairs.{MeetsConstraints}
 use Rattle.aig_simulation.specs.Asking.{IsFalseWhere}
 use Rattle.aig_simulation.specs.Copies.{HasImage}
+use Rattle.aig_simulation.specs.Exact.{made_in, make_transition, model_leaf}
 use Rattle.aig_simulation.specs.Frames.{IsCopy, IsFrame, read}
 use Rattle.aig_simulation.specs.Simulation.{IsMove}
 use Rattle.aig_simulation.proofs.Deciding.{carry2, transition_decided}
+use Rattle.aig_simulation.proofs.Exactly.{transition_asked}
 use Rattle.aig_simulation.proofs.Giving.{copy_stays}
 use Rattle.aig_simulation.proofs.Reading.{has_image}
 use Rattle.aig_simulation.proofs.questions.transition.Goals as goal
@@ -70,8 +72,8 @@ ask_transition-requires-clause-witness c =
     (Grows-then two three four c.in_ok-next.ensures.frame.grows c.in_ok-z.ensures.frame.grows)
     frame.copy)
 
-pub returns : goal.returns
-returns c =
+pub returns-clause-asks : goal.returns-clause-asks
+returns-clause-asks c =
     let shared = c.args.shared.now in
     let model = c.args.model.now in
     let witness = c.args.witness.now in
@@ -107,4 +109,42 @@ returns c =
     c.deref-6.ensures.value
     (carry2 (Refutes model witness four new e c.deref-5.result.now c.deref-6.result.now)
     c.deref-7.result.now y c.deref-8.result.now z c.deref-7.ensures.value c.deref-8.ensures.value
-    is))) c.ask_transition.ensures
+    is))) c.ask_transition.ensures.refutes
+
+pub returns-clause-exact : goal.returns-clause-exact
+returns-clause-exact c =
+    let shared = c.args.shared.now in
+    let model = c.args.model.now in
+    let witness = c.args.witness.now in
+    let one = c.copy_circuit.new.nodes.items in
+    let two = c.copy_circuit-2.new.nodes.items in
+    let three = c.copy_circuit-3.new.nodes.items in
+    let four = c.copy_circuit-4.new.nodes.items in
+    let new = c.ask_transition.new.nodes.items in
+    let x = c.in_ok-x.x.items in
+    let y = c.in_ok-y.y.items in
+    let next = c.in_ok-next.next.items in
+    let z = c.in_ok-z.z.items in
+    let frame_y = subst (λ l. IsFrame witness [] [] shared l one two y) c.deref.ensures.value
+    c.in_ok-y.ensures.frame in
+    let frame_next = carry2 (λ latchs before. IsFrame model latchs before [] [] two three next)
+    c.latchs.result.now model.latchs c.deref-2.result.now x c.latchs.ensures.value
+    c.deref-2.ensures.value c.in_ok-next.ensures.frame in
+    let frame_latchs = subst
+    (λ latchs. IsFrame witness latchs c.deref-3.result.now shared c.deref-4.result.now three four z)
+    c.latchs-2.ensures.value c.in_ok-z.ensures.frame in
+    let frame_z = carry2
+    (λ before others. IsFrame witness witness.latchs before shared others three four z)
+    c.deref-3.result.now y c.deref-4.result.now next c.deref-3.ensures.value
+    c.deref-4.ensures.value frame_latchs in
+    IfOk-weaker c.ask_transition.result _ _
+    (λ e is.
+    transition_asked model witness (model_leaf shared) c.args.nodes.now.items new e one two x y
+    c.in_ok-x.ensures.frame.exact frame_y.exact three four next z frame_next.exact frame_z.exact
+    (carry2 (λ first second. made_in new e ≡ make_transition four model witness first second y z)
+    c.deref-5.result.now x c.deref-6.result.now next c.deref-5.ensures.value
+    c.deref-6.ensures.value
+    (carry2 (λ third fourth. made_in new e
+    ≡ make_transition four model witness c.deref-5.result.now c.deref-6.result.now third fourth)
+    c.deref-7.result.now y c.deref-8.result.now z c.deref-7.ensures.value c.deref-8.ensures.value
+    is))) c.ask_transition.ensures.exact

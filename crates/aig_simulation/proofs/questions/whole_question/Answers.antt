@@ -1,14 +1,28 @@
-use Rattle.aig_base.proofs.Words.{IfOk-weaker, subst, sym}
-use Rattle.aig_circuit.proofs.Words.{Circuit}
+use Rattle.aig_base.proofs.Words.{◌∙◌, ◌++◌, ◌∷◌, [], IfOk-weaker, List, ap₂, subst, sym}
+use Rattle.aig_circuit.specs.declared.node.AigNode.{AigNode}
+use Rattle.aig_circuit.proofs.Words.{Circuit, lists_circuit}
+use Rattle.aig_simulation.specs.Exact.{model_leaf}
 use Rattle.aig_simulation.specs.Questions.{AsksIf, Holds}
 use Rattle.aig_simulation.proofs.Asked.{asks_if}
+use Rattle.aig_simulation.proofs.Exactly.{question_is}
 use Rattle.aig_simulation.proofs.questions.whole_question.Goals as goal
 
-pub returns : goal.returns
-returns c =
+pub returns-clause-asks : goal.returns-clause-asks
+returns-clause-asks c =
     let claim = Holds c.args.condition c.args.shared.now c.args.model.now c.args.witness.now in
     IfOk-weaker c.with_bad.result _ _
     (λ lists is.
     subst (λ (q : Circuit). AsksIf claim q) (sym is)
     (asks_if claim c.push.new.self.items c.asking_edge.new.nodes.items c.in_ok-bad.bad
-    c.in_ok-bad.ensures)) c.with_bad.ensures
+    c.in_ok-bad.ensures.asks)) c.with_bad.ensures
+
+pub returns-clause-exact : goal.returns-clause-exact
+returns-clause-exact c =
+    let begins = c.in_ok-push.ensures.items
+    ∙ ap₂ (λ (l : List AigNode) (n : AigNode). l ++ n ∷ []) c.new-nodes.ensures.items
+    c.false_node.ensures in
+    IfOk-weaker c.with_bad.result _ _
+    (λ lists is.
+    question_is c.args.condition (model_leaf c.args.shared.now) c.args.model.now c.args.witness.now
+    (lists_circuit lists) c.push.new.self.items c.asking_edge.new.nodes.items c.in_ok-bad.bad is
+    c.in_ok-bad.ensures.exact begins) c.with_bad.ensures

@@ -1,0 +1,56 @@
+-- What the circuits of two files claim.
+use Rattle.aig_base.proofs.Words.{◌≡◌, ◌≢◌, ◌∷◌, List, [], Result, Ok, Err, map, refl, sym, ap, subst, ◌∙◌, IfErr}
+use Rattle.aig_circuit.specs.Circuit.{Circuit}
+use Rattle.aig_format.proofs.Words.{File, circuit_of, edge_of}
+use Rattle.aig_reader.specs.Verdicts.{Accepted, verdict_by}
+use Rattle.aig_sharing.specs.Named.{IsFault, Shares}
+use Rattle.aig_simulated.specs.declared.claim.Claim.{Claim}
+use Rattle.aig_simulated.specs.declared.error.SimulationError.{SimulationError}
+use Rattle.aig_simulated.specs.declared.error.SimulationError.TheVariants as errors
+use Rattle.aig_simulated.specs.Parts.{MakesClaim}
+use Rattle.aig_simulated.specs.Simulated.{Claims, HasBads, IsOfClaim, first_verdict, second_verdict}
+
+-- no bad edges are of no bad literals
+none_mapped : {X Y : Type 0} (f : X → Y) (xs : List X) → map f xs ≡ [] → xs ≡ []
+none_mapped f [] none = refl
+none_mapped f (x ∷ xs) none = cc
+
+module _ (f g : File) (m w : Circuit) (is_m : m ≡ circuit_of f) (is_w : w ≡ circuit_of g) where
+  has_bads : m.properties.bads ≢ [] → HasBads f
+  has_bads some none =
+      some (ap (λ (c : Circuit). c.properties.bads) is_m ∙ ap (map (edge_of f)) none)
+
+  has_none : m.properties.bads ≡ [] → f.properties.bads ≡ []
+  has_none none =
+      none_mapped (edge_of f) f.properties.bads
+      (sym (ap (λ (c : Circuit). c.properties.bads) is_m) ∙ none)
+
+  -- they claim what the files do
+  pub claims_made : (made : Result Claim SimulationError) → MakesClaim m w made → Claims f g made
+  claims_made (Ok claim) told = (
+    has_bads told.0,
+    told.1 ∙ is_m,
+    told.2 ∙ is_w,
+    subst (λ (c : Circuit). Shares c (circuit_of g) claim.shared.items) is_m
+        (subst (λ (c : Circuit). Shares m c claim.shared.items) is_w told.3),
+  )
+  claims_made (Err errors.NoBads) told = has_none told
+  claims_made (Err (errors.Sharing e)) told = (
+    has_bads told.0,
+    subst (λ (c : Circuit). IsFault c (circuit_of g) e) is_m
+        (subst (λ (c : Circuit). IsFault m c e) is_w told.1),
+  )
+  claims_made (Err (errors.Read e)) told = absurd told
+  claims_made (Err (errors.Witness e)) told = absurd told
+  claims_made (Err (errors.Condition failing e)) told = absurd told
+
+-- of both files' bytes it is said that they are taken, and the errors are those of a claim
+pub claim_said : (m w : Circuit) (made : Result Claim SimulationError) → MakesClaim m w made
+    → (verdict_by first_verdict made ≡ Accepted) × (verdict_by second_verdict made ≡ Accepted)
+    × IfErr made IsOfClaim
+claim_said m w (Ok claim) told = (refl, refl, tt)
+claim_said m w (Err errors.NoBads) told = (refl, refl, tt)
+claim_said m w (Err (errors.Sharing e)) told = (refl, refl, tt)
+claim_said m w (Err (errors.Read e)) told = absurd told
+claim_said m w (Err (errors.Witness e)) told = absurd told
+claim_said m w (Err (errors.Condition failing e)) told = absurd told

@@ -1,0 +1,6 @@
+use Rattle.aig_simulated.proofs.Telling.{one_question}
+use Rattle.aig_simulated.proofs.laws.condition_questions_are_one.Goals as goal
+
+pub returns : goal.returns
+returns c = λ condition f g q other is also.
+    one_question condition f g q other c.shared_leaves_are_one.ensures is also

@@ -1,0 +1,87 @@
+//! What is claimed by a file and a witness circuit.
+
+ghost use Rattle.std.specs.Prelude.{◌^◌, ◌≤◌, IfOk, All};
+ghost use Rattle.aig_circuit.specs.Circuit.{IsCircuit};
+ghost use Rattle.aig_circuit.specs.Edges.{HasConstantInit};
+ghost use Rattle.aig_circuit.specs.View.{lists_circuit};
+ghost use Rattle.aig_edits.specs.Pairs.{ReadsPair};
+ghost use Rattle.aig_simulated.specs.Parts.{MakesClaim};
+ghost use Rattle.aig_simulated.specs.Simulated.{Claims, IsClaim, IsOfClaim, first_verdict, second_verdict};
+
+use crate::error::SimulationError;
+use aig_base::Source;
+use aig_circuit::{CircuitLists, CircuitView};
+use aig_sharing::shared_leaves;
+use aig_simulation::{constant_resets_are_stratified, stratified_resets_can_start};
+use std::alloc::Global;
+
+/// A model and a witness circuit, and which leaves they share.
+#[derive(Drop)]
+pub struct Claim {
+    /// The circuit of the file.
+    pub model: CircuitLists,
+    /// The witness circuit.
+    pub witness: CircuitLists,
+    /// Pairs of a leaf of the model and the one of the witness circuit that stands for it.
+    pub shared: Vec<(usize, usize)>,
+}
+
+/// What is claimed by two circuits, of which the second one's resets are constants or open.
+fn claim_of(
+    alloc: Global,
+    model: CircuitLists,
+    witness: CircuitLists,
+) -> Result<Claim, SimulationError>
+    requires model { IsCircuit (lists_circuit model) }
+    requires witness { IsCircuit (lists_circuit witness) }
+    requires starts { All HasConstantInit (lists_circuit witness).latchs }
+    ensures makes { MakesClaim (lists_circuit model) (lists_circuit witness) result }
+    ensures claim { IfOk result IsClaim }
+{
+    constant_resets_are_stratified();
+    stratified_resets_can_start();
+    if model.properties.bads.is_empty() {
+        return Err(SimulationError::NoBads);
+    }
+    let shared = shared_leaves(
+        alloc,
+        &CircuitView::new(&model),
+        &CircuitView::new(&witness),
+    )?;
+    Ok(Claim {
+        model,
+        witness,
+        shared,
+    })
+}
+
+/// Reads two files in the AIGER format, a file and a witness circuit, and tells which leaves they share, as `aig_sharing::shared_leaves`
+/// does. The witness circuit is read only where the file is taken. Requires `1 <= limit <= 2^31`.
+///
+/// # Errors
+///
+/// - `Read`: the file is refused.
+/// - `Witness`: the witness circuit is refused.
+/// - `NoBads`: the file has no bad state property.
+/// - `Sharing`: it isn't told which leaves are shared.
+/// - `Condition`: never.
+pub fn read_claim<R: Source, S: Source>(
+    alloc: Global,
+    file: &mut R,
+    witness: &mut S,
+    limit: usize,
+) -> Result<Claim, SimulationError>
+    requires some { 1 ≤ limit }
+    requires few { limit ≤ 2 ^ 31 }
+    // The bytes that were read are two files, and the lists are those of their circuits. A refusal says why.
+    ensures reads { ReadsPair R.left R.failed S.left S.failed limit Claims first_verdict
+        second_verdict IsOfClaim file.old witness.old result file.new witness.new }
+    ensures claim { IfOk result IsClaim }
+{
+    let model = aig_reader::read(alloc, file, limit)?;
+    let witness = match aig_reader::read(alloc, witness, limit) {
+        Ok(witness) => witness,
+        Err(error) => return Err(SimulationError::Witness(error)),
+    };
+    claim_of(alloc, model, witness)
+}

@@ -1,0 +1,85 @@
+//! Why there is no answer.
+
+ghost use Rattle.std.specs.Prelude.{◌≡◌};
+ghost use Rattle.aig_simulated.specs.declared.error.ConditionError.TheVariants as conditions;
+ghost use Rattle.aig_simulated.specs.declared.error.SimulationError.TheVariants as errors;
+ghost use Rattle.aig_simulation.specs.declared.error.QuestionError.TheVariants as questions;
+
+use aig_base::MemoryError;
+use aig_reader::ReadError;
+use aig_refutation::RefutationError;
+use aig_sharing::SharingError;
+use aig_simulation::{Condition, QuestionError};
+use thiserror::Error;
+
+/// Why a condition isn't shown.
+#[derive(Clone, Copy, Debug, PartialEq, Eq, Error)]
+pub enum ConditionError {
+    /// There are no clauses of its question.
+    #[error("{0}")]
+    Question(QuestionError),
+    /// Its proof is refused.
+    #[error("{0}")]
+    Refutation(RefutationError),
+}
+
+impl From<QuestionError> for ConditionError {
+    ghost from_gives = { λ e r. r ≡ conditions.Question e };
+
+    fn from(error: QuestionError) -> ConditionError {
+        ConditionError::Question(error)
+    }
+}
+
+impl From<MemoryError> for ConditionError {
+    ghost from_gives = { λ _ r. r ≡ conditions.Question questions.Memory };
+
+    fn from(_error: MemoryError) -> ConditionError {
+        ConditionError::Question(QuestionError::Memory)
+    }
+}
+
+impl From<RefutationError> for ConditionError {
+    ghost from_gives = { λ e r. r ≡ conditions.Refutation e };
+
+    fn from(error: RefutationError) -> ConditionError {
+        ConditionError::Refutation(error)
+    }
+}
+
+/// Why there is no answer about a file and a witness circuit.
+#[derive(Clone, Copy, Debug, PartialEq, Eq, Error)]
+pub enum SimulationError {
+    /// The file is refused. The witness circuit wasn't read.
+    #[error("{0}")]
+    Read(ReadError),
+    /// The witness circuit is refused.
+    #[error("witness circuit: {0}")]
+    Witness(ReadError),
+    /// The file has no bad state property, so that nothing is asked.
+    #[error("no bad state property (aigedit bads makes outputs such)")]
+    NoBads,
+    /// It isn't told which leaves are shared.
+    #[error("{0}")]
+    Sharing(SharingError),
+    /// The condition isn't shown.
+    #[error("{0}: {1}")]
+    Condition(Condition, ConditionError),
+}
+
+impl From<ReadError> for SimulationError {
+    ghost from_gives = { λ e r. r ≡ errors.Read e };
+
+    /// A fault of the file.
+    fn from(error: ReadError) -> SimulationError {
+        SimulationError::Read(error)
+    }
+}
+
+impl From<SharingError> for SimulationError {
+    ghost from_gives = { λ e r. r ≡ errors.Sharing e };
+
+    fn from(error: SharingError) -> SimulationError {
+        SimulationError::Sharing(error)
+    }
+}

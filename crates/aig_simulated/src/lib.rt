@@ -1,0 +1,18 @@
+//! Answers about the machine of an AIGER file that a witness circuit simulates: from the bytes of both, and of a proof for each condition of
+//! a certificate.
+//!
+//! The proofs are of the clauses of the conditions' questions, as `aig_simulation::question` makes them.
+#![tactic(auto)]
+
+mod checking;
+mod claim;
+mod error;
+mod laws;
+mod obligation;
+
+pub use aig_simulation::Condition;
+pub use checking::check_simulated;
+pub use claim::{Claim, read_claim};
+pub use error::{ConditionError, SimulationError};
+pub use laws::condition_questions_are_one;
+pub use obligation::{Obligation, obligation_of, read_obligation};
