@@ -24,7 +24,7 @@ PROGRAM, PROMISE, LAW, ENGINE, TEST = "program", "public calls and values", "def
 COLOURS = {PROGRAM: "#f6b26b", PROMISE: "#9fc5e8", LAW: "#b6d7a8", ENGINE: "#d9d9d9", TEST: "#ffe599"}
 # Whose types the public calls take and give.
 VALUES = ["aig_base", "aig_circuit"]
-TESTS = ["aig_callers", "aig_tests", "aig_script"]
+TESTS = ["aig_callers", "aig_script"]
 LINES = harness.crates()
 
 

@@ -25,8 +25,8 @@ CALLS = [
     ("aig and aig_encode", ["aig", "aig_encode"]),
     ("with the programs", ["aigtool", "aig_commands", "aigcheck", "aig_checks", "aig_edit_commands"]),
     ("with checked answers, witnesses and DIMACS", [
-        *("aig_answers", "aig_bounded", "aig_bounded_answers", "aig_safety", "aig_equality", "aig_liveness", "aig_edits", "aig_certificates", "aig_refutation", "aig_simulated"),
-        *("aig_witness", "aig_fair", "aig_solutions", "aig_dimacs")]),
+        *("aig_answers", "aig_bounded", "aig_edits", "aig_refutation", "aig_simulated"),
+        *("aig_witness", "aig_dimacs")]),
     ("from C", ["aig_calls"]),
 ]
 LAWS = "with the laws"

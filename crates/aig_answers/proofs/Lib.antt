@@ -4,9 +4,26 @@ mod Asking
 pub mod Verdicts
 pub mod Answering
 mod Alike
-pub mod Named
+pub mod NamelessWindows
 mod Deciding
 mod Differing
 mod WindowRuns
 mod BadWindows
 mod Examples
+mod Safe
+mod Single
+mod Asked
+mod Names
+mod Saying
+mod Simulated
+mod Solved
+mod BoundedVerdicts
+mod Refuted
+pub mod Telling
+pub mod PairAnswering
+mod Naming
+mod Mitered
+mod Stepping
+mod TellingSafe
+mod AlwaysEqual
+mod Lasting

@@ -1,2 +1,14 @@
 pub mod Answers
 pub mod Parts
+pub mod Asking
+pub mod Encoded
+pub mod Naming
+pub mod Solving
+pub mod Certificates
+pub mod Comparing
+pub mod PairParts
+pub mod Bases
+pub mod Safety
+pub mod Steps
+pub mod Equality
+pub mod Liveness

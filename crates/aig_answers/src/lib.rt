@@ -2,23 +2,42 @@
 #![tactic(auto)]
 
 mod asks;
+mod bounded_checks;
+mod certificates;
 mod circuits;
 mod clauses;
 mod distinct;
+mod equality;
 mod error;
 mod laws;
+mod liveness;
 mod parts;
 mod refuting;
+mod safety;
 mod step;
 mod unrolled;
 mod windows;
 
 pub use aig_runs::Window;
+pub use bounded_checks::{
+    BoundedAnswerError, BoundedClauses, Named, bounded, bounded_clauses_are_one, bounded_witness,
+    check_bounded, check_bounded_of, circuit_questions_are_one, refuted_circuit_questions_are_safe,
+    refuted_questions_are_safe,
+};
+pub use certificates::{
+    CertificateError, MiterError, Obligations, check_certified, check_equal, check_equal_by,
+    check_step_of, obligations_of,
+};
 pub use circuits::{CircuitQuery, check_query_of, query_of};
+pub use equality::{EqualityError, check_always_equal};
 pub use error::AnswerError;
 pub use laws::{circuit_clauses_are_one, windows_are_asked};
+pub use liveness::{LivenessError, check_no_fair_run, check_no_lasso, check_no_lasso_to};
 pub use parts::{ClauseParts, query_parts, window_parts};
 pub use refuting::refute;
+pub use safety::{
+    SafetyError, StepsError, check_safe, check_safe_by_steps, check_safe_by_steps_of, check_safe_of,
+};
 pub use step::{asked_circuit, asked_query, check_step};
 pub use unrolled::{plain_window, unrolled_query};
 pub use windows::{WindowClauses, check_window, check_window_of, check_window_room, window};

@@ -1,11 +1,11 @@
 -- What is asked of the text of a joint circuit is asked of the circuit.
 use Rattle.aig_base.proofs.Words.{◌≡◌, ℕ, Bool, List, refl, sym, ap, ap₂, subst, ◌∙◌, length, arith}
 use Rattle.aig_base.specs.declared.logic.literal.Lit.{Lit}
-use Rattle.aig_answers.proofs.Named.{steps_named, window_named, with_names}
+use Rattle.aig_answers.proofs.NamelessWindows.{steps_named, window_named, with_names}
 use Rattle.aig_answers.specs.Answers.{IsCircuitQuery}
 use Rattle.aig_answers.specs.declared.circuits.CircuitQuery.{CircuitQuery}
-use Rattle.aig_bounded_answers.specs.Asking.{AsksBounded, AsksOfBads}
-use Rattle.aig_bounded_answers.specs.declared.clauses.BoundedClauses.{BoundedClauses}
+use Rattle.aig_answers.specs.Asking.{AsksBounded, AsksOfBads}
+use Rattle.aig_answers.specs.declared.bounded_checks.clauses.BoundedClauses.{BoundedClauses}
 use Rattle.aig_circuit.specs.Circuit.{Circuit, IsCircuit}
 use Rattle.aig_cnf.specs.Cnf.{HasClauses}
 use Rattle.aig_edits.specs.Joints.{IsJointOf}

@@ -2,15 +2,15 @@
 use Rattle.aig_base.proofs.Words.{◌≡◌, ℕ, zero, suc, ◌+◌, ◌-◌, ◌≤◌, Bool, List, Option, length, All, All-weaker, refl, sym, ap, ap₂, subst, ◌∙◌, IsTrue}
 use Rattle.std.specs.FinMap.{FinMap}
 use Rattle.std.specs.Ordering.{nat_cmp}
-use Rattle.aig_answers.proofs.Named.{with_names}
+use Rattle.aig_answers.proofs.NamelessWindows.{with_names}
 use Rattle.aig_bounded.specs.Exact.{Frame, IsExact, IsRead, Steps, frame_to, image_if, reached_in, states_at, steps_to, with_checks, with_image}
 use Rattle.aig_bounded.specs.Exact.IsRead.{bad, constraint, operand, next}
 use Rattle.aig_bounded.specs.Cut.{IsCutOf}
 use Rattle.aig_bounded.specs.Question.{IsPlace, IsQuestion, Reaches}
 use Rattle.aig_bounded.specs.Shared.{Netlist}
 use Rattle.aig_bounded.specs.declared.place.Place.{Place}
-use Rattle.aig_bounded_answers.specs.Asking.{AsksOfBads}
-use Rattle.aig_bounded_answers.specs.declared.clauses.BoundedClauses.{BoundedClauses}
+use Rattle.aig_answers.specs.Asking.{AsksOfBads}
+use Rattle.aig_answers.specs.declared.bounded_checks.clauses.BoundedClauses.{BoundedClauses}
 use Rattle.aig_circuit.specs.Circuit.{Circuit}
 use Rattle.aig_circuit.specs.Node.{kind_at}
 use Rattle.aig_circuit.specs.View.{lists_circuit}

@@ -18,18 +18,18 @@ use Rattle.aig_answers.specs.Answers.{IsAsked, IsCircuitQuery, TellsOfCircuit, T
 use Rattle.aig_answers.specs.declared.circuits.CircuitQuery.{CircuitQuery}
 use Rattle.aig_answers.specs.declared.error.AnswerError.{AnswerError}
 use Rattle.aig_answers.specs.declared.error.AnswerError.TheVariants as answers
-use Rattle.aig_bounded_answers.specs.Asking as bounding
-use Rattle.aig_bounded_answers.specs.Asking.{AnswersProof, IsAskedWithin, IsOfCheck, bounded_verdict}
-use Rattle.aig_bounded_answers.specs.declared.error.BoundedAnswerError.{BoundedAnswerError}
-use Rattle.aig_bounded_answers.specs.declared.error.BoundedAnswerError.TheVariants as bounded
-use Rattle.aig_certificates.specs.Certificates.{Certifies, Equals, IsOwn, first_verdict, second_verdict}
-use Rattle.aig_certificates.specs.declared.error.CertificateError.{CertificateError}
-use Rattle.aig_certificates.specs.declared.error.CertificateError.TheVariants as certificate
+use Rattle.aig_answers.specs.Asking as bounding
+use Rattle.aig_answers.specs.Asking.{AnswersProof, IsAskedWithin, IsOfCheck, bounded_verdict}
+use Rattle.aig_answers.specs.declared.bounded_checks.error.BoundedAnswerError.{BoundedAnswerError}
+use Rattle.aig_answers.specs.declared.bounded_checks.error.BoundedAnswerError.TheVariants as bounded
+use Rattle.aig_answers.specs.Certificates.{Certifies, Equals, IsOwn, first_verdict, second_verdict}
+use Rattle.aig_answers.specs.declared.certificates.error.CertificateError.{CertificateError}
+use Rattle.aig_answers.specs.declared.certificates.error.CertificateError.TheVariants as certificate
 use Rattle.aig_checks.specs.Bounded.{IsBoundedText}
 use Rattle.aig_checks.specs.Pairs.{IsObligationsText, formula_of}
 use Rattle.aig_checks.specs.Running.{IsClausesText, IsWindowText}
 use Rattle.aig_checks.specs.Titling.{pair_title}
-use Rattle.aig_titles.specs.Titles.{title_text}
+use Rattle.aig_checks.specs.Titles.{title_text}
 use Rattle.aig_commands.specs.Running.{IsTextOf}
 use Rattle.aig_edits.specs.Joints.{IsJointOf}
 use Rattle.aig_edits.specs.Pairs.{ReadsPair}

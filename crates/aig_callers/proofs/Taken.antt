@@ -22,10 +22,10 @@ use Rattle.aig_answers.specs.Answers as answering
 use Rattle.aig_answers.specs.declared.error.AnswerError.{AnswerError}
 use Rattle.aig_answers.specs.declared.error.AnswerError.TheVariants as answers
 use Rattle.aig_encode.specs.declared.error.EncodeError.TheVariants as encode
-use Rattle.aig_bounded_answers.specs.Asking as bounding
-use Rattle.aig_bounded_answers.specs.Asking.{IsOfCheck}
-use Rattle.aig_bounded_answers.specs.declared.error.BoundedAnswerError.{BoundedAnswerError}
-use Rattle.aig_bounded_answers.specs.declared.error.BoundedAnswerError.TheVariants as bounded
+use Rattle.aig_answers.specs.Asking as bounding
+use Rattle.aig_answers.specs.Asking.{IsOfCheck}
+use Rattle.aig_answers.specs.declared.bounded_checks.error.BoundedAnswerError.{BoundedAnswerError}
+use Rattle.aig_answers.specs.declared.bounded_checks.error.BoundedAnswerError.TheVariants as bounded
 use Rattle.aig_callers.specs.Taking.{IsBoundedHindrance, IsHindrance, IsOutside, IsProof, IsProofOf}
 use Rattle.aig_callers.proofs.Asking.{all_taken}
 use Rattle.aig_callers.proofs.Texts.{in_text}

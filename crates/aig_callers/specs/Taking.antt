@@ -16,11 +16,11 @@ use Rattle.aig_refutation.specs.declared.error.RefutationError.TheVariants as re
 use Rattle.aig_answers.specs.Answers as answering
 use Rattle.aig_answers.specs.declared.error.AnswerError.{AnswerError}
 use Rattle.aig_answers.specs.declared.error.AnswerError.TheVariants as answers
-use Rattle.aig_bounded_answers.specs.Asking as bounding
-use Rattle.aig_bounded_answers.specs.declared.error.BoundedAnswerError.{BoundedAnswerError}
-use Rattle.aig_bounded_answers.specs.declared.error.BoundedAnswerError.TheVariants as bounded
-use Rattle.aig_certificates.specs.declared.error.CertificateError.{CertificateError}
-use Rattle.aig_certificates.specs.declared.error.CertificateError.TheVariants as certificate
+use Rattle.aig_answers.specs.Asking as bounding
+use Rattle.aig_answers.specs.declared.bounded_checks.error.BoundedAnswerError.{BoundedAnswerError}
+use Rattle.aig_answers.specs.declared.bounded_checks.error.BoundedAnswerError.TheVariants as bounded
+use Rattle.aig_answers.specs.declared.certificates.error.CertificateError.{CertificateError}
+use Rattle.aig_answers.specs.declared.certificates.error.CertificateError.TheVariants as certificate
 
 -- ---- proofs
 

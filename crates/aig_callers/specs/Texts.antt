@@ -2,7 +2,7 @@
 -- What the programs print of files that lie in memory.
 use Rattle.std.specs.Prelude.{◌≡◌, ℕ, ◌+◌, ◌^◌, Bool, List, Some}
 use Rattle.aig_answers.specs.Answers.{IsAsked, asked_verdict, window_verdict}
-use Rattle.aig_bounded_answers.specs.Asking.{IsAskedWithin, bounded_verdict}
+use Rattle.aig_answers.specs.Asking.{IsAskedWithin, bounded_verdict}
 use Rattle.aig_checks.specs.Bounded.{IsBoundedText}
 use Rattle.aig_checks.specs.Pairs.{IsObligationsText}
 use Rattle.aig_checks.specs.Running.{IsClausesText, IsWindowText}

@@ -9,6 +9,8 @@ mod printing;
 mod sample;
 mod shown;
 mod taking;
+#[cfg(test)]
+mod tests;
 
 pub use callers::{
     clauses, exclusive_or, hashed, literal, reached, renumbered, second_value, with_step,

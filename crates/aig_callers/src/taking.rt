@@ -8,10 +8,11 @@ ghost use Rattle.aig_callers.specs.Texts.{AreObligationsOf, IsBoundedTextOf, IsC
 
 use crate::laws::joint_files_ask_the_same;
 use crate::shown::LIMIT;
-use aig_answers::{AnswerError, check_step, check_window};
+use aig_answers::{
+    AnswerError, BoundedAnswerError, CertificateError, check_bounded, check_certified, check_equal,
+    check_step, check_window,
+};
 use aig_base::{FromRead, Source};
-use aig_bounded_answers::{BoundedAnswerError, check_bounded};
-use aig_certificates::{CertificateError, check_certified, check_equal};
 use aig_checks::{CheckError, print_bounded, print_clauses, print_obligations, print_window};
 use aig_command_line::FlushedWriter;
 use aig_commands::{Command, ToolError, run};

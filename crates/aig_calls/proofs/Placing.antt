@@ -8,7 +8,7 @@ use Rattle.aig_circuit.proofs.Trees.{kind_at-within}
 use Rattle.aig_runs.specs.Queries.{last_bads}
 use Rattle.aig_unroll.specs.Places.{place_at}
 use Rattle.aig_unroll.specs.Unroll.{UnrollsTo}
-use Rattle.aig_solutions.proofs.Showing.{get_below}
+use Rattle.aig_witness.proofs.ShowingSolutions.{get_below}
 
 module _ (c u : Circuit) (k : ℕ) (steps : UnrollsTo c k u) where
   pub leaf_below : (n : ℕ) → IsLeaf c.nodes n → n < length u.nodes

@@ -3,12 +3,12 @@ use Rattle.std.proofs.Common.{Bor}
 use Rattle.aig_base.proofs.Words.{◌≡◌, ◌≢◌, ℕ, Bool, false, List, [], Option, None, Some, Result, Ok, Err, Vec, Global, refl, sym, ap, ◌∙◌, IfErr}
 use Rattle.aig_base.specs.declared.std_stream.FromRead.{FromRead}
 use Rattle.aig_base.specs.declared.std_stream.ToWrite.{ToWrite}
-use Rattle.aig_bounded_answers.specs.Asking.{AnswersCircuit}
-use Rattle.aig_bounded_answers.specs.declared.error.BoundedAnswerError.{BoundedAnswerError}
-use Rattle.aig_certificates.specs.Comparing.{CertifiesMiter, EqualsBy}
-use Rattle.aig_certificates.specs.declared.compare_error.MiterError.{MiterError}
-use Rattle.aig_certificates.specs.declared.compare_error.MiterError.TheVariants as miter
-use Rattle.aig_certificates.specs.declared.error.CertificateError.{CertificateError}
+use Rattle.aig_answers.specs.Asking.{AnswersCircuit}
+use Rattle.aig_answers.specs.declared.bounded_checks.error.BoundedAnswerError.{BoundedAnswerError}
+use Rattle.aig_answers.specs.Comparing.{CertifiesMiter, EqualsBy}
+use Rattle.aig_answers.specs.declared.certificates.compare_error.MiterError.{MiterError}
+use Rattle.aig_answers.specs.declared.certificates.compare_error.MiterError.TheVariants as miter
+use Rattle.aig_answers.specs.declared.certificates.error.CertificateError.{CertificateError}
 use Rattle.aig_checks.specs.Comparing as comparing
 use Rattle.aig_checks.specs.Comparing.{RunsComparing, TellsOfComparing}
 use Rattle.aig_checks.specs.Pairs as pairs
@@ -41,15 +41,15 @@ use Rattle.aig_edits.specs.declared.error.PairError.{PairError}
 use Rattle.aig_edits.specs.declared.error.PairError.TheVariants as pair
 use Rattle.aig_edits.specs.declared.pairing.Pairing.{Pairing}
 use Rattle.aig_format.proofs.Words.{File}
-use Rattle.aig_liveness.specs.Liveness.{HasNoLassoTo, HasNoRun, TellsOfQuestion, TellsOfSafety}
-use Rattle.aig_liveness.specs.declared.error.LivenessError.{LivenessError}
-use Rattle.aig_liveness.specs.declared.error.LivenessError.TheVariants as liveness
+use Rattle.aig_answers.specs.Liveness.{HasNoLassoTo, HasNoRun, TellsOfQuestion, TellsOfSafety}
+use Rattle.aig_answers.specs.declared.liveness.error.LivenessError.{LivenessError}
+use Rattle.aig_answers.specs.declared.liveness.error.LivenessError.TheVariants as liveness
 use Rattle.aig_reader.specs.Reading.{IsReadAs}
 use Rattle.aig_reader.specs.Verdicts.{Accepted, Judges, Short, Verdict}
 use Rattle.aig_runs.specs.declared.window.Window.{Window}
-use Rattle.aig_safety.specs.Safety.{Shows, ShowsCircuit}
-use Rattle.aig_safety.specs.declared.error.SafetyError.{SafetyError}
-use Rattle.aig_safety.specs.declared.error.SafetyError.TheVariants as safety
+use Rattle.aig_answers.specs.Safety.{Shows, ShowsCircuit}
+use Rattle.aig_answers.specs.declared.safety.error.SafetyError.{SafetyError}
+use Rattle.aig_answers.specs.declared.safety.error.SafetyError.TheVariants as safety
 use Rattle.aig_calls.specs.Calls.{RunsOn}
 use Rattle.aig_calls.specs.Memory.{Into, Memory, On, bytes_of, has_failed}
 

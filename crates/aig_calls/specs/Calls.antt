@@ -29,16 +29,16 @@ use Rattle.aig_edits.specs.declared.edit.Edit.{Edit}
 use Rattle.aig_edits.specs.declared.edit_error.EditError.{EditError}
 use Rattle.aig_edits.specs.declared.error.PairError.{PairError}
 use Rattle.aig_edits.specs.declared.pairing.Pairing.{Pairing}
-use Rattle.aig_fair.specs.Files as claiming
-use Rattle.aig_fair.specs.Files.{ShowsClaim}
-use Rattle.aig_fair.specs.declared.file.ClaimError.{ClaimError}
-use Rattle.aig_fair.specs.declared.file.ShownProperty.{ShownProperty}
-use Rattle.aig_fair.specs.declared.file.ShownProperty.TheVariants as properties
+use Rattle.aig_witness.specs.Claims as claiming
+use Rattle.aig_witness.specs.Claims.{ShowsClaim}
+use Rattle.aig_witness.specs.declared.fair.file.ClaimError.{ClaimError}
+use Rattle.aig_witness.specs.declared.fair.file.ShownProperty.{ShownProperty}
+use Rattle.aig_witness.specs.declared.fair.file.ShownProperty.TheVariants as properties
 use Rattle.aig_format.specs.File.{File}
 use Rattle.aig_format.specs.Fits.{Accepts}
-use Rattle.aig_liveness.specs.Liveness as living
-use Rattle.aig_liveness.specs.Liveness.{HasNoLasso, HasNoLassoTo, HasNoRun, verdict_of}
-use Rattle.aig_liveness.specs.declared.error.LivenessError.{LivenessError}
+use Rattle.aig_answers.specs.Liveness as living
+use Rattle.aig_answers.specs.Liveness.{HasNoLasso, HasNoLassoTo, HasNoRun, verdict_of}
+use Rattle.aig_answers.specs.declared.liveness.error.LivenessError.{LivenessError}
 use Rattle.aig_reader.specs.Reading.{IsReadAs}
 use Rattle.aig_reader.specs.Verdicts.{Accepted, Judges, Verdict, verdict_by}
 use Rattle.aig_runs.specs.declared.window.Window.{Window}

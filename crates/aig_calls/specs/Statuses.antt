@@ -5,12 +5,12 @@ use Rattle.std.specs.Prelude.{ℕ, ◌+◌, nat_lt, if◌then◌else◌, Result,
 use Rattle.aig_answers.specs.declared.error.AnswerError.{AnswerError}
 use Rattle.aig_answers.specs.declared.error.AnswerError.TheVariants as answers
 use Rattle.aig_bounded.specs.declared.error.BoundedError.TheVariants as questions
-use Rattle.aig_bounded_answers.specs.declared.error.BoundedAnswerError.{BoundedAnswerError}
-use Rattle.aig_bounded_answers.specs.declared.error.BoundedAnswerError.TheVariants as bounded
-use Rattle.aig_certificates.specs.declared.compare_error.MiterError.{MiterError}
-use Rattle.aig_certificates.specs.declared.compare_error.MiterError.TheVariants as miter
-use Rattle.aig_certificates.specs.declared.error.CertificateError.{CertificateError}
-use Rattle.aig_certificates.specs.declared.error.CertificateError.TheVariants as certificate
+use Rattle.aig_answers.specs.declared.bounded_checks.error.BoundedAnswerError.{BoundedAnswerError}
+use Rattle.aig_answers.specs.declared.bounded_checks.error.BoundedAnswerError.TheVariants as bounded
+use Rattle.aig_answers.specs.declared.certificates.compare_error.MiterError.{MiterError}
+use Rattle.aig_answers.specs.declared.certificates.compare_error.MiterError.TheVariants as miter
+use Rattle.aig_answers.specs.declared.certificates.error.CertificateError.{CertificateError}
+use Rattle.aig_answers.specs.declared.certificates.error.CertificateError.TheVariants as certificate
 use Rattle.aig_checks.specs.declared.tool.CheckError.{CheckError}
 use Rattle.aig_checks.specs.declared.tool.CheckError.TheVariants as checks
 use Rattle.aig_commands.specs.declared.tool.ToolError.{ToolError}
@@ -21,26 +21,26 @@ use Rattle.aig_edits.specs.declared.error.PairError.{PairError}
 use Rattle.aig_edits.specs.declared.error.PairError.TheVariants as pair
 use Rattle.aig_encode.specs.declared.error.EncodeError.{EncodeError}
 use Rattle.aig_encode.specs.declared.error.EncodeError.TheVariants as encode
-use Rattle.aig_equality.specs.declared.error.EqualityError.{EqualityError}
-use Rattle.aig_equality.specs.declared.error.EqualityError.TheVariants as equality
-use Rattle.aig_fair.specs.declared.fault.LassoFault.{LassoFault}
-use Rattle.aig_fair.specs.declared.fault.LassoFault.TheVariants as lasso
-use Rattle.aig_fair.specs.declared.file.ClaimError.{ClaimError}
-use Rattle.aig_fair.specs.declared.file.ClaimError.TheVariants as claims
-use Rattle.aig_liveness.specs.declared.error.LivenessError.{LivenessError}
-use Rattle.aig_liveness.specs.declared.error.LivenessError.TheVariants as liveness
+use Rattle.aig_answers.specs.declared.equality.error.EqualityError.{EqualityError}
+use Rattle.aig_answers.specs.declared.equality.error.EqualityError.TheVariants as equality
+use Rattle.aig_witness.specs.declared.fair.fault.LassoFault.{LassoFault}
+use Rattle.aig_witness.specs.declared.fair.fault.LassoFault.TheVariants as lasso
+use Rattle.aig_witness.specs.declared.fair.file.ClaimError.{ClaimError}
+use Rattle.aig_witness.specs.declared.fair.file.ClaimError.TheVariants as claims
+use Rattle.aig_answers.specs.declared.liveness.error.LivenessError.{LivenessError}
+use Rattle.aig_answers.specs.declared.liveness.error.LivenessError.TheVariants as liveness
 use Rattle.aig_reader.specs.declared.error.ReadError.{ReadError}
 use Rattle.aig_reader.specs.declared.error.ReadError.TheVariants as read
 use Rattle.aig_reader.specs.declared.error.Section.{Section}
 use Rattle.aig_reader.specs.declared.error.Section.TheVariants as section
 use Rattle.aig_refutation.specs.declared.error.RefutationError.{RefutationError}
 use Rattle.aig_refutation.specs.declared.error.RefutationError.TheVariants as refutation
-use Rattle.aig_safety.specs.declared.error.SafetyError.{SafetyError}
-use Rattle.aig_safety.specs.declared.error.SafetyError.TheVariants as safety
-use Rattle.aig_safety.specs.declared.error.StepsError.{StepsError}
-use Rattle.aig_safety.specs.declared.error.StepsError.TheVariants as steps
-use Rattle.aig_solutions.specs.declared.error.SolutionError.{SolutionError}
-use Rattle.aig_solutions.specs.declared.error.SolutionError.TheVariants as solution
+use Rattle.aig_answers.specs.declared.safety.error.SafetyError.{SafetyError}
+use Rattle.aig_answers.specs.declared.safety.error.SafetyError.TheVariants as safety
+use Rattle.aig_answers.specs.declared.safety.error.StepsError.{StepsError}
+use Rattle.aig_answers.specs.declared.safety.error.StepsError.TheVariants as steps
+use Rattle.aig_witness.specs.declared.solutions.error.SolutionError.{SolutionError}
+use Rattle.aig_witness.specs.declared.solutions.error.SolutionError.TheVariants as solution
 use Rattle.aig_witness.specs.declared.error.WitnessError.{WitnessError}
 use Rattle.aig_witness.specs.declared.error.WitnessError.TheVariants as witness
 use Rattle.aig_witness.specs.declared.fault.WitnessFault.{WitnessFault}

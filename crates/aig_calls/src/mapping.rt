@@ -3,7 +3,7 @@
 ghost use Rattle.std.specs.Prelude.{◌≡◌, ℕ, ◌+◌, ◌-◌, ◌<◌, ◌≤◌, ◌++◌, ◌^◌, All, OnOk, length, map};
 ghost use Rattle.std.specs.List.{flat_map, range_with_len};
 ghost use Rattle.aig_circuit.specs.Circuit.{latch_leaves};
-ghost use Rattle.aig_solutions.specs.Turns.{HasStep};
+ghost use Rattle.aig_witness.specs.Turns.{HasStep};
 ghost use Rattle.aig_unroll.specs.Places.{place_at};
 ghost use Rattle.aig_unroll.specs.Unroll.{UnrollsTo};
 ghost use Rattle.aig_calls.specs.Numbers.{edge_number, input_numbers, map_numbers, variable_number};
@@ -12,7 +12,7 @@ use crate::numbers::number_of;
 use aig::{Aig, AigEdge, AigLatch};
 use aig_base::{MemoryError, Var};
 use aig_encode::Query;
-use aig_solutions::Places;
+use aig_witness::Places;
 use std::alloc::Global;
 
 /// Appends the numbers of the inputs at step `t`.

@@ -4,23 +4,19 @@ ghost use Rattle.std.specs.Prelude.{◌≡◌, ◌<◌, ◌≤◌, ℕ};
 ghost use Rattle.aig_calls.specs.Statuses.{answer_status, base_status, bounded_status, certificate_status, check_status, claim_status, edit_status, encode_status, equality_status, fault_status, flagged, lasso_status, live_status, made_status, memory, miter_status, pair_status, read_status, refutation_status, safety_status, section_number, show_status, solution_status, status_by, step_status, steps_status, tool_status, witness_status};
 
 use aig::ReadError;
-use aig_answers::AnswerError;
+use aig_answers::{
+    AnswerError, BoundedAnswerError, CertificateError, EqualityError, LivenessError, MiterError,
+    SafetyError, StepsError,
+};
 use aig_base::MemoryError;
 use aig_bounded::BoundedError;
-use aig_bounded_answers::BoundedAnswerError;
-use aig_certificates::{CertificateError, MiterError};
 use aig_checks::CheckError;
 use aig_commands::ToolError;
 use aig_edits::{EditError, PairError};
 use aig_encode::EncodeError;
-use aig_equality::EqualityError;
-use aig_fair::{ClaimError, LassoFault};
-use aig_liveness::LivenessError;
 use aig_reader::Section;
 use aig_refutation::RefutationError;
-use aig_safety::{SafetyError, StepsError};
-use aig_solutions::SolutionError;
-use aig_witness::{ShowError, WitnessError, WitnessFault};
+use aig_witness::{ClaimError, LassoFault, ShowError, SolutionError, WitnessError, WitnessFault};
 
 /// The call has done what it is for.
 pub(crate) const DONE: u32 = 0;

@@ -1,8 +1,8 @@
 //! Calls that check witnesses.
 
 ghost use Rattle.std.specs.Prelude.{◌≡◌, ◌≤◌, Some, Result};
-ghost use Rattle.aig_fair.specs.declared.file.ClaimError.{ClaimError};
-ghost use Rattle.aig_fair.specs.declared.file.ShownProperty.{ShownProperty};
+ghost use Rattle.aig_witness.specs.declared.fair.file.ClaimError.{ClaimError};
+ghost use Rattle.aig_witness.specs.declared.fair.file.ShownProperty.{ShownProperty};
 ghost use Rattle.aig_witness.specs.declared.file.ShowError.{ShowError};
 ghost use Rattle.aig_witness.specs.declared.file.Shown.{Shown};
 ghost use Rattle.aig_calls.specs.Calls.{ShowsBad, ShowsEither, TellsBad, TellsLasso};
@@ -11,8 +11,7 @@ ghost use Rattle.aig_calls.specs.Memory.{On};
 use crate::status::{DONE, HasNumber, WITNESS_BAD};
 use aig_base::FromRead;
 use aig_commands::LIMIT;
-use aig_fair::{ClaimError, ShownProperty, check_claim};
-use aig_witness::{ShowError, Shown, check_witness};
+use aig_witness::{ClaimError, ShowError, Shown, ShownProperty, check_claim, check_witness};
 use std::alloc::Global;
 
 /// What a witness shows of a file's machine: a bad state.

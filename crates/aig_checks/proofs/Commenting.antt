@@ -16,12 +16,12 @@ use Rattle.aig_dimacs.proofs.Reading.{parse_formula-dimacs_of}
 use Rattle.aig_format.proofs.Words.{File, circuit_of}
 use Rattle.aig_runs.proofs.Asking.{asks, encodes}
 use Rattle.aig_runs.specs.Unrolled.{IsUnrolledOf, UnrolledCircuit}
-use Rattle.aig_bounded_answers.specs.declared.clauses.BoundedClauses.{BoundedClauses}
-use Rattle.aig_titles.proofs.Passing.{title_passed}
-use Rattle.aig_titles.specs.Sums.{IsSum}
-use Rattle.aig_titles.specs.Titles.{title_text}
-use Rattle.aig_titles.specs.declared.title.Question.TheVariants.{Clauses}
-use Rattle.aig_titles.specs.declared.title.Title.{Title}
+use Rattle.aig_answers.specs.declared.bounded_checks.clauses.BoundedClauses.{BoundedClauses}
+use Rattle.aig_checks.proofs.Passing.{title_passed}
+use Rattle.aig_checks.specs.Sums.{IsSum}
+use Rattle.aig_checks.specs.Titles.{title_text}
+use Rattle.aig_checks.specs.declared.titles.title.Question.TheVariants.{Clauses}
+use Rattle.aig_checks.specs.declared.titles.title.Title.{Title}
 use Rattle.aig_checks.specs.Bounded.{bounded_comments, letter_of, place_line}
 use Rattle.aig_checks.specs.Comments.{bad_line, comments_of, input_line, input_lines, latch_comment, literal_line}
 use Rattle.aig_checks.specs.Printing.{IsQueryText}

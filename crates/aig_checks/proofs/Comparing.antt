@@ -2,11 +2,11 @@
 use Rattle.aig_base.proofs.Words.{◌≡◌, ℕ, Bool, false, Option, Ok, Err, List, refl, Appends}
 use Rattle.std.specs.Prelude.{IsErrOf, IsTrue}
 use Rattle.aig_answers.specs.declared.error.AnswerError.TheVariants as answers
-use Rattle.aig_certificates.specs.Comparing as comparing
-use Rattle.aig_certificates.specs.Comparing.{EqualsBy}
-use Rattle.aig_certificates.specs.declared.compare_error.MiterError.{MiterError}
-use Rattle.aig_certificates.specs.declared.compare_error.MiterError.TheVariants as miter
-use Rattle.aig_certificates.specs.declared.error.CertificateError.TheVariants as certificate
+use Rattle.aig_answers.specs.Comparing as comparing
+use Rattle.aig_answers.specs.Comparing.{EqualsBy}
+use Rattle.aig_answers.specs.declared.certificates.compare_error.MiterError.{MiterError}
+use Rattle.aig_answers.specs.declared.certificates.compare_error.MiterError.TheVariants as miter
+use Rattle.aig_answers.specs.declared.certificates.error.CertificateError.TheVariants as certificate
 use Rattle.aig_edits.proofs.Reading.{reads_on}
 use Rattle.aig_edits.specs.Pairs.{ReadsPair}
 use Rattle.aig_output.specs.Sinks.{Stops}

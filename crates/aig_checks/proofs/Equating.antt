@@ -1,18 +1,18 @@
 -- What is told of proofs that are read is told of their texts.
 use Rattle.aig_base.proofs.Words.{◌≡◌, ◌≢◌, ℕ, Bool, Option, List, Result, Ok, Err, refl, ap}
 use Rattle.std.specs.Prelude.{IsErrOf}
-use Rattle.aig_bounded_answers.specs.Asking.{AnswersCircuit}
-use Rattle.aig_bounded_answers.specs.declared.error.BoundedAnswerError.{BoundedAnswerError}
-use Rattle.aig_certificates.specs.declared.error.CertificateError.{CertificateError}
+use Rattle.aig_answers.specs.Asking.{AnswersCircuit}
+use Rattle.aig_answers.specs.declared.bounded_checks.error.BoundedAnswerError.{BoundedAnswerError}
+use Rattle.aig_answers.specs.declared.certificates.error.CertificateError.{CertificateError}
 use Rattle.aig_circuit.specs.Circuit.{Circuit}
-use Rattle.aig_equality.specs.Equality.{AlwaysEquals, TellsOfMiter}
-use Rattle.aig_equality.specs.declared.error.EqualityError.{EqualityError}
-use Rattle.aig_equality.specs.declared.error.EqualityError.TheVariants as always
+use Rattle.aig_answers.specs.Equality.{AlwaysEquals, TellsOfMiter}
+use Rattle.aig_answers.specs.declared.equality.error.EqualityError.{EqualityError}
+use Rattle.aig_answers.specs.declared.equality.error.EqualityError.TheVariants as always
 use Rattle.aig_format.specs.File.{File}
 use Rattle.aig_runs.specs.declared.window.Window.{Window}
-use Rattle.aig_safety.specs.Safety.{ShowsCircuit}
-use Rattle.aig_safety.specs.declared.error.SafetyError.{SafetyError}
-use Rattle.aig_safety.specs.declared.error.SafetyError.TheVariants as proving
+use Rattle.aig_answers.specs.Safety.{ShowsCircuit}
+use Rattle.aig_answers.specs.declared.safety.error.SafetyError.{SafetyError}
+use Rattle.aig_answers.specs.declared.safety.error.SafetyError.TheVariants as proving
 use Rattle.aig_checks.specs.Pairs.{AlwaysEqualsBy, always_line, own_text}
 use Rattle.aig_checks.specs.declared.tool.CheckError.TheVariants as errors
 

@@ -11,10 +11,10 @@ use Rattle.aig_reader.specs.Verdicts.{Accepted, Judges}
 use Rattle.aig_refutation.specs.declared.error.RefutationError.{RefutationError}
 use Rattle.aig_answers.specs.declared.error.AnswerError.{AnswerError}
 use Rattle.aig_answers.specs.declared.error.AnswerError.TheVariants as answers
-use Rattle.aig_titles.specs.Titles.{title_text}
+use Rattle.aig_checks.specs.Titles.{title_text}
 use Rattle.aig_witness.specs.declared.error.WitnessError.TheVariants as witness
 use Rattle.aig_witness.specs.declared.file.ShowError.TheVariants as shows
-use Rattle.aig_fair.specs.declared.file.ShownProperty.TheVariants as properties
+use Rattle.aig_witness.specs.declared.fair.file.ShownProperty.TheVariants as properties
 use Rattle.aig_checks.specs.declared.command.Asked.{Asked}
 use Rattle.aig_checks.specs.declared.command.Command.{Command}
 use Rattle.aig_checks.specs.declared.command.FileCommand.{FileCommand}
@@ -29,7 +29,7 @@ use Rattle.aig_checks.specs.declared.command.Action.TheVariants as actions
 use Rattle.aig_checks.specs.declared.command.Command.TheVariants as asked
 use Rattle.aig_checks.specs.declared.command.PairCommand.TheVariants as on_pair
 use Rattle.aig_checks.specs.Pairs.{IsObligationsText, PairAnswers, RefusesPair, safe_line}
-use Rattle.aig_certificates.specs.declared.error.CertificateError.TheVariants as certificate
+use Rattle.aig_answers.specs.declared.certificates.error.CertificateError.TheVariants as certificate
 use Rattle.aig_checks.specs.declared.command.FileCommand.TheVariants as commands
 use Rattle.aig_checks.specs.Comments.{comments_of, input_lines, literal_line}
 use Rattle.aig_checks.specs.Words.{AreCommand, Give, IsWhole, command_of, form_of, name_of, raw_alone}

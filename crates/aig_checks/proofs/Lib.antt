@@ -14,3 +14,5 @@ mod Refusing
 mod Shown
 mod Viewed
 mod Examples
+pub mod Passing
+pub mod Summing

@@ -16,7 +16,7 @@ use Rattle.aig_format.specs.Circuit.{IsReadAgain, text_of}
 use Rattle.aig_format.specs.declared.FileKind.TheVariants.{Text}
 use Rattle.aig_format.specs.Fits.{Accepts}
 use Rattle.aig_format.proofs.Words.{File, file_of}
-use Rattle.aig_live_laws.specs.Fair.{HasFairLasso, HasFairRun}
+use Rattle.aig_edit_laws.specs.Fair.{HasFairLasso, HasFairRun}
 use Rattle.aig_reader.specs.Reading.{IsReadAs}
 use Rattle.aig_reader.specs.Verdicts.{Accepted, verdict_by}
 use Rattle.aig_reader.proofs.Verdicts.{one_file}

@@ -15,14 +15,14 @@ use Rattle.aig_answers.specs.declared.error.AnswerError.TheVariants as answers
 use Rattle.aig_answers.specs.Answers as asking
 use Rattle.aig_runs.specs.declared.window.Window.{Window}
 use Rattle.aig_answers.specs.Answers.{IsAsked, IsOfQuery, IsOfWindow, TellsOfStep, TellsOfWindow}
-use Rattle.aig_solutions.specs.declared.error.SolutionError.{SolutionError}
-use Rattle.aig_solutions.specs.Checked.{RefusesSolution}
+use Rattle.aig_witness.specs.declared.solutions.error.SolutionError.{SolutionError}
+use Rattle.aig_witness.specs.Checked.{RefusesSolution}
 use Rattle.aig_bounded.specs.Question.{question_size}
-use Rattle.aig_bounded_answers.specs.declared.error.BoundedAnswerError.{BoundedAnswerError}
-use Rattle.aig_bounded_answers.specs.declared.error.BoundedAnswerError.TheVariants as bounded
-use Rattle.aig_bounded_answers.specs.Asking as bounding
-use Rattle.aig_bounded_answers.specs.Asking.{AnswersProof, IsAskedWithin, IsOfCheck, IsOfQuestion, IsOfWitness}
-use Rattle.aig_titles.specs.Sums.{IsSum}
+use Rattle.aig_answers.specs.declared.bounded_checks.error.BoundedAnswerError.{BoundedAnswerError}
+use Rattle.aig_answers.specs.declared.bounded_checks.error.BoundedAnswerError.TheVariants as bounded
+use Rattle.aig_answers.specs.Asking as bounding
+use Rattle.aig_answers.specs.Asking.{AnswersProof, IsAskedWithin, IsOfCheck, IsOfQuestion, IsOfWitness}
+use Rattle.aig_checks.specs.Sums.{IsSum}
 use Rattle.aig_checks.specs.Bounded.{TellsProof}
 use Rattle.aig_checks.specs.declared.command.FileCommand.{FileCommand}
 use Rattle.aig_checks.specs.declared.command.FileCommand.TheVariants as commands

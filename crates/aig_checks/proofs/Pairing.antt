@@ -4,12 +4,12 @@ use Rattle.std.specs.Prelude.{IsTrue, Result, codes}
 use Rattle.aig_answers.specs.declared.error.AnswerError.{AnswerError}
 use Rattle.aig_answers.specs.declared.windows.WindowClauses.{WindowClauses}
 use Rattle.aig_answers.specs.declared.error.AnswerError.TheVariants as answers
-use Rattle.aig_bounded_answers.specs.declared.error.BoundedAnswerError.TheVariants as bounded
-use Rattle.aig_certificates.specs.Certificates as certificates
-use Rattle.aig_certificates.specs.Certificates.{AreObligationsOf, Equals}
-use Rattle.aig_certificates.specs.declared.asking.Obligations.{Obligations}
-use Rattle.aig_certificates.specs.declared.error.CertificateError.{CertificateError}
-use Rattle.aig_certificates.specs.declared.error.CertificateError.TheVariants as certificate
+use Rattle.aig_answers.specs.declared.bounded_checks.error.BoundedAnswerError.TheVariants as bounded
+use Rattle.aig_answers.specs.Certificates as certificates
+use Rattle.aig_answers.specs.Certificates.{AreObligationsOf, Equals}
+use Rattle.aig_answers.specs.declared.certificates.asking.Obligations.{Obligations}
+use Rattle.aig_answers.specs.declared.certificates.error.CertificateError.{CertificateError}
+use Rattle.aig_answers.specs.declared.certificates.error.CertificateError.TheVariants as certificate
 use Rattle.aig_base.specs.Formula.{clauses_in}
 use Rattle.aig_base.specs.declared.logic.literal.Lit.{Lit}
 use Rattle.aig_circuit.specs.Circuit.{Circuit}
@@ -23,18 +23,18 @@ use Rattle.aig_edits.proofs.Reading.{reads_on}
 use Rattle.aig_edits.specs.Joints.{IsJointOf}
 use Rattle.aig_edits.specs.Pairs.{ReadsPair}
 use Rattle.aig_edits.specs.declared.pairing.Pairing.TheVariants.{Certificate}
-use Rattle.aig_equality.specs.declared.error.EqualityError.{EqualityError}
-use Rattle.aig_equality.specs.declared.error.EqualityError.TheVariants as always
+use Rattle.aig_answers.specs.declared.equality.error.EqualityError.{EqualityError}
+use Rattle.aig_answers.specs.declared.equality.error.EqualityError.TheVariants as always
 use Rattle.aig_format.specs.File.{File}
 use Rattle.aig_output.proofs.Putting.{Stops-put}
 use Rattle.aig_output.specs.Sinks.{Stops, WritesOrStops}
 use Rattle.aig_reader.specs.Verdicts.{Verdict}
 use Rattle.aig_refutation.specs.declared.error.RefutationError.{RefutationError}
 use Rattle.aig_refutation.specs.declared.error.RefutationError.TheVariants as refutation
-use Rattle.aig_safety.specs.declared.error.SafetyError.TheVariants as proving
-use Rattle.aig_titles.specs.Sums.{IsSum}
-use Rattle.aig_titles.specs.Titles.{title_text}
-use Rattle.aig_titles.specs.declared.title.Title.{Title}
+use Rattle.aig_answers.specs.declared.safety.error.SafetyError.TheVariants as proving
+use Rattle.aig_checks.specs.Sums.{IsSum}
+use Rattle.aig_checks.specs.Titles.{title_text}
+use Rattle.aig_checks.specs.declared.titles.title.Title.{Title}
 use Rattle.aig_checks.specs.declared.command.PairCommand.{PairCommand}
 use Rattle.aig_checks.specs.declared.tool.CheckError.{CheckError}
 use Rattle.aig_checks.specs.declared.tool.CheckError.TheVariants as errors

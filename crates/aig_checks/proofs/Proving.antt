@@ -3,16 +3,16 @@ use Rattle.aig_base.proofs.Words.{◌≡◌, ℕ, ◌+◌, Bool, false, Option, 
 use Rattle.std.specs.Prelude.{IsTrue}
 use Rattle.aig_answers.specs.Answers.{IsAsked, window_verdict}
 use Rattle.aig_answers.specs.declared.error.AnswerError.TheVariants as answers
-use Rattle.aig_bounded_answers.specs.declared.error.BoundedAnswerError.TheVariants as bounded
+use Rattle.aig_answers.specs.declared.bounded_checks.error.BoundedAnswerError.TheVariants as bounded
 use Rattle.aig_output.specs.Sinks.{Stops}
 use Rattle.aig_reader.specs.Reading.{IsReadAs}
 use Rattle.aig_reader.specs.Verdicts.{Accepted, Judges}
 use Rattle.aig_refutation.specs.declared.error.RefutationError.TheVariants as refutation
 use Rattle.aig_runs.specs.declared.window.Window.{Window}
-use Rattle.aig_safety.specs.Safety as safety
-use Rattle.aig_safety.specs.Safety.{Shows, TellsOfSize}
-use Rattle.aig_safety.specs.declared.error.SafetyError.{SafetyError}
-use Rattle.aig_safety.specs.declared.error.SafetyError.TheVariants as proving
+use Rattle.aig_answers.specs.Safety as safety
+use Rattle.aig_answers.specs.Safety.{Shows, TellsOfSize}
+use Rattle.aig_answers.specs.declared.safety.error.SafetyError.{SafetyError}
+use Rattle.aig_answers.specs.declared.safety.error.SafetyError.TheVariants as proving
 use Rattle.aig_checks.specs.declared.tool.CheckError.{CheckError}
 use Rattle.aig_checks.specs.declared.tool.CheckError.TheVariants as errors
 use Rattle.aig_checks.specs.Pairs.{safe_line}

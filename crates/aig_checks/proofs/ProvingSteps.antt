@@ -9,10 +9,10 @@ use Rattle.aig_reader.specs.Reading.{IsReadAs}
 use Rattle.aig_reader.specs.Verdicts.{Accepted, Judges}
 use Rattle.aig_refutation.specs.declared.error.RefutationError.TheVariants as refutation
 use Rattle.aig_runs.specs.declared.window.Window.{Window}
-use Rattle.aig_safety.specs.Steps as safety
-use Rattle.aig_safety.specs.Steps.{HasAt, Show}
-use Rattle.aig_safety.specs.declared.error.StepsError.{StepsError}
-use Rattle.aig_safety.specs.declared.error.StepsError.TheVariants as proving
+use Rattle.aig_answers.specs.Steps as safety
+use Rattle.aig_answers.specs.Steps.{HasAt, Show}
+use Rattle.aig_answers.specs.declared.safety.error.StepsError.{StepsError}
+use Rattle.aig_answers.specs.declared.safety.error.StepsError.TheVariants as proving
 use Rattle.aig_checks.specs.declared.tool.CheckError.{CheckError}
 use Rattle.aig_checks.specs.declared.tool.CheckError.TheVariants as errors
 use Rattle.aig_checks.specs.Pairs.{safe_line}

@@ -2,11 +2,11 @@
 use Rattle.aig_base.proofs.Words.{◌≡◌, ℕ, Bool, Option, Err, List, refl, ap}
 use Rattle.std.specs.Prelude.{IsErrOf}
 use Rattle.aig_format.proofs.Words.{Accepts}
-use Rattle.aig_fair.specs.declared.file.ClaimError.{ClaimError}
-use Rattle.aig_fair.specs.declared.file.ClaimError.TheVariants as claims
-use Rattle.aig_fair.specs.declared.file.ShownProperty.{ShownProperty}
-use Rattle.aig_fair.specs.Files as showing
-use Rattle.aig_fair.specs.Files.{RefusesClaim, ShowsClaim}
+use Rattle.aig_witness.specs.declared.fair.file.ClaimError.{ClaimError}
+use Rattle.aig_witness.specs.declared.fair.file.ClaimError.TheVariants as claims
+use Rattle.aig_witness.specs.declared.fair.file.ShownProperty.{ShownProperty}
+use Rattle.aig_witness.specs.Claims as showing
+use Rattle.aig_witness.specs.Claims.{RefusesClaim, ShowsClaim}
 use Rattle.aig_reader.specs.declared.error.ReadError.{ReadError}
 use Rattle.aig_reader.specs.declared.error.ReadError.TheVariants as read
 use Rattle.aig_reader.specs.Reading.{IsReadAs}

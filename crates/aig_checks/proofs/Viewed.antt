@@ -3,22 +3,22 @@ use Rattle.aig_base.proofs.Words.{◌≡◌, ℕ, ◌+◌, Bool, true, false, Li
 use Rattle.std.specs.Prelude.{IfErr, IsTrue, Result, option_map, slice_get}
 use Rattle.std.proofs.lemmas.Option.{slice_get-map}
 use Rattle.aig_answers.specs.Answers.{TellsOfStep, TellsOfWindow}
-use Rattle.aig_bounded_answers.specs.Asking.{AnswersCircuit}
-use Rattle.aig_bounded_answers.specs.declared.error.BoundedAnswerError.{BoundedAnswerError}
-use Rattle.aig_certificates.specs.Comparing.{CertifiesMiter, EqualsBy}
-use Rattle.aig_certificates.specs.declared.compare_error.MiterError.{MiterError}
-use Rattle.aig_certificates.specs.declared.compare_error.MiterError.TheVariants as miter
-use Rattle.aig_certificates.specs.declared.error.CertificateError.{CertificateError}
+use Rattle.aig_answers.specs.Asking.{AnswersCircuit}
+use Rattle.aig_answers.specs.declared.bounded_checks.error.BoundedAnswerError.{BoundedAnswerError}
+use Rattle.aig_answers.specs.Comparing.{CertifiesMiter, EqualsBy}
+use Rattle.aig_answers.specs.declared.certificates.compare_error.MiterError.{MiterError}
+use Rattle.aig_answers.specs.declared.certificates.compare_error.MiterError.TheVariants as miter
+use Rattle.aig_answers.specs.declared.certificates.error.CertificateError.{CertificateError}
 use Rattle.aig_circuit.specs.Circuit.{Circuit}
 use Rattle.aig_format.specs.File.{File}
 use Rattle.aig_reader.specs.Reading.{IsReadAs}
 use Rattle.aig_runs.specs.declared.window.Window.{Window}
-use Rattle.aig_safety.specs.Safety.{Shows, ShowsCircuit}
-use Rattle.aig_safety.specs.declared.error.SafetyError.{SafetyError}
-use Rattle.aig_safety.specs.Steps.{AreTaken, HasAt, Show, ShowEach, Told}
-use Rattle.aig_safety.specs.declared.error.SafetyError.TheVariants as proving
-use Rattle.aig_safety.specs.declared.error.StepsError.{StepsError}
-use Rattle.aig_safety.specs.declared.error.StepsError.TheVariants as stepping
+use Rattle.aig_answers.specs.Safety.{Shows, ShowsCircuit}
+use Rattle.aig_answers.specs.declared.safety.error.SafetyError.{SafetyError}
+use Rattle.aig_answers.specs.Steps.{AreTaken, HasAt, Show, ShowEach, Told}
+use Rattle.aig_answers.specs.declared.safety.error.SafetyError.TheVariants as proving
+use Rattle.aig_answers.specs.declared.safety.error.StepsError.{StepsError}
+use Rattle.aig_answers.specs.declared.safety.error.StepsError.TheVariants as stepping
 use Rattle.aig_checks.specs.declared.command.Command.{Command}
 use Rattle.aig_checks.specs.declared.command.Command.TheVariants as commands
 use Rattle.aig_checks.specs.declared.command.FileCommand.{FileCommand}

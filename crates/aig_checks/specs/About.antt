@@ -3,12 +3,12 @@
 use Rattle.aig_answers.specs.declared.error.AnswerError.{AnswerError}
 use Rattle.aig_answers.specs.declared.error.AnswerError.TheVariants as answers
 use Rattle.aig_bounded.specs.declared.error.BoundedError.TheVariants as questions
-use Rattle.aig_bounded_answers.specs.declared.error.BoundedAnswerError.{BoundedAnswerError}
-use Rattle.aig_bounded_answers.specs.declared.error.BoundedAnswerError.TheVariants as bounded
-use Rattle.aig_certificates.specs.declared.compare_error.MiterError.{MiterError}
-use Rattle.aig_certificates.specs.declared.compare_error.MiterError.TheVariants as miter
-use Rattle.aig_certificates.specs.declared.error.CertificateError.{CertificateError}
-use Rattle.aig_certificates.specs.declared.error.CertificateError.TheVariants as certificate
+use Rattle.aig_answers.specs.declared.bounded_checks.error.BoundedAnswerError.{BoundedAnswerError}
+use Rattle.aig_answers.specs.declared.bounded_checks.error.BoundedAnswerError.TheVariants as bounded
+use Rattle.aig_answers.specs.declared.certificates.compare_error.MiterError.{MiterError}
+use Rattle.aig_answers.specs.declared.certificates.compare_error.MiterError.TheVariants as miter
+use Rattle.aig_answers.specs.declared.certificates.error.CertificateError.{CertificateError}
+use Rattle.aig_answers.specs.declared.certificates.error.CertificateError.TheVariants as certificate
 use Rattle.aig_command_line.specs.declared.tally.Measure.{Measure}
 use Rattle.aig_command_line.specs.declared.tally.Measure.TheVariants as measures
 use Rattle.aig_edits.specs.declared.edit_error.EditError.{EditError}
@@ -17,20 +17,20 @@ use Rattle.aig_edits.specs.declared.error.PairError.{PairError}
 use Rattle.aig_edits.specs.declared.error.PairError.TheVariants as pair
 use Rattle.aig_encode.specs.declared.error.EncodeError.{EncodeError}
 use Rattle.aig_encode.specs.declared.error.EncodeError.TheVariants as encode
-use Rattle.aig_equality.specs.declared.error.EqualityError.{EqualityError}
-use Rattle.aig_equality.specs.declared.error.EqualityError.TheVariants as equality
-use Rattle.aig_fair.specs.declared.fault.LassoFault.{LassoFault}
-use Rattle.aig_fair.specs.declared.fault.LassoFault.TheVariants as lassos
+use Rattle.aig_answers.specs.declared.equality.error.EqualityError.{EqualityError}
+use Rattle.aig_answers.specs.declared.equality.error.EqualityError.TheVariants as equality
+use Rattle.aig_witness.specs.declared.fair.fault.LassoFault.{LassoFault}
+use Rattle.aig_witness.specs.declared.fair.fault.LassoFault.TheVariants as lassos
 use Rattle.aig_reader.specs.declared.error.ReadError.{ReadError}
 use Rattle.aig_reader.specs.declared.error.ReadError.TheVariants as read
 use Rattle.aig_refutation.specs.declared.error.RefutationError.{RefutationError}
 use Rattle.aig_refutation.specs.declared.error.RefutationError.TheVariants as refutation
-use Rattle.aig_safety.specs.declared.error.SafetyError.{SafetyError}
-use Rattle.aig_safety.specs.declared.error.SafetyError.TheVariants as safety
-use Rattle.aig_safety.specs.declared.error.StepsError.{StepsError}
-use Rattle.aig_safety.specs.declared.error.StepsError.TheVariants as steps
-use Rattle.aig_solutions.specs.declared.error.SolutionError.{SolutionError}
-use Rattle.aig_solutions.specs.declared.error.SolutionError.TheVariants as solution
+use Rattle.aig_answers.specs.declared.safety.error.SafetyError.{SafetyError}
+use Rattle.aig_answers.specs.declared.safety.error.SafetyError.TheVariants as safety
+use Rattle.aig_answers.specs.declared.safety.error.StepsError.{StepsError}
+use Rattle.aig_answers.specs.declared.safety.error.StepsError.TheVariants as steps
+use Rattle.aig_witness.specs.declared.solutions.error.SolutionError.{SolutionError}
+use Rattle.aig_witness.specs.declared.solutions.error.SolutionError.TheVariants as solution
 use Rattle.aig_witness.specs.declared.error.WitnessError.{WitnessError}
 use Rattle.aig_witness.specs.declared.error.WitnessError.TheVariants as witness
 use Rattle.aig_witness.specs.declared.fault.WitnessFault.{WitnessFault}

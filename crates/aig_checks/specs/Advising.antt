@@ -3,20 +3,20 @@
 use Rattle.std.specs.Prelude.{◌≡◌, ℕ, Bool, true, false, List, Option, Some, codes}
 use Rattle.aig_answers.specs.declared.error.AnswerError.{AnswerError}
 use Rattle.aig_answers.specs.declared.error.AnswerError.TheVariants as answers
-use Rattle.aig_bounded_answers.specs.declared.error.BoundedAnswerError.{BoundedAnswerError}
-use Rattle.aig_bounded_answers.specs.declared.error.BoundedAnswerError.TheVariants as bounded
-use Rattle.aig_certificates.specs.declared.compare_error.MiterError.TheVariants as miter
-use Rattle.aig_certificates.specs.declared.error.CertificateError.{CertificateError}
-use Rattle.aig_certificates.specs.declared.error.CertificateError.TheVariants as certificate
+use Rattle.aig_answers.specs.declared.bounded_checks.error.BoundedAnswerError.{BoundedAnswerError}
+use Rattle.aig_answers.specs.declared.bounded_checks.error.BoundedAnswerError.TheVariants as bounded
+use Rattle.aig_answers.specs.declared.certificates.compare_error.MiterError.TheVariants as miter
+use Rattle.aig_answers.specs.declared.certificates.error.CertificateError.{CertificateError}
+use Rattle.aig_answers.specs.declared.certificates.error.CertificateError.TheVariants as certificate
 use Rattle.aig_command_line.specs.declared.status.Ending.{Ending}
 use Rattle.aig_command_line.specs.declared.status.Ending.TheVariants as endings
-use Rattle.aig_equality.specs.declared.error.EqualityError.TheVariants as equality
+use Rattle.aig_answers.specs.declared.equality.error.EqualityError.TheVariants as equality
 use Rattle.aig_refutation.specs.declared.error.RefutationError.{RefutationError}
 use Rattle.aig_refutation.specs.declared.error.RefutationError.TheVariants as refutation
-use Rattle.aig_safety.specs.declared.error.SafetyError.{SafetyError}
-use Rattle.aig_safety.specs.declared.error.SafetyError.TheVariants as safety
-use Rattle.aig_safety.specs.declared.error.StepsError.{StepsError}
-use Rattle.aig_safety.specs.declared.error.StepsError.TheVariants as steps
+use Rattle.aig_answers.specs.declared.safety.error.SafetyError.{SafetyError}
+use Rattle.aig_answers.specs.declared.safety.error.SafetyError.TheVariants as safety
+use Rattle.aig_answers.specs.declared.safety.error.StepsError.{StepsError}
+use Rattle.aig_answers.specs.declared.safety.error.StepsError.TheVariants as steps
 use Rattle.aig_checks.specs.declared.tool.CheckError.{CheckError}
 use Rattle.aig_checks.specs.declared.tool.CheckError.TheVariants as errors
 

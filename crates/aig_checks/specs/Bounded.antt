@@ -5,17 +5,17 @@ use Rattle.std.specs.Prelude.{◌≡◌, ℕ, ◌+◌, ◌≤◌, Bool, true, fa
 use Rattle.std.specs.List.{flat_map, zip}
 use Rattle.aig_base.specs.Clauses.{lit_to}
 use Rattle.aig_base.specs.Formula.{clauses_in}
-use Rattle.aig_bounded_answers.specs.declared.clauses.BoundedClauses.{BoundedClauses}
-use Rattle.aig_bounded_answers.specs.declared.error.BoundedAnswerError.{BoundedAnswerError}
-use Rattle.aig_bounded_answers.specs.declared.naming.Named.{Named}
-use Rattle.aig_bounded_answers.specs.Asking.{AsksBounded, IsSettled, ShowsProof}
+use Rattle.aig_answers.specs.declared.bounded_checks.clauses.BoundedClauses.{BoundedClauses}
+use Rattle.aig_answers.specs.declared.bounded_checks.error.BoundedAnswerError.{BoundedAnswerError}
+use Rattle.aig_answers.specs.declared.bounded_checks.naming.Named.{Named}
+use Rattle.aig_answers.specs.Asking.{AsksBounded, IsSettled, ShowsProof}
 use Rattle.aig_dimacs.specs.Reading.{parse_formula}
 use Rattle.aig_dimacs.specs.Text.{dimacs_of}
 use Rattle.aig_format.specs.File.{File}
 use Rattle.aig_runs.specs.Queries.{IsSafeTo}
-use Rattle.aig_titles.specs.Sums.{IsSum}
-use Rattle.aig_titles.specs.Titles.{title_text}
-use Rattle.aig_titles.specs.declared.title.Question.TheVariants as questions
+use Rattle.aig_checks.specs.Sums.{IsSum}
+use Rattle.aig_checks.specs.Titles.{title_text}
+use Rattle.aig_checks.specs.declared.titles.title.Question.TheVariants as questions
 use Rattle.aig_witness.specs.Machine.{ShowsBad}
 use Rattle.aig_witness.specs.Witness.{Witness, witness_text}
 use Rattle.aig_checks.specs.Comments.{literal_line}

@@ -4,10 +4,10 @@
 use Rattle.std.specs.Prelude.{◌≡◌, ◌≢◌, ℕ, Bool, false, IsTrue, List, Option, Result, Ok, Err, IfErr, IsErrOf}
 use Rattle.std.specs.Io.KnownBytes.{Appends}
 use Rattle.aig_answers.specs.declared.error.AnswerError.TheVariants as answers
-use Rattle.aig_certificates.specs.Comparing as comparing
-use Rattle.aig_certificates.specs.Comparing.{EqualsBy}
-use Rattle.aig_certificates.specs.declared.compare_error.MiterError.TheVariants as miter
-use Rattle.aig_certificates.specs.declared.error.CertificateError.TheVariants as certificate
+use Rattle.aig_answers.specs.Comparing as comparing
+use Rattle.aig_answers.specs.Comparing.{EqualsBy}
+use Rattle.aig_answers.specs.declared.certificates.compare_error.MiterError.TheVariants as miter
+use Rattle.aig_answers.specs.declared.certificates.error.CertificateError.TheVariants as certificate
 use Rattle.aig_edits.specs.Pairs.{ReadsPair}
 use Rattle.aig_format.specs.File.{File}
 use Rattle.aig_output.specs.Sinks.{Stops}

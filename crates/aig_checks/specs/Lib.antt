@@ -21,3 +21,6 @@ pub mod Explaining
 pub mod Tracing
 pub mod Noticing
 pub mod Advising
+pub mod Sums
+pub mod Titles
+pub mod Under

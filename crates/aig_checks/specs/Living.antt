@@ -12,7 +12,7 @@ use Rattle.aig_edits.specs.Lives.{IsLiveFile, IsLiveRefusal}
 use Rattle.aig_edits.specs.Rounds.{IsRoundsFile, IsRoundsRefusal}
 use Rattle.aig_format.specs.Circuit.{text_of}
 use Rattle.aig_format.specs.File.{File}
-use Rattle.aig_live_laws.specs.Fair.{HasFairLasso, HasFairRun}
+use Rattle.aig_edit_laws.specs.Fair.{HasFairLasso, HasFairRun}
 use Rattle.aig_output.specs.Sinks.{Stops}
 use Rattle.aig_reader.specs.Verdicts.{Accepted, Verdict}
 use Rattle.aig_checks.specs.declared.command.Command.{Command}

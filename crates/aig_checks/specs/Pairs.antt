@@ -6,28 +6,28 @@ use Rattle.std.specs.Io.KnownBytes.{Appends}
 use Rattle.aig_base.specs.declared.logic.literal.Lit.{Lit}
 use Rattle.aig_base.specs.Formula.{clauses_in}
 use Rattle.aig_answers.specs.declared.error.AnswerError.TheVariants as answers
-use Rattle.aig_bounded_answers.specs.declared.error.BoundedAnswerError.TheVariants as bounded
-use Rattle.aig_certificates.specs.Certificates as certificates
-use Rattle.aig_certificates.specs.Certificates.{AreObligations, Certifies, Equals, Obliges}
-use Rattle.aig_certificates.specs.Comparing as comparing
-use Rattle.aig_certificates.specs.declared.error.CertificateError.{CertificateError}
-use Rattle.aig_certificates.specs.declared.error.CertificateError.TheVariants as certificate
+use Rattle.aig_answers.specs.declared.bounded_checks.error.BoundedAnswerError.TheVariants as bounded
+use Rattle.aig_answers.specs.Certificates as certificates
+use Rattle.aig_answers.specs.Certificates.{AreObligations, Certifies, Equals, Obliges}
+use Rattle.aig_answers.specs.Comparing as comparing
+use Rattle.aig_answers.specs.declared.certificates.error.CertificateError.{CertificateError}
+use Rattle.aig_answers.specs.declared.certificates.error.CertificateError.TheVariants as certificate
 use Rattle.aig_answers.specs.declared.windows.WindowClauses.{WindowClauses}
 use Rattle.aig_dimacs.specs.Reading.{parse_formula}
 use Rattle.aig_dimacs.specs.Text.{dimacs_of}
 use Rattle.aig_edits.specs.Pairs.{ReadsPair}
-use Rattle.aig_equality.specs.Equality as equality
-use Rattle.aig_equality.specs.Equality.{AlwaysEquals}
-use Rattle.aig_equality.specs.declared.error.EqualityError.{EqualityError}
-use Rattle.aig_equality.specs.declared.error.EqualityError.TheVariants as always
+use Rattle.aig_answers.specs.Equality as equality
+use Rattle.aig_answers.specs.Equality.{AlwaysEquals}
+use Rattle.aig_answers.specs.declared.equality.error.EqualityError.{EqualityError}
+use Rattle.aig_answers.specs.declared.equality.error.EqualityError.TheVariants as always
 use Rattle.aig_format.specs.File.{File}
 use Rattle.aig_output.specs.Sinks.{Stops}
 use Rattle.aig_reader.specs.Verdicts.{Accepted, Refused, Verdict}
 use Rattle.aig_refutation.specs.declared.error.RefutationError.TheVariants as refutation
 use Rattle.aig_runs.specs.declared.window.Window.{Window}
-use Rattle.aig_safety.specs.declared.error.SafetyError.TheVariants as proving
-use Rattle.aig_titles.specs.Sums.{IsSum}
-use Rattle.aig_titles.specs.Titles.{title_text}
+use Rattle.aig_answers.specs.declared.safety.error.SafetyError.TheVariants as proving
+use Rattle.aig_checks.specs.Sums.{IsSum}
+use Rattle.aig_checks.specs.Titles.{title_text}
 use Rattle.aig_checks.specs.declared.command.PairCommand.{PairCommand}
 use Rattle.aig_checks.specs.declared.command.PairCommand.TheVariants as commands
 use Rattle.aig_checks.specs.declared.tool.CheckError.{CheckError}

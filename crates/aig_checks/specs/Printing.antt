@@ -5,7 +5,7 @@ use Rattle.std.specs.Io.KnownBytes.{Appends}
 use Rattle.aig_answers.specs.declared.windows.WindowClauses.{WindowClauses}
 use Rattle.aig_base.specs.Formula.{clauses_in}
 use Rattle.aig_base.specs.declared.logic.literal.Lit.{Lit}
-use Rattle.aig_certificates.specs.declared.asking.Obligations.{Obligations}
+use Rattle.aig_answers.specs.declared.certificates.asking.Obligations.{Obligations}
 use Rattle.aig_circuit.specs.Circuit.{Circuit}
 use Rattle.aig_circuit.specs.View.{lists_circuit}
 use Rattle.aig_cnf.specs.Cnf.{HasClauses}
@@ -14,9 +14,9 @@ use Rattle.aig_encode.specs.declared.encoding.Encoded.{Encoded}
 use Rattle.aig_output.specs.Sinks.{Stops, WritesOrStops}
 use Rattle.aig_runs.specs.Queries.{query_clauses}
 use Rattle.aig_runs.specs.Unrolled.{UnrolledCircuit}
-use Rattle.aig_solutions.specs.Checked.{RefusesSolution, SaysWitness}
-use Rattle.aig_titles.specs.Titles.{title_text}
-use Rattle.aig_titles.specs.declared.title.Title.{Title}
+use Rattle.aig_witness.specs.Checked.{RefusesSolution, SaysWitness}
+use Rattle.aig_checks.specs.Titles.{title_text}
+use Rattle.aig_checks.specs.declared.titles.title.Title.{Title}
 use Rattle.aig_witness.specs.Witness.{Witness, witness_text}
 use Rattle.aig_witness.specs.Shown.{IsKnownWitness}
 use Rattle.aig_checks.specs.Comments.{comments_of}

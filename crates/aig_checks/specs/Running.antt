@@ -29,28 +29,28 @@ use Rattle.aig_answers.specs.Answers.{IsAsked, IsOfInduction, IsOfQuery, IsOfSte
 use Rattle.aig_witness.specs.Witness.{Witness, witness_text}
 use Rattle.aig_witness.specs.declared.file.ShowError.TheVariants as shows
 use Rattle.aig_witness.specs.Machine.{ShowsBad}
-use Rattle.aig_fair.specs.declared.file.ClaimError.{ClaimError}
-use Rattle.aig_fair.specs.declared.file.ClaimError.TheVariants as claims
-use Rattle.aig_fair.specs.declared.file.ShownProperty.{ShownProperty}
-use Rattle.aig_fair.specs.declared.file.ShownProperty.TheVariants as properties
-use Rattle.aig_fair.specs.Files as showing
-use Rattle.aig_fair.specs.Files.{ShowsClaim}
+use Rattle.aig_witness.specs.declared.fair.file.ClaimError.{ClaimError}
+use Rattle.aig_witness.specs.declared.fair.file.ClaimError.TheVariants as claims
+use Rattle.aig_witness.specs.declared.fair.file.ShownProperty.{ShownProperty}
+use Rattle.aig_witness.specs.declared.fair.file.ShownProperty.TheVariants as properties
+use Rattle.aig_witness.specs.Claims as showing
+use Rattle.aig_witness.specs.Claims.{ShowsClaim}
 use Rattle.aig_bounded.specs.Question.{question_size}
-use Rattle.aig_bounded_answers.specs.declared.error.BoundedAnswerError.{BoundedAnswerError}
-use Rattle.aig_bounded_answers.specs.declared.error.BoundedAnswerError.TheVariants as bounded
-use Rattle.aig_bounded_answers.specs.Asking as bounding
-use Rattle.aig_bounded_answers.specs.Asking.{IsAskedWithin, IsOfCheck, IsOfQuestion, IsOfWitness, bounded_verdict}
-use Rattle.aig_certificates.specs.Certificates as certificates
-use Rattle.aig_certificates.specs.Comparing as comparing
+use Rattle.aig_answers.specs.declared.bounded_checks.error.BoundedAnswerError.{BoundedAnswerError}
+use Rattle.aig_answers.specs.declared.bounded_checks.error.BoundedAnswerError.TheVariants as bounded
+use Rattle.aig_answers.specs.Asking as bounding
+use Rattle.aig_answers.specs.Asking.{IsAskedWithin, IsOfCheck, IsOfQuestion, IsOfWitness, bounded_verdict}
+use Rattle.aig_answers.specs.Certificates as certificates
+use Rattle.aig_answers.specs.Comparing as comparing
 use Rattle.aig_edits.specs.Edits.{edit_verdict}
-use Rattle.aig_equality.specs.Equality as equality
-use Rattle.aig_safety.specs.Safety as safety
-use Rattle.aig_safety.specs.Steps as stepping
-use Rattle.aig_solutions.specs.declared.error.SolutionError.{SolutionError}
-use Rattle.aig_solutions.specs.Checked.{RefusesSolution, SaysWitness}
-use Rattle.aig_titles.specs.Sums.{IsSum}
-use Rattle.aig_titles.specs.Titles.{title_text}
-use Rattle.aig_titles.specs.declared.title.Question.TheVariants as questions
+use Rattle.aig_answers.specs.Equality as equality
+use Rattle.aig_answers.specs.Safety as safety
+use Rattle.aig_answers.specs.Steps as stepping
+use Rattle.aig_witness.specs.declared.solutions.error.SolutionError.{SolutionError}
+use Rattle.aig_witness.specs.Checked.{RefusesSolution, SaysWitness}
+use Rattle.aig_checks.specs.Sums.{IsSum}
+use Rattle.aig_checks.specs.Titles.{title_text}
+use Rattle.aig_checks.specs.declared.titles.title.Question.TheVariants as questions
 use Rattle.aig_checks.specs.Bounded.{IsBoundedText, IsSettledTo, IsWitnessToText, TellsProof, safe_to_line}
 use Rattle.aig_checks.specs.Comments.{comments_of, named_text}
 use Rattle.aig_checks.specs.Titling.{is_distinct, title_of}

@@ -5,17 +5,17 @@ use Rattle.std.specs.Prelude.{◌≡◌, ◌≢◌, ℕ, ◌+◌, Bool, false, I
 use Rattle.std.specs.Io.KnownBytes.{Appends}
 use Rattle.aig_answers.specs.Answers.{IsAsked, window_verdict}
 use Rattle.aig_answers.specs.declared.error.AnswerError.TheVariants as answers
-use Rattle.aig_bounded_answers.specs.declared.error.BoundedAnswerError.TheVariants as bounded
+use Rattle.aig_answers.specs.declared.bounded_checks.error.BoundedAnswerError.TheVariants as bounded
 use Rattle.aig_format.specs.File.{File}
 use Rattle.aig_output.specs.Sinks.{Stops}
 use Rattle.aig_reader.specs.Reading.{IsReadAs}
 use Rattle.aig_reader.specs.Verdicts.{Accepted, Judges, verdict_by}
 use Rattle.aig_refutation.specs.declared.error.RefutationError.TheVariants as refutation
 use Rattle.aig_runs.specs.declared.window.Window.{Window}
-use Rattle.aig_safety.specs.Safety as safety
-use Rattle.aig_safety.specs.Safety.{Shows, TellsOfSize}
-use Rattle.aig_safety.specs.declared.error.SafetyError.{SafetyError}
-use Rattle.aig_safety.specs.declared.error.SafetyError.TheVariants as proving
+use Rattle.aig_answers.specs.Safety as safety
+use Rattle.aig_answers.specs.Safety.{Shows, TellsOfSize}
+use Rattle.aig_answers.specs.declared.safety.error.SafetyError.{SafetyError}
+use Rattle.aig_answers.specs.declared.safety.error.SafetyError.TheVariants as proving
 use Rattle.aig_checks.specs.declared.tool.CheckError.{CheckError}
 use Rattle.aig_checks.specs.declared.tool.CheckError.TheVariants as errors
 use Rattle.aig_checks.specs.Pairs.{safe_line}

@@ -3,9 +3,9 @@
 use Rattle.std.specs.Prelude.{ℕ, Bool, true, false, List, Some, None}
 use Rattle.aig_runs.specs.declared.window.Window.{Window}
 use Rattle.aig_runs.specs.declared.window.Window.TheVariants.{Plain, Distinct}
-use Rattle.aig_titles.specs.declared.title.Question.{Question}
-use Rattle.aig_titles.specs.declared.title.Question.TheVariants.{Obligations}
-use Rattle.aig_titles.specs.declared.title.Title.{Title}
+use Rattle.aig_checks.specs.declared.titles.title.Question.{Question}
+use Rattle.aig_checks.specs.declared.titles.title.Question.TheVariants.{Obligations}
+use Rattle.aig_checks.specs.declared.titles.title.Title.{Title}
 
 -- whether no state comes twice
 abbrev pub is_distinct : Window → Bool

@@ -4,20 +4,17 @@ ghost use Rattle.std.specs.Prelude.{◌≡◌};
 ghost use Rattle.aig_checks.specs.About as specs;
 
 use crate::tool::CheckError;
-use aig_answers::AnswerError;
+use aig_answers::{
+    AnswerError, BoundedAnswerError, CertificateError, EqualityError, MiterError, SafetyError,
+    StepsError,
+};
 use aig_bounded::BoundedError;
-use aig_bounded_answers::BoundedAnswerError;
-use aig_certificates::{CertificateError, MiterError};
 use aig_command_line::Measure;
 use aig_edits::{EditError, PairError};
 use aig_encode::EncodeError;
-use aig_equality::EqualityError;
-use aig_fair::LassoFault;
 use aig_reader::ReadError;
 use aig_refutation::RefutationError;
-use aig_safety::{SafetyError, StepsError};
-use aig_solutions::SolutionError;
-use aig_witness::{ShowError, WitnessError, WitnessFault};
+use aig_witness::{LassoFault, ShowError, SolutionError, WitnessError, WitnessFault};
 
 /// What an error is about.
 #[derive(Clone, Copy, PartialEq, Eq)]

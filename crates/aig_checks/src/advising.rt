@@ -4,13 +4,12 @@ ghost use Rattle.std.specs.Prelude.{◌≡◌};
 ghost use Rattle.aig_checks.specs.Advising.{Advises, has_misfit, is_misfit, misfits_answer, misfits_bounded, misfits_certificate, misfits_safety, misfits_steps};
 
 use crate::tool::CheckError;
-use aig_answers::AnswerError;
-use aig_bounded_answers::BoundedAnswerError;
-use aig_certificates::{CertificateError, MiterError};
+use aig_answers::{
+    AnswerError, BoundedAnswerError, CertificateError, EqualityError, MiterError, SafetyError,
+    StepsError,
+};
 use aig_command_line::{Ending, Tells};
-use aig_equality::EqualityError;
 use aig_refutation::RefutationError;
-use aig_safety::{SafetyError, StepsError};
 
 /// Whether a proof is refused as one of other clauses is: a step doesn't follow, it names a literal or a clause that isn't theirs, or
 /// it is unfinished.

@@ -12,16 +12,14 @@ use crate::command::Call;
 use crate::inputs::{Again, Inputs, open_all};
 use crate::running::check_asked;
 use crate::tool::CheckError;
-use aig_answers::AnswerError;
+use aig_answers::{
+    AnswerError, BoundedAnswerError, CertificateError, EqualityError, MiterError, SafetyError,
+    StepsError,
+};
 use aig_base::{MemoryError, Source, StreamFault};
-use aig_bounded_answers::BoundedAnswerError;
-use aig_certificates::{CertificateError, MiterError};
 use aig_command_line::{Counted, Discarded, Measure, Origin, Place, Reopens};
-use aig_equality::EqualityError;
 use aig_refutation::RefutationError;
-use aig_safety::{SafetyError, StepsError};
-use aig_solutions::SolutionError;
-use aig_witness::{ShowError, WitnessError};
+use aig_witness::{ShowError, SolutionError, WitnessError};
 use std::alloc::Global;
 use std::marker::Brand;
 

@@ -7,21 +7,21 @@ ghost use Rattle.aig_base.specs.Formula.{clauses_in};
 ghost use Rattle.aig_command_line.specs.Limits.{IsLimit};
 ghost use Rattle.aig_dimacs.specs.Text.{dimacs_of};
 ghost use Rattle.aig_output.specs.Sinks.{BuffersOrStops, WritesOrStops};
-ghost use Rattle.aig_titles.specs.Titles.{title_text};
+ghost use Rattle.aig_checks.specs.Titles.{title_text};
 ghost use Rattle.aig_checks.specs.Bounded.{bounded_comments, letter_of, place_line};
 ghost use Rattle.aig_checks.specs.Running.{Runs, nothing_fails, nothing_given};
 
 use crate::command::FileCommand;
 use crate::comments::buffer_literal;
+use crate::titles::{Question, Summed, Title, write_title};
 use crate::tool::{CheckError, tell_formula, write_line};
-use aig_base::{Sink, Source, StreamFault, Var};
-use aig_bounded_answers::{
+use aig_answers::{
     BoundedClauses, Named, bounded, bounded_witness, check_bounded, refuted_questions_are_safe,
 };
+use aig_base::{Sink, Source, StreamFault, Var};
 use aig_command_line::Origin;
 use aig_dimacs::write_dimacs;
 use aig_output::OutputBuffer;
-use aig_titles::{Question, Summed, Title, write_title};
 use aig_witness::write_witness;
 use std::alloc::Global;
 use std::marker::Brand;

@@ -4,7 +4,7 @@ ghost use Rattle.std.specs.Prelude.{◌≡◌, ◌+◌, ◌<◌, ◌≤◌, ◌^
 ghost use Rattle.std.specs.List.{enumerate_from, flat_map, range_with_len};
 ghost use Rattle.aig_circuit.specs.Circuit.{latch_leaves};
 ghost use Rattle.aig_dimacs.specs.Text.{sign_of};
-ghost use Rattle.aig_solutions.specs.Turns.{HasStep};
+ghost use Rattle.aig_witness.specs.Turns.{HasStep};
 ghost use Rattle.aig_unroll.specs.Places.{place_at};
 ghost use Rattle.aig_output.specs.Sinks.{BuffersOrStops, WritesOrStops};
 ghost use Rattle.aig_checks.specs.Comments.{bad_line, comments_of, input_lines, latch_comment, literal_line};
@@ -15,7 +15,7 @@ use aig_base::{Lit, Sink, StreamFault, Var};
 use aig_circuit::CircuitView;
 use aig_output::OutputBuffer;
 use aig_runs::Unrolled;
-use aig_solutions::Places;
+use aig_witness::Places;
 
 /// The sign of a literal.
 fn sign(lit: Lit) -> &'static [u8]

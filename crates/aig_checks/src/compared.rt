@@ -4,8 +4,8 @@ ghost use Rattle.aig_command_line.specs.Limits.{IsLimit};
 ghost use Rattle.aig_checks.specs.Comparing.{RunsComparing};
 
 use crate::tool::CheckError;
+use aig_answers::check_equal_by;
 use aig_base::{Sink, Source};
-use aig_certificates::check_equal_by;
 use aig_command_line::write_text;
 use std::alloc::Global;
 

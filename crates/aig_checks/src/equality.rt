@@ -6,10 +6,9 @@ ghost use Rattle.aig_checks.specs.Pairs.{RunsPair};
 
 use crate::command::PairCommand;
 use crate::tool::CheckError;
-use aig_answers::Window;
+use aig_answers::{Window, check_always_equal};
 use aig_base::{Sink, Source};
 use aig_command_line::write_text;
-use aig_equality::check_always_equal;
 use std::alloc::Global;
 
 /// Checks proofs that two files' machines are equal at every step, and prints so: `base`, that the clauses of `print_bounded` of their

@@ -21,6 +21,7 @@ mod run;
 mod running;
 mod safe;
 mod safe_by_steps;
+mod titles;
 mod tool;
 
 pub use acting::{USAGE, act};

@@ -10,14 +10,13 @@ ghost use Rattle.aig_checks.specs.Printing.{WritesBase, WritesBoth, WritesPart};
 ghost use Rattle.aig_checks.specs.Running.{nothing_fails, nothing_given};
 
 use crate::command::PairCommand;
+use crate::titles::{Question, Summed, Title, write_title};
 use crate::tool::{CheckError, tell_circuit, write_line};
-use aig_answers::ClauseParts;
+use aig_answers::{ClauseParts, Obligations, check_certified, check_equal, obligations_of};
 use aig_base::{Sink, Source, StreamFault};
-use aig_certificates::{Obligations, check_certified, check_equal, obligations_of};
 use aig_circuit::CircuitView;
 use aig_command_line::{Origin, write_text};
 use aig_dimacs::write_circuit;
-use aig_titles::{Question, Summed, Title, write_title};
 use std::alloc::Global;
 use std::marker::Brand;
 

@@ -9,8 +9,8 @@ use crate::command::FileCommand;
 use crate::line::buffer_named;
 use crate::tool::CheckError;
 use aig_base::{Sink, Source, StreamFault};
-use aig_fair::{ShownLasso, ShownProperty, check_claim};
 use aig_output::OutputBuffer;
+use aig_witness::{ShownLasso, ShownProperty, check_claim};
 use std::alloc::Global;
 
 /// Buffers the line of a fair lasso that is shown.

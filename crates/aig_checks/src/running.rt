@@ -29,7 +29,7 @@ use crate::tool::{
 use aig_answers::Window;
 use aig_base::{FromRead, Sink, Source};
 use aig_command_line::Discarded;
-use aig_live_laws::fair_runs_are_lassos;
+use aig_edit_laws::fair_runs_are_lassos;
 use std::alloc::Global;
 
 /// Runs a command on a file and on what is given beside it.

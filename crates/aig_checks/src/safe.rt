@@ -5,10 +5,9 @@ ghost use Rattle.aig_command_line.specs.Limits.{IsLimit};
 ghost use Rattle.aig_checks.specs.Safe.{RunsSafe};
 
 use crate::tool::CheckError;
-use aig_answers::Window;
+use aig_answers::{Window, check_safe};
 use aig_base::{Sink, Source};
 use aig_command_line::write_text;
-use aig_safety::check_safe;
 use std::alloc::Global;
 
 /// Checks proofs that a file's machine reaches no bad state at any step, and prints so: `base`, that the clauses of `print_bounded`

@@ -5,10 +5,9 @@ ghost use Rattle.aig_command_line.specs.Limits.{IsLimit};
 ghost use Rattle.aig_checks.specs.SafeBySteps.{RunsSafeBySteps};
 
 use crate::tool::CheckError;
-use aig_answers::Window;
+use aig_answers::{Window, check_safe_by_steps};
 use aig_base::{Sink, Source};
 use aig_command_line::write_text;
-use aig_safety::check_safe_by_steps;
 use std::alloc::Global;
 
 /// Checks proofs that a file's machine reaches no bad state at any step, and prints so: the `n`-th of `bases`, from 0 on, that the

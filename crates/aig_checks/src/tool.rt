@@ -8,7 +8,7 @@ ghost use Rattle.aig_cnf.specs.Cnf.{AreNeeded, HasClauses};
 ghost use Rattle.aig_command_line.specs.Limits.{IsLimit};
 ghost use Rattle.aig_dimacs.specs.Text.{IsFormula, dimacs_of};
 ghost use Rattle.aig_output.specs.Sinks.{BuffersOrStops, WritesOrStops};
-ghost use Rattle.aig_titles.specs.Titles.{title_text};
+ghost use Rattle.aig_checks.specs.Titles.{title_text};
 ghost use Rattle.aig_unroll.specs.Unroll.{UnrollsTo};
 ghost use Rattle.aig_checks.specs.Comments.{comments_of};
 ghost use Rattle.aig_checks.specs.Printing.{IsKnownText, IsOfSolution, IsOfText, IsQueryText, Prints, WritesQuery};
@@ -18,26 +18,24 @@ ghost use Rattle.aig_checks.specs.declared.tool.CheckError.TheVariants as errors
 
 use crate::command::FileCommand;
 use crate::comments::write_comments;
+use crate::titles::{Question, Summed, Title, write_title};
 use aig_answers::{
-    AnswerError, Window, asked_circuit, asked_query, check_step, check_window, window,
+    AnswerError, BoundedAnswerError, CertificateError, EqualityError, MiterError, SafetyError,
+    StepsError, Window, asked_circuit, asked_query, check_step, check_window, window,
 };
 use aig_base::{DagCnf, LitVvec, MemoryError, Sink, Source, StreamFault};
-use aig_bounded_answers::BoundedAnswerError;
-use aig_certificates::{CertificateError, MiterError};
 use aig_circuit::CircuitView;
 use aig_cnf::{NeededGates, find_needed};
 use aig_command_line::{HasStatus, Origin};
 use aig_dimacs::{write_circuit, write_dimacs};
 use aig_edits::EditError;
 use aig_encode::Query;
-use aig_equality::EqualityError;
-use aig_fair::{ClaimError, LassoFault};
 use aig_output::OutputBuffer;
 use aig_runs::{Unrolled, inductive_windows_are_safe};
-use aig_safety::{SafetyError, StepsError};
-use aig_solutions::{Places, SolutionError, checked_witness};
-use aig_titles::{Question, Summed, Title, write_title};
-use aig_witness::{ShowError, known_witnesses_show, write_witness};
+use aig_witness::{
+    ClaimError, LassoFault, Places, ShowError, SolutionError, checked_witness,
+    known_witnesses_show, write_witness,
+};
 use std::alloc::Global;
 use std::marker::Brand;
 use thiserror::Error;

@@ -17,3 +17,12 @@ mod Reducing
 mod Alone
 mod Examples
 mod ReductionExamples
+pub mod Going
+pub mod Repeats
+pub mod Coming
+pub mod Files
+pub mod Justice
+pub mod Rounds
+pub mod Naming
+pub mod WrittenLive
+mod FairExamples

@@ -1,10 +1,17 @@
 //! Laws of what edits make of a circuit: what the machine of a written file shows of the machine of the file that was read.
 #![tactic(auto)]
 
+mod fair;
 mod laws;
 mod plain;
 mod reduction;
 
+pub use fair::{
+    fair_runs_are_lassos, fair_runs_come_back, fair_runs_end_rounds, lassos_go_on,
+    live_circuits_show_lassos, loops_start_early, rounds_circuits_show_rounds,
+    small_live_circuits_fit, small_rounds_circuits_fit, written_live_circuits_show_lassos,
+    written_rounds_circuits_show_rounds,
+};
 pub use laws::{
     always_bad_runs_are_runs, changed_circuits_keep_witnesses, cones_show_their_output,
     merged_witnesses_are_pairs, outputs_become_bads, properties_show_their_bad,

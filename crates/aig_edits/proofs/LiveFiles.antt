@@ -7,7 +7,7 @@ use Rattle.aig_circuit.specs.declared.view.CircuitLists.{CircuitLists}
 use Rattle.aig_circuit.proofs.Words.{Circuit, IsCircuit, lists_circuit}
 use Rattle.aig_format.proofs.Words.{circuit_of, edge_of, File}
 use Rattle.aig_live.specs.Live.{live_size}
-use Rattle.aig_live_laws.specs.Fair.{AreAskedBy}
+use Rattle.aig_edit_laws.specs.Fair.{AreAskedBy}
 use Rattle.aig_reader.specs.Verdicts.{Accepted, verdict_by}
 use Rattle.aig_edits.specs.declared.edit_error.EditError.{EditError}
 use Rattle.aig_edits.specs.declared.edit_error.EditError.TheVariants as errors

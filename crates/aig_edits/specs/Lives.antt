@@ -12,7 +12,7 @@ use Rattle.aig_format.specs.declared.FileKind.TheVariants.{Text}
 use Rattle.aig_format.specs.File.{File}
 use Rattle.aig_format.specs.Writable.{FitsFormat}
 use Rattle.aig_live.specs.Live.{IsLiveOf, live_size}
-use Rattle.aig_live_laws.specs.Fair.{AreAskedBy, HasFairLasso}
+use Rattle.aig_edit_laws.specs.Fair.{AreAskedBy, HasFairLasso}
 use Rattle.aig_output.specs.Sinks.{Stops}
 use Rattle.aig_edits.specs.declared.edit_error.EditError.{EditError}
 use Rattle.aig_edits.specs.declared.edit_error.EditError.TheVariants as errors

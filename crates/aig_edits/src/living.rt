@@ -17,9 +17,9 @@ use crate::edit_error::EditError;
 use crate::format::MOST_NODES;
 use aig_base::{MemoryError, Sink, Source};
 use aig_circuit::{AigEdge, CircuitLists, CircuitView};
+use aig_edit_laws::{small_live_circuits_fit, written_live_circuits_show_lassos};
 use aig_format_laws::files_are_circuits;
 use aig_live::{live, live_circuits_are_circuits};
-use aig_live_laws::{small_live_circuits_fit, written_live_circuits_show_lassos};
 use aig_writer::write_text;
 use std::alloc::Global;
 

@@ -17,9 +17,9 @@ use crate::format::MOST_NODES;
 use crate::living::joined;
 use aig_base::{MemoryError, Sink, Source};
 use aig_circuit::{AigEdge, CircuitLists, CircuitView};
+use aig_edit_laws::{small_rounds_circuits_fit, written_rounds_circuits_show_rounds};
 use aig_format_laws::files_are_circuits;
 use aig_live::{rounds, rounds_circuits_are_circuits};
-use aig_live_laws::{small_rounds_circuits_fit, written_rounds_circuits_show_rounds};
 use aig_writer::write_text;
 use std::alloc::Global;
 

@@ -5,8 +5,8 @@ use Rattle.aig_circuit.specs.declared.node.AigLatch.{AigLatch}
 use Rattle.aig_circuit.specs.declared.node.AigNodeType.TheVariants.{Leaf}
 use Rattle.aig_circuit.proofs.Words.{Circuit, IsCircuit, IsLeaf, edge_to, edge_value}
 use Rattle.aig_circuit.proofs.Trees.{kind_at-within}
-use Rattle.aig_lasso.specs.Saving.{IsSince, copied, is_active, is_saved, seen, seen_before, start_value}
-use Rattle.aig_lasso.proofs.Saving.{since}
+use Rattle.aig_live.specs.Saving.{IsSince, copied, is_active, is_saved, seen, seen_before, start_value}
+use Rattle.aig_live.proofs.Saving.{since}
 use Rattle.aig_live.specs.Lassos.{IsLasso}
 use Rattle.aig_live.specs.Live.{IsLiveOf, copy_leaf, false_latch, is_active_in, save_leaf, saved_leaf, seen_leaf}
 use Rattle.aig_live.proofs.Added.{Begins, Follows, begin, false_is, follow}

@@ -9,7 +9,7 @@ use Rattle.aig_circuit.proofs.Building.{AddsGates-then, Grows-itself, Grows-kept
 use Rattle.aig_circuit.proofs.Joining.{edge_value-inverse}
 use Rattle.aig_circuit.proofs.Trees.{kind_at-within, node_value-leaf}
 use Rattle.aig_circuit.specs.Build.{FoldsOrAddsAll}
-use Rattle.aig_lasso.specs.Rounds.{all_below}
+use Rattle.aig_live.specs.EndedRounds.{all_below}
 use Rattle.aig_live.specs.Counting.{AreBefores, AreCounted, edge_before, kept_of}
 use Rattle.aig_live.specs.Making.{AddsLeaves, GivesEach, seen_of, value_at}
 use Rattle.aig_live.specs.Rounds.{ended_before, ended_by, ends_now, is_met}

@@ -1,6 +1,6 @@
 -- What the leaves of a circuit that counts rounds are at each step.
 use Rattle.aig_base.proofs.Words.{◌≡◌, ◌⊎◌, ℕ, zero, suc, ◌<◌, ◌≤◌, ◌&&◌, ◌||◌, Bool, true, false, cond, leb, not, List, [], ◌∷◌, length, get_or, refl, sym, ap, ◌∙◌, inl, inr, arith, and-true, and_assoc, cases_lt, le-leb, list_all, lt-leb, or-false, or_right}
-use Rattle.aig_lasso.specs.Rounds.{all_below, ends, now_of, rounds}
+use Rattle.aig_live.specs.EndedRounds.{all_below, ends, now_of, rounds}
 
 -- value e was true in this round before step t
 abbrev pub carried : ℕ → (ℕ → ℕ → Bool) → ℕ → ℕ → Bool

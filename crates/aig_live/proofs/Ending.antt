@@ -6,7 +6,7 @@ use Rattle.aig_circuit.proofs.Trees.{kind_at-within}
 use Rattle.aig_circuit.specs.declared.node.AigNodeType.TheVariants.{Leaf}
 use Rattle.aig_join.proofs.Grown.{value-agrees}
 use Rattle.aig_runs.specs.CircuitQueries.{HasCircuitWitness, IsCircuitWitness}
-use Rattle.aig_lasso.specs.Rounds.{ends, now_of, rounds}
+use Rattle.aig_live.specs.EndedRounds.{ends, now_of, rounds}
 use Rattle.aig_live.specs.Names.{rounds_names}
 use Rattle.aig_live.specs.Rounds.{IsRoundsOf, IsRoundsRun, ended_before, ended_by, ends_now, is_met, value_of}
 use Rattle.aig_live.proofs.Counts.{all_below-same, carried, ended_more, now_is}

@@ -7,8 +7,8 @@ use Rattle.aig_circuit.proofs.Lists.{All-first, All-second}
 use Rattle.aig_change.specs.Runs.{IsAllowedRun}
 use Rattle.aig_join.proofs.Grown.{runs-grown, starts-grown}
 use Rattle.aig_runs.specs.CircuitQueries.{IsCircuitWitness}
-use Rattle.aig_lasso.specs.Saving.{copied, is_active, is_saved, seen, seen_before}
-use Rattle.aig_lasso.proofs.Saving.{since}
+use Rattle.aig_live.specs.Saving.{copied, is_active, is_saved, seen, seen_before}
+use Rattle.aig_live.proofs.Saving.{since}
 use Rattle.aig_live.specs.Lassos.{IsLasso}
 use Rattle.aig_live.specs.Live.{IsLiveOf, copy_leaf, false_latch, false_latches, is_active_in, save_leaf, saved_leaf, seen_leaf}
 use Rattle.aig_live.proofs.Added.{Begins, Follows, begins_at, false_is, follows_at}

@@ -12,3 +12,7 @@ pub mod Counts
 pub mod Ending
 pub mod Counted
 pub mod Roundly
+pub mod Saving
+pub mod Turning
+pub mod RoundsAgain
+mod Examples

@@ -6,7 +6,7 @@ use Rattle.aig_circuit.specs.declared.edge.AigEdge.{AigEdge}
 use Rattle.aig_change.specs.Runs.{IsAllowedRun}
 use Rattle.aig_circuit.specs.Circuit.{Circuit}
 use Rattle.aig_circuit.specs.Tree.{edge_value}
-use Rattle.aig_lasso.specs.Met.{IsMet}
+use Rattle.aig_live.specs.Met.{IsMet}
 
 -- A fair lasso of k + 1 steps, whose loop starts at step l: the state after step k is that of step
 -- l, and each of the edges is true at one of the steps l to k.

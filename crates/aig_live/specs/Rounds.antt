@@ -7,7 +7,7 @@ use Rattle.aig_circuit.specs.Circuit.{Circuit}
 use Rattle.aig_circuit.specs.Edge.{edge_to}
 use Rattle.aig_circuit.specs.Tree.{edge_value}
 use Rattle.aig_change.specs.Runs.{IsAllowedRun}
-use Rattle.aig_lasso.specs.Rounds.{all_below, rounds}
+use Rattle.aig_live.specs.EndedRounds.{all_below, rounds}
 use Rattle.aig_live.specs.Extended.{IsExtended}
 use Rattle.aig_live.specs.Names.{rounds_names}
 

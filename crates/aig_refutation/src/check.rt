@@ -25,11 +25,11 @@ use crate::checker::Checker;
 use crate::compare::is_unit;
 use crate::error::RefutationError;
 use crate::form::{TELLING, WORD, has_word, is_binary, is_numbered};
+use crate::hints::Search;
 use crate::step::Step;
 use crate::units::find_conflict;
 use crate::words::{Number, Words};
 use aig_base::{DagCnf, Lit, LitVvec, Source, Var};
-use aig_hints::Search;
 use aig_lexer::InputBuffer;
 use std::alloc::Global;
 

@@ -16,12 +16,12 @@ ghost use Rattle.aig_refutation.specs.Words.{said_numbers};
 use crate::closure::is_entailed;
 use crate::compare::are_same;
 use crate::error::RefutationError;
+use crate::hints::Search;
 use crate::marks::Marks;
 use crate::numbered::Numbered;
 use crate::standing::{Resolvent, are_named, find_hints, has, is_implied, lead};
 use crate::words::Number;
 use aig_base::{Lit, LitVvec, MemoryError};
-use aig_hints::Search;
 use std::alloc::Global;
 use std::marker::Model;
 

@@ -10,6 +10,7 @@ mod closure;
 mod compare;
 mod error;
 mod form;
+mod hints;
 mod laws;
 mod list;
 mod marks;

@@ -9,6 +9,7 @@ ghost use Rattle.aig_refutation.specs.Starts.{AreStarts, IsStart, start_in};
 ghost use Rattle.aig_refutation.specs.Tables.{FindsHints, Holds, entry_in, is_apart_if, place_in, places_of};
 ghost use Rattle.aig_refutation.specs.Words.{said_numbers};
 
+use crate::hints::Search;
 use crate::list::push;
 use crate::marks::Marks;
 use crate::numbered::Numbered;
@@ -16,7 +17,6 @@ use crate::propagation::{is_rup, is_tautology};
 use crate::starts::{find_starts, push_hints_for, start_at};
 use crate::words::Number;
 use aig_base::{Lit, LitVvec, MemoryError};
-use aig_hints::Search;
 use std::alloc::Global;
 
 /// Whether a clause follows: by reverse unit propagation along the clauses at these places, or from

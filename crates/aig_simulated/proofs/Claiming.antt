@@ -3,7 +3,7 @@ use Rattle.aig_base.proofs.Words.{◌≡◌, ◌≢◌, ◌∷◌, List, [], Res
 use Rattle.aig_circuit.specs.Circuit.{Circuit}
 use Rattle.aig_format.proofs.Words.{File, circuit_of, edge_of}
 use Rattle.aig_reader.specs.Verdicts.{Accepted, verdict_by}
-use Rattle.aig_sharing.specs.Named.{IsFault, Shares}
+use Rattle.aig_simulation.specs.Named.{IsFault, Shares}
 use Rattle.aig_simulated.specs.declared.claim.Claim.{Claim}
 use Rattle.aig_simulated.specs.declared.error.SimulationError.{SimulationError}
 use Rattle.aig_simulated.specs.declared.error.SimulationError.TheVariants as errors

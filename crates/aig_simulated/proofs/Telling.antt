@@ -10,7 +10,7 @@ use Rattle.aig_reader.specs.Verdicts.{Accepted, verdict_by}
 use Rattle.aig_runs.specs.Queries.{IsSafeTo}
 use Rattle.aig_runs.specs.Safety.{IsCircuitSafeAt, IsSafeAt}
 use Rattle.aig_runs.specs.Unrolled.{UnrolledCircuit}
-use Rattle.aig_sharing.specs.Named.{Shares}
+use Rattle.aig_simulation.specs.Named.{Shares}
 use Rattle.aig_simulation.specs.Exact.{model_leaf, question_of}
 use Rattle.aig_simulation.specs.Simulation.{IsCertificate, Sharing}
 use Rattle.aig_simulation.specs.declared.condition.Condition.{Condition}

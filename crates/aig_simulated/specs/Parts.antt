@@ -5,7 +5,7 @@ use Rattle.aig_circuit.specs.Circuit.{Circuit}
 use Rattle.aig_circuit.specs.View.{lists_circuit}
 use Rattle.aig_refutation.specs.declared.error.RefutationError.TheVariants as refutation
 use Rattle.aig_runs.specs.Unrolled.{UnrolledCircuit, Unrolls}
-use Rattle.aig_sharing.specs.Named.{IsFault, Shares}
+use Rattle.aig_simulation.specs.Named.{IsFault, Shares}
 use Rattle.aig_simulation.specs.Questions.{AsksIf, Holds}
 use Rattle.aig_simulation.specs.declared.condition.Condition.{Condition}
 use Rattle.aig_simulation.specs.declared.error.QuestionError.{QuestionError}

@@ -12,7 +12,7 @@ use Rattle.aig_reader.specs.Reading.{AreListsOf}
 use Rattle.aig_reader.specs.Verdicts.{Accepted, Verdict, verdict_of}
 use Rattle.aig_reader.specs.declared.error.ReadError.TheVariants as read
 use Rattle.aig_runs.specs.Queries.{IsSafeTo}
-use Rattle.aig_sharing.specs.Named.{IsFault, Shares}
+use Rattle.aig_simulation.specs.Named.{IsFault, Shares}
 use Rattle.aig_simulation.specs.Exact.{model_leaf, question_of}
 use Rattle.aig_simulation.specs.Questions.{CanShareLeaves}
 use Rattle.aig_simulation.specs.Simulation.{CanStart, Sharing}

@@ -116,7 +116,7 @@ fn check_claim<P: Source>(
 /// constraint holds, reaches a bad state at any step. Requires `1 <= limit <= 2^31`.
 ///
 /// The witness circuit is one of the hardware model checking competition's certificates, whose resets are constants or open. Which of its
-/// inputs and latches stand for those of the file its names say, or else their order (`aig_sharing::shared_leaves`). For each
+/// inputs and latches stand for those of the file its names say, or else their order (`aig_simulation::shared_leaves`). For each
 /// condition (`Condition`) a question is asked (`aig_simulation::question`), and the proof shows that the clauses of its
 /// query for step 0 can't be satisfied: those of `read_obligation` with the same setting. The proofs are read in order, each once,
 /// and none after one that is refused.

@@ -11,8 +11,7 @@ ghost use Rattle.aig_simulated.specs.Simulated.{Claims, IsClaim, IsOfClaim, firs
 use crate::error::SimulationError;
 use aig_base::Source;
 use aig_circuit::{CircuitLists, CircuitView};
-use aig_sharing::shared_leaves;
-use aig_simulation::{constant_resets_are_stratified, stratified_resets_can_start};
+use aig_simulation::{constant_resets_are_stratified, shared_leaves, stratified_resets_can_start};
 use std::alloc::Global;
 
 /// A model and a witness circuit, and which leaves they share.
@@ -55,7 +54,7 @@ fn claim_of(
     })
 }
 
-/// Reads two files in the AIGER format, a file and a witness circuit, and tells which leaves they share, as `aig_sharing::shared_leaves`
+/// Reads two files in the AIGER format, a file and a witness circuit, and tells which leaves they share, as `aig_simulation::shared_leaves`
 /// does. The witness circuit is read only where the file is taken. Requires `1 <= limit <= 2^31`.
 ///
 /// # Errors

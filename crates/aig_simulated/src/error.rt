@@ -8,8 +8,7 @@ ghost use Rattle.aig_simulation.specs.declared.error.QuestionError.TheVariants a
 use aig_base::MemoryError;
 use aig_reader::ReadError;
 use aig_refutation::RefutationError;
-use aig_sharing::SharingError;
-use aig_simulation::{Condition, QuestionError};
+use aig_simulation::{Condition, QuestionError, SharingError};
 use thiserror::Error;
 
 /// Why a condition isn't shown.

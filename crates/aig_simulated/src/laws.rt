@@ -6,7 +6,7 @@ ghost use Rattle.aig_format.specs.File.{File};
 ghost use Rattle.aig_simulated.specs.Simulated.{IsQuestionOf};
 ghost use Rattle.aig_simulation.specs.declared.condition.Condition.{Condition};
 
-use aig_sharing::shared_leaves_are_one;
+use aig_simulation::shared_leaves_are_one;
 
 /// Law: for each file, each witness circuit and each condition there is one question: the one that is printed is the one that is checked.
 pub fn condition_questions_are_one()

@@ -10,3 +10,8 @@ pub mod Deciding
 pub mod Asked
 pub mod Constant
 mod Examples
+pub mod Adding
+pub mod Allowed
+pub mod Found
+pub mod Saying
+pub mod Alike

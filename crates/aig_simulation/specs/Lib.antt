@@ -6,3 +6,5 @@ pub mod Frames
 pub mod Asking
 pub mod Exact
 pub mod Names
+pub mod Named
+pub mod Marked

@@ -8,6 +8,7 @@ mod edges;
 mod error;
 mod frames;
 mod questions;
+mod sharing;
 
 ghost use Rattle.std.specs.Prelude.{◌≤◌, ◌↔◌, ℕ, All, Bool};
 ghost use Rattle.aig_change.specs.Runs.{IsAllowedRun};
@@ -23,6 +24,7 @@ ghost use Rattle.aig_simulation.specs.declared.condition.Condition.{Condition};
 pub use condition::Condition;
 pub use error::QuestionError;
 pub use questions::question;
+pub use sharing::{SharingError, shared_leaves, shared_leaves_are_one};
 
 /// Law: a model with a certificate is safe at every step, since beside each of its runs from an initial state that meet the constraints
 /// goes one of the witness circuit, which agrees with it on the shared leaves and whose states are good.

@@ -5,3 +5,14 @@ pub mod Shown
 pub mod Machine
 pub mod Answers
 pub mod Files
+pub mod Turns
+pub mod Solutions
+pub mod SolverAnswers
+pub mod Written
+pub mod Lines
+pub mod Checked
+pub mod Lassos
+pub mod ShownLassos
+pub mod WrongLassos
+pub mod Claims
+pub mod Loops

@@ -1,7 +1,7 @@
 use Rattle.aig_base.proofs.Words.{on_ok_weaker}
 use Rattle.aig_circuit.specs.View.{lists_circuit}
 use Rattle.aig_answers.proofs.Alike.{window_told}
-use Rattle.aig_answers.proofs.Named.{asks_of_file}
+use Rattle.aig_answers.proofs.NamelessWindows.{asks_of_file}
 use Rattle.aig_answers.proofs.windows.check_window_of.Goals as goal
 
 pub returns-clause-answer : goal.returns-clause-answer

@@ -1,8 +1,8 @@
 use Rattle.aig_base.proofs.Words.{◌++◌, length, refl, ap, sym, ◌∙◌, err_from_is_err_and}
 use Rattle.aig_base.specs.Formula.{clauses_in}
 use Rattle.aig_dimacs.specs.Text.{dimacs_of}
-use Rattle.aig_titles.specs.Titles.{title_text}
-use Rattle.aig_titles.specs.declared.title.Question.TheVariants.{Bounded}
+use Rattle.aig_checks.specs.Titles.{title_text}
+use Rattle.aig_checks.specs.declared.titles.title.Question.TheVariants.{Bounded}
 use Rattle.aig_checks.specs.declared.tool.CheckError.TheVariants as errors
 use Rattle.aig_checks.specs.Bounded.{bounded_comments}
 use Rattle.aig_checks.specs.Titling.{title_of}

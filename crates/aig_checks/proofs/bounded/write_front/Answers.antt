@@ -1,6 +1,6 @@
 use Rattle.std.proofs.Common.{rules}
 use Rattle.aig_output.proofs.Putting.{Stops-before, failed_put}
-use Rattle.aig_titles.specs.Titles.{title_text}
+use Rattle.aig_checks.specs.Titles.{title_text}
 use Rattle.aig_checks.specs.Bounded.{bounded_comments}
 use Rattle.aig_checks.proofs.Pairing.{then_written}
 use Rattle.aig_checks.proofs.bounded.write_front.Goals as goal

@@ -1,5 +1,5 @@
 use Rattle.aig_base.proofs.Words.{refl, err_from_is_err_and}
-use Rattle.aig_equality.specs.Equality.{AlwaysEquals}
+use Rattle.aig_answers.specs.Equality.{AlwaysEquals}
 use Rattle.aig_checks.specs.Pairs.{always_line}
 use Rattle.aig_checks.specs.declared.tool.CheckError.TheVariants as errors
 use Rattle.aig_checks.proofs.Pairing.{pair_answered, pair_stopped, refused_so}

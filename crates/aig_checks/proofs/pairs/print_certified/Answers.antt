@@ -1,7 +1,7 @@
 use Rattle.aig_base.proofs.Words.{refl, err_from_is_err_and}
 use Rattle.aig_answers.specs.declared.error.AnswerError.TheVariants as answers
-use Rattle.aig_certificates.specs.Certificates.{Certifies}
-use Rattle.aig_certificates.specs.declared.error.CertificateError.TheVariants as certificate
+use Rattle.aig_answers.specs.Certificates.{Certifies}
+use Rattle.aig_answers.specs.declared.certificates.error.CertificateError.TheVariants as certificate
 use Rattle.aig_refutation.specs.declared.error.RefutationError.TheVariants as refutation
 use Rattle.aig_checks.specs.Pairs.{safe_line}
 use Rattle.aig_checks.proofs.Outcomes.{err_of}

@@ -1,7 +1,7 @@
 use Rattle.aig_base.proofs.Words.{refl, ap, sym, ◌∙◌, err_from_is_err_and}
-use Rattle.aig_certificates.specs.Certificates.{Obliges}
+use Rattle.aig_answers.specs.Certificates.{Obliges}
 use Rattle.aig_refutation.specs.declared.error.RefutationError.TheVariants as refutation
-use Rattle.aig_titles.specs.Under.{source_of}
+use Rattle.aig_checks.specs.Under.{source_of}
 use Rattle.aig_checks.specs.Titling.{pair_title}
 use Rattle.aig_checks.proofs.Outcomes.{summed}
 use Rattle.aig_checks.proofs.Pairing.{no_proof_of_clauses, obligations_text, obliged_text, pair_answered, pair_refused, pair_stopped, reads_under}

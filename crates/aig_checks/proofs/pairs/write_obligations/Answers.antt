@@ -1,6 +1,6 @@
 use Rattle.aig_base.proofs.Words.{◌++◌, rules, codes}
 use Rattle.aig_output.proofs.Putting.{Stops-before, failed_put}
-use Rattle.aig_titles.specs.Titles.{title_text}
+use Rattle.aig_checks.specs.Titles.{title_text}
 use Rattle.aig_checks.specs.Pairs.{part_text}
 use Rattle.aig_checks.specs.Printing.{clauses_with}
 use Rattle.aig_checks.proofs.Pairing.{then_written}

@@ -1,8 +1,8 @@
 use Rattle.aig_base.proofs.Words.{err_from_is_err_and, refl}
 use Rattle.aig_answers.specs.declared.error.AnswerError.TheVariants as answers
-use Rattle.aig_bounded_answers.specs.declared.error.BoundedAnswerError.TheVariants as bounded
+use Rattle.aig_answers.specs.declared.bounded_checks.error.BoundedAnswerError.TheVariants as bounded
 use Rattle.aig_refutation.specs.declared.error.RefutationError.TheVariants as refutation
-use Rattle.aig_safety.specs.declared.error.SafetyError.TheVariants as proving
+use Rattle.aig_answers.specs.declared.safety.error.SafetyError.TheVariants as proving
 use Rattle.aig_checks.proofs.Outcomes.{err_of}
 use Rattle.aig_checks.proofs.Proving.{safe_answered, safe_refused, safe_stopped}
 use Rattle.aig_checks.proofs.safe.print_safe.Goals as goal

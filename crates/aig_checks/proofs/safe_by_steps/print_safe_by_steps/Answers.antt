@@ -1,7 +1,7 @@
 use Rattle.aig_base.proofs.Words.{err_from_is_err_and, refl}
 use Rattle.aig_answers.specs.declared.error.AnswerError.TheVariants as answers
 use Rattle.aig_refutation.specs.declared.error.RefutationError.TheVariants as refutation
-use Rattle.aig_safety.specs.declared.error.StepsError.TheVariants as proving
+use Rattle.aig_answers.specs.declared.safety.error.StepsError.TheVariants as proving
 use Rattle.aig_checks.proofs.Outcomes.{err_of}
 use Rattle.aig_checks.proofs.ProvingSteps.{steps_answered, steps_refused, steps_stopped}
 use Rattle.aig_checks.proofs.safe_by_steps.print_safe_by_steps.Goals as goal

@@ -1,8 +1,8 @@
 use Rattle.aig_base.proofs.Words.{◌++◌, length, refl, ap, sym, ◌∙◌, err_from_is_err_and}
 use Rattle.aig_base.specs.Formula.{clauses_in}
 use Rattle.aig_dimacs.specs.Text.{dimacs_of}
-use Rattle.aig_titles.specs.Titles.{title_text}
-use Rattle.aig_titles.specs.declared.title.Question.TheVariants.{Window}
+use Rattle.aig_checks.specs.Titles.{title_text}
+use Rattle.aig_checks.specs.declared.titles.title.Question.TheVariants.{Window}
 use Rattle.aig_checks.specs.Titling.{is_distinct, title_of}
 use Rattle.aig_checks.proofs.Commenting.{titled_again}
 use Rattle.aig_checks.proofs.Outcomes.{answered, read_again, stopped, summed, window_refused}

@@ -2,7 +2,7 @@ use Rattle.std.proofs.Common.{◌++◌, length, rules}
 use Rattle.aig_base.specs.Formula.{clauses_in}
 use Rattle.aig_dimacs.specs.Text.{dimacs_of}
 use Rattle.aig_output.proofs.Putting.{Stops-before, failed_put}
-use Rattle.aig_titles.specs.Titles.{title_text}
+use Rattle.aig_checks.specs.Titles.{title_text}
 use Rattle.aig_checks.proofs.Pairing.{then_written}
 use Rattle.aig_checks.proofs.tool.write_titled.Goals as goal
 

@@ -1,7 +1,7 @@
 use Rattle.aig_base.proofs.Words.{◌≡◌, ◌∙◌, ap, arith, eq-eqb, false≢true, length, refl, subst, sym, vec_len}
 use Rattle.aig_circuit.specs.Circuit.{Circuit}
 use Rattle.aig_circuit.specs.View.{lists_circuit}
-use Rattle.aig_sharing.specs.Named.{Shares}
+use Rattle.aig_simulation.specs.Named.{Shares}
 use Rattle.aig_simulation.specs.Questions.{CanShareLeaves}
 use Rattle.aig_simulated.proofs.claim.claim_of.Goals as goal
 

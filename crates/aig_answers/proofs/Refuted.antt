@@ -1,0 +1,65 @@
+-- Wrong results, of which the definitions are false.
+use Rattle.std.proofs.Common.{◌≡◌, ◌≢◌, ◌≤◌, ◌^◌, ℕ, Bool, false, Option, Some, Ok, Err, IfOk, List, [], length, slice_get, sym, ap, subst, ◌∙◌, arith}
+use Rattle.aig_base.proofs.Words.{Contains, Contains-get_or, get_or_from_slice_get, slice_get_within}
+use Rattle.aig_base.specs.declared.logic.three.Lbool.{Lbool}
+use Rattle.aig_circuit.proofs.Words.{Circuit, lists_circuit}
+use Rattle.aig_format.specs.File.{File}
+use Rattle.aig_witness.specs.declared.solutions.error.SolutionError.TheVariants.{NoBad}
+use Rattle.aig_witness.specs.SolverAnswers.{solution_in}
+use Rattle.aig_bounded.specs.declared.place.Place.{Place}
+use Rattle.aig_answers.specs.declared.bounded_checks.clauses.BoundedClauses.{BoundedClauses}
+use Rattle.aig_answers.specs.declared.bounded_checks.error.BoundedAnswerError.{BoundedAnswerError}
+use Rattle.aig_answers.specs.declared.bounded_checks.naming.Named.{Named}
+use Rattle.aig_answers.specs.Asking.{AreSolution, AsksBounded, IsAskedWithin, IsSettled, RefusesAnswer, TellsOfProof}
+use Rattle.aig_answers.specs.Naming.{IsNamed, leaf_of}
+
+-- a file without bad literals, of which nothing is asked
+no_bads : (limit : ℕ) (bytes : List ℕ) (f : File) → f.properties.bads ≡ []
+    → ¬ IsAskedWithin limit bytes f
+no_bads limit bytes f none asked = asked.1 none
+
+-- clauses without the one that the output is true: any assignment of node values satisfies them
+no_bare_clauses : (f : File) (k : ℕ) (optimize : Bool) (made : BoundedClauses)
+    → AsksBounded f k optimize made → made.further ≢ []
+no_bare_clauses f k optimize made is none =
+    let count : length made.further ≡ 1 = ap length is.exact in
+    omega (arith, count, ap length none)
+
+-- a question with a latch
+no_latch : (f : File) (k : ℕ) (optimize : Bool) (made : BoundedClauses)
+    → AsksBounded f k optimize made → length (lists_circuit made.question.circuit).latchs ≢ 1
+no_latch f k optimize made is one =
+    let count : length (lists_circuit made.question.circuit).latchs ≡ 0 = ap length is.asks.latchs
+    in
+    omega (arith, count, one)
+
+-- a question with two outputs
+no_second_output : (f : File) (k : ℕ) (optimize : Bool) (made : BoundedClauses)
+    → AsksBounded f k optimize made
+    → length (lists_circuit made.question.circuit).properties.outputs ≢ 2
+no_second_output f k optimize made is two =
+    let count : length (lists_circuit made.question.circuit).properties.outputs ≡ 1 = ap (λ p.
+    length p.outputs) is.asks.properties in
+    omega (arith, count, two)
+
+-- a latch's leaf named as an input
+no_input_name : (c : Circuit) (p : Place) (name : Named) → name.is_latch ≡ false
+    → ¬ Contains c.inputs p.leaf → ¬ IsNamed c p name
+no_input_name c p name input none named =
+    let found : slice_get c.inputs name.number ≡ Some p.leaf = subst (λ b. leaf_of c b name.number
+    ≡ Some p.leaf) input named.1 in
+    let low = slice_get_within c.inputs name.number p.leaf found in
+    none (subst (Contains c.inputs) (get_or_from_slice_get c.inputs name.number p.leaf 0 found)
+    (Contains-get_or c.inputs name.number 0 low))
+
+-- an error where nothing needs a proof
+no_refused_settled : {P : Type 0} (left : P → Option (List ℕ)) (made : BoundedClauses) (p rest : P)
+    (e : BoundedAnswerError) → IsSettled made → ¬ TellsOfProof left made p rest (Err e)
+no_refused_settled left made p rest e settled told = let is = (told.settled settled).0 in cc
+
+-- a solution of clauses that is refused as none, where a witness can name each bad literal
+no_refused_solution : (bytes : List ℕ) (failed : Bool) (bads : ℕ) (made : BoundedClauses)
+    (values : List Lbool) → bads ≤ 2 ^ 32 → solution_in (length made.clauses) bytes ≡ Ok values
+    → AreSolution made values → ¬ RefusesAnswer (Some bytes) failed bads made NoBad
+no_refused_solution bytes failed bads made values few said holds refused =
+    refused.2 few (subst (λ r. IfOk r (AreSolution made)) (sym said ∙ refused.1.1) holds)

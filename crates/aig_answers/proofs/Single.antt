@@ -1,0 +1,84 @@
+-- A circuit's question has one list of clauses.
+use Rattle.aig_base.proofs.Words.{◌≡◌, ◌++◌, ◌∷◌, [], ℕ, Bool, false, Option, IfSome, List, length, Result, Ok, Err, sym, ap, ap₂, subst, ◌∙◌, All}
+use Rattle.aig_base.specs.Formula.{clauses_in}
+use Rattle.aig_base.specs.declared.logic.literal.Lit.{Lit}
+use Rattle.aig_base.specs.Clauses.{are_true}
+use Rattle.aig_circuit.proofs.Words.{Circuit, edge_to, lit_of, lists_circuit}
+use Rattle.aig_cnf.specs.Cnf.{HasClauses}
+use Rattle.aig_cnf.proofs.OneList.{one_list}
+use Rattle.aig_refutation.specs.Checking.{Shows}
+use Rattle.aig_witness.specs.declared.solutions.error.SolutionError.{SolutionError}
+use Rattle.aig_witness.specs.declared.solutions.error.SolutionError.TheVariants as solutions
+use Rattle.aig_witness.specs.SolverAnswers.{GivesSolution, solution_in}
+use Rattle.aig_bounded.proofs.Single.{question_same}
+use Rattle.aig_answers.specs.declared.bounded_checks.clauses.BoundedClauses.{BoundedClauses}
+use Rattle.aig_answers.specs.declared.bounded_checks.error.BoundedAnswerError.{BoundedAnswerError}
+use Rattle.aig_answers.specs.declared.bounded_checks.error.BoundedAnswerError.TheVariants as errors
+use Rattle.aig_answers.specs.Asking.{AsksOfBads, IsSettled, RefusesAnswer, ShowsProof, TellsOfProof, assigned}
+
+module _ (c : Circuit) (k : ℕ) (optimize : Bool) (one other : BoundedClauses)
+    (is : AsksOfBads c k optimize one) (are : AsksOfBads c k optimize other) where
+  abbrev first : Circuit
+  first = lists_circuit one.question.circuit
+
+  abbrev second : Circuit
+  second = lists_circuit other.question.circuit
+
+  same : (first ≡ second) × (is.output ≡ are.output) × (one.question.places.items ≡ other.question.places.items)
+  same = question_same c first second k is.output are.output one.question.places.items other.question.places.items is.asks are.asks
+
+  same_clauses : one.clauses ≡ other.clauses
+  same_clauses = one_list second optimize one.clauses other.clauses
+      (subst (λ c. HasClauses c optimize one.clauses) same.0 is.has_clauses) are.has_clauses
+
+  same_further : one.further ≡ other.further
+  same_further = is.exact ∙ ap (λ o. (lit_of o ∷ []) ∷ []) same.1 ∙ sym are.exact
+
+  -- the clauses and the further one are the same, and so is the circuit
+  pub clauses_same : (one.clauses ≡ other.clauses) × (one.further ≡ other.further)
+      × (lists_circuit one.question.circuit ≡ lists_circuit other.question.circuit)
+      × (one.question.places.items ≡ other.question.places.items)
+  clauses_same = (same_clauses, same_further, same.0, same.2)
+
+  settled_back : IsSettled other → IsSettled one
+  settled_back settled = subst (λ (c : Circuit). All (λ e. e ≡ edge_to 0 false) c.properties.outputs) (sym same.0) settled
+
+  settled_forth : IsSettled one → IsSettled other
+  settled_forth settled = subst (λ (c : Circuit). All (λ e. e ≡ edge_to 0 false) c.properties.outputs) same.0 settled
+
+  -- a proof's bytes show the same of both
+  shows_same : (text : Option (List ℕ)) (r : _) → Shows (length one.clauses) (clauses_in one.clauses ++ one.further) text r
+      → Shows (length other.clauses) (clauses_in other.clauses ++ other.further) text r
+  shows_same text r shows =
+      subst (λ (further : List (List Lit)). Shows (length other.clauses) (clauses_in other.clauses ++ further) text r) same_further
+      (subst (λ (lists : List (List (List Lit))). Shows (length lists) (clauses_in lists ++ one.further) text r) same_clauses shows)
+
+  shown_same : (text : Option (List ℕ)) (r : Result Unit BoundedAnswerError) → ShowsProof one text r
+      → ShowsProof other text r
+  shown_same text (Ok done) shown = shows_same text (Ok tt) shown
+  shown_same text (Err (errors.Refutation e)) shown = shows_same text (Err e) shown
+  shown_same text (Err e) shown = absurd shown
+
+  -- so what is told of a proof is told of both
+  pub told_same : {P : Type 0} (left : P → Option (List ℕ)) (p rest : P)
+      (r : Result Unit BoundedAnswerError) → TellsOfProof left one p rest r
+      → TellsOfProof left other p rest r
+  told_same left p rest r told = record {
+    settled = λ settled. told.settled (settled_back settled);
+    shown = λ unsettled. shown_same (left p) r (told.shown (λ settled. unsettled (settled_forth settled)));
+  }
+
+  -- and an answer is refused with both
+  pub refused_same : (text : Option (List ℕ)) (failed : Bool) (bads : ℕ) (e : SolutionError)
+      → RefusesAnswer text failed bads one e → RefusesAnswer text failed bads other e
+  refused_same text failed bads (solutions.Check e) refused = absurd refused
+  refused_same text failed bads solutions.NoBad (values, said, none) = (
+    values,
+    (
+      said.0 ∙ ap length same_clauses,
+      subst (λ n. IfSome text (λ bytes. solution_in n bytes ≡ Ok values)) (ap length same_clauses) said.1,
+    ),
+    λ few holds. none few (ap₂ (λ (lists : List (List (List Lit))) (further : List (List Lit)). are_true (assigned values) (clauses_in lists ++ further)) same_clauses same_further ∙ holds),
+  )
+  refused_same text failed bads e refused =
+      subst (λ n. GivesSolution text n failed (Err e)) (ap length same_clauses) refused

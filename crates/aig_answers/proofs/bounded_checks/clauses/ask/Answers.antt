@@ -1,0 +1,21 @@
+use Rattle.aig_base.proofs.Words.{sym, subst, All, AllZip}
+use Rattle.aig_bounded.specs.declared.place.Place.{Place}
+use Rattle.aig_circuit.proofs.Words.{IsLeaf}
+use Rattle.aig_answers.specs.Naming.{IsNamed}
+use Rattle.aig_answers.proofs.Asked.{encoded_question}
+use Rattle.aig_answers.proofs.bounded_checks.clauses.ask.Goals as goal
+
+pub returns-clause-asks : goal.returns-clause-asks
+returns-clause-asks c =
+    encoded_question c.args.circuit.now c.args.last c.args.optimize c.in_ok-question.question
+    c.in_ok-made.made c.in_ok-named.named.items c.in_ok-question.ensures.question (subst (λ ps.
+    AllZip (IsNamed c.args.circuit.now) ps c.in_ok-named.named.items) c.deref.ensures.value
+    c.in_ok-named.ensures) c.in_ok-made.ensures
+
+pub name_places-requires-clause-leaves : goal.name_places-requires-clause-leaves
+name_places-requires-clause-leaves c =
+    subst (All (λ (p : Place). IsLeaf c.args.circuit.now.nodes p.leaf)) (sym c.deref.ensures.value)
+    (λ i d h. (c.in_ok-question.ensures.question.1.are_places i d h).leaf)
+
+pub clauses_of-requires-clause-circuit : goal.clauses_of-requires-clause-circuit
+clauses_of-requires-clause-circuit c = c.in_ok-question.ensures.question.1.circuit

@@ -1,0 +1,13 @@
+use Rattle.aig_format.specs.Circuit.{circuit_of}
+use Rattle.aig_answers.proofs.Single.{clauses_same}
+use Rattle.aig_answers.proofs.bounded_checks.laws.bounded_clauses_are_one.Goals as goal
+
+pub returns-clause-clauses : goal.returns-clause-clauses
+returns-clause-clauses c f k optimize one other is are =
+    let same = clauses_same (circuit_of f) k optimize one other is are in
+    (same.0, same.1)
+
+pub returns-clause-places : goal.returns-clause-places
+returns-clause-places c f k optimize one other is are =
+    let same = clauses_same (circuit_of f) k optimize one other is are in
+    (same.2, same.3)

@@ -1,0 +1,15 @@
+use Rattle.aig_base.proofs.Words.{length, sym, ap, subst, ◌++◌, arith, with_items_is, All}
+use Rattle.aig_circuit.specs.Circuit.{latch_leaves}
+use Rattle.aig_answers.specs.Encoded.{HasName}
+use Rattle.aig_answers.proofs.bounded_checks.naming.leaf_names.Goals as goal
+
+pub returns-clause-named : goal.returns-clause-named
+returns-clause-named c =
+    let circuit = c.args.circuit.now in
+    let written = with_items_is c.in_ok-names.names c.name_leaves.new.names (omega (
+      arith,
+      c.in_ok-names.names.ok.0,
+      ap length c.deref_mut.ensures.value,
+    )) in
+    subst (λ names. All (HasName circuit names) (circuit.inputs ++ latch_leaves circuit.latchs))
+    (sym written) c.name_leaves.ensures

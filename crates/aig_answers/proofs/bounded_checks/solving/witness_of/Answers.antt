@@ -1,0 +1,63 @@
+use Rattle.std.proofs.Common.{◌≡◌, ◌+◌, List, length, sym, ap, subst, ◌∙◌}
+use Rattle.std.specs.Prelude.{Vec}
+use Rattle.std.specs.List.{take-map}
+use Rattle.std.specs.declared.alloc.Global.{Global}
+use Rattle.aig_base.specs.declared.logic.three.Lbool.{Lbool}
+use Rattle.aig_circuit.specs.declared.edge.AigEdge.{AigEdge}
+use Rattle.aig_circuit.proofs.Words.{Properties, lists_circuit}
+use Rattle.aig_circuit.proofs.Lists.{All-from_map}
+use Rattle.aig_cnf.proofs.Forms.{literal_value-lit_of}
+use Rattle.aig_runs.specs.Queries.{unit_clauses}
+use Rattle.aig_witness.specs.Witness.{Witness, rows_of, said_by}
+use Rattle.aig_answers.specs.Asking.{assigned}
+use Rattle.aig_answers.specs.Solving.{Begins, IsReached, WitnessWithin}
+use Rattle.aig_answers.proofs.Safe.{output_holds}
+use Rattle.aig_answers.proofs.Simulated.{known_of_reached}
+use Rattle.aig_answers.proofs.Solved.{solution_reaches}
+use Rattle.aig_answers.proofs.bounded_checks.solving.witness_of.Goals as goal
+
+pub find_bad-requires-clause-inputs : goal.find_bad-requires-clause-inputs
+find_bad-requires-clause-inputs c =
+    let circuit = lists_circuit c.args.lists.now in
+    let run = said_by c.in_ok-run.run' in
+    let begun = subst (λ d. Begins d c.args.k run) c.new.ensures c.in_ok-run.ensures.begins in
+    All-from_map (λ (row : Vec Lbool Global). row.items) (λ row. length row ≡ length
+    circuit.inputs) c.in_ok-run.run'.steps.items begun.inputs
+
+pub returns-in_default-clause-none : goal.returns-in_default-clause-none
+returns-in_default-clause-none c = λ few solution.
+    let circuit = lists_circuit c.args.lists.now in
+    let made = c.args.made.now in
+    let run = said_by c.in_ok-run.run' in
+    let begun = subst (λ d. Begins d c.args.k run) c.new.ensures c.in_ok-run.ensures.begins in
+    let e = c.requires.asks.1 in
+    let asks = lists_circuit made.question.circuit in
+    let exact = e.encoded.exact ∙ ap (λ (p : Properties AigEdge). unit_clauses p.outputs)
+    e.asks.properties in
+    let none = subst (IsReached circuit run.state run.steps) c.in_default.is
+    c.in_ok-reached.ensures in
+    let values = c.args.values.now in
+    solution_reaches circuit c.requires.circuit c.requires.closed c.args.k run begun asks e.output
+    made.question.places.items made.named.items values e.asks e.named c.in_ok-run.ensures.said
+    few none
+    (output_holds asks made e.output e.encoded.fixes e.asks.properties exact literal_value-lit_of
+    (assigned values) solution)
+
+pub returns-clause-known : goal.returns-clause-known
+returns-clause-known c =
+    let circuit = lists_circuit c.args.lists.now in
+    let run : Witness = said_by c.in_ok-run.run' in
+    let begun = subst (λ d. Begins d c.args.k run) c.new.ensures c.in_ok-run.ensures.begins in
+    let found = c.in-Some.reached in
+    let reached = subst (IsReached circuit run.state run.steps) c.in-Some.is
+    c.in_ok-reached.ensures in
+    let items = λ (row : Vec Lbool Global). row.items in
+    let steps = ap rows_of c.truncate.ensures.items ∙ sym (take-map items (found.step + 1)
+    c.in_ok-run.run'.steps.items) in
+    let made : List (List Lbool) → Witness = λ rows. record {
+      bad = found.bad;
+      state = run.state;
+      steps = rows;
+    } in
+    subst (λ rows. WitnessWithin circuit c.args.k (made rows)) (sym steps) (known_of_reached
+    circuit c.args.k run begun found.step found.bad reached.0 reached.1 reached.2)

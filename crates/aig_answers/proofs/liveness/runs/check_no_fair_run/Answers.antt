@@ -1,0 +1,57 @@
+use Rattle.aig_base.proofs.Words.{Ok, Err, refl, err_from_is_err_and}
+use Rattle.aig_circuit.specs.View.{lists_circuit}
+use Rattle.aig_edits.proofs.Again.{again_closed, again_starts}
+use Rattle.aig_edits.proofs.ReadFiles.{file_on}
+use Rattle.aig_answers.specs.declared.liveness.error.LivenessError.TheVariants as errors
+use Rattle.aig_answers.specs.Liveness.{HasNoRun, IsOwn, verdict_of}
+use Rattle.aig_answers.proofs.Lasting.{no_run}
+use Rattle.aig_answers.proofs.liveness.runs.check_no_fair_run.Goals as goal
+
+pub returns-in_err-live-clause-reads : goal.returns-in_err-live-clause-reads
+returns-in_err-live-clause-reads g c =
+    let p = err_from_is_err_and c.from_residual.result c.from_residual.ensures.1 in
+    let e = c.in_err-live.field-0.0 in
+    let told = c.in_err-live.ensures.reads in
+    rw (p.1, p.2) (file_on g.R.Source.left g.R.Source.failed c.args.limit c.args.r.now _
+    (HasNoRun g.P.Source.left g.Q.Source.left c.args.limit c.args.j c.args.k c.args.base_optimize
+    c.args.form c.args.step_optimize c.args.base.now c.args.base.now c.args.step.now) verdict_of
+    IsOwn (Err (errors.Live e)) told refl told.own (λ f fits refused. refused))
+
+pub check_safe_of-requires-clause-closed : goal.check_safe_of-requires-clause-closed
+check_safe_of-requires-clause-closed g c =
+    let live = (c.in_ok-live.ensures.reads.answer refl).means in
+    again_closed (lists_circuit c.in_ok-live.live) live.again
+
+pub check_safe_of-requires-clause-starts : goal.check_safe_of-requires-clause-starts
+check_safe_of-requires-clause-starts g c =
+    let live = (c.in_ok-live.ensures.reads.answer refl).means in
+    again_starts (lists_circuit c.in_ok-live.live) live.again
+
+pub returns-in_err-check_safe_of-clause-reads : goal.returns-in_err-check_safe_of-clause-reads
+returns-in_err-check_safe_of-clause-reads g c =
+    let p = err_from_is_err_and c.from_residual-in_err-check_safe_of.result
+    c.from_residual-in_err-check_safe_of.ensures.1 in
+    let e = c.in_err-check_safe_of.field-0.0 in
+    let told = c.in_err-check_safe_of.ensures in
+    rw (p.1, p.2) (file_on g.R.Source.left g.R.Source.failed c.args.limit c.args.r.now _
+    (HasNoRun g.P.Source.left g.Q.Source.left c.args.limit c.args.j c.args.k c.args.base_optimize
+    c.args.form c.args.step_optimize c.args.base.now _ c.args.step.now) verdict_of IsOwn
+    (Err (errors.Safety e)) c.in_ok-live.ensures.reads refl told.own
+    (λ f fits live. (
+      lists_circuit c.in_ok-live.live,
+      live,
+      record { said = told.said; large = told.large; shown = told.shown },
+    )))
+
+pub returns-clause-reads : goal.returns-clause-reads
+returns-clause-reads g c =
+    let m = lists_circuit c.in_ok-live.live in
+    let told = c.in_ok-check_safe_of.ensures in
+    file_on g.R.Source.left g.R.Source.failed c.args.limit c.args.r.now _
+    (HasNoRun g.P.Source.left g.Q.Source.left c.args.limit c.args.j c.args.k c.args.base_optimize
+    c.args.form c.args.step_optimize c.args.base.now _ c.args.step.now) verdict_of IsOwn (Ok tt)
+    c.in_ok-live.ensures.reads refl tt
+    (λ f fits live. (
+      no_run c.args.j f m live c.fair_runs_are_lassos.ensures told.answer,
+      (m, live, record { said = told.said; large = told.large; shown = told.shown }),
+    ))

@@ -1,0 +1,171 @@
+//! The clauses of a bounded check.
+
+ghost use Rattle.std.specs.Prelude.{◌≡◌, ◌↔◌, ◌<◌, ◌≤◌, ◌^◌, All, IfErr, IfOk, IsErrOf, IsTrue, length};
+ghost use Rattle.aig_base.specs.Clauses.{AreBelow};
+ghost use Rattle.aig_circuit.specs.Circuit.{IsCircuit, IsClosed};
+ghost use Rattle.aig_circuit.specs.Edges.{HasConstantInit};
+ghost use Rattle.aig_runs.specs.Queries.{unit_clauses};
+ghost use Rattle.aig_circuit.specs.View.{lists_circuit};
+ghost use Rattle.aig_reader.specs.Reading.{IsReadAs};
+ghost use Rattle.aig_reader.specs.Verdicts.{Judges, verdict_by};
+ghost use Rattle.aig_bounded.specs.Question.{question_size};
+ghost use Rattle.aig_answers.specs.Asking.{AsksBounded, IsAskedWithin, IsOfQuestion, IsSaidOfBads, IsSettled, TellsOfSize, bounded_verdict, verdict_of};
+ghost use Rattle.aig_answers.specs.Encoded.{IsEncoded, IsEncodedQuestion};
+
+use crate::bounded_checks::error::BoundedAnswerError;
+use crate::bounded_checks::naming::{Named, name_places};
+use aig_base::{DagCnf, LitVvec, MemoryError, Source};
+use aig_bounded::{BoundedError, Question, bounded_question};
+use aig_circuit::{CircuitLists, CircuitView};
+use aig_cnf::encode;
+use aig_reader::read;
+use aig_runs::push_units;
+use std::alloc::Global;
+
+/// The clauses of a bounded check.
+pub struct BoundedClauses {
+    /// The question.
+    pub question: Question,
+    /// What its inputs stand for, one for one.
+    pub named: Vec<Named>,
+    /// The clauses of its circuit.
+    pub clauses: DagCnf,
+    /// The clause that its output is true.
+    pub further: LitVvec,
+}
+
+impl Drop for BoundedClauses {
+    fn drop(self) {
+        let BoundedClauses {
+            question: _,
+            named: _,
+            clauses: _,
+            further: _,
+        } = self;
+    }
+}
+
+impl BoundedClauses {
+    /// Returns whether the question is settled: its output is the constant false, so that no bad state is reached, and no
+    /// proof is needed.
+    pub fn is_settled(&self) -> bool
+        // Exactly where each output of the question's circuit is the constant false.
+        ensures { IsTrue result ↔ IsSettled self.now }
+    {
+        self.question
+            .circuit
+            .properties
+            .outputs
+            .iter()
+            .all(|e| e.is_constant(false))
+    }
+}
+
+/// The clause that the output of a question is true.
+fn output_clauses(alloc: Global, circuit: &CircuitView<'_>) -> Result<LitVvec, MemoryError>
+    requires { length circuit.now.nodes ≤ 2 ^ 31 }
+    ensures { IfOk result (λ further. further ≡ unit_clauses circuit.now.properties.outputs) }
+{
+    let mut further = LitVvec::new(alloc);
+    push_units(&mut further, circuit.outputs())?;
+    Ok(further)
+}
+
+/// The clauses of a question, with the names of its inputs.
+fn clauses_of(
+    alloc: Global,
+    question: Question,
+    named: Vec<Named>,
+    optimize: bool,
+) -> Result<BoundedClauses, MemoryError>
+    requires circuit { IsCircuit (lists_circuit question.circuit) }
+    requires few { length question.circuit.nodes.items ≤ 2 ^ 31 }
+    ensures { IfOk result (IsEncoded question named.items optimize) }
+{
+    let further = output_clauses(alloc, &CircuitView::new(&question.circuit))?;
+    let clauses = encode(alloc, &CircuitView::new(&question.circuit), optimize)?;
+    Ok(BoundedClauses {
+        question,
+        named,
+        clauses,
+        further,
+    })
+}
+
+/// The clauses of the question of a circuit for the steps 0 to `last`.
+fn ask(
+    alloc: Global,
+    circuit: &CircuitView<'_>,
+    limit: usize,
+    last: usize,
+    optimize: bool,
+) -> Result<BoundedClauses, BoundedError>
+    requires closed { IsClosed circuit.now }
+    requires starts { All HasConstantInit circuit.now.latchs }
+    requires some { 1 ≤ limit }
+    requires few { limit ≤ 2 ^ 31 }
+    ensures asks { IfOk result (IsEncodedQuestion circuit.now last optimize) }
+    ensures large { IsErrOf result BoundedError.TooLarge → limit < question_size circuit.now last }
+{
+    let question = bounded_question(alloc, circuit, last, limit)?;
+    let named = name_places(alloc, circuit, &question.places)?;
+    let made = clauses_of(alloc, question, named, optimize)?;
+    Ok(made)
+}
+
+/// The clauses of the question of a circuit, unless nothing is asked of it.
+pub(crate) fn ask_lists(
+    alloc: Global,
+    lists: &CircuitLists,
+    limit: usize,
+    last: usize,
+    optimize: bool,
+) -> Result<BoundedClauses, BoundedAnswerError>
+    requires circuit { IsCircuit (lists_circuit lists.now) }
+    requires closed { IsClosed (lists_circuit lists.now) }
+    requires starts { All HasConstantInit lists.now.latchs.items }
+    requires some { 1 ≤ limit }
+    requires few { limit ≤ 2 ^ 31 }
+    ensures asks { IfOk result (IsEncodedQuestion (lists_circuit lists.now) last optimize) }
+    ensures said { IsSaidOfBads lists.now.properties.bads.items (verdict_by verdict_of result) }
+    ensures own { IfErr result IsOfQuestion }
+    ensures large { IsErrOf result (BoundedAnswerError.Question BoundedError.TooLarge)
+        → limit < question_size (lists_circuit lists.now) last }
+{
+    if lists.properties.bads.is_empty() {
+        return Err(BoundedAnswerError::NoBads);
+    }
+    let made = ask(alloc, &CircuitView::new(lists), limit, last, optimize)?;
+    Ok(made)
+}
+
+/// Reads a circuit from the bytes of an AIGER file, and makes the clauses of one question: whether some bad state is
+/// reached, within the constraints, at a step from 0 to `k` on a run from an initial state. The further clause is that the
+/// question's output is true. A file without bad state properties is refused, as nothing is asked of it. Requires
+/// `1 <= limit <= 2^31`.
+pub fn bounded<R: Source>(
+    alloc: Global,
+    r: &mut R,
+    limit: usize,
+    k: usize,
+    optimize: bool,
+) -> Result<BoundedClauses, BoundedAnswerError>
+    requires some { 1 ≤ limit }
+    requires few { limit ≤ 2 ^ 31 }
+    // The bytes that were read are a file within the limit, with a bad literal, and the clauses are those of its question.
+    ensures answer { IfOk result (IsReadAs (IsAskedWithin limit) (λ f. AsksBounded f k optimize)
+        (R.left r.old) (R.left r.new)) }
+    // The further clause is of variables that are there.
+    ensures below { IfOk result (λ made. AreBelow (length made.clauses) made.further) }
+    // A file is refused exactly where it isn't within the limit or has no bad literal, and a refusal says why.
+    ensures verdict { Judges bounded_verdict limit (R.left r.old) (R.left r.new) (R.failed r.new)
+        (verdict_by verdict_of result) }
+    ensures own { IfErr result IsOfQuestion }
+    // A question is too large only where its bound passes the limit.
+    ensures large { IfErr result (TellsOfSize limit (λ c. question_size c k)
+        (R.left r.old) (R.left r.new)) }
+{
+    let lists = read(alloc, r, limit)?;
+    let made = ask_lists(alloc, &lists, limit, k, optimize)?;
+    Ok(made)
+}

@@ -1,0 +1,268 @@
+//! Whether a circuit's machine reaches no bad state at any step, by a proof for each of the first ones.
+
+ghost use Rattle.std.specs.Prelude.{◌≡◌, ◌≢◌, ◌+◌, ◌<◌, ◌≤◌, ◌^◌, ℕ, IfErr, IfOk, IsErrOf, IsTrue, OnOk, length, slice_get};
+ghost use Rattle.aig_answers.specs.Answers as answering;
+ghost use Rattle.aig_answers.specs.Answers.{IsAsked, IsCircuitOf, IsCircuitQuery, IsSaidBy, TellsOfCircuit, circuit_window_verdict, query_with, window_verdict};
+ghost use Rattle.aig_answers.specs.declared.error.AnswerError.TheVariants as answers;
+ghost use Rattle.aig_circuit.specs.Circuit.{Circuit, IsCircuit};
+ghost use Rattle.aig_circuit.specs.View.{lists_circuit};
+ghost use Rattle.aig_format.specs.File.{File};
+ghost use Rattle.aig_format.specs.Fits.{Fits};
+ghost use Rattle.aig_reader.specs.Reading.{IsReadAs};
+ghost use Rattle.aig_reader.specs.Verdicts.{Accepted, Judges, verdict_by};
+ghost use Rattle.aig_runs.specs.Queries.{IsSafeTo};
+ghost use Rattle.aig_runs.specs.Safety.{IsCircuitSafeAt};
+ghost use Rattle.aig_unroll.specs.Places.{unrolled_size};
+ghost use Rattle.aig_answers.specs.Bases.{IsOfBases, ShowBases};
+ghost use Rattle.aig_answers.specs.Safety.{IsOfStep};
+ghost use Rattle.aig_answers.specs.Steps.{HasAt, IsOfProofs, IsOwn, LeavesBase, LeavesStep, Show, ShowCircuit, verdict_of};
+ghost use Rattle.aig_answers.specs.declared.safety.error.StepsError.TheVariants as errors;
+
+use crate::safety::error::StepsError;
+use crate::{
+    AnswerError, Window, WindowClauses, check_window_of, check_window_room,
+    circuit_clauses_are_one, refute, unrolled_query,
+};
+use aig_base::{MemoryError, Source};
+use aig_circuit::{CircuitLists, CircuitView};
+use aig_reader::read;
+use aig_refutation::RefutationError;
+use aig_runs::{
+    Unrolled, circuit_witnesses_are_file_witnesses, clauses_are_file_runs, encodings_are_one,
+    inductive_windows_are_safe, refuted_circuit_queries_have_no_witness,
+    safe_circuits_are_safe_machines, safe_steps_are_safe,
+};
+use std::alloc::Global;
+
+/// The clauses of a circuit's query for a step.
+fn ask_at(
+    alloc: Global,
+    circuit: &CircuitView<'_>,
+    step: usize,
+    optimize: bool,
+) -> Result<WindowClauses, MemoryError>
+    requires circuit { IsCircuit circuit.now }
+    requires room { unrolled_size circuit.now step ≤ 2 ^ 31 }
+    ensures { IfOk result (λ made. (unrolled : Circuit)
+        × IsCircuitQuery circuit.now step optimize (query_with unrolled made)) }
+{
+    let asked = Unrolled::new(circuit.to_lists()?, step)?;
+    unrolled_query(alloc, &asked, optimize)
+}
+
+/// Checks a proof that the clauses of a circuit's query for a step can't be satisfied.
+fn check_at<P: Source>(
+    alloc: Global,
+    circuit: &CircuitView<'_>,
+    step: usize,
+    optimize: bool,
+    proof: &mut P,
+) -> Result<(), AnswerError>
+    requires circuit { IsCircuit circuit.now }
+    requires room { unrolled_size circuit.now step ≤ 2 ^ 31 }
+    ensures answer { OnOk result (IsCircuitSafeAt circuit.now step) }
+    ensures said { IsSaidBy Accepted (verdict_by answering.verdict_of result) }
+    ensures own { IfErr result IsOfStep }
+    ensures unread { verdict_by answering.verdict_of result ≢ Accepted → proof.new ≡ proof.old }
+    ensures shown { verdict_by answering.verdict_of result ≡ Accepted
+        → TellsOfCircuit step optimize (P.left proof.old) circuit.now result }
+    ensures stream { IsErrOf result (AnswerError.Refutation RefutationError.Stream)
+        → IsTrue (P.failed proof.new) }
+{
+    refuted_circuit_queries_have_no_witness();
+    circuit_clauses_are_one();
+    let made = ask_at(alloc, circuit, step, optimize)?;
+    refute(alloc, &made.clauses, &made.further, proof)
+}
+
+/// Checks a proof for each of the steps from 0 on, up to the first that is refused.
+fn check_each<P: Source>(
+    alloc: Global,
+    circuit: &CircuitView<'_>,
+    optimize: bool,
+    bases: &mut [P],
+) -> Result<(), StepsError>
+    requires circuit { IsCircuit circuit.now }
+    requires room { (n : ℕ) → n < length bases.old → unrolled_size circuit.now n ≤ 2 ^ 31 }
+    ensures answer { OnOk result
+        ((n : ℕ) → n < length bases.old → IsCircuitSafeAt circuit.now n) }
+    ensures said { IsSaidBy Accepted (verdict_by verdict_of result) }
+    ensures own { IfErr result (IsOfBases (length bases.old)) }
+    ensures shown { verdict_by verdict_of result ≡ Accepted → ShowBases P.left
+        (λ n text. TellsOfCircuit n optimize text circuit.now) bases.old result }
+    ensures unread { (n : ℕ) → LeavesBase n result
+        → slice_get bases.new n ≡ slice_get bases.old n }
+    ensures stream { (n : ℕ) → let e = answers.Refutation RefutationError.Stream in
+        IsErrOf result (errors.At n e) → HasAt bases.new n (λ p. IsTrue (P.failed p)) }
+{
+    for (step, base) in bases.iter_mut().enumerate() {
+        if let Err(error) = check_at(alloc, circuit, step, optimize, base) {
+            return Err(StepsError::At { step, error });
+        }
+    }
+    Ok(())
+}
+
+/// Checks the proofs of a circuit that has room for its window.
+fn check_all<P: Source, Q: Source>(
+    alloc: Global,
+    circuit: CircuitLists,
+    limit: usize,
+    k: usize,
+    base_optimize: bool,
+    bases: &mut [P],
+    form: Window,
+    step_optimize: bool,
+    step: &mut Q,
+) -> Result<(), StepsError>
+    requires circuit { IsCircuit (lists_circuit circuit) }
+    requires few { limit ≤ 2 ^ 31 }
+    requires steps { k < 2 ^ 32 }
+    requires each { length bases.old ≡ k + 1 }
+    requires room { circuit_window_verdict form limit k (lists_circuit circuit) ≡ Accepted }
+    ensures answer { OnOk result ((f : File) (bound : ℕ) → Fits f bound
+        → IsCircuitOf f (lists_circuit circuit) → (n : ℕ) → IsSafeTo f n) }
+    ensures said { IsSaidBy Accepted (verdict_by verdict_of result) }
+    ensures own { IfErr result (IsOfProofs k) }
+    ensures shown { verdict_by verdict_of result ≡ Accepted → ShowCircuit P.left Q.left k
+        base_optimize form step_optimize bases.old step.old (lists_circuit circuit) result }
+    ensures base_unread { (n : ℕ) → LeavesBase n result
+        → slice_get bases.new n ≡ slice_get bases.old n }
+    ensures step_unread { LeavesStep result → step.new ≡ step.old }
+    ensures base_stream { (n : ℕ)
+        → IsErrOf result (errors.At n (answers.Refutation RefutationError.Stream))
+        → HasAt bases.new n (λ p. IsTrue (P.failed p)) }
+    ensures step_stream { IsErrOf result (errors.Step (answers.Refutation RefutationError.Stream))
+        → IsTrue (Q.failed step.new) }
+{
+    safe_circuits_are_safe_machines();
+    safe_steps_are_safe();
+    inductive_windows_are_safe();
+    check_each(alloc, &CircuitView::new(&circuit), base_optimize, bases)?;
+    match check_window_of(alloc, circuit, limit, k, step_optimize, form, step) {
+        Ok(()) => Ok(()),
+        Err(error) => Err(StepsError::Step(error)),
+    }
+}
+
+/// Checks proofs as `check_safe_by_steps` does, of a circuit. Then no run of the machine of a file whose circuit it is, names aside,
+/// from an initial state, on which every constraint holds, reaches a bad state at any step.
+///
+/// # Errors
+///
+/// - `File`: the circuit has no bad edge, or its window may pass the limit. No proof is read.
+/// - `At`: memory ran out for the query of a step, or its proof is refused. None after it is read, nor `step`.
+/// - `Step`: memory ran out for the window, or `step` is refused.
+pub fn check_safe_by_steps_of<P: Source, Q: Source>(
+    alloc: Global,
+    circuit: CircuitLists,
+    limit: usize,
+    k: usize,
+    base_optimize: bool,
+    bases: &mut [P],
+    form: Window,
+    step_optimize: bool,
+    step: &mut Q,
+) -> Result<(), StepsError>
+    requires circuit { IsCircuit (lists_circuit circuit) }
+    requires few { limit ≤ 2 ^ 31 }
+    requires steps { k < 2 ^ 32 }
+    requires each { length bases.old ≡ k + 1 }
+    // No bad state is reached at any step by the machine of a file whose circuit it is.
+    ensures answer { OnOk result ((f : File) (bound : ℕ) → Fits f bound
+        → IsCircuitOf f (lists_circuit circuit) → (n : ℕ) → IsSafeTo f n) }
+    // A circuit is refused exactly where it has no bad edge or no room, and a refusal says why.
+    ensures said { IsSaidBy (circuit_window_verdict form limit k (lists_circuit circuit))
+        (verdict_by verdict_of result) }
+    ensures own { IfErr result (IsOwn k) }
+    // Of a circuit that is taken, the result is what the texts of the proofs show of the clauses of its queries and of its window.
+    ensures shown { verdict_by verdict_of result ≡ Accepted → ShowCircuit P.left Q.left k
+        base_optimize form step_optimize bases.old step.old (lists_circuit circuit) result }
+    // No proof is read after one that is refused, nor of a circuit that is.
+    ensures base_unread { (n : ℕ) → LeavesBase n result
+        → slice_get bases.new n ≡ slice_get bases.old n }
+    ensures step_unread { LeavesStep result → step.new ≡ step.old }
+    // Stream only where a read failed in this call.
+    ensures base_stream { (n : ℕ)
+        → IsErrOf result (errors.At n (answers.Refutation RefutationError.Stream))
+        → HasAt bases.new n (λ p. IsTrue (P.failed p)) }
+    ensures step_stream { IsErrOf result (errors.Step (answers.Refutation RefutationError.Stream))
+        → IsTrue (Q.failed step.new) }
+{
+    check_window_room(&CircuitView::new(&circuit), limit, k, form)?;
+    check_all(
+        alloc,
+        circuit,
+        limit,
+        k,
+        base_optimize,
+        bases,
+        form,
+        step_optimize,
+        step,
+    )
+}
+
+/// Reads a circuit from the bytes of an AIGER file, and checks `k + 2` proofs, in the LRAT or the DRAT format: the `n`-th of `bases`,
+/// from 0 on, that the clauses of its query for step `n` can't be satisfied, as `check_step` does, and `step`, that those of its window
+/// of `k + 2` steps can't, as `check_window` does. All of `bases` have one setting. Then no run of the file's machine from an initial
+/// state, on which every constraint holds, reaches a bad state at any step. Requires `1 <= limit <= 2^31`.
+///
+/// # Errors
+///
+/// - `File`: the file is refused, it has no bad state property, or its window may pass the limit. No proof is read.
+/// - `At`: memory ran out for the query of a step, or its proof is refused. None after it is read, nor `step`.
+/// - `Step`: memory ran out for the window, or `step` is refused.
+pub fn check_safe_by_steps<R: Source, P: Source, Q: Source>(
+    alloc: Global,
+    r: &mut R,
+    limit: usize,
+    k: usize,
+    base_optimize: bool,
+    bases: &mut [P],
+    form: Window,
+    step_optimize: bool,
+    step: &mut Q,
+) -> Result<(), StepsError>
+    requires some { 1 ≤ limit }
+    requires few { limit ≤ 2 ^ 31 }
+    requires steps { k < 2 ^ 32 }
+    requires each { length bases.old ≡ k + 1 }
+    // The bytes that were read are a file within the limit, with a bad literal, whose machine reaches no bad state at any step.
+    ensures answer { IfOk result (IsReadAs (IsAsked limit (k + 1))
+        (λ f _. (n : ℕ) → IsSafeTo f n) (R.left r.old) (R.left r.new)) }
+    // A file is refused exactly where it isn't within the limit, has no bad literal or has no room, and a refusal says why.
+    ensures verdict { Judges (window_verdict form limit k) limit (R.left r.old) (R.left r.new)
+        (R.failed r.new) (verdict_by verdict_of result) }
+    ensures own { IfErr result (IsOwn k) }
+    // Of a file that is taken, the result is what the texts of the proofs show of the clauses of its queries and of its window.
+    ensures shown { verdict_by verdict_of result ≡ Accepted → IsReadAs (IsAsked limit (k + 1))
+        (Show P.left Q.left k base_optimize form step_optimize bases.old step.old)
+        (R.left r.old) (R.left r.new) result }
+    // No proof is read after one that is refused, nor of a file that is.
+    ensures base_unread { (n : ℕ) → LeavesBase n result
+        → slice_get bases.new n ≡ slice_get bases.old n }
+    ensures step_unread { LeavesStep result → step.new ≡ step.old }
+    // Stream only where a read failed in this call.
+    ensures base_stream { (n : ℕ)
+        → IsErrOf result (errors.At n (answers.Refutation RefutationError.Stream))
+        → HasAt bases.new n (λ p. IsTrue (P.failed p)) }
+    ensures step_stream { IsErrOf result (errors.Step (answers.Refutation RefutationError.Stream))
+        → IsTrue (Q.failed step.new) }
+{
+    clauses_are_file_runs();
+    circuit_witnesses_are_file_witnesses();
+    encodings_are_one();
+    let circuit = read(alloc, r, limit)?;
+    check_safe_by_steps_of(
+        alloc,
+        circuit,
+        limit,
+        k,
+        base_optimize,
+        bases,
+        form,
+        step_optimize,
+        step,
+    )
+}

@@ -1,9 +1,0 @@
-mod Safe
-mod Single
-mod Asked
-mod Names
-mod Saying
-mod Simulated
-mod Solved
-mod Verdicts
-mod Refuted

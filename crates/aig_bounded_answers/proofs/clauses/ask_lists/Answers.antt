@@ -1,6 +1,0 @@
-use Rattle.std.proofs.Common.{sym, subst}
-use Rattle.aig_circuit.specs.Circuit.{IsClosed}
-use Rattle.aig_bounded_answers.proofs.clauses.ask_lists.Goals as goal
-
-pub ask-requires-clause-closed : goal.ask-requires-clause-closed
-ask-requires-clause-closed c = subst IsClosed (sym c.new.ensures) c.requires.closed

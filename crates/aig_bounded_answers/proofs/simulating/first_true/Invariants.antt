@@ -1,9 +1,0 @@
-use Rattle.aig_base.proofs.Words.{◌≢◌, ℕ, ◌<◌, false, slice_index_or}
-use Rattle.aig_base.specs.declared.logic.three.Lbool.TheVariants.{TRUE}
-use Rattle.aig_circuit.specs.Edge.{edge_to}
-use Rattle.aig_ternary.specs.Ternary.{value_in}
-use Rattle.aig_bounded_answers.proofs.simulating.first_true.Given as goal
-
-abbrev pub invariant-loop-i : goal.invariant-loop-i
-invariant-loop-i l = (k : ℕ) → k < l.i → value_in l.simulator (slice_index_or l.edges k (edge_to 0
-    false)) ≢ TRUE

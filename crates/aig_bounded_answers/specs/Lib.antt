@@ -1,4 +1,0 @@
-pub mod Asking
-pub mod Encoded
-pub mod Naming
-pub mod Solving

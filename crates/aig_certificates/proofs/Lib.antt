@@ -1,4 +1,0 @@
-pub mod Telling
-pub mod Answering
-mod Naming
-mod Mitered

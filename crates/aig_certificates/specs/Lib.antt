@@ -1,3 +1,0 @@
-pub mod Certificates
-pub mod Comparing
-pub mod Parts

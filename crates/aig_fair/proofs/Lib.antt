@@ -1,5 +1,0 @@
-mod States
-mod Marks
-mod Lassos
-mod Exact
-mod Nexts

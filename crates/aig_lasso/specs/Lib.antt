@@ -1,4 +1,0 @@
-pub mod Met
-pub mod Saving
-pub mod Turning
-pub mod Rounds

@@ -1,3 +1,0 @@
-pub mod Bases
-pub mod Safety
-pub mod Steps

@@ -1,6 +1,0 @@
-use Rattle.std.proofs.Common.{take}
-use Rattle.aig_sharing.specs.Marked.{MarksNodes}
-use Rattle.aig_sharing.proofs.marks.mark_nodes.Given as goal
-
-abbrev pub invariant-loop-n : goal.invariant-loop-n
-invariant-loop-n l = MarksNodes (take l.n-index l.nodes) l.initial.marks l.marks

@@ -1,9 +1,0 @@
-use Rattle.std.proofs.Common.{take}
-use Rattle.aig_circuit.specs.View.{names_of}
-use Rattle.aig_sharing.specs.Marked.{AddsNamed, IsAt}
-use Rattle.aig_sharing.proofs.naming.push_named.Given as goal
-
-abbrev pub invariant-loop-leaf : goal.invariant-loop-leaf
-invariant-loop-leaf l =
-    AddsNamed (names_of l.names.entries) (take l.leaf-index l.leaves) (IsAt l.marks)
-    l.fn.shared.items l.shared.items l.taken

@@ -1,0 +1,97 @@
+-- Part of what is promised.
+-- Which leaves of a witness circuit stand for leaves of a model. (Certificates of the hardware
+-- model checking competition: by the symbol table of the witness circuit, where a name is `= ` and
+-- a literal of the model; with no such name by order.)
+use Rattle.std.specs.Prelude.{◌≡◌, ◌≢◌, ℕ, ◌*◌, ◌⊎◌, codes, Some, List, ◌++◌, map, All, AllPairs, Contains}
+use Rattle.std.specs.List.{zip}
+use Rattle.std.specs.FinMap.{FinMap, get}
+use Rattle.std.specs.Ordering.{nat_cmp}
+use Rattle.aig_circuit.specs.Circuit.{Circuit, latch_leaves}
+use Rattle.aig_format.specs.Text.{IsNumber}
+use Rattle.aig_simulation.specs.Simulation.{IsSharing, Sharing}
+use Rattle.aig_simulation.specs.declared.sharing.error.SharingError.{SharingError}
+use Rattle.aig_simulation.specs.declared.sharing.error.SharingError.TheVariants as errors
+
+-- ---- names
+
+-- names of nodes, by their bytes
+abbrev pub Names : Type 0
+Names = FinMap nat_cmp (List ℕ)
+
+-- what stands before the literal
+abbrev pub sharing_prefix : List ℕ
+sharing_prefix = codes "= "
+
+-- the text begins so
+abbrev pub HasForm : List ℕ → Type 0
+HasForm text = (rest : List ℕ) × (text ≡ sharing_prefix ++ rest)
+
+-- it is so, and then the literal of node m: twice its number
+abbrev pub IsFor : ℕ → List ℕ → Type 0
+IsFor m text = (digits : List ℕ) × (text ≡ sharing_prefix ++ digits) × IsNumber (2 * m) digits
+
+-- the name of node n is so
+abbrev pub IsNamed : (List ℕ → Type 0) → Names → ℕ → Type 0
+IsNamed P names n = (text : List ℕ) × (get names n ≡ Some text) × P text
+
+-- ---- the leaves that are shared
+
+-- Each pair is of a leaf for which P holds and one of these whose name has its literal, and each of
+-- these whose name has the form is in a pair.
+pub record AreNamed (names : Names) (leaves : List ℕ) (P : ℕ → Type 0) (pairs : Sharing) : Type 0
+  where
+    pub each : All (λ p. IsNamed (IsFor p.0) names p.1 × P p.0 × Contains leaves p.1) pairs
+    pub all : (n : ℕ) → Contains leaves n → IsNamed HasForm names n
+        → Contains (map (λ p. p.1) pairs) n
+
+-- by their names: inputs stand for inputs, latches for latches, none stands for two, and no two for
+-- one
+pub record SharesByName (model witness : Circuit) (shared : Sharing) : Type 0 where
+  pub inputs : Sharing
+  pub latches : Sharing
+  pub pairs : shared ≡ inputs ++ latches
+  pub named_inputs : AreNamed witness.names witness.inputs (Contains model.inputs) inputs
+  pub named_latches : AreNamed witness.names (latch_leaves witness.latchs)
+      (Contains (latch_leaves model.latchs)) latches
+  pub once : AllPairs (λ m n. m ≢ n) (map (λ p. p.0) shared)
+  pub sharing : IsSharing shared
+
+-- no name of an input or a latch has the form
+abbrev pub HasNoForm : Circuit → Type 0
+HasNoForm c =
+    All (λ n. ¬ IsNamed HasForm c.names n) (c.inputs ++ latch_leaves c.latchs)
+
+-- by order: the first inputs, and the first latches, as many as both have
+abbrev pub in_order : Circuit → Circuit → Sharing
+in_order model witness =
+    zip model.inputs witness.inputs
+    ++ zip (latch_leaves model.latchs) (latch_leaves witness.latchs)
+
+-- which leaves are shared: by their names, and where none has the form, by order
+abbrev pub Shares : Circuit → Circuit → Sharing → Type 0
+Shares model witness shared =
+    ((¬ HasNoForm witness) × SharesByName model witness shared)
+    ⊎ (HasNoForm witness × (shared ≡ in_order model witness))
+
+-- ---- why none are
+
+-- the leaf's name has the form, but the literal of no leaf for which P holds
+abbrev pub IsUnknown : Names → (ℕ → Type 0) → ℕ → Type 0
+IsUnknown names P n = IsNamed HasForm names n × ((m : ℕ) → P m → ¬ IsNamed (IsFor m) names n)
+
+-- another of these leaves has the literal of one that leaf n has
+abbrev pub IsTwice : Names → List ℕ → ℕ → Type 0
+IsTwice names leaves n =
+    (m : ℕ) × (k : ℕ) × Contains leaves k × (k ≢ n) × IsNamed (IsFor m) names k
+    × IsNamed (IsFor m) names n
+
+-- what an error says
+abbrev pub IsFault : Circuit → Circuit → SharingError → Type 0
+IsFault model witness errors.Memory = Unit {0}
+IsFault model witness (errors.Unknown n) =
+    (Contains witness.inputs n × IsUnknown witness.names (Contains model.inputs) n)
+    ⊎ (Contains (latch_leaves witness.latchs) n
+    × IsUnknown witness.names (Contains (latch_leaves model.latchs)) n)
+IsFault model witness (errors.Twice n) =
+    Contains (witness.inputs ++ latch_leaves witness.latchs) n
+    × IsTwice witness.names (witness.inputs ++ latch_leaves witness.latchs) n

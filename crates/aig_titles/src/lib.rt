@@ -1,8 +1,0 @@
-//! The title of printed clauses: what they ask, and a sum of the bytes of each file that they are of.
-#![tactic(auto)]
-
-mod summed;
-mod title;
-
-pub use summed::Summed;
-pub use title::{Question, Title, write_title};
