@@ -1,4 +1,5 @@
-//! Answers about the machine of an AIGER file: from the bytes of the file and of a proof that is checked.
+//! Answers about the machines of AIGER files, from the bytes of files and of proofs that are checked: about a step, all steps up to one,
+//! every step, two machines, and justice properties.
 #![tactic(auto)]
 
 mod asks;

@@ -1,5 +1,5 @@
 //! Small callers of the library, as a crate above it writes them: their proofs cite public clauses and laws alone. A law that joins
-//! `aigedit` to `aigtool` and `aigcheck`.
+//! `aigedit` to `aigtool` and `aigcheck`. Tests of the library's calls on circuits, and of these callers.
 #![tactic(auto)]
 
 mod callers;

@@ -1,4 +1,4 @@
-//! The commands of `aigcheck`: which words give them, and what they do with the bytes of files.
+//! The commands of `aigcheck`: which words give them, what they do with the bytes of files, and the title of what they print.
 #![tactic(auto)]
 
 mod about;

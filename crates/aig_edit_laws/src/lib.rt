@@ -1,4 +1,5 @@
-//! Laws of what edits make of a circuit: what the machine of a written file shows of the machine of the file that was read.
+//! Laws of what edits make of a circuit: what the machine of a written file shows of the machine of the file that was read. Laws of fair
+//! runs, fair lassos and rounds.
 #![tactic(auto)]
 
 mod fair;

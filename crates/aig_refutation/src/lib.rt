@@ -1,4 +1,4 @@
-//! Checks proofs that clauses can't be satisfied, whoever made them.
+//! Checks proofs that clauses can't be satisfied, whoever made them, and finds hints where they have none.
 #![tactic(auto)]
 
 mod binary;

@@ -1,4 +1,4 @@
-//! Witness circuits that simulate a model.
+//! Witness circuits that simulate a model, and which of their leaves stand for leaves of it.
 #![tactic(auto)]
 
 mod asking;

@@ -1,5 +1,6 @@
-//! Witnesses of bad states, in the form of AIGER 1.9: their text, which is read from any source, also where it is of a justice
-//! property, and written to any sink, and whether they show bad states of circuits and of the machines of AIGER files.
+//! Witnesses of bad states and of justice properties, in the form of AIGER 1.9: their text, which is read from any source and written to
+//! any sink, and whether they show bad states or fair lassos of circuits and of the machines of AIGER files. From a solver's answer to a
+//! query to a witness.
 #![tactic(auto)]
 
 mod circuit;
