@@ -23,7 +23,7 @@ from harness import TOP
 # The crates whose exported calls are promised, in the order in which they are told.
 CALLS = [
     ("aig and aig_encode", ["aig", "aig_encode"]),
-    ("with the programs", ["aigtool", "aig_commands", "aigcheck", "aig_checks", "aig_edit_commands"]),
+    ("with the programs", ["aigtool", "aig_tool_commands", "aigcheck", "aig_check_commands", "aig_edit_commands"]),
     ("with checked answers, witnesses and DIMACS", [
         *("aig_answers", "aig_bounded", "aig_edits", "aig_refutation", "aig_simulated"),
         *("aig_witness", "aig_dimacs")]),

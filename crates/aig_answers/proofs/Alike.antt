@@ -10,11 +10,11 @@ use Rattle.aig_answers.specs.declared.circuits.CircuitQuery.{CircuitQuery}
 use Rattle.aig_answers.specs.declared.error.AnswerError.{AnswerError}
 use Rattle.aig_answers.specs.Answers.{IsCircuitQuery, TellsOfCircuit, TellsOfCircuitWindow, TellsOfProof}
 
-pub told_alike : (lists others : List (List (List Lit))) (further more : List (List Lit))
+pub told_alike : (lists others : List (List (List Lit))) (extra more : List (List Lit))
     (text : Option (List ℕ)) (answer : Result (Unit {0}) AnswerError) → lists ≡ others
-    → further ≡ more → TellsOfProof lists further text answer
+    → extra ≡ more → TellsOfProof lists extra text answer
     → TellsOfProof others more text answer
-told_alike lists others further more text answer same also told =
+told_alike lists others extra more text answer same also told =
     subst (λ (ls : List (List (List Lit))). TellsOfProof ls more text answer) same
     (subst (λ (fs : List (List Lit)). TellsOfProof lists fs text answer) also told)
 
@@ -27,33 +27,33 @@ AreOne =
 abbrev pub WindowsAreOne : Type 0
 WindowsAreOne =
     (form : Window) (c : Circuit) (k : ℕ) (optimize : Bool)
-    (lists others : List (List (List Lit))) (further more : List (List Lit))
-    → AsksWindow form c k optimize lists further → AsksWindow form c k optimize others more
-    → (lists ≡ others) × (further ≡ more)
+    (lists others : List (List (List Lit))) (extra more : List (List Lit))
+    → AsksWindow form c k optimize lists extra → AsksWindow form c k optimize others more
+    → (lists ≡ others) × (extra ≡ more)
 
 -- so what is told of the clauses of one query of a circuit is told of those of each
 pub query_told : AreOne → (c : Circuit) (k : ℕ) (optimize : Bool) (text : Option (List ℕ))
     (answer : Result (Unit {0}) AnswerError) (q : CircuitQuery) → IsCircuitQuery c k optimize q
-    → TellsOfProof q.clauses q.further text answer → TellsOfCircuit k optimize text c answer
+    → TellsOfProof q.clauses q.extra text answer → TellsOfCircuit k optimize text c answer
 query_told are_one c k optimize text answer q is told = (
   (q, is),
   λ other also.
       let steps : q.unrolled ≡ other.unrolled = is.steps.exact ∙ sym also.steps.exact in
       let one = are_one other.unrolled optimize q.clauses other.clauses
       (subst (λ u. HasClauses u optimize q.clauses) steps is.has_clauses) also.has_clauses in
-      let further = is.asks.exact ∙ ap (query_clauses c k) steps ∙ sym also.asks.exact in
-      told_alike q.clauses other.clauses q.further other.further text answer one further told,
+      let extra = is.asks.exact ∙ ap (query_clauses c k) steps ∙ sym also.asks.exact in
+      told_alike q.clauses other.clauses q.extra other.extra text answer one extra told,
 )
 
 -- and so with windows
 pub window_told : WindowsAreOne → (form : Window) (c : Circuit) (k : ℕ) (optimize : Bool)
     (text : Option (List ℕ)) (answer : Result (Unit {0}) AnswerError)
-    (lists : List (List (List Lit))) (further : List (List Lit))
-    → AsksWindow form c k optimize lists further → TellsOfProof lists further text answer
+    (lists : List (List (List Lit))) (extra : List (List Lit))
+    → AsksWindow form c k optimize lists extra → TellsOfProof lists extra text answer
     → TellsOfCircuitWindow form k optimize text c answer
-window_told are_one form c k optimize text answer lists further is told = (
-  (lists, further, is),
+window_told are_one form c k optimize text answer lists extra is told = (
+  (lists, extra, is),
   λ others more also.
-      let one = are_one form c k optimize lists others further more is also in
-      told_alike lists others further more text answer one.0 one.1 told,
+      let one = are_one form c k optimize lists others extra more is also in
+      told_alike lists others extra more text answer one.0 one.1 told,
 )

@@ -21,7 +21,7 @@ use Rattle.aig_answers.specs.declared.circuits.CircuitQuery.{CircuitQuery}
 use Rattle.aig_answers.specs.declared.error.AnswerError.{AnswerError}
 use Rattle.aig_answers.specs.declared.windows.WindowClauses.{WindowClauses}
 use Rattle.aig_answers.specs.Answers.{IsAsked, IsCircuitQuery, IsSaidBy, circuit_window_verdict, verdict_of}
-use Rattle.aig_answers.specs.Parts.{circuit_verdict}
+use Rattle.aig_answers.specs.CircuitVerdicts.{circuit_verdict}
 use Rattle.aig_runs.proofs.Asking.{unrolls_to}
 use Rattle.aig_runs.specs.Unrolled.{IsUnrolledOf, UnrolledCircuit, Unrolls}
 use Rattle.aig_answers.proofs.Verdicts.{asked_circuit, bads_of}
@@ -33,17 +33,17 @@ EncodesFiles = (f : File) (limit k : ℕ) (optimize : Bool) (unrolled : Circuit)
 
 -- that what asks for witnesses of a file's circuit asks for those of its machine
 abbrev pub AsksFiles : Type 0
-AsksFiles = (f : File) (limit k : ℕ) (unrolled : Circuit) (clauses : List (List (List Lit))) (further : List (List Lit)) → Fits f limit → AsksOfCircuit (circuit_of f) k unrolled clauses further
-    → IsQueryOf f k (circuit_of f) unrolled clauses further
+AsksFiles = (f : File) (limit k : ℕ) (unrolled : Circuit) (clauses : List (List (List Lit))) (extra : List (List Lit)) → Fits f limit → AsksOfCircuit (circuit_of f) k unrolled clauses extra
+    → IsQueryOf f k (circuit_of f) unrolled clauses extra
 
 -- the query of a file's circuit is the file's
 query_of_file : (limit k : ℕ) (c : Circuit) (optimize : Bool) (q : CircuitQuery) → EncodesFiles → AsksFiles → IsCircuitQuery c k optimize q → (f : File) → Fits f limit → IsFileCircuit f c
-    → IsQuery k optimize f (record { encoded = record { circuit = c; unrolled = q.unrolled; clauses = q.clauses }; extra = q.further })
+    → IsQuery k optimize f (record { encoded = record { circuit = c; unrolled = q.unrolled; clauses = q.clauses }; extra = q.extra })
 query_of_file limit k c optimize q encodes asks made f fits is =
     let steps = subst (λ d. UnrollsTo d k q.unrolled) is made.steps in
-    let asked = subst (λ d. AsksOfCircuit d k q.unrolled q.clauses q.further) is made.asks in (
+    let asked = subst (λ d. AsksOfCircuit d k q.unrolled q.clauses q.extra) is made.asks in (
       subst (λ d. Encodes f k optimize d q.unrolled q.clauses) (sym is) (encodes f limit k optimize q.unrolled q.clauses fits steps made.has_clauses made.fixes made.satisfied),
-      subst (λ d. IsQueryOf f k d q.unrolled q.clauses q.further) (sym is) (asks f limit k q.unrolled q.clauses q.further fits asked),
+      subst (λ d. IsQueryOf f k d q.unrolled q.clauses q.extra) (sym is) (asks f limit k q.unrolled q.clauses q.extra fits asked),
     )
 
 -- the circuit of lists that were read
@@ -71,7 +71,7 @@ module _ (limit k : ℕ) (c : Circuit) (old new : Option (List ℕ)) (read : IsR
   }
 
   pub query_answers : EncodesFiles → AsksFiles → (optimize : Bool) (q : CircuitQuery) → IsCircuitQuery c k optimize q → Accepted ≡ circuit_verdict limit k c
-      → IsReadAs (IsAsked limit k) (IsQuery k optimize) old new (record { encoded = record { circuit = c; unrolled = q.unrolled; clauses = q.clauses }; extra = q.further })
+      → IsReadAs (IsAsked limit k) (IsQuery k optimize) old new (record { encoded = record { circuit = c; unrolled = q.unrolled; clauses = q.clauses }; extra = q.extra })
   query_answers encodes asks optimize q made said = asked_file k (IsQuery k optimize) _ (asked_circuit limit k c Accepted said) (query_of_file limit k c optimize q encodes asks made)
 
   pub circuit_answers : (r : Result UnrolledCircuit AnswerError) → IsSaidBy (circuit_verdict limit k c) (verdict_by verdict_of r) → IfOk r (Unrolls c k)
@@ -82,7 +82,7 @@ module _ (limit k : ℕ) (c : Circuit) (old new : Option (List ℕ)) (read : IsR
       asked_file k (IsUnrolledOf k limit) u asked (λ f fits is. record { fits = fits; unrolls = subst (λ d. Unrolls d k u) is made; few = omega (arith, few, asked.0) })
   circuit_answers (Err e) said made = tt
 
-  pub window_answers : (form : Window) (optimize : Bool) (r : Result WindowClauses AnswerError) → IsSaidBy (circuit_window_verdict form limit k c) (verdict_by verdict_of r) → IfOk r (λ made. AsksWindow form c k optimize made.clauses made.further)
-      → IfOk r (IsReadAs (IsAsked limit (k + 1)) (λ f made. AsksWindow form (circuit_of f) k optimize made.clauses made.further) old new)
-  window_answers form optimize (Ok made) said asks = asked_file (k + 1) (λ f x. AsksWindow form (circuit_of f) k optimize x.clauses x.further) made (asked_circuit limit (k + 1) c _ said) (λ f fits is. subst (λ d. AsksWindow form d k optimize made.clauses made.further) is asks)
+  pub window_answers : (form : Window) (optimize : Bool) (r : Result WindowClauses AnswerError) → IsSaidBy (circuit_window_verdict form limit k c) (verdict_by verdict_of r) → IfOk r (λ made. AsksWindow form c k optimize made.clauses made.extra)
+      → IfOk r (IsReadAs (IsAsked limit (k + 1)) (λ f made. AsksWindow form (circuit_of f) k optimize made.clauses made.extra) old new)
+  window_answers form optimize (Ok made) said asks = asked_file (k + 1) (λ f x. AsksWindow form (circuit_of f) k optimize x.clauses x.extra) made (asked_circuit limit (k + 1) c _ said) (λ f fits is. subst (λ d. AsksWindow form d k optimize made.clauses made.extra) is asks)
   window_answers form optimize (Err e) said asks = tt

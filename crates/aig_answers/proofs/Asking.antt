@@ -76,11 +76,11 @@ states_count Distinct c u k unrolls is =
     let states : length (state_edges c) ≡ length c.latchs = length-map _ _ ∙ length-map _ _ in
     (unrolls.same y r.0 r.1 r.2).properties.outputs.count ∙ ap (λ m. (k + 1) * m) states
 
-module _ (c : Circuit) (k : ℕ) (optimize : Bool) (u : Circuit) (clauses : List (List (List Lit))) (lists : List (List (List Lit))) (further : List (List Lit)) (is : IsCircuit u) (has : HasClauses u optimize clauses)
+module _ (c : Circuit) (k : ℕ) (optimize : Bool) (u : Circuit) (clauses : List (List (List Lit))) (lists : List (List (List Lit))) (extra : List (List Lit)) (is : IsCircuit u) (has : HasClauses u optimize clauses)
     (fixes : FixesRoots u clauses) (satisfied : NodeValuesSatisfy u clauses) (relations : AreRelations clauses) where
   pub asks : (form : Window) → UnrollsTo (watched form c) (k + 1) u
       → lists ≡ clauses ++ replicate (count_free form (watched form c) k) []
-      → further ≡ induction_clauses (watched form c) k u ++ states_clauses form (length clauses) (watched form c) k u → AsksWindow form c k optimize lists further
+      → extra ≡ induction_clauses (watched form c) k u ++ states_clauses form (length clauses) (watched form c) k u → AsksWindow form c k optimize lists extra
   asks Plain steps exact also =
       record { unrolled = u; clauses = clauses; is_circuit = is; steps = steps; has_clauses = has; fixes = fixes; satisfied = satisfied; relations = relations; exact = exact; further_exact = also }
   asks Distinct steps exact also =
@@ -89,9 +89,9 @@ module _ (c : Circuit) (k : ℕ) (optimize : Bool) (u : Circuit) (clauses : List
 -- the window clauses are of variables that are there
 pub below_told : (form : Window) (c : Circuit) (k : ℕ) (optimize : Bool)
     (r : Result WindowClauses AnswerError)
-    → IfOk r (λ made. AsksWindow form c k optimize made.clauses made.further)
-    → IfOk r (λ made. AreBelow (length made.clauses) made.further)
-below_told form c k optimize (Ok made) is = window_below form c k optimize made.clauses made.further is
+    → IfOk r (λ made. AsksWindow form c k optimize made.clauses made.extra)
+    → IfOk r (λ made. AreBelow (length made.clauses) made.extra)
+below_told form c k optimize (Ok made) is = window_below form c k optimize made.clauses made.extra is
 below_told form c k optimize (Err e) is = tt
 
 -- ---- clauses that are written from a circuit
@@ -105,19 +105,19 @@ relations_of u optimize marks total few h = record {
   below = h.below;
 }
 
-module _ (c : Circuit) (k : ℕ) (optimize : Bool) (u : Circuit) (marks : List Bool) (total : ℕ) (further : List (List Lit)) (few : length u.nodes ≤ 2 ^ 31) (needed : AreNeeded u optimize marks total) (is : IsCircuit u)
-    (steps : UnrollsTo c (k + 1) u) (exact : further ≡ induction_clauses c k u)
+module _ (c : Circuit) (k : ℕ) (optimize : Bool) (u : Circuit) (marks : List Bool) (total : ℕ) (extra : List (List Lit)) (few : length u.nodes ≤ 2 ^ 31) (needed : AreNeeded u optimize marks total) (is : IsCircuit u)
+    (steps : UnrollsTo c (k + 1) u) (exact : extra ≡ induction_clauses c k u)
     (fixes : (lists : List (List (List Lit))) → HasClauses u optimize lists → FixesRoots u lists) (satisfied : (lists : List (List (List Lit))) → HasClauses u optimize lists → NodeValuesSatisfy u lists)
     (one : (lists others : List (List (List Lit))) → HasClauses u optimize lists → HasClauses u optimize others → lists ≡ others) where
   -- whichever list there is of them, it asks for a window with the further ones
   pub asked_of : (lists : List (List (List Lit))) → HasClauses u optimize lists
-      → AsksWindow Plain c k optimize lists further
+      → AsksWindow Plain c k optimize lists extra
   asked_of lists has =
       let relations = subst AreRelations (one needed.lists lists needed.has_clauses has)
       (relations_of u optimize marks total few needed) in
-      asks c k optimize u lists lists further is has (fixes lists has) (satisfied lists has) relations Plain steps (sym (append-nil lists)) (exact ∙ sym (append-nil (induction_clauses c k u)))
+      asks c k optimize u lists lists extra is has (fixes lists has) (satisfied lists has) relations Plain steps (sym (append-nil lists)) (exact ∙ sym (append-nil (induction_clauses c k u)))
 
   -- and the further ones are of variables that are there
-  pub below_of : AreBelow (length u.nodes) further
+  pub below_of : AreBelow (length u.nodes) extra
   below_of =
-      subst (λ n. AreBelow n further) needed.has_clauses.count (window_below Plain c k optimize needed.lists further (asked_of needed.lists needed.has_clauses))
+      subst (λ n. AreBelow n extra) needed.has_clauses.count (window_below Plain c k optimize needed.lists extra (asked_of needed.lists needed.has_clauses))

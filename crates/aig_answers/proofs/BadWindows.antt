@@ -26,17 +26,17 @@ bad_is f values =
 -- refuted clauses leave no window
 abbrev RefutedAreInductive : Type 0
 RefutedAreInductive = (form : Window) (f : File) (limit k : ℕ) (optimize : Bool)
-    (clauses : List (List (List Lit))) (further : List (List Lit)) → Fits f limit
-    → AsksWindow form (circuit_of f) k optimize clauses further
-    → ¬ IsSatisfiable (clauses_in clauses ++ further) → IsKInductive form f k
+    (clauses : List (List (List Lit))) (extra : List (List Lit)) → Fits f limit
+    → AsksWindow form (circuit_of f) k optimize clauses extra
+    → ¬ IsSatisfiable (clauses_in clauses ++ extra) → IsKInductive form f k
 
 pub windows_asked : RefutedAreInductive → (form : Window) (f : File) (limit k : ℕ)
-    (optimize : Bool) (clauses : List (List (List Lit))) (further : List (List Lit))
-    → Fits f limit → AsksWindow form (circuit_of f) k optimize clauses further
-    → IsSatisfiable (clauses_in clauses ++ further) ↔ HasBadWindow form f k
-windows_asked refuted form f limit k optimize clauses further fits asks = (
-  satisfied_window form f limit k optimize clauses further fits asks,
-  λ w. satisfiable_unless (clauses_in clauses ++ further) (λ none.
+    (optimize : Bool) (clauses : List (List (List Lit))) (extra : List (List Lit))
+    → Fits f limit → AsksWindow form (circuit_of f) k optimize clauses extra
+    → IsSatisfiable (clauses_in clauses ++ extra) ↔ HasBadWindow form f k
+windows_asked refuted form f limit k optimize clauses extra fits asks = (
+  satisfied_window form f limit k optimize clauses extra fits asks,
+  λ w. satisfiable_unless (clauses_in clauses ++ extra) (λ none.
       (bad_is f (w.0 (k + 1))).0 w.2
-      (refuted form f limit k optimize clauses further fits asks none w.0 w.1)),
+      (refuted form f limit k optimize clauses extra fits asks none w.0 w.1)),
 )

@@ -12,7 +12,7 @@ mod BadWindows
 mod Examples
 mod Safe
 mod Single
-mod Asked
+mod AskedFiles
 mod Names
 mod Saying
 mod Simulated

@@ -6,8 +6,8 @@ use Rattle.aig_circuit.specs.Edge.{literal_of}
 use Rattle.aig_edits.proofs.JointFiles.{counted-of}
 use Rattle.aig_edits.specs.Circuits.{IsJoinOf, counted_circuit}
 use Rattle.aig_edits.specs.Joints.{IsJointOf, IsMisfit, IsRefusalOf, counted}
-use Rattle.aig_edits.specs.declared.error.PairError.{PairError}
-use Rattle.aig_edits.specs.declared.error.PairError.TheVariants as pair
+use Rattle.aig_edits.specs.declared.pair_error.PairError.{PairError}
+use Rattle.aig_edits.specs.declared.pair_error.PairError.TheVariants as pair
 use Rattle.aig_edits.specs.declared.pairing.Pairing.TheVariants.{Certificate, Miter}
 use Rattle.aig_format.proofs.Words.{circuit_of, file_of, latch_line, without_other_names, File, Accepts, FitsFormat}
 use Rattle.aig_format.proofs.Circuits.{IsCircuit-of_file}

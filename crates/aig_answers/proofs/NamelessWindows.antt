@@ -75,10 +75,10 @@ module _ (names : FinMap nat_cmp (List ℕ)) where
   clauses_named Distinct n c k u = refl
 
   pub window_named : (form : Window) (c : Circuit) (k : ℕ) (optimize : Bool)
-      (lists : List (List (List Lit))) (further : List (List Lit)) → IsCircuit (with_names c)
-      → AsksWindow form c k optimize lists further
-      → AsksWindow form (with_names c) k optimize lists further
-  window_named form c k optimize lists further circuit is =
+      (lists : List (List (List Lit))) (extra : List (List Lit)) → IsCircuit (with_names c)
+      → AsksWindow form c k optimize lists extra
+      → AsksWindow form (with_names c) k optimize lists extra
+  window_named form c k optimize lists extra circuit is =
       let u = is.unrolled in
       let longer = (watched_named form c (k + 1) u is.steps).keeps.nodes.longer in
       let count = longer_of form longer in
@@ -120,12 +120,12 @@ module _ (names : FinMap nat_cmp (List ℕ)) where
 
 -- the window of a circuit is that of a file whose circuit it is
 pub asks_of_file : (form : Window) (f : File) (bound : ℕ) (c : Circuit) (k : ℕ)
-    (optimize : Bool) (lists : List (List (List Lit))) (further : List (List Lit))
-    → Fits f bound → IsCircuitOf f c → AsksWindow form c k optimize lists further
-    → AsksWindow form (circuit_of f) k optimize lists further
-asks_of_file form f bound c k optimize lists further fits is asks =
+    (optimize : Bool) (lists : List (List (List Lit))) (extra : List (List Lit))
+    → Fits f bound → IsCircuitOf f c → AsksWindow form c k optimize lists extra
+    → AsksWindow form (circuit_of f) k optimize lists extra
+asks_of_file form f bound c k optimize lists extra fits is asks =
     let names = (circuit_of f).names in
     let named : with_names names c ≡ circuit_of f = ap (with_names names) is in
     let circuit = subst IsCircuit (sym named) (IsCircuit-of_file f bound fits) in
-    subst (λ (d : Circuit). AsksWindow form d k optimize lists further) named
-    (window_named names form c k optimize lists further circuit asks)
+    subst (λ (d : Circuit). AsksWindow form d k optimize lists extra) named
+    (window_named names form c k optimize lists extra circuit asks)

@@ -39,16 +39,16 @@ module _ (none : UnrollsByNone) (names : FinMap nat_cmp (List ℕ)) (c : Circuit
   -- the query with names
   abbrev named_query : CircuitQuery → CircuitQuery
   named_query q =
-      record { unrolled = with_names names c; clauses = q.clauses; further = q.further }
+      record { unrolled = with_names names c; clauses = q.clauses; extra = q.extra }
 
   query_named : (optimize : Bool) (q : CircuitQuery) → IsCircuitQuery c 0 optimize q
       → IsCircuitQuery (with_names names c) 0 optimize (named_query q)
   query_named optimize q is =
       let same : q.unrolled ≡ c = is.steps.exact in
       let own : IsCircuitQuery c 0 optimize
-      (record { unrolled = c; clauses = q.clauses; further = q.further }) =
+      (record { unrolled = c; clauses = q.clauses; extra = q.extra }) =
       subst (λ (u : Circuit). IsCircuitQuery c 0 optimize
-      (record { unrolled = u; clauses = q.clauses; further = q.further })) same is in
+      (record { unrolled = u; clauses = q.clauses; extra = q.extra })) same is in
       let has = own.has_clauses in
       let fixes = own.fixes in
       let asks = own.asks in
@@ -111,14 +111,14 @@ module _ (none : UnrollsByNone) (names : FinMap nat_cmp (List ℕ)) (c : Circuit
             t.0.1,
             window_named names Plain c 0 optimize t.0.0 t.0.1 circuit t.0.2,
           ),
-          λ lists further asks. t.1 lists further
-              (window_named c.names Plain (with_names names c) 0 optimize lists further bare asks),
+          λ lists extra asks. t.1 lists extra
+              (window_named c.names Plain (with_names names c) 0 optimize lists extra bare asks),
         );
   }
 
   window_told : HasNoWindow optimize c → HasNoWindow optimize (with_names names c)
-  window_told (lists, further, asks, unmet) =
-      (lists, further, window_named names Plain c 0 optimize lists further circuit asks, unmet)
+  window_told (lists, extra, asks, unmet) =
+      (lists, extra, window_named names Plain c 0 optimize lists extra circuit asks, unmet)
 
   safe_told : IsCircuitSafeAt c 0 → IsCircuitSafeAt (with_names names c) 0
   safe_told safe w = safe (bare_witness none names c circuit 0 w)

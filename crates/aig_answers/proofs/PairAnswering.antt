@@ -105,9 +105,9 @@ pub record Known : Type 0 where
   pub inductive : (form : Window) (f : File) (k : ℕ) → IsSafeTo f k → IsKInductive form f k
       → (n : ℕ) → IsSafeTo f n
   pub refuted : (form : Window) (f : File) (limit k : ℕ) (optimize : Bool)
-      (clauses : List (List (List Lit))) (further : List (List Lit))
-      → Fits f limit → AsksWindow form (circuit_of f) k optimize clauses further
-      → ¬ IsSatisfiable (clauses_in clauses ++ further) → IsKInductive form f k
+      (clauses : List (List (List Lit))) (extra : List (List Lit))
+      → Fits f limit → AsksWindow form (circuit_of f) k optimize clauses extra
+      → ¬ IsSatisfiable (clauses_in clauses ++ extra) → IsKInductive form f k
 
 module _ (m : Circuit) (h : File) (again : IsReadAgain m h) where
   fits : Fits h (length m.nodes)
@@ -122,11 +122,11 @@ module _ (m : Circuit) (h : File) (again : IsReadAgain m h) where
 
   always_safe : Known → (optimize : Bool) → IsCircuitSafeAt m 0 → HasNoWindow optimize m → (n : ℕ)
       → IsSafeTo h n
-  always_safe known optimize safe (lists, further, asks, none) n =
+  always_safe known optimize safe (lists, extra, asks, none) n =
       let circuit = subst IsCircuit again.1 (IsCircuit-of_file h (length m.nodes) fits) in
-      let named = subst (λ c. AsksWindow Plain c 0 optimize lists further) (sym again.1)
-      (window_named (without_other_names m).names Plain m 0 optimize lists further circuit asks) in
-      let kept = known.refuted Plain h (length m.nodes) 0 optimize lists further fits named none in
+      let named = subst (λ c. AsksWindow Plain c 0 optimize lists extra) (sym again.1)
+      (window_named (without_other_names m).names Plain m 0 optimize lists extra circuit asks) in
+      let kept = known.refuted Plain h (length m.nodes) 0 optimize lists extra fits named none in
       known.inductive Plain h 0 (known.steps h 0 (at_none (file_safe 0 safe))) kept n
 
 -- the machine of the first file is safe at every step, or it is said why that isn't shown

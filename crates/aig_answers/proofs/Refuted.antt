@@ -20,9 +20,9 @@ no_bads limit bytes f none asked = asked.1 none
 
 -- clauses without the one that the output is true: any assignment of node values satisfies them
 no_bare_clauses : (f : File) (k : ℕ) (optimize : Bool) (made : BoundedClauses)
-    → AsksBounded f k optimize made → made.further ≢ []
+    → AsksBounded f k optimize made → made.extra ≢ []
 no_bare_clauses f k optimize made is none =
-    let count : length made.further ≡ 1 = ap length is.exact in
+    let count : length made.extra ≡ 1 = ap length is.exact in
     omega (arith, count, ap length none)
 
 -- a question with a latch

@@ -59,17 +59,17 @@ all_by v (clauses ∷ lists) s =
 -- where an assignment satisfies the clauses of a question, its output is true
 pub output_holds : (asks : Circuit) (made : BoundedClauses) (output : AigEdge) → FixesRoots asks
     made.clauses
-    → asks.properties ≡ record no_properties { outputs = output ∷ [] } → made.further ≡ (lit_of
+    → asks.properties ≡ record no_properties { outputs = output ∷ [] } → made.extra ≡ (lit_of
     output ∷ []) ∷ []
     → ((v : ℕ → Bool) (e : AigEdge) → literal_value v (lit_of e) ≡ edge_in v e)
-    → (v : ℕ → Bool) → IsTrue (are_true v (clauses_in made.clauses ++ made.further))
+    → (v : ℕ → Bool) → IsTrue (are_true v (clauses_in made.clauses ++ made.extra))
     → IsTrue (edge_value asks.nodes v output)
 output_holds asks made output fixes properties exact literals v h =
-    let both = sym (list_all-append (is_true_clause v) (clauses_in made.clauses) made.further) ∙ h
+    let both = sym (list_all-append (is_true_clause v) (clauses_in made.clauses) made.extra) ∙ h
     in
     let first = satisfied_by v made.clauses (and_first (are_true v (clauses_in made.clauses))
-    (are_true v made.further) both) in
-    let second = and_second (are_true v (clauses_in made.clauses)) (are_true v made.further) both in
+    (are_true v made.extra) both) in
+    let second = and_second (are_true v (clauses_in made.clauses)) (are_true v made.extra) both in
     let unit : ((literal_value v (lit_of output) || false) && true) ≡ true = subst (λ clauses.
     are_true v clauses ≡ true) exact second in
     let literal = or_only (literal_value v (lit_of output)) (and_first (literal_value v (lit_of
@@ -87,21 +87,21 @@ module _ (c : Circuit) (k : ℕ) (optimize : Bool) (made : BoundedClauses)
   asks = lists_circuit made.question.circuit
 
   satisfied_where : (y : ℕ → Bool) → IsTrue (edge_value asks.nodes y is.output)
-      → IsSatisfiable (clauses_in made.clauses ++ made.further)
+      → IsSatisfiable (clauses_in made.clauses ++ made.extra)
   satisfied_where y holds =
       let v = node_value asks.nodes y in
       let literal : literal_value v (lit_of is.output) ≡ true = literals v is.output ∙ holds in
-      let further : IsTrue (are_true v ((lit_of is.output ∷ []) ∷ [])) = ap (λ b. (b || false) &&
+      let extra : IsTrue (are_true v ((lit_of is.output ∷ []) ∷ [])) = ap (λ b. (b || false) &&
       true) literal in
-      let rest : IsTrue (are_true v made.further) = subst (λ clauses. IsTrue (are_true v clauses))
-      (sym is.exact) further in (
+      let rest : IsTrue (are_true v made.extra) = subst (λ clauses. IsTrue (are_true v clauses))
+      (sym is.exact) extra in (
         v,
-        list_all-append (is_true_clause v) (clauses_in made.clauses) made.further
-            ∙ both_true (are_true v (clauses_in made.clauses)) (are_true v made.further) (all_by v
+        list_all-append (is_true_clause v) (clauses_in made.clauses) made.extra
+            ∙ both_true (are_true v (clauses_in made.clauses)) (are_true v made.extra) (all_by v
             made.clauses (is.satisfied y)) rest,
       )
 
-  true_where : IsSatisfiable (clauses_in made.clauses ++ made.further)
+  true_where : IsSatisfiable (clauses_in made.clauses ++ made.extra)
       → (y : ℕ → Bool) × IsTrue (edge_value asks.nodes y is.output)
   true_where (v, h) = (
     v,
@@ -112,7 +112,7 @@ module _ (c : Circuit) (k : ℕ) (optimize : Bool) (made : BoundedClauses)
   abbrev Never : Type 0
   Never = (y : ℕ → Bool) → IsTrue (edge_value asks.nodes y is.output) → ⊥
 
-  refuted_never : (¬ IsSatisfiable (clauses_in made.clauses ++ made.further)) ↔ Never
+  refuted_never : (¬ IsSatisfiable (clauses_in made.clauses ++ made.extra)) ↔ Never
   refuted_never = (
     λ none y holds. none (satisfied_where y holds),
     λ never s. let y = true_where s in never y.0 y.1,
@@ -151,7 +151,7 @@ module _ (c : Circuit) (k : ℕ) (optimize : Bool) (made : BoundedClauses) (circ
     λ safe y holds. let reached = asked.0 (y, holds) in safe reached.0 reached.1 reached.2,
   )
 
-  pub refuted_circuit : (¬ IsSatisfiable (clauses_in made.clauses ++ made.further)) ↔ SafeTo
+  pub refuted_circuit : (¬ IsSatisfiable (clauses_in made.clauses ++ made.extra)) ↔ SafeTo
   refuted_circuit =
       let never = refuted_never c k optimize made is literals in
       (λ none. never_is.0 (never.0 none), λ safe. never.1 (never_is.1 safe))
@@ -177,7 +177,7 @@ module _ (f : File) (limit k : ℕ) (fits : Fits f limit) where
     abbrev circuit : IsCircuit (circuit_of f)
     circuit = IsCircuit-of_file f limit fits
 
-    pub refuted_is_safe : (¬ IsSatisfiable (clauses_in made.clauses ++ made.further))
+    pub refuted_is_safe : (¬ IsSatisfiable (clauses_in made.clauses ++ made.extra))
         ↔ IsSafeTo f k
     refuted_is_safe =
         let refuted = refuted_circuit (circuit_of f) k optimize made circuit is literals in

@@ -31,11 +31,11 @@ module _ (c : Circuit) (k : ℕ) (optimize : Bool) (one other : BoundedClauses)
   same_clauses = one_list second optimize one.clauses other.clauses
       (subst (λ c. HasClauses c optimize one.clauses) same.0 is.has_clauses) are.has_clauses
 
-  same_further : one.further ≡ other.further
+  same_further : one.extra ≡ other.extra
   same_further = is.exact ∙ ap (λ o. (lit_of o ∷ []) ∷ []) same.1 ∙ sym are.exact
 
   -- the clauses and the further one are the same, and so is the circuit
-  pub clauses_same : (one.clauses ≡ other.clauses) × (one.further ≡ other.further)
+  pub clauses_same : (one.clauses ≡ other.clauses) × (one.extra ≡ other.extra)
       × (lists_circuit one.question.circuit ≡ lists_circuit other.question.circuit)
       × (one.question.places.items ≡ other.question.places.items)
   clauses_same = (same_clauses, same_further, same.0, same.2)
@@ -47,11 +47,11 @@ module _ (c : Circuit) (k : ℕ) (optimize : Bool) (one other : BoundedClauses)
   settled_forth settled = subst (λ (c : Circuit). All (λ e. e ≡ edge_to 0 false) c.properties.outputs) same.0 settled
 
   -- a proof's bytes show the same of both
-  shows_same : (text : Option (List ℕ)) (r : _) → Shows (length one.clauses) (clauses_in one.clauses ++ one.further) text r
-      → Shows (length other.clauses) (clauses_in other.clauses ++ other.further) text r
+  shows_same : (text : Option (List ℕ)) (r : _) → Shows (length one.clauses) (clauses_in one.clauses ++ one.extra) text r
+      → Shows (length other.clauses) (clauses_in other.clauses ++ other.extra) text r
   shows_same text r shows =
-      subst (λ (further : List (List Lit)). Shows (length other.clauses) (clauses_in other.clauses ++ further) text r) same_further
-      (subst (λ (lists : List (List (List Lit))). Shows (length lists) (clauses_in lists ++ one.further) text r) same_clauses shows)
+      subst (λ (extra : List (List Lit)). Shows (length other.clauses) (clauses_in other.clauses ++ extra) text r) same_further
+      (subst (λ (lists : List (List (List Lit))). Shows (length lists) (clauses_in lists ++ one.extra) text r) same_clauses shows)
 
   shown_same : (text : Option (List ℕ)) (r : Result Unit BoundedAnswerError) → ShowsProof one text r
       → ShowsProof other text r
@@ -78,7 +78,7 @@ module _ (c : Circuit) (k : ℕ) (optimize : Bool) (one other : BoundedClauses)
       said.0 ∙ ap length same_clauses,
       subst (λ n. IfSome text (λ bytes. solution_in n bytes ≡ Ok values)) (ap length same_clauses) said.1,
     ),
-    λ few holds. none few (ap₂ (λ (lists : List (List (List Lit))) (further : List (List Lit)). are_true (assigned values) (clauses_in lists ++ further)) same_clauses same_further ∙ holds),
+    λ few holds. none few (ap₂ (λ (lists : List (List (List Lit))) (extra : List (List Lit)). are_true (assigned values) (clauses_in lists ++ extra)) same_clauses same_further ∙ holds),
   )
   refused_same text failed bads e refused =
       subst (λ n. GivesSolution text n failed (Err e)) (ap length same_clauses) refused

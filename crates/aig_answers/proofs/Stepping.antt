@@ -87,23 +87,23 @@ bases_shown left left_of OfStep OfWindow k bases q (errors.Step e) shown = absur
 -- a file has one encoding
 abbrev pub EncodingsAreOne : Type 0
 EncodingsAreOne =
-    (f : File) (k : ℕ) (optimize : Bool) (circuit unrolled other further : Circuit)
+    (f : File) (k : ℕ) (optimize : Bool) (circuit unrolled other extra : Circuit)
     (clauses others : List (List (List Lit))) → Encodes f k optimize circuit unrolled clauses
-    → Encodes f k optimize other further others
-    → (circuit ≡ other) × (unrolled ≡ further) × (clauses ≡ others)
+    → Encodes f k optimize other extra others
+    → (circuit ≡ other) × (unrolled ≡ extra) × (clauses ≡ others)
 
 -- the file's query with the clauses of its circuit's
 abbrev query_over : File → CircuitQuery → Query
 query_over f q = record {
   encoded = record { circuit = circuit_of f; unrolled = q.unrolled; clauses = q.clauses };
-  extra = q.further;
+  extra = q.extra;
 }
 
 -- what is told of clauses is told of equal ones
-told_alike : (lists others : List (List (List Lit))) (further more : List (List Lit))
-    (text : Option (List ℕ)) (answer : Result Unit AnswerError) → lists ≡ others → further ≡ more
-    → TellsOfProof lists further text answer → TellsOfProof others more text answer
-told_alike lists others further more text answer same also told =
+told_alike : (lists others : List (List (List Lit))) (extra more : List (List Lit))
+    (text : Option (List ℕ)) (answer : Result Unit AnswerError) → lists ≡ others → extra ≡ more
+    → TellsOfProof lists extra text answer → TellsOfProof others more text answer
+told_alike lists others extra more text answer same also told =
     subst (λ (ls : List (List (List Lit))). TellsOfProof ls more text answer) same
     (subst (λ (fs : List (List Lit)). TellsOfProof lists fs text answer) also told)
 
@@ -119,16 +119,16 @@ module _ (encodes : EncodesFiles) (asks : AsksFiles) (one_encoding : EncodingsAr
         let is : IsQuery n optimize f (query_over f q) = (
           encodes f limit n optimize q.unrolled q.clauses fits made.steps made.has_clauses made.fixes
               made.satisfied,
-          asks f limit n q.unrolled q.clauses q.further fits made.asks,
+          asks f limit n q.unrolled q.clauses q.extra fits made.asks,
         ) in (
           (query_over f q, is),
           λ other also.
               let one = one_encoding f n optimize (circuit_of f) q.unrolled other.encoded.circuit
               other.encoded.unrolled q.clauses other.encoded.clauses is.0 also.0 in
-              let further = is.1.exact ∙ ap₂ (λ d u. query_clauses d n u) one.0 one.1
+              let extra = is.1.exact ∙ ap₂ (λ d u. query_clauses d n u) one.0 one.1
               ∙ sym also.1.exact in
-              told_alike q.clauses other.encoded.clauses q.further other.extra text answer one.2
-              further (told.1 q made),
+              told_alike q.clauses other.encoded.clauses q.extra other.extra text answer one.2
+              extra (told.1 q made),
         )
 
     module _ {P Q : Type 0} (left : P → Option (List ℕ)) (left_of : Q → Option (List ℕ))

@@ -16,7 +16,7 @@ use Rattle.aig_encode.specs.declared.error.EncodeError.TheVariants as encode
 use Rattle.aig_encode.specs.Encoding as encoding
 use Rattle.aig_refutation.specs.declared.error.RefutationError.{RefutationError}
 use Rattle.aig_answers.specs.Answers.{IsOfCircuitQuery, IsOfInduction, IsOfQuery, IsOfStep, IsOfWindow, IsSaidBy, asked_verdict, circuit_window_verdict, verdict_of, window_size, window_verdict}
-use Rattle.aig_answers.specs.Parts.{circuit_verdict}
+use Rattle.aig_answers.specs.CircuitVerdicts.{circuit_verdict}
 use Rattle.aig_answers.specs.declared.error.AnswerError.{AnswerError}
 use Rattle.aig_answers.specs.declared.error.AnswerError.TheVariants as errors
 
@@ -24,16 +24,16 @@ use Rattle.aig_answers.specs.declared.error.AnswerError.TheVariants as errors
 
 -- what is said by the tests of a query, and further where something is asked
 abbrev said_if : Bool → Bool → Verdict → Verdict
-said_if large empty further = if large then TooLarge else if empty then NoBads else further
+said_if large empty extra = if large then TooLarge else if empty then NoBads else extra
 
-module _ (further : Verdict) where
-  of_file_by : (large empty : Bool) → IsOfFile further → IsOfFile (said_if large empty further)
+module _ (extra : Verdict) where
+  of_file_by : (large empty : Bool) → IsOfFile extra → IsOfFile (said_if large empty extra)
   of_file_by true empty is = tt
   of_file_by false true is = tt
   of_file_by false false is = is
 
   -- what is asked has room for its further steps, and bad edges
-  asked_by : (large empty : Bool) → Accepted ≡ said_if large empty further
+  asked_by : (large empty : Bool) → Accepted ≡ said_if large empty extra
       → (large ≡ false) × (empty ≡ false)
   asked_by true empty is = cc
   asked_by false true is = cc
@@ -53,11 +53,11 @@ module _ (limit k : ℕ) (c : Circuit) where
   window_of_file form = of_file_by (if nat_lt limit (window_size form c k) then Crowded else Accepted) (nat_lt limit (unrolled_size c (k + 1))) (length c.properties.bads == 0) (room_of_file (nat_lt limit (window_size form c k)))
 
   -- what is asked has room for its further steps, and a bad edge
-  pub asked_circuit : (further : Verdict)
-      → Accepted ≡ said_if (nat_lt limit (unrolled_size c k)) (length c.properties.bads == 0) further
+  pub asked_circuit : (extra : Verdict)
+      → Accepted ≡ said_if (nat_lt limit (unrolled_size c k)) (length c.properties.bads == 0) extra
       → (unrolled_size c k ≤ limit) × (c.properties.bads ≢ [])
-  asked_circuit further is =
-      let tests = asked_by further (nat_lt limit (unrolled_size c k)) (length c.properties.bads == 0) is in
+  asked_circuit extra is =
+      let tests = asked_by extra (nat_lt limit (unrolled_size c k)) (length c.properties.bads == 0) is in
       (ltb-false limit (unrolled_size c k) tests.0, λ none. eqb-false (length c.properties.bads) 0 tests.1 (ap length none))
 
 -- ---- of a file

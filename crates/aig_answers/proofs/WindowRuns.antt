@@ -250,27 +250,27 @@ module _ (f : File) (limit k : ℕ) (outputs : List AigEdge) (u : Circuit)
 -- ---- the window
 
 window_of : (form : Window) (f : File) (limit k : ℕ) (optimize : Bool)
-    (lists : List (List (List Lit))) (further : List (List Lit)) → Fits f limit
-    → (asks : AsksWindow form (circuit_of f) k optimize lists further) → (v : ℕ → Bool)
+    (lists : List (List (List Lit))) (extra : List (List Lit)) → Fits f limit
+    → (asks : AsksWindow form (circuit_of f) k optimize lists extra) → (v : ℕ → Bool)
     → Satisfies v asks.clauses
     → AllByRecursion (Holds v) (induction_clauses (circuit_of f) k asks.unrolled)
     → AllByRecursion (Holds v)
     (states_clauses form (length asks.clauses) (circuit_of f) k asks.unrolled)
     → HasBadWindow form f k
-window_of Plain f limit k optimize lists further fits asks v satisfies hold apart =
+window_of Plain f limit k optimize lists extra fits asks v satisfies hold apart =
     bad_window f limit k (circuit_of f).properties.outputs asks.unrolled asks.clauses fits
     asks.steps asks.fixes v satisfies hold Plain tt
-window_of Distinct f limit k optimize lists further fits asks v satisfies hold apart =
+window_of Distinct f limit k optimize lists extra fits asks v satisfies hold apart =
     bad_window f limit k (state_edges (circuit_of f)) asks.unrolled asks.clauses fits asks.steps
     asks.fixes v satisfies hold Distinct
     (distinct f limit k (state_edges (circuit_of f)) asks.unrolled asks.clauses fits asks.steps
     asks.fixes v satisfies refl (length asks.clauses) apart)
 
 pub satisfied_window : (form : Window) (f : File) (limit k : ℕ) (optimize : Bool)
-    (lists : List (List (List Lit))) (further : List (List Lit)) → Fits f limit
-    → AsksWindow form (circuit_of f) k optimize lists further
-    → IsSatisfiable (clauses_in lists ++ further) → HasBadWindow form f k
-satisfied_window form f limit k optimize lists further fits asks s =
+    (lists : List (List (List Lit))) (extra : List (List Lit)) → Fits f limit
+    → AsksWindow form (circuit_of f) k optimize lists extra
+    → IsSatisfiable (clauses_in lists ++ extra) → HasBadWindow form f k
+satisfied_window form f limit k optimize lists extra fits asks s =
     let c = circuit_of f in
     let v = s.0 in
     let some = asks.clauses in
@@ -278,11 +278,11 @@ satisfied_window form f limit k optimize lists further fits asks s =
     let told = window_clauses form (length some) c k asks.unrolled in
     let hold = subst (λ rest. IsTrue (are_true v (clauses_in (some ++ free) ++ rest)))
     asks.further_exact
-    (subst (λ all. IsTrue (are_true v (clauses_in all ++ further))) asks.exact s.1) in
+    (subst (λ all. IsTrue (are_true v (clauses_in all ++ extra))) asks.exact s.1) in
     let parts = and_parts (are_true v (clauses_in (some ++ free))) (are_true v told)
     (sym (list_all-append (is_true_clause v) (clauses_in (some ++ free)) told) ∙ hold) in
     let both = (rec_append (Holds v) (induction_clauses c k asks.unrolled)
     (states_clauses form (length some) c k asks.unrolled)).0
     ((all_is (is_true_clause v) told).0 parts.1) in
-    window_of form f limit k optimize lists further fits asks v
+    window_of form f limit k optimize lists extra fits asks v
     (first_satisfied v some free parts.0) both.0 both.1

@@ -42,14 +42,14 @@ pub record IsCircuitQuery (c : Circuit) (k : ℕ) (optimize : Bool) (q : Circuit
   pub satisfied : NodeValuesSatisfy q.unrolled q.clauses
   -- both lists can be satisfied exactly where the circuit has a run to a bad edge at step k, which
   -- is read off the values
-  pub asks : AsksOfCircuit c k q.unrolled q.clauses q.further
+  pub asks : AsksOfCircuit c k q.unrolled q.clauses q.extra
   -- the query clauses are of variables that are there
-  pub below : AreBelow (length q.clauses) q.further
+  pub below : AreBelow (length q.clauses) q.extra
 
 -- the query that has these clauses and this unrolled circuit
 abbrev pub query_with : Circuit → WindowClauses → CircuitQuery
 query_with unrolled made =
-    record { unrolled = unrolled; clauses = made.clauses; further = made.further }
+    record { unrolled = unrolled; clauses = made.clauses; extra = made.extra }
 
 -- the circuit, without names
 abbrev pub without_names : Circuit → Circuit
@@ -65,13 +65,13 @@ IsCircuitOf f c = without_names c ≡ without_names (circuit_of f)
 pub record AreWrittenFrom (c : Circuit) (optimize : Bool) (parts : ClauseParts) : Type 0 where
   pub few : length c.nodes ≤ 2 ^ 31
   pub needed : AreNeeded c optimize parts.needed.marks.items parts.needed.clauses
-  pub below : AreBelow (length c.nodes) parts.further
+  pub below : AreBelow (length c.nodes) parts.extra
 
 -- whichever list there is of the circuit's clauses, it asks so with the further ones
 abbrev pub AskWith : Circuit → Bool → (WindowClauses → Type 0) → ClauseParts → Type 0
 AskWith c optimize Asks parts =
     (lists : List (List (List Lit))) → HasClauses c optimize lists
-    → Asks (record { clauses = lists; further = parts.further })
+    → Asks (record { clauses = lists; extra = parts.extra })
 
 -- ---- files
 
@@ -127,11 +127,11 @@ verdict_of (errors.Refutation e) = Accepted
 -- which proofs of clauses are taken: the answer is what the text of the proof shows
 abbrev pub TellsOfProof : List (List (List Lit)) → List (List Lit) → Option (List ℕ)
     → Result (Unit {0}) AnswerError → Type 0
-TellsOfProof lists further text (Ok done) =
-    Shows (length lists) (clauses_in lists ++ further) text (Ok done)
-TellsOfProof lists further text (Err (errors.Refutation e)) =
-    Shows (length lists) (clauses_in lists ++ further) text (Err e)
-TellsOfProof lists further text (Err e) = Unit {0}
+TellsOfProof lists extra text (Ok done) =
+    Shows (length lists) (clauses_in lists ++ extra) text (Ok done)
+TellsOfProof lists extra text (Err (errors.Refutation e)) =
+    Shows (length lists) (clauses_in lists ++ extra) text (Err e)
+TellsOfProof lists extra text (Err e) = Unit {0}
 
 -- the file has a query for step k, and the answer is so of the clauses of each: of those that any
 -- call gives or prints, as there is one (`encodings_are_one`)
@@ -144,10 +144,10 @@ TellsOfStep k optimize text f answer =
 abbrev pub TellsOfCircuitWindow : Window → ℕ → Bool → Option (List ℕ) → Circuit
     → Result (Unit {0}) AnswerError → Type 0
 TellsOfCircuitWindow form k optimize text c answer =
-    ((lists : List (List (List Lit))) × (further : List (List Lit))
-    × AsksWindow form c k optimize lists further)
-    × ((lists : List (List (List Lit))) (further : List (List Lit))
-    → AsksWindow form c k optimize lists further → TellsOfProof lists further text answer)
+    ((lists : List (List (List Lit))) × (extra : List (List Lit))
+    × AsksWindow form c k optimize lists extra)
+    × ((lists : List (List (List Lit))) (extra : List (List Lit))
+    → AsksWindow form c k optimize lists extra → TellsOfProof lists extra text answer)
 
 -- with those of the window of the file's circuit
 abbrev pub TellsOfWindow : Window → ℕ → Bool → Option (List ℕ) → File
@@ -160,7 +160,7 @@ abbrev pub TellsOfCircuit : ℕ → Bool → Option (List ℕ) → Circuit → R
 TellsOfCircuit k optimize text c answer =
     ((q : CircuitQuery) × IsCircuitQuery c k optimize q)
     × ((q : CircuitQuery) → IsCircuitQuery c k optimize q
-    → TellsOfProof q.clauses q.further text answer)
+    → TellsOfProof q.clauses q.extra text answer)
 
 -- ---- errors of calls
 

@@ -48,7 +48,7 @@ pub record AsksOfBads (c : Circuit) (k : ℕ) (optimize : Bool) (made : BoundedC
   pub has_clauses : HasClauses (lists_circuit made.question.circuit) optimize made.clauses
   pub fixes : FixesRoots (lists_circuit made.question.circuit) made.clauses
   pub satisfied : NodeValuesSatisfy (lists_circuit made.question.circuit) made.clauses
-  pub exact : made.further ≡ (lit_of output ∷ []) ∷ []
+  pub exact : made.extra ≡ (lit_of output ∷ []) ∷ []
 
 -- those of the question of the file's circuit
 abbrev pub AsksBounded : File → ℕ → Bool → BoundedClauses → Type 0
@@ -122,9 +122,9 @@ TellsOfSize limit bound old new e = Unit {0}
 -- it is what the bytes of a proof show of the clauses
 abbrev pub ShowsProof : BoundedClauses → Option (List ℕ) → Result Unit BoundedAnswerError → Type 0
 ShowsProof made text (Ok done) =
-    Shows (length made.clauses) (clauses_in made.clauses ++ made.further) text (Ok tt)
+    Shows (length made.clauses) (clauses_in made.clauses ++ made.extra) text (Ok tt)
 ShowsProof made text (Err (errors.Refutation e)) =
-    Shows (length made.clauses) (clauses_in made.clauses ++ made.further) text (Err e)
+    Shows (length made.clauses) (clauses_in made.clauses ++ made.extra) text (Err e)
 ShowsProof made text (Err e) = ⊥
 
 -- A question that is settled needs no proof, and none is read; of any other it is told what the
@@ -162,7 +162,7 @@ assigned values n = is_true (slice_index_or values n NONE)
 -- the values satisfy the clauses and the further one
 abbrev pub AreSolution : BoundedClauses → List Lbool → Type 0
 AreSolution made values =
-    IsTrue (are_true (assigned values) (clauses_in made.clauses ++ made.further))
+    IsTrue (are_true (assigned values) (clauses_in made.clauses ++ made.extra))
 
 -- there is a value for each variable of the clauses; where the bytes of a solver's answer are
 -- known, these are the values that they say

@@ -130,7 +130,7 @@ pub record AreObligations (optimize : Bool) (f g : File) (first second : WindowC
     pub joint : IsJointOf Certificate f g whole
     pub unrolled : Circuit
     pub base : IsCircuitQuery whole 0 optimize (query_with unrolled first)
-    pub step : AsksWindow Plain whole 0 optimize second.clauses second.further
+    pub step : AsksWindow Plain whole 0 optimize second.clauses second.extra
 
 -- the parts from which the clauses are written, whichever lists are made of them, are those of the
 -- joint circuit m: of itself, and of it with one step more
@@ -138,7 +138,7 @@ pub record AreObligationsOf (optimize : Bool) (m : Circuit) (o : Obligations) : 
   pub base : AskWith o.joint.unrolled optimize
       (λ made. IsCircuitQuery m 0 optimize (query_with o.joint.unrolled made)) o.base
   pub step : AskWith (lists_circuit o.stepped) optimize
-      (λ made. AsksWindow Plain m 0 optimize made.clauses made.further) o.step
+      (λ made. AsksWindow Plain m 0 optimize made.clauses made.extra) o.step
 
 -- the clauses are these, or it is said why there are none
 abbrev pub Obliges : ℕ → Bool → File → File → Result Obligations CertificateError → Type 0

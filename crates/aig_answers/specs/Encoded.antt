@@ -7,7 +7,7 @@ use Rattle.aig_circuit.specs.Circuit.{Circuit}
 use Rattle.aig_circuit.specs.View.{lists_circuit}
 use Rattle.aig_cnf.specs.Cnf.{FixesRoots, HasClauses, NodeValuesSatisfy}
 use Rattle.aig_runs.specs.Queries.{unit_clauses}
-use Rattle.aig_bounded.specs.declared.question.Question.{Question}
+use Rattle.aig_bounded.specs.declared.question.BoundedCircuit.{BoundedCircuit}
 use Rattle.aig_bounded.specs.Question.{IsQuestion}
 use Rattle.aig_answers.specs.declared.bounded_checks.clauses.BoundedClauses.{BoundedClauses}
 use Rattle.aig_answers.specs.declared.bounded_checks.naming.Named.{Named}
@@ -25,14 +25,14 @@ HasName c names n =
 
 -- the clauses of the question's circuit, and those that its outputs are true; its inputs have these
 -- names
-pub record IsEncoded (q : Question) (named : List Named) (optimize : Bool) (made : BoundedClauses)
-    : Type 0 where
+pub record IsEncoded (q : BoundedCircuit) (named : List Named) (optimize : Bool)
+    (made : BoundedClauses) : Type 0 where
   pub same : made.question ≡ q
   pub same_names : made.named.items ≡ named
   pub has_clauses : HasClauses (lists_circuit q.circuit) optimize made.clauses
   pub fixes : FixesRoots (lists_circuit q.circuit) made.clauses
   pub satisfied : NodeValuesSatisfy (lists_circuit q.circuit) made.clauses
-  pub exact : made.further ≡ unit_clauses (lists_circuit q.circuit).properties.outputs
+  pub exact : made.extra ≡ unit_clauses (lists_circuit q.circuit).properties.outputs
 
 -- a question of the circuit, with its clauses
 pub record IsEncodedQuestion (c : Circuit) (last : ℕ) (optimize : Bool)

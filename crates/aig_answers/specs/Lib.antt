@@ -1,5 +1,5 @@
 pub mod Answers
-pub mod Parts
+pub mod CircuitVerdicts
 pub mod Asking
 pub mod Encoded
 pub mod Naming

@@ -38,9 +38,9 @@ IsOfProof e = ⊥
 -- can't be satisfied
 abbrev pub HasNoWindow : Bool → Circuit → Type 0
 HasNoWindow optimize m =
-    (lists : List (List (List Lit))) × (further : List (List Lit))
-    × AsksWindow Plain m 0 optimize lists further
-    × ¬ IsSatisfiable (clauses_in lists ++ further)
+    (lists : List (List (List Lit))) × (extra : List (List Lit))
+    × AsksWindow Plain m 0 optimize lists extra
+    × ¬ IsSatisfiable (clauses_in lists ++ extra)
 
 -- the circuit is safe at step 0 and has no window, or it is said why that isn't shown
 abbrev pub HoldsBoth : ℕ → Bool → Option (List ℕ) → Option (List ℕ) → Circuit

@@ -2,7 +2,7 @@
 
 ghost use Rattle.std.specs.Prelude.{◌≡◌, ◌≤◌, ◌↔◌, IfErr, IsTrue, length};
 ghost use Rattle.aig_answers.specs.Answers.{IsOfQuery, verdict_of};
-ghost use Rattle.aig_answers.specs.Parts.{asks_verdict};
+ghost use Rattle.aig_answers.specs.CircuitVerdicts.{asks_verdict};
 ghost use Rattle.aig_reader.specs.Verdicts.{verdict_by};
 ghost use Rattle.aig_unroll.specs.Places.{unrolled_size};
 

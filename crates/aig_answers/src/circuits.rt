@@ -25,7 +25,7 @@ pub struct CircuitQuery {
     /// The clauses of the unrolled circuit.
     pub clauses: DagCnf,
     /// The query clauses.
-    pub further: LitVvec,
+    pub extra: LitVvec,
 }
 
 /// The query of a circuit that has room for its further steps.
@@ -43,7 +43,7 @@ pub(crate) fn make_query(
     let clauses = unrolled.cnf(optimize)?;
     let bads = unrolled.bads();
     let first = k * circuit.bads().len();
-    let further = query_clauses(
+    let extra = query_clauses(
         alloc,
         circuit.latchs(),
         unrolled.constraints(),
@@ -52,7 +52,7 @@ pub(crate) fn make_query(
     Ok(CircuitQuery {
         unrolled,
         clauses,
-        further,
+        extra,
     })
 }
 
@@ -121,5 +121,5 @@ pub fn check_query_of<P: Source>(
         return Err(AnswerError::NoBads);
     }
     let asked = query_of(alloc, circuit, limit, k, optimize)?;
-    refute(alloc, &asked.clauses, &asked.further, proof)
+    refute(alloc, &asked.clauses, &asked.extra, proof)
 }

@@ -13,13 +13,13 @@ use aig_runs::{push_any, push_units};
 use std::alloc::Global;
 
 /// Appends for each edge the clause that it is false.
-fn push_inverses(further: &mut LitVvec, edges: &[AigEdge]) -> Result<(), MemoryError>
+fn push_inverses(extra: &mut LitVvec, edges: &[AigEdge]) -> Result<(), MemoryError>
     requires { All (λ e. e.node_id < 2 ^ 31) edges.now }
-    ensures { OnOk result (further.new ≡ further.old ++ unit_clauses (map inverse edges.now)) }
+    ensures { OnOk result (extra.new ≡ extra.old ++ unit_clauses (map inverse edges.now)) }
 {
     for edge in edges {
         let other = !*edge;
-        further.push(&[other.to_lit()])?;
+        extra.push(&[other.to_lit()])?;
     }
     Ok(())
 }
@@ -35,15 +35,15 @@ fn induction_over(
     requires constraints { All (λ e. e.node_id < 2 ^ 31) constraints.now }
     requires bads { All (λ e. e.node_id < 2 ^ 31) bads.now }
     requires first { first ≤ length bads.now }
-    ensures { IfOk result (λ further. further ≡ unit_clauses constraints.now
+    ensures { IfOk result (λ extra. extra ≡ unit_clauses constraints.now
         ++ unit_clauses (map inverse (take first bads.now))
         ++ map lit_of (drop first bads.now) ∷ []) }
 {
-    let mut further = LitVvec::new(alloc);
-    push_units(&mut further, constraints)?;
-    push_inverses(&mut further, &bads[..first])?;
-    push_any(alloc, &mut further, &bads[first..])?;
-    Ok(further)
+    let mut extra = LitVvec::new(alloc);
+    push_units(&mut extra, constraints)?;
+    push_inverses(&mut extra, &bads[..first])?;
+    push_any(alloc, &mut extra, &bads[first..])?;
+    Ok(extra)
 }
 
 /// The window clauses of an induction step, over the circuit and the circuit with `k + 1` further steps.
@@ -57,7 +57,7 @@ pub(crate) fn induction_between(
     requires few { length unrolled.now.nodes ≤ 2 ^ 31 }
     requires unrolls { UnrollsTo circuit.now (k + 1) unrolled.now }
     ensures exact { IfOk result
-        (λ further. further ≡ induction_clauses circuit.now k unrolled.now) }
+        (λ extra. extra ≡ induction_clauses circuit.now k unrolled.now) }
     ensures circuit { OnOk result (IsCircuit unrolled.now) }
 {
     let bads = unrolled.bads();

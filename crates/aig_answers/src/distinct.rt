@@ -22,29 +22,24 @@ pub(crate) fn pairs_of(steps: usize) -> usize
 }
 
 /// Appends the clauses that two edges differ where the variable is true.
-fn push_difference(
-    further: &mut LitVvec,
-    var: Var,
-    x: AigEdge,
-    y: AigEdge,
-) -> Result<(), MemoryError>
+fn push_difference(extra: &mut LitVvec, var: Var, x: AigEdge, y: AigEdge) -> Result<(), MemoryError>
     requires x { x.node_id < 2 ^ 31 }
     requires y { y.node_id < 2 ^ 31 }
-    ensures { OnOk result (further.new ≡ further.old
+    ensures { OnOk result (extra.new ≡ extra.old
         ++ (lit_to (var_number var) false ∷ lit_of x ∷ lit_of y ∷ [])
         ∷ (lit_to (var_number var) false ∷ lit_of (inverse x) ∷ lit_of (inverse y) ∷ []) ∷ []) }
 {
     let other_x = !x;
     let other_y = !y;
-    further.push(&[!var.lit(), x.to_lit(), y.to_lit()])?;
-    further.push(&[!var.lit(), other_x.to_lit(), other_y.to_lit()])
+    extra.push(&[!var.lit(), x.to_lit(), y.to_lit()])?;
+    extra.push(&[!var.lit(), other_x.to_lit(), other_y.to_lit()])
 }
 
 /// Adds a variable for each pair of edges of two states, and appends the clauses that they differ where it is true, and that
 /// some is. `some` is used, whatever it has.
 fn push_pair(
     clauses: &mut DagCnf,
-    further: &mut LitVvec,
+    extra: &mut LitVvec,
     some: &mut Vec<Lit>,
     xs: &[AigEdge],
     ys: &[AigEdge],
@@ -54,16 +49,16 @@ fn push_pair(
     requires xs { All (λ e. e.node_id < 2 ^ 31) xs.now }
     requires ys { All (λ e. e.node_id < 2 ^ 31) ys.now }
     ensures clauses { OnOk result (clauses.new ≡ clauses.old ++ replicate (length xs.now) []) }
-    ensures further { OnOk result
-        (further.new ≡ further.old ++ pair_clauses (length clauses.old) xs.now ys.now) }
+    ensures extra { OnOk result
+        (extra.new ≡ extra.old ++ pair_clauses (length clauses.old) xs.now ys.now) }
 {
     some.clear();
     for i in 0..xs.len() {
         let var = clauses.new_var()?;
-        push_difference(further, var, xs[i], ys[i])?;
+        push_difference(extra, var, xs[i], ys[i])?;
         some.push(var.lit())?;
     }
-    further.push(some)
+    extra.push(some)
 }
 
 /// The edges of the state at step `t`.
@@ -79,7 +74,7 @@ fn state_of(edges: &[AigEdge], latchs: usize, t: usize) -> &[AigEdge]
 /// those before it.
 fn push_apart(
     clauses: &mut DagCnf,
-    further: &mut LitVvec,
+    extra: &mut LitVvec,
     some: &mut Vec<Lit>,
     edges: &[AigEdge],
     latchs: usize,
@@ -89,13 +84,13 @@ fn push_apart(
     requires there { (t + 1) * latchs ≤ length edges.now }
     requires edges { All (λ e. e.node_id < 2 ^ 31) edges.now }
     ensures clauses { OnOk result (clauses.new ≡ clauses.old ++ replicate (t * latchs) []) }
-    ensures further { OnOk result (further.new ≡ further.old
+    ensures extra { OnOk result (extra.new ≡ extra.old
         ++ apart_clauses (length clauses.old) latchs edges.now t t) }
 {
     let state = state_of(edges, latchs, t);
     for s in 0..t {
         let before = state_of(edges, latchs, s);
-        push_pair(clauses, further, some, before, state)?;
+        push_pair(clauses, extra, some, before, state)?;
     }
     Ok(())
 }
@@ -105,7 +100,7 @@ fn push_apart(
 /// says so of all pairs.
 pub(crate) fn push_distinct(
     clauses: &mut DagCnf,
-    further: &mut LitVvec,
+    extra: &mut LitVvec,
     some: &mut Vec<Lit>,
     edges: &[AigEdge],
     latchs: usize,
@@ -116,14 +111,14 @@ pub(crate) fn push_distinct(
     requires edges { All (λ e. e.node_id < 2 ^ 31) edges.now }
     ensures clauses { OnOk result
         (clauses.new ≡ clauses.old ++ replicate (count_pairs steps * latchs) []) }
-    ensures further { OnOk result (further.new ≡ further.old
+    ensures extra { OnOk result (extra.new ≡ extra.old
         ++ distinct_clauses (length clauses.old) latchs edges.now steps) }
 {
     if latchs == 0 {
-        return further.push(&[]);
+        return extra.push(&[]);
     }
     for t in 0..steps {
-        push_apart(clauses, further, some, edges, latchs, t)?;
+        push_apart(clauses, extra, some, edges, latchs, t)?;
     }
     Ok(())
 }

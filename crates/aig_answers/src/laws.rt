@@ -25,9 +25,9 @@ use aig_runs::{refuted_windows_are_inductive, windows_are_one};
 /// not all are false.
 pub fn windows_are_asked()
     ensures asked { (form : Window) (f : File) (limit k : ℕ) (optimize : Bool)
-        (clauses : List (List (List Lit))) (further : List (List Lit))
-        → Fits f limit → AsksWindow form (circuit_of f) k optimize clauses further
-        → IsSatisfiable (clauses_in clauses ++ further)
+        (clauses : List (List (List Lit))) (extra : List (List Lit))
+        → Fits f limit → AsksWindow form (circuit_of f) k optimize clauses extra
+        → IsSatisfiable (clauses_in clauses ++ extra)
         ↔ ((run : ℕ → ℕ → Bool) × IsWindow form f k run
         × IsTrue (list_any (value_of_literal (run (k + 1))) f.properties.bads)) }
     ensures bad { (f : File) (values : ℕ → Bool)
@@ -41,12 +41,12 @@ pub fn windows_are_asked()
 pub fn circuit_clauses_are_one()
     ensures query { (c : Circuit) (k : ℕ) (optimize : Bool) (text : Option (List ℕ))
         (answer : Result (Unit {0}) AnswerError) (q : CircuitQuery)
-        → IsCircuitQuery c k optimize q → TellsOfProof q.clauses q.further text answer
+        → IsCircuitQuery c k optimize q → TellsOfProof q.clauses q.extra text answer
         → TellsOfCircuit k optimize text c answer }
     ensures window { (form : Window) (c : Circuit) (k : ℕ) (optimize : Bool)
         (text : Option (List ℕ)) (answer : Result (Unit {0}) AnswerError)
-        (lists : List (List (List Lit))) (further : List (List Lit))
-        → AsksWindow form c k optimize lists further → TellsOfProof lists further text answer
+        (lists : List (List (List Lit))) (extra : List (List Lit))
+        → AsksWindow form c k optimize lists extra → TellsOfProof lists extra text answer
         → TellsOfCircuitWindow form k optimize text c answer }
 {
     clauses_are_one();

@@ -19,7 +19,7 @@ pub struct ClauseParts {
     /// Which gates of the circuit need clauses, and how many clauses there are.
     pub needed: NeededGates,
     /// The window clauses, or those of the query.
-    pub further: LitVvec,
+    pub extra: LitVvec,
 }
 
 /// What the clauses of `unrolled_query` are written from. It takes a byte a node. The one error is refused memory.
@@ -37,9 +37,9 @@ pub fn query_parts(
 {
     circuit_queries_ask();
     clauses_fix_roots();
-    let further = asked.query_clauses(alloc)?;
+    let extra = asked.query_clauses(alloc)?;
     let needed = find_needed(alloc, &asked.unrolled(), optimize)?;
-    Ok(ClauseParts { needed, further })
+    Ok(ClauseParts { needed, extra })
 }
 
 /// What the clauses of `plain_window` are written from. It takes a byte a node. The one error is refused memory.
@@ -56,11 +56,11 @@ pub fn window_parts(
     ensures written { IfOk result (AreWrittenFrom unrolled.now optimize) }
     // Whichever list is made of the circuit's clauses, with the further ones it asks for the window.
     ensures asks { IfOk result (AskWith unrolled.now optimize
-        (λ made. AsksWindow Plain circuit.now k optimize made.clauses made.further)) }
+        (λ made. AsksWindow Plain circuit.now k optimize made.clauses made.extra)) }
 {
     clauses_fix_roots();
     clauses_are_one();
-    let further = induction_between(alloc, circuit, k, unrolled)?;
+    let extra = induction_between(alloc, circuit, k, unrolled)?;
     let needed = find_needed(alloc, unrolled, optimize)?;
-    Ok(ClauseParts { needed, further })
+    Ok(ClauseParts { needed, extra })
 }

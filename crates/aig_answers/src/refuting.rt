@@ -14,15 +14,15 @@ use std::alloc::Global;
 pub fn refute<P: Source>(
     alloc: Global,
     clauses: &DagCnf,
-    further: &LitVvec,
+    extra: &LitVvec,
     proof: &mut P,
 ) -> Result<(), AnswerError>
-    ensures refuted { OnOk result (¬ IsSatisfiable (clauses_in clauses.now ++ further.now)) }
+    ensures refuted { OnOk result (¬ IsSatisfiable (clauses_in clauses.now ++ extra.now)) }
     ensures own { IfErr result (λ e. (x : RefutationError) × (e ≡ errors.Refutation x)) }
     ensures stream { IsErrOf result (AnswerError.Refutation RefutationError.Stream)
         → IsTrue (P.failed proof.new) }
-    ensures shown { TellsOfProof clauses.now further.now (P.left proof.old) result }
+    ensures shown { TellsOfProof clauses.now extra.now (P.left proof.old) result }
 {
-    check_refutation(alloc, clauses, further, proof)?;
+    check_refutation(alloc, clauses, extra, proof)?;
     Ok(())
 }

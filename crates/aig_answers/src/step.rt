@@ -2,7 +2,7 @@
 
 ghost use Rattle.std.specs.Prelude.{◌≡◌, ◌≢◌, ◌^◌, ◌≤◌, IfErr, IfOk, IsErrOf, IsTrue, length};
 ghost use Rattle.aig_answers.specs.Answers.{IsAsked, IsCircuitQuery, IsOfQuery, IsOfStep, IsSaidBy, TellsOfStep, asked_verdict, verdict_of};
-ghost use Rattle.aig_answers.specs.Parts.{circuit_verdict};
+ghost use Rattle.aig_answers.specs.CircuitVerdicts.{circuit_verdict};
 ghost use Rattle.aig_base.specs.Clauses.{AreBelow};
 ghost use Rattle.aig_circuit.specs.Circuit.{IsCircuit};
 ghost use Rattle.aig_circuit.specs.View.{lists_circuit};
@@ -74,7 +74,7 @@ pub fn asked_query<R: Source>(
     let CircuitQuery {
         unrolled,
         clauses,
-        further,
+        extra,
     } = ask_query(alloc, &circuit, limit, k, optimize)?;
     Ok(Query {
         encoded: Encoded {
@@ -82,7 +82,7 @@ pub fn asked_query<R: Source>(
             unrolled,
             clauses,
         },
-        extra: further,
+        extra,
     })
 }
 

@@ -27,8 +27,8 @@ pub fn unrolled_query(
 {
     circuit_queries_ask();
     let clauses = encode(alloc, &asked.unrolled(), optimize)?;
-    let further = asked.query_clauses(alloc)?;
-    Ok(WindowClauses { clauses, further })
+    let extra = asked.query_clauses(alloc)?;
+    Ok(WindowClauses { clauses, extra })
 }
 
 /// The clauses of a plain window of a circuit, as `window` makes them, from the circuit with `k + 1` further steps. The one error is
@@ -44,10 +44,10 @@ pub fn plain_window(
     requires few { length unrolled.now.nodes ≤ 2 ^ 31 }
     requires unrolls { UnrollsTo circuit.now (k + 1) unrolled.now }
     ensures { IfOk result
-        (λ made. AsksWindow Plain circuit.now k optimize made.clauses made.further) }
+        (λ made. AsksWindow Plain circuit.now k optimize made.clauses made.extra) }
 {
     let clauses = encode(alloc, unrolled, optimize)?;
     tell_relations(&clauses);
-    let further = induction_between(alloc, circuit, k, unrolled)?;
-    Ok(WindowClauses { clauses, further })
+    let extra = induction_between(alloc, circuit, k, unrolled)?;
+    Ok(WindowClauses { clauses, extra })
 }

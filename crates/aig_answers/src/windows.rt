@@ -35,7 +35,7 @@ pub struct WindowClauses {
     /// The clauses of the unrolled circuit, and then free variables.
     pub clauses: DagCnf,
     /// The window clauses, or those of the query.
-    pub further: LitVvec,
+    pub extra: LitVvec,
 }
 
 /// Tells that clauses that are given to variables are of those that are there.
@@ -103,7 +103,7 @@ fn tell_apart(
         → length unrolled.now.properties.outputs ≡ (k + 1 + 1) * length circuit.now.latchs }
     ensures clauses { OnOk result (made.new.clauses
         ≡ made.old.clauses ++ replicate (count_free form circuit.now k) []) }
-    ensures further { OnOk result (made.new.further ≡ made.old.further
+    ensures extra { OnOk result (made.new.extra ≡ made.old.extra
         ++ states_clauses form (length made.old.clauses) circuit.now k unrolled.now) }
 {
     match form {
@@ -113,7 +113,7 @@ fn tell_apart(
             let mut some = Vec::with_capacity(alloc, latchs)?;
             let states = unrolled.outputs();
             let clauses = &mut made.clauses;
-            push_distinct(clauses, &mut made.further, &mut some, states, latchs, k + 2)
+            push_distinct(clauses, &mut made.extra, &mut some, states, latchs, k + 2)
         }
     }
 }
@@ -133,12 +133,12 @@ fn clauses_of(
     requires room { length unrolled.now.nodes + count_free form circuit.now k ≤ 2 ^ 31 }
     requires watched { (c : Circuit) × (circuit.now ≡ watched form c) }
     ensures { IfOk result (λ made. (c : Circuit) → circuit.now ≡ watched form c
-        → AsksWindow form c k optimize made.clauses made.further) }
+        → AsksWindow form c k optimize made.clauses made.extra) }
 {
     let clauses = encode(alloc, unrolled, optimize)?;
     tell_relations(&clauses);
-    let further = induction_between(alloc, circuit, k, unrolled)?;
-    let mut made = WindowClauses { clauses, further };
+    let extra = induction_between(alloc, circuit, k, unrolled)?;
+    let mut made = WindowClauses { clauses, extra };
     tell_apart(alloc, &mut made, circuit, k, unrolled, form)?;
     Ok(made)
 }
@@ -155,7 +155,7 @@ fn make_window(
     requires circuit { IsCircuit (lists_circuit circuit) }
     requires room { window_size form (lists_circuit circuit) k ≤ 2 ^ 31 }
     ensures { IfOk result
-        (λ made. AsksWindow form (lists_circuit circuit) k optimize made.clauses made.further) }
+        (λ made. AsksWindow form (lists_circuit circuit) k optimize made.clauses made.extra) }
 {
     let watched = watch(alloc, circuit, form)?;
     let circuit = CircuitView::new(&watched);
@@ -213,7 +213,7 @@ fn ask_window(
     requires steps { k < 2 ^ 32 }
     requires circuit { IsCircuit (lists_circuit circuit) }
     ensures asks { IfOk result
-        (λ made. AsksWindow form (lists_circuit circuit) k optimize made.clauses made.further) }
+        (λ made. AsksWindow form (lists_circuit circuit) k optimize made.clauses made.extra) }
     ensures said { IsSaidBy (circuit_window_verdict form limit k (lists_circuit circuit))
         (verdict_by verdict_of result) }
     ensures own { IfErr result IsOfWindow }
@@ -246,10 +246,10 @@ pub fn window<R: Source>(
     requires steps { k < 2 ^ 32 }
     // The bytes that were read are a file within the limit, with a bad literal, of which the clauses ask for a window.
     ensures answer { IfOk result (IsReadAs (IsAsked limit (k + 1))
-        (λ f made. AsksWindow form (circuit_of f) k optimize made.clauses made.further)
+        (λ f made. AsksWindow form (circuit_of f) k optimize made.clauses made.extra)
         (R.left r.old) (R.left r.new)) }
     // The window clauses are of variables that are there.
-    ensures below { IfOk result (λ made. AreBelow (length made.clauses) made.further) }
+    ensures below { IfOk result (λ made. AreBelow (length made.clauses) made.extra) }
     // Each such file whose window has room is answered, and a refusal says why.
     ensures verdict { Judges (window_verdict form limit k) limit (R.left r.old) (R.left r.new)
         (R.failed r.new) (verdict_by verdict_of result) }
@@ -292,7 +292,7 @@ pub fn check_window<R: Source, P: Source>(
     refuted_windows_are_inductive();
     windows_are_one();
     let asked = window(alloc, r, limit, k, optimize, form)?;
-    refute(alloc, &asked.clauses, &asked.further, proof)
+    refute(alloc, &asked.clauses, &asked.extra, proof)
 }
 
 /// Checks a proof, in the LRAT or the DRAT format, that the window clauses of a circuit can't be satisfied, as `check_window` does
@@ -327,5 +327,5 @@ pub fn check_window_of<P: Source>(
     refuted_windows_are_inductive();
     windows_are_one();
     let asked = ask_window(alloc, circuit, limit, k, optimize, form)?;
-    refute(alloc, &asked.clauses, &asked.further, proof)
+    refute(alloc, &asked.clauses, &asked.extra, proof)
 }

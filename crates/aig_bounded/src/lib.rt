@@ -14,4 +14,4 @@ mod steps;
 pub use error::BoundedError;
 pub use laws::{questions_are_one, questions_ask_for_witnesses};
 pub use place::Place;
-pub use question::{Question, bounded_question};
+pub use question::{BoundedCircuit, bounded_question};

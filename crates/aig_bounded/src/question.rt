@@ -21,7 +21,7 @@ use std::collections::HashMap;
 
 /// A bounded check as one question: a circuit without latches and with one output.
 #[derive(Drop)]
-pub struct Question {
+pub struct BoundedCircuit {
     /// The circuit. Its one output is what is asked.
     pub circuit: CircuitLists,
     /// The places of its inputs, one for one.
@@ -51,7 +51,7 @@ pub fn bounded_question(
     circuit: &CircuitView<'_>,
     last: usize,
     limit: usize,
-) -> Result<Question, BoundedError>
+) -> Result<BoundedCircuit, BoundedError>
     requires starts { All HasConstantInit circuit.now.latchs }
     requires some { 1 ≤ limit }
     requires few { limit ≤ 2 ^ 31 }
@@ -69,7 +69,7 @@ pub fn bounded_question(
 }
 
 /// The question of the nodes that its output reaches.
-fn cut(alloc: Global, frames: Frames, output: AigEdge) -> Result<Question, MemoryError>
+fn cut(alloc: Global, frames: Frames, output: AigEdge) -> Result<BoundedCircuit, MemoryError>
     requires frames { (c : Circuit) × (t : ℕ) × AreFrames c t 0 frames }
     requires there { IsInRange frames.nodes.items output }
     requires few { length frames.nodes.items ≤ 2 ^ 31 }
@@ -78,7 +78,7 @@ fn cut(alloc: Global, frames: Frames, output: AigEdge) -> Result<Question, Memor
 {
     let places = kept_places(alloc, &frames, output)?;
     let circuit = kept_circuit(alloc, frames, output)?;
-    Ok(Question { circuit, places })
+    Ok(BoundedCircuit { circuit, places })
 }
 
 /// The circuit of the nodes that the output reaches.

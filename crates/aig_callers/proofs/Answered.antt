@@ -3,11 +3,11 @@ use Rattle.aig_base.proofs.Words.{◌≡◌, ℕ, Bool, List, [], Option, Some, 
 use Rattle.aig_format.specs.File.{File}
 use Rattle.aig_format.specs.Fits.{Accepts}
 use Rattle.aig_reader.specs.Verdicts.{Accepted, IsVerdictOn, Verdict}
-use Rattle.aig_commands.specs.declared.command.Command.{Command}
-use Rattle.aig_commands.specs.Running as running
+use Rattle.aig_tool_commands.specs.declared.command.Command.{Command}
+use Rattle.aig_tool_commands.specs.Running as running
 use Rattle.aig_edits.specs.Pairs.{ReadsPair}
-use Rattle.aig_checks.specs.declared.command.FileCommand.{FileCommand}
-use Rattle.aig_checks.specs.Running.{Answers, IsAskedBy, Runs, file_verdict}
+use Rattle.aig_check_commands.specs.declared.command.FileCommand.{FileCommand}
+use Rattle.aig_check_commands.specs.Running.{Answers, IsAskedBy, Runs, file_verdict}
 use Rattle.aig_callers.proofs.Asking.{all_taken}
 use Rattle.aig_callers.proofs.Text.{all_held}
 

@@ -37,15 +37,15 @@ AreOne =
 abbrev pub WindowsAreOne : Type 0
 WindowsAreOne =
     (form : Window) (c : Circuit) (k : ℕ) (optimize : Bool)
-    (lists others : List (List (List Lit))) (further more : List (List Lit))
-    → AsksWindow form c k optimize lists further → AsksWindow form c k optimize others more
-    → (lists ≡ others) × (further ≡ more)
+    (lists others : List (List (List Lit))) (extra more : List (List Lit))
+    → AsksWindow form c k optimize lists extra → AsksWindow form c k optimize others more
+    → (lists ≡ others) × (extra ≡ more)
 
 abbrev pub QuestionsAreOne : Type 0
 QuestionsAreOne =
     (c : Circuit) (k : ℕ) (optimize : Bool) (one other : BoundedClauses)
     → AsksOfBads c k optimize one → AsksOfBads c k optimize other
-    → (one.clauses ≡ other.clauses) × (one.further ≡ other.further)
+    → (one.clauses ≡ other.clauses) × (one.extra ≡ other.extra)
 
 module _ (spell_one : SpellOne) (pairing : Pairing) (f g h : File) (m : Circuit) (limit k : ℕ)
     (optimize : Bool) (joint : IsJointOf pairing f g m) (accepts : Accepts (text_of m) limit h)
@@ -61,7 +61,7 @@ module _ (spell_one : SpellOne) (pairing : Pairing) (f g h : File) (m : Circuit)
 
     pub query_same : AreOne → (one : Query) (other : CircuitQuery) → IsQuery k optimize h one
         → IsCircuitQuery m k optimize other
-        → (one.encoded.clauses ≡ other.clauses) × (one.extra ≡ other.further)
+        → (one.encoded.clauses ≡ other.clauses) × (one.extra ≡ other.extra)
     query_same are_one one other asks is =
         let e = asks.0 in
         let circuit : one.encoded.circuit ≡ without_other_names m = e.of_file ∙ named in
@@ -77,17 +77,17 @@ module _ (spell_one : SpellOne) (pairing : Pairing) (f g h : File) (m : Circuit)
         )
 
     pub window_same : WindowsAreOne → (form : Window) (lists others : List (List (List Lit)))
-        (further more : List (List Lit)) → AsksWindow form (circuit_of h) k optimize lists further
-        → AsksWindow form m k optimize others more → (lists ≡ others) × (further ≡ more)
-    window_same are_one form lists others further more asks is =
+        (extra more : List (List Lit)) → AsksWindow form (circuit_of h) k optimize lists extra
+        → AsksWindow form m k optimize others more → (lists ≡ others) × (extra ≡ more)
+    window_same are_one form lists others extra more asks is =
         let circuit = subst IsCircuit named (IsCircuit-of_file h limit accepts.1) in
-        are_one form (without_other_names m) k optimize lists others further more
-        (subst (λ c. AsksWindow form c k optimize lists further) named asks)
+        are_one form (without_other_names m) k optimize lists others extra more
+        (subst (λ c. AsksWindow form c k optimize lists extra) named asks)
         (window_named (without_other_names m).names form m k optimize others more circuit is)
 
     pub question_same : QuestionsAreOne → (one other : BoundedClauses)
         → AsksBounded h k optimize one → AsksOfBads m k optimize other
-        → (one.clauses ≡ other.clauses) × (one.further ≡ other.further)
+        → (one.clauses ≡ other.clauses) × (one.extra ≡ other.extra)
     question_same are_one one other asks is =
         are_one (without_other_names m) k optimize one other
         (subst (λ c. AsksOfBads c k optimize one) named asks)

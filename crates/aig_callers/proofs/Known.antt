@@ -11,16 +11,16 @@ use Rattle.aig_command_line.specs.declared.placed.Placed.{Placed}
 use Rattle.aig_command_line.specs.declared.status.Ending.TheVariants.{Done}
 use Rattle.aig_command_line.specs.declared.files.OpenError.{OpenError}
 use Rattle.aig_command_line.specs.Ending.{ended}
-use Rattle.aig_checks.specs.declared.command.Action.TheVariants as actions
-use Rattle.aig_checks.specs.declared.command.Asked.{Asked}
-use Rattle.aig_checks.specs.declared.command.Command.TheVariants as commands
-use Rattle.aig_checks.specs.declared.command.FileCommand.TheVariants as on_file
-use Rattle.aig_checks.specs.declared.tool.CheckError.{CheckError}
-use Rattle.aig_checks.specs.Acting.{Acts, RanOn}
-use Rattle.aig_checks.specs.Inputs.{Ran}
-use Rattle.aig_checks.specs.Opening.{OnOpening, OpensAll}
-use Rattle.aig_checks.specs.Running.{Runs, step_line}
-use Rattle.aig_checks.specs.Words.{IsCall}
+use Rattle.aig_check_commands.specs.declared.command.Action.TheVariants as actions
+use Rattle.aig_check_commands.specs.declared.command.Asked.{Asked}
+use Rattle.aig_check_commands.specs.declared.command.Command.TheVariants as commands
+use Rattle.aig_check_commands.specs.declared.command.FileCommand.TheVariants as on_file
+use Rattle.aig_check_commands.specs.declared.error.CheckError.{CheckError}
+use Rattle.aig_check_commands.specs.Acting.{Acts, RanOn}
+use Rattle.aig_check_commands.specs.Inputs.{Ran}
+use Rattle.aig_check_commands.specs.Opening.{OnOpening, OpensAll}
+use Rattle.aig_check_commands.specs.Running.{Runs, step_line}
+use Rattle.aig_check_commands.specs.CommandWords.{IsCall}
 use Rattle.aig_edits.specs.declared.edit.Edit.TheVariants as edits
 use Rattle.aig_edits.specs.declared.edit_error.EditError.{EditError}
 use Rattle.aig_edit_commands.specs.declared.acting.CommandError.{CommandError}
@@ -29,7 +29,7 @@ use Rattle.aig_edit_commands.specs.declared.command.Action.TheVariants as edit_a
 use Rattle.aig_edit_commands.specs.declared.command.Command.TheVariants as edit_commands
 use Rattle.aig_edit_commands.specs.declared.command.FileCommand.TheVariants as edit_files
 use Rattle.aig_edit_commands.specs.Acting as editing
-use Rattle.aig_edit_commands.specs.Words as edit_words
+use Rattle.aig_edit_commands.specs.CommandWords as edit_words
 use Rattle.aig_callers.proofs.Asking.{all_taken}
 use Rattle.aig_callers.proofs.Answered.{printed}
 use Rattle.aig_callers.proofs.Text.{all_held}

@@ -25,12 +25,12 @@ use Rattle.aig_answers.specs.declared.bounded_checks.error.BoundedAnswerError.Th
 use Rattle.aig_answers.specs.Certificates.{Certifies, Equals, IsOwn, first_verdict, second_verdict}
 use Rattle.aig_answers.specs.declared.certificates.error.CertificateError.{CertificateError}
 use Rattle.aig_answers.specs.declared.certificates.error.CertificateError.TheVariants as certificate
-use Rattle.aig_checks.specs.Bounded.{IsBoundedText}
-use Rattle.aig_checks.specs.Pairs.{IsObligationsText, formula_of}
-use Rattle.aig_checks.specs.Running.{IsClausesText, IsWindowText}
-use Rattle.aig_checks.specs.Titling.{pair_title}
-use Rattle.aig_checks.specs.Titles.{title_text}
-use Rattle.aig_commands.specs.Running.{IsTextOf}
+use Rattle.aig_check_commands.specs.Bounded.{IsBoundedText}
+use Rattle.aig_check_commands.specs.Pairs.{IsObligationsText, formula_of}
+use Rattle.aig_check_commands.specs.Running.{IsClausesText, IsWindowText}
+use Rattle.aig_check_commands.specs.Titling.{pair_title}
+use Rattle.aig_check_commands.specs.Titles.{title_text}
+use Rattle.aig_tool_commands.specs.Running.{IsTextOf}
 use Rattle.aig_edits.specs.Joints.{IsJointOf}
 use Rattle.aig_edits.specs.Pairs.{ReadsPair}
 use Rattle.aig_edits.specs.declared.pairing.Pairing.{Pairing}
@@ -75,14 +75,14 @@ module _ (laws : Laws) (one : SpellOne) (limit k : ℕ) (optimize : Bool) (file 
       → IsReadAs (IsAsked limit (k + 1)) (TellsOfWindow form k optimize given) old new answer)
       → IsProofOf text proof → IfErr answer IsHindrance
   window_taken form answer asked takes printed told shown p =
-      let clauses = clauses_in printed.lists ++ printed.further in
+      let clauses = clauses_in printed.lists ++ printed.extra in
       answer_taken laws one limit file text proof f asked.0.0 (length printed.lists) clauses
       printed.again
       answering.verdict_of answers.Refutation (λ r. refl) (λ e. Unit {0}) IsHindrance hindered
       (window_verdict form limit k) (IsAsked limit (k + 1)) (TellsOfWindow form k optimize given)
       old new failed answer (any answer) takes (λ b g h. h.0.0.0)
       (λ r means. subst (λ t. Shows (length printed.lists) clauses t (Err r)) known
-      (means.1 printed.lists printed.further printed.asks))
+      (means.1 printed.lists printed.extra printed.asks))
       is told shown p
 
   pub bounded_taken : {P : Type 0} (left : P → Option (List ℕ)) (before after : P)
@@ -95,7 +95,7 @@ module _ (laws : Laws) (one : SpellOne) (limit k : ℕ) (optimize : Bool) (file 
       → left before ≡ given → IsProofOf text proof → IfErr answer IsBoundedHindrance
   bounded_taken left before after answer own asked takes printed told shown same p =
       let made = printed.made in
-      let clauses = clauses_in made.clauses ++ made.further in
+      let clauses = clauses_in made.clauses ++ made.extra in
       answer_taken laws one limit file text proof f asked.0 (length made.clauses) clauses
       printed.again
       bounding.verdict_of bounded.Refutation (λ r. refl) IsOfCheck IsBoundedHindrance
@@ -163,7 +163,7 @@ module _ (laws : Laws) (one : SpellOne) (limit : ℕ) (file beside : List ℕ) (
         text_taken laws printed.step step (length made.clauses) (formula_of made) e
         printed.step_again p
         (subst (λ t. Shows (length made.clauses) (formula_of made) t (Err e)) step_known
-        (told.1 made.clauses made.further printed.asked.step))
+        (told.1 made.clauses made.extra printed.asked.step))
 
     module _ {R S : Type 0} (left : R → Option (List ℕ)) (failed : R → Bool) (left_of : S
         → Option (List ℕ)) (failed_of : S → Bool) (r rest : R) (s other : S) (is : left r
@@ -215,7 +215,7 @@ module _ (laws : Laws) (one : SpellOne) (limit : ℕ) (file beside : List ℕ) (
       (pairing : Pairing) (f g h : File) (m : Circuit) (limit k : ℕ)
       (optimize : Bool) (one : Query) (other : CircuitQuery) → IsJointOf pairing f g m
       → Accepts (text_of m) limit h → IsQuery k optimize h one → IsCircuitQuery m k optimize other
-      → (one.encoded.clauses ≡ other.clauses) × (one.extra ≡ other.further)
+      → (one.encoded.clauses ≡ other.clauses) × (one.extra ≡ other.extra)
 
   module _ (are_one : MitersAreOne) (ask_the_same : AskTheSame) (k : ℕ) (optimize : Bool)
       (text proof : List ℕ) (given : Option (List ℕ)) (known : given ≡ Some proof) (m : Circuit)
@@ -231,9 +231,9 @@ module _ (laws : Laws) (one : SpellOne) (limit : ℕ) (file beside : List ℕ) (
         let clauses = ask_the_same Miter f g h n limit k optimize q made other
         (subst (λ c. Accepts (text_of c) limit h) same written) asks told.0.1 in
         let shows = subst (λ t. Shows (length made.clauses)
-        (clauses_in made.clauses ++ made.further) t (Err e)) known (told.1 made told.0.1) in
+        (clauses_in made.clauses ++ made.extra) t (Err e)) known (told.1 made told.0.1) in
         let alike = subst (λ (ls : List (List (List Lit))). Shows (length ls)
-        (clauses_in ls ++ made.further) (Some proof) (Err e)) (sym clauses.0) shows in
+        (clauses_in ls ++ made.extra) (Some proof) (Err e)) (sym clauses.0) shows in
         text_taken laws text proof (length q.encoded.clauses) (clauses_in q.encoded.clauses ++
         q.extra) e printed.again p
         (subst (λ (fs : List (List Lit)). Shows (length q.encoded.clauses)

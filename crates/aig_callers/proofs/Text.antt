@@ -6,12 +6,12 @@ use Rattle.aig_format.proofs.Words.{circuit_of, text_of, File, Accepts}
 use Rattle.aig_command_line.specs.declared.status.Ending.TheVariants.{Done}
 use Rattle.aig_command_line.specs.declared.files.OpenError.{OpenError}
 use Rattle.aig_command_line.specs.Ending.{ended}
-use Rattle.aig_commands.specs.declared.command.Action.TheVariants as actions
-use Rattle.aig_commands.specs.declared.command.Command.TheVariants as commands
-use Rattle.aig_commands.specs.declared.tool.TheConstants.{LIMIT}
-use Rattle.aig_commands.specs.declared.tool.ToolError.{ToolError}
-use Rattle.aig_commands.specs.Acting.{PrintsOn, RunsOpened}
-use Rattle.aig_commands.specs.Words.{IsCall}
+use Rattle.aig_tool_commands.specs.declared.command.Action.TheVariants as actions
+use Rattle.aig_tool_commands.specs.declared.command.Command.TheVariants as commands
+use Rattle.aig_tool_commands.specs.declared.tool.TheConstants.{LIMIT}
+use Rattle.aig_tool_commands.specs.declared.tool.ToolError.{ToolError}
+use Rattle.aig_tool_commands.specs.Acting.{PrintsOn, RunsOpened}
+use Rattle.aig_tool_commands.specs.CommandWords.{IsCall}
 
 -- the words give the command
 pub call : (words : List (List ℕ)) → words ≡ codes "text" ∷ codes "FILE" ∷ []

@@ -3,11 +3,11 @@
 use Rattle.std.specs.Prelude.{◌≡◌, ℕ, ◌+◌, ◌^◌, Bool, List, Some}
 use Rattle.aig_answers.specs.Answers.{IsAsked, asked_verdict, window_verdict}
 use Rattle.aig_answers.specs.Asking.{IsAskedWithin, bounded_verdict}
-use Rattle.aig_checks.specs.Bounded.{IsBoundedText}
-use Rattle.aig_checks.specs.Pairs.{IsObligationsText}
-use Rattle.aig_checks.specs.Running.{IsClausesText, IsWindowText}
+use Rattle.aig_check_commands.specs.Bounded.{IsBoundedText}
+use Rattle.aig_check_commands.specs.Pairs.{IsObligationsText}
+use Rattle.aig_check_commands.specs.Running.{IsClausesText, IsWindowText}
 use Rattle.aig_circuit.specs.Circuit.{Circuit}
-use Rattle.aig_commands.specs.Running.{IsTextOf}
+use Rattle.aig_tool_commands.specs.Running.{IsTextOf}
 use Rattle.aig_edits.specs.Joints.{IsJointOf}
 use Rattle.aig_edits.specs.declared.pairing.Pairing.TheVariants.{Miter}
 use Rattle.aig_encode.specs.Encoding.{IsQuery}

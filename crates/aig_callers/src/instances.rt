@@ -61,7 +61,7 @@ pub fn printed_of_refuted(
 {
     let words = Ok(Some(words_of_refuted(alloc)?));
     let mut out = FlushedWriter::new(Vec::new(alloc));
-    match aig_checks::act(alloc, &words, &TwoFiles { file, proof }, &mut out) {
+    match aig_check_commands::act(alloc, &words, &TwoFiles { file, proof }, &mut out) {
         Ending::Done => Ok(Some(out.into_inner())),
         _ => Ok(None),
     }

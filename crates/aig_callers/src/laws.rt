@@ -30,17 +30,17 @@ pub fn joint_files_ask_the_same()
         (optimize : Bool) (one : Query) (other : CircuitQuery) → IsJointOf pairing f g m
         → Accepts (text_of m) limit h → IsQuery k optimize h one
         → IsCircuitQuery m k optimize other
-        → (one.encoded.clauses ≡ other.clauses) × (one.extra ≡ other.further) }
+        → (one.encoded.clauses ≡ other.clauses) × (one.extra ≡ other.extra) }
     ensures window { (pairing : Pairing) (f g h : File) (m : Circuit) (limit k : ℕ)
         (form : Window) (optimize : Bool) (lists others : List (List (List Lit)))
-        (further more : List (List Lit)) → IsJointOf pairing f g m → Accepts (text_of m) limit h
-        → AsksWindow form (circuit_of h) k optimize lists further
-        → AsksWindow form m k optimize others more → (lists ≡ others) × (further ≡ more) }
+        (extra more : List (List Lit)) → IsJointOf pairing f g m → Accepts (text_of m) limit h
+        → AsksWindow form (circuit_of h) k optimize lists extra
+        → AsksWindow form m k optimize others more → (lists ≡ others) × (extra ≡ more) }
     ensures question { (pairing : Pairing) (f g h : File) (m : Circuit) (limit k : ℕ)
         (optimize : Bool) (one other : BoundedClauses) → IsJointOf pairing f g m
         → Accepts (text_of m) limit h → AsksBounded h k optimize one
         → AsksOfBads m k optimize other
-        → (one.clauses ≡ other.clauses) × (one.further ≡ other.further) }
+        → (one.clauses ≡ other.clauses) × (one.extra ≡ other.extra) }
 {
     reads_exactly();
     clauses_are_one();

@@ -8,7 +8,7 @@ ghost use Rattle.aig_format.specs.Fits.{Accepts};
 use aig::WriteError;
 use aig_base::{FromRead, MemoryError, Sink, Source, StreamFault};
 use aig_command_line::{Ending, FlushedWriter, OpenError, Opens};
-use aig_commands::{Commit, LIMIT, Outs, ToolError, act};
+use aig_tool_commands::{Commit, LIMIT, Outs, ToolError, act};
 use std::alloc::Global;
 
 /// The one file that there is, of the name `FILE`.

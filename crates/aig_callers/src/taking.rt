@@ -13,9 +13,10 @@ use aig_answers::{
     check_step, check_window,
 };
 use aig_base::{FromRead, Source};
-use aig_checks::{CheckError, print_bounded, print_clauses, print_obligations, print_window};
+use aig_check_commands::{
+    CheckError, print_bounded, print_clauses, print_obligations, print_window,
+};
 use aig_command_line::FlushedWriter;
-use aig_commands::{Command, ToolError, run};
 use aig_edits::{PairError, Pairing, print_joint};
 use aig_format::reads_exactly;
 use aig_join::miters_are_one;
@@ -23,6 +24,7 @@ use aig_refutation::{
     ordered_rat_refutations_are_taken, written_plain_proofs_are_taken, written_proofs_are_taken,
 };
 use aig_runs::Window;
+use aig_tool_commands::{Command, ToolError, run};
 use std::alloc::Global;
 
 /// A source of these bytes.

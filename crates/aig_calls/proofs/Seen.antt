@@ -9,22 +9,22 @@ use Rattle.aig_answers.specs.Comparing.{CertifiesMiter, EqualsBy}
 use Rattle.aig_answers.specs.declared.certificates.compare_error.MiterError.{MiterError}
 use Rattle.aig_answers.specs.declared.certificates.compare_error.MiterError.TheVariants as miter
 use Rattle.aig_answers.specs.declared.certificates.error.CertificateError.{CertificateError}
-use Rattle.aig_checks.specs.Comparing as comparing
-use Rattle.aig_checks.specs.Comparing.{RunsComparing, TellsOfComparing}
-use Rattle.aig_checks.specs.Pairs as pairs
-use Rattle.aig_checks.specs.Pairs.{RunsPair, TellsOfPair}
-use Rattle.aig_checks.specs.Running.{IsOfFileAlone, Runs, nothing_fails, nothing_given}
-use Rattle.aig_checks.specs.Safe as safes
-use Rattle.aig_checks.specs.Safe.{RunsSafe, TellsWhy}
-use Rattle.aig_checks.specs.declared.command.FileCommand.{FileCommand}
-use Rattle.aig_checks.specs.declared.command.PairCommand.{PairCommand}
-use Rattle.aig_checks.specs.declared.tool.CheckError.{CheckError}
-use Rattle.aig_checks.specs.declared.tool.CheckError.TheVariants as checks
+use Rattle.aig_check_commands.specs.Comparing as comparing
+use Rattle.aig_check_commands.specs.Comparing.{RunsComparing, TellsOfComparing}
+use Rattle.aig_check_commands.specs.Pairs as pairs
+use Rattle.aig_check_commands.specs.Pairs.{RunsPair, TellsOfPair}
+use Rattle.aig_check_commands.specs.Running.{IsOfFileAlone, Runs, nothing_fails, nothing_given}
+use Rattle.aig_check_commands.specs.Safe as safes
+use Rattle.aig_check_commands.specs.Safe.{RunsSafe, TellsWhy}
+use Rattle.aig_check_commands.specs.declared.command.FileCommand.{FileCommand}
+use Rattle.aig_check_commands.specs.declared.command.PairCommand.{PairCommand}
+use Rattle.aig_check_commands.specs.declared.error.CheckError.{CheckError}
+use Rattle.aig_check_commands.specs.declared.error.CheckError.TheVariants as checks
 use Rattle.aig_circuit.specs.Circuit.{Circuit}
-use Rattle.aig_commands.specs.Running as tool
-use Rattle.aig_commands.specs.declared.command.Command.{Command}
-use Rattle.aig_commands.specs.declared.tool.ToolError.{ToolError}
-use Rattle.aig_commands.specs.declared.tool.ToolError.TheVariants as tools
+use Rattle.aig_tool_commands.specs.Running as tool
+use Rattle.aig_tool_commands.specs.declared.command.Command.{Command}
+use Rattle.aig_tool_commands.specs.declared.tool.ToolError.{ToolError}
+use Rattle.aig_tool_commands.specs.declared.tool.ToolError.TheVariants as tools
 use Rattle.aig.specs.declared.aiger.WriteError.TheVariants as write
 use Rattle.aig_edits.specs.Edits.{PrintsEdit, ReadsFile}
 use Rattle.aig_edits.specs.Info.{PrintsInfo}
@@ -37,8 +37,8 @@ use Rattle.aig_edits.specs.Rounds.{PrintsRounds}
 use Rattle.aig_edits.specs.declared.edit.Edit.{Edit}
 use Rattle.aig_edits.specs.declared.edit_error.EditError.{EditError}
 use Rattle.aig_edits.specs.declared.edit_error.EditError.TheVariants as edit
-use Rattle.aig_edits.specs.declared.error.PairError.{PairError}
-use Rattle.aig_edits.specs.declared.error.PairError.TheVariants as pair
+use Rattle.aig_edits.specs.declared.pair_error.PairError.{PairError}
+use Rattle.aig_edits.specs.declared.pair_error.PairError.TheVariants as pair
 use Rattle.aig_edits.specs.declared.pairing.Pairing.{Pairing}
 use Rattle.aig_format.proofs.Words.{File}
 use Rattle.aig_answers.specs.Liveness.{HasNoLassoTo, HasNoRun, TellsOfQuestion, TellsOfSafety}

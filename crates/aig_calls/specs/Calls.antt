@@ -7,16 +7,16 @@ use Rattle.std.specs.declared.alloc.Global.{Global}
 use Rattle.aig_answers.specs.Answers as answering
 use Rattle.aig_answers.specs.Answers.{IsAsked, IsOfQuery, asked_verdict}
 use Rattle.aig_answers.specs.declared.error.AnswerError.{AnswerError}
-use Rattle.aig_checks.specs.Comparing.{RunsComparing}
-use Rattle.aig_checks.specs.Pairs.{RunsPair}
-use Rattle.aig_checks.specs.Running.{Runs}
-use Rattle.aig_checks.specs.Safe.{RunsSafe}
-use Rattle.aig_checks.specs.declared.command.FileCommand.{FileCommand}
-use Rattle.aig_checks.specs.declared.command.PairCommand.{PairCommand}
-use Rattle.aig_checks.specs.declared.tool.CheckError.{CheckError}
-use Rattle.aig_commands.specs.Running as tool
-use Rattle.aig_commands.specs.declared.command.Command.{Command}
-use Rattle.aig_commands.specs.declared.tool.ToolError.{ToolError}
+use Rattle.aig_check_commands.specs.Comparing.{RunsComparing}
+use Rattle.aig_check_commands.specs.Pairs.{RunsPair}
+use Rattle.aig_check_commands.specs.Running.{Runs}
+use Rattle.aig_check_commands.specs.Safe.{RunsSafe}
+use Rattle.aig_check_commands.specs.declared.command.FileCommand.{FileCommand}
+use Rattle.aig_check_commands.specs.declared.command.PairCommand.{PairCommand}
+use Rattle.aig_check_commands.specs.declared.error.CheckError.{CheckError}
+use Rattle.aig_tool_commands.specs.Running as tool
+use Rattle.aig_tool_commands.specs.declared.command.Command.{Command}
+use Rattle.aig_tool_commands.specs.declared.tool.ToolError.{ToolError}
 use Rattle.aig_edits.specs.Edits.{IsEditOwn, PrintsEdit, ReadsFile, edit_verdict}
 use Rattle.aig_edits.specs.Info.{PrintsInfo}
 use Rattle.aig_edits.specs.Joints.{IsOwn, PrintsJoint, first_verdict, second_verdict}
@@ -27,7 +27,7 @@ use Rattle.aig_edits.specs.Reductions.{PrintsReduction}
 use Rattle.aig_edits.specs.Rounds.{PrintsRounds}
 use Rattle.aig_edits.specs.declared.edit.Edit.{Edit}
 use Rattle.aig_edits.specs.declared.edit_error.EditError.{EditError}
-use Rattle.aig_edits.specs.declared.error.PairError.{PairError}
+use Rattle.aig_edits.specs.declared.pair_error.PairError.{PairError}
 use Rattle.aig_edits.specs.declared.pairing.Pairing.{Pairing}
 use Rattle.aig_witness.specs.Claims as claiming
 use Rattle.aig_witness.specs.Claims.{ShowsClaim}

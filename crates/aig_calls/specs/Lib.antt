@@ -2,4 +2,4 @@ pub mod Memory
 pub mod Statuses
 pub mod Numbers
 pub mod Calls
-pub mod Parts
+pub mod Listings

@@ -11,14 +11,14 @@ use Rattle.aig_answers.specs.declared.certificates.compare_error.MiterError.{Mit
 use Rattle.aig_answers.specs.declared.certificates.compare_error.MiterError.TheVariants as miter
 use Rattle.aig_answers.specs.declared.certificates.error.CertificateError.{CertificateError}
 use Rattle.aig_answers.specs.declared.certificates.error.CertificateError.TheVariants as certificate
-use Rattle.aig_checks.specs.declared.tool.CheckError.{CheckError}
-use Rattle.aig_checks.specs.declared.tool.CheckError.TheVariants as checks
-use Rattle.aig_commands.specs.declared.tool.ToolError.{ToolError}
-use Rattle.aig_commands.specs.declared.tool.ToolError.TheVariants as tool
+use Rattle.aig_check_commands.specs.declared.error.CheckError.{CheckError}
+use Rattle.aig_check_commands.specs.declared.error.CheckError.TheVariants as checks
+use Rattle.aig_tool_commands.specs.declared.tool.ToolError.{ToolError}
+use Rattle.aig_tool_commands.specs.declared.tool.ToolError.TheVariants as tool
 use Rattle.aig_edits.specs.declared.edit_error.EditError.{EditError}
 use Rattle.aig_edits.specs.declared.edit_error.EditError.TheVariants as edit
-use Rattle.aig_edits.specs.declared.error.PairError.{PairError}
-use Rattle.aig_edits.specs.declared.error.PairError.TheVariants as pair
+use Rattle.aig_edits.specs.declared.pair_error.PairError.{PairError}
+use Rattle.aig_edits.specs.declared.pair_error.PairError.TheVariants as pair
 use Rattle.aig_encode.specs.declared.error.EncodeError.{EncodeError}
 use Rattle.aig_encode.specs.declared.error.EncodeError.TheVariants as encode
 use Rattle.aig_answers.specs.declared.equality.error.EqualityError.{EqualityError}

@@ -1,7 +1,7 @@
 //! Calls that give what a command of `aigcheck` prints of a file.
 
 ghost use Rattle.std.specs.Prelude.{◌<◌, ◌^◌, None, Some};
-ghost use Rattle.aig_checks.specs.declared.command.FileCommand.TheVariants as commands;
+ghost use Rattle.aig_check_commands.specs.declared.command.FileCommand.TheVariants as commands;
 ghost use Rattle.aig_calls.specs.Calls.{GivesAt, Prints, RunsOn, form_of, items_in};
 ghost use Rattle.aig_calls.specs.Statuses.{check_status};
 
@@ -9,8 +9,8 @@ use crate::buffer::put;
 use crate::steps::{step_of, window_form};
 use aig_answers::Window;
 use aig_base::{FromRead, ToWrite};
-use aig_checks::CheckError;
-use aig_commands::LIMIT;
+use aig_check_commands::CheckError;
+use aig_tool_commands::LIMIT;
 use std::alloc::Global;
 
 /// The clauses of a file's query, with its comments.
@@ -20,7 +20,7 @@ fn clauses_text(alloc: Global, file: &[u8], k: usize, optimize: bool) -> Result<
 {
     let source = FromRead::new(file);
     let mut sink = ToWrite::new(Vec::new(alloc));
-    aig_checks::print_clauses(alloc, LIMIT, k, optimize, source, &mut sink)?;
+    aig_check_commands::print_clauses(alloc, LIMIT, k, optimize, source, &mut sink)?;
     Ok(sink.into_inner())
 }
 
@@ -38,7 +38,7 @@ fn window_text(
 {
     let source = FromRead::new(file);
     let mut sink = ToWrite::new(Vec::new(alloc));
-    aig_checks::print_window(alloc, LIMIT, k, form, optimize, source, &mut sink)?;
+    aig_check_commands::print_window(alloc, LIMIT, k, form, optimize, source, &mut sink)?;
     Ok(sink.into_inner())
 }
 
@@ -48,7 +48,7 @@ fn bounded_text(alloc: Global, file: &[u8], k: usize, optimize: bool) -> Result<
 {
     let source = FromRead::new(file);
     let mut sink = ToWrite::new(Vec::new(alloc));
-    aig_checks::print_bounded(alloc, LIMIT, k, optimize, source, &mut sink)?;
+    aig_check_commands::print_bounded(alloc, LIMIT, k, optimize, source, &mut sink)?;
     Ok(sink.into_inner())
 }
 
@@ -67,7 +67,7 @@ fn witness_text(
     let mut source = FromRead::new(file);
     let mut answer = FromRead::new(solution);
     let mut sink = ToWrite::new(Vec::new(alloc));
-    aig_checks::print_witness(
+    aig_check_commands::print_witness(
         alloc,
         LIMIT,
         k,
@@ -93,7 +93,7 @@ fn witness_to_text(
     let mut source = FromRead::new(file);
     let mut answer = FromRead::new(solution);
     let mut sink = ToWrite::new(Vec::new(alloc));
-    aig_checks::print_witness_to(
+    aig_check_commands::print_witness_to(
         alloc,
         LIMIT,
         k,

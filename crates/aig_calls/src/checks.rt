@@ -1,7 +1,7 @@
 //! Calls that check proofs about a file.
 
 ghost use Rattle.std.specs.Prelude.{◌<◌, ◌^◌, Some};
-ghost use Rattle.aig_checks.specs.declared.command.FileCommand.TheVariants as commands;
+ghost use Rattle.aig_check_commands.specs.declared.command.FileCommand.TheVariants as commands;
 ghost use Rattle.aig_calls.specs.Calls.{ChecksAt, RunsOn, RunsOnSafe, form_of};
 ghost use Rattle.aig_calls.specs.Memory.{Unseen};
 ghost use Rattle.aig_calls.specs.Statuses.{check_status};
@@ -10,9 +10,11 @@ use crate::status::status_of;
 use crate::steps::{step_of, window_form};
 use aig_answers::Window;
 use aig_base::FromRead;
-use aig_checks::{CheckError, print_inductive, print_refuted, print_refuted_to, print_safe};
+use aig_check_commands::{
+    CheckError, print_inductive, print_refuted, print_refuted_to, print_safe,
+};
 use aig_command_line::Discarded;
-use aig_commands::LIMIT;
+use aig_tool_commands::LIMIT;
 use std::alloc::Global;
 
 /// Checks a proof that no bad state is reached at step `k`.

@@ -7,8 +7,8 @@ ghost use Rattle.aig_calls.specs.Statuses.{edit_status};
 use crate::buffer::put;
 use crate::steps::step_of;
 use aig_base::{FromRead, ToWrite};
-use aig_commands::LIMIT;
 use aig_edits::{Edit, EditError};
+use aig_tool_commands::LIMIT;
 use std::alloc::Global;
 
 /// The text of what an edit makes of a file.

@@ -5,8 +5,8 @@ ghost use Rattle.aig_calls.specs.Statuses.{edit_status};
 
 use crate::buffer::put;
 use aig_base::{FromRead, ToWrite};
-use aig_commands::LIMIT;
 use aig_edits::EditError;
+use aig_tool_commands::LIMIT;
 use std::alloc::Global;
 
 /// The text of the live circuit of a file's justice property.

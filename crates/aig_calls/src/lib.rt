@@ -11,7 +11,7 @@ mod edits;
 mod fair;
 mod liveness;
 mod mapping;
-mod meaning;
+mod messages;
 mod numbers;
 mod pair_checks;
 mod pairs;

@@ -8,7 +8,7 @@ use crate::status::status_of;
 use crate::steps::{step_of, window_form};
 use aig_answers::{LivenessError, Window, check_no_fair_run, check_no_lasso, check_no_lasso_to};
 use aig_base::FromRead;
-use aig_commands::LIMIT;
+use aig_tool_commands::LIMIT;
 use std::alloc::Global;
 
 /// Checks a proof that a justice property has no fair lasso of `k + 1` steps.

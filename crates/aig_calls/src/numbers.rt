@@ -8,7 +8,7 @@ ghost use Rattle.aig_unroll.specs.Unroll.{UnrollsTo};
 ghost use Rattle.aig_calls.specs.Calls.{AtStep, GivesListing, Lists};
 ghost use Rattle.aig_calls.specs.Memory.{On};
 ghost use Rattle.aig_calls.specs.Numbers.{AreNumbersOf, Listing, clause_numbers, dimacs_number};
-ghost use Rattle.aig_calls.specs.Parts.{listing_in};
+ghost use Rattle.aig_calls.specs.Listings.{listing_in};
 
 use crate::buffer::give;
 use crate::mapping::push_map;
@@ -16,8 +16,8 @@ use crate::status::HasNumber;
 use crate::steps::step_of;
 use aig_answers::{AnswerError, asked_query};
 use aig_base::{DagCnf, FromRead, Lit, LitVvec, MemoryError, Var};
-use aig_commands::LIMIT;
 use aig_encode::Query;
+use aig_tool_commands::LIMIT;
 use std::alloc::Global;
 
 /// What is listed: the count of variables, how many of the numbers are those of the clauses, and the numbers.

@@ -1,7 +1,7 @@
 //! Calls that check proofs about two files.
 
 ghost use Rattle.std.specs.Prelude.{◌<◌, ◌^◌, None, Some};
-ghost use Rattle.aig_checks.specs.declared.command.PairCommand.TheVariants as commands;
+ghost use Rattle.aig_check_commands.specs.declared.command.PairCommand.TheVariants as commands;
 ghost use Rattle.aig_calls.specs.Calls.{Checks, ChecksAt, RunsOnMiter, RunsOnPair, form_of};
 ghost use Rattle.aig_calls.specs.Memory.{Unseen};
 ghost use Rattle.aig_calls.specs.Statuses.{check_status};
@@ -10,9 +10,11 @@ use crate::status::status_of;
 use crate::steps::{step_of, window_form};
 use aig_answers::Window;
 use aig_base::FromRead;
-use aig_checks::{CheckError, print_always_equal, print_certified, print_equal, print_equal_by};
+use aig_check_commands::{
+    CheckError, print_always_equal, print_certified, print_equal, print_equal_by,
+};
 use aig_command_line::Discarded;
-use aig_commands::LIMIT;
+use aig_tool_commands::LIMIT;
 use std::alloc::Global;
 
 /// Checks proofs that a certificate shows that no bad state of a file's machine is ever reached.

@@ -1,16 +1,16 @@
 //! Calls that give the text of a circuit made of two files, or of its clauses.
 
 ghost use Rattle.std.specs.Prelude.{None};
-ghost use Rattle.aig_checks.specs.declared.command.PairCommand.TheVariants as commands;
+ghost use Rattle.aig_check_commands.specs.declared.command.PairCommand.TheVariants as commands;
 ghost use Rattle.aig_edits.specs.declared.pairing.Pairing.TheVariants.{Certificate, Merge, Miter};
 ghost use Rattle.aig_calls.specs.Calls.{Gives, MakesJoint, Prints, RunsOnPair, items_in};
 ghost use Rattle.aig_calls.specs.Statuses.{check_status, pair_status};
 
 use crate::buffer::put;
 use aig_base::{FromRead, ToWrite};
-use aig_checks::{CheckError, print_obligations};
-use aig_commands::LIMIT;
+use aig_check_commands::{CheckError, print_obligations};
 use aig_edits::{PairError, Pairing, print_joint};
+use aig_tool_commands::LIMIT;
 use std::alloc::Global;
 
 /// The text of the circuit of two files.

@@ -1,13 +1,13 @@
 //! Calls that give what a command of `aigtool` prints of a file.
 
-ghost use Rattle.aig_commands.specs.declared.command.Command.TheVariants as commands;
+ghost use Rattle.aig_tool_commands.specs.declared.command.Command.TheVariants as commands;
 ghost use Rattle.aig_calls.specs.Calls.{Gives, GivesAt, Prints, RunsTool, items_in};
 ghost use Rattle.aig_calls.specs.Statuses.{tool_status};
 
 use crate::buffer::put;
 use crate::steps::step_of;
 use aig_base::{FromRead, ToWrite};
-use aig_commands::{Command, LIMIT, ToolError, run};
+use aig_tool_commands::{Command, LIMIT, ToolError, run};
 use std::alloc::Global;
 
 /// The text that a command of `aigtool` puts into its writer.

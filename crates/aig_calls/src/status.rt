@@ -10,12 +10,12 @@ use aig_answers::{
 };
 use aig_base::MemoryError;
 use aig_bounded::BoundedError;
-use aig_checks::CheckError;
-use aig_commands::ToolError;
+use aig_check_commands::CheckError;
 use aig_edits::{EditError, PairError};
 use aig_encode::EncodeError;
 use aig_reader::Section;
 use aig_refutation::RefutationError;
+use aig_tool_commands::ToolError;
 use aig_witness::{ClaimError, LassoFault, ShowError, SolutionError, WitnessError, WitnessFault};
 
 /// The call has done what it is for.

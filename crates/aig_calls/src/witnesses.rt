@@ -10,7 +10,7 @@ ghost use Rattle.aig_calls.specs.Memory.{On};
 
 use crate::status::{DONE, HasNumber, WITNESS_BAD};
 use aig_base::FromRead;
-use aig_commands::LIMIT;
+use aig_tool_commands::LIMIT;
 use aig_witness::{ClaimError, ShowError, Shown, ShownProperty, check_claim, check_witness};
 use std::alloc::Global;
 

@@ -1,8 +1,8 @@
 -- Words give one limit, and one list of other words.
 use Rattle.aig_base.proofs.Words.{◌≡◌, ℕ, List, [], ◌∷◌, sym, ap, ◌∙◌, inl, inr}
 use Rattle.aig_format.specs.Text.{value_of}
-use Rattle.aig_command_line.specs.declared.about.Question.{Question}
-use Rattle.aig_command_line.specs.About.{word_of}
+use Rattle.aig_command_line.specs.declared.help.Help.{Help}
+use Rattle.aig_command_line.specs.Help.{word_of}
 use Rattle.aig_command_line.specs.Limits.{IsGivenLimit, IsLimited}
 
 same_given : (words : List (List ℕ)) (m n : ℕ) (r s : List (List ℕ)) → IsGivenLimit words m r
@@ -23,7 +23,7 @@ one_limit words m n r s (inr g) (inl h) = absurd (g.other _ h.spelled)
 one_limit words m n r s (inr g) (inr h) = (g.usual ∙ sym h.usual, g.all ∙ sym h.all)
 
 -- a question gives no other words than itself
-pub asked_alone : (words rest : List (List ℕ)) (q : Question) (limit : ℕ)
+pub asked_alone : (words rest : List (List ℕ)) (q : Help) (limit : ℕ)
     → words ≡ word_of q ∷ [] → IsLimited words limit rest
     → rest ≡ word_of q ∷ []
 asked_alone words rest q limit are (inl g) = let same = sym are ∙ g.spelled in cc

@@ -1,7 +1,7 @@
 pub mod Arguments
 pub mod Settings
 pub mod Ending
-pub mod About
+pub mod Help
 pub mod Counts
 pub mod Came
 pub mod Faults

@@ -1,7 +1,6 @@
 //! What the programs share: the words of a command line, the files that they open, lines that they write, and how they end.
 #![tactic(auto)]
 
-mod about;
 mod arguments;
 mod beginning;
 mod bytes;
@@ -12,6 +11,7 @@ mod environment;
 mod fault;
 mod files;
 mod followed;
+mod help;
 mod limit;
 mod line;
 mod notice;
@@ -25,7 +25,6 @@ mod status;
 mod tally;
 mod watched;
 
-pub use about::{Question, asked};
 pub use arguments::{Form, Given, Step, path_at};
 pub use beginning::Beginning;
 pub use command::{HasForm, find};
@@ -34,6 +33,7 @@ pub use discarded::Discarded;
 pub use environment::words;
 pub use fault::Fault;
 pub use files::{OpenError, Opens, Reopens, SystemFiles};
+pub use help::{Help, asked};
 pub use limit::limited;
 pub use line::write_text;
 pub use notice::{Headers, Regard, tell_of_files};

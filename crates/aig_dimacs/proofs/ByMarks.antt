@@ -32,12 +32,12 @@ pub unmarked : (nodes : List AigNode) (optimize : Bool) (n : ℕ) (clauses : Lis
 unmarked nodes optimize n clauses are = are.none (λ form p. let is = p.0 in cc)
 
 -- the clauses and further ones are a formula
-pub formula_of : (c : Circuit) (optimize : Bool) (marks : List Bool) (total : ℕ) (further : List (List Lit))
+pub formula_of : (c : Circuit) (optimize : Bool) (marks : List Bool) (total : ℕ) (extra : List (List Lit))
     → length c.nodes ≤ 2 ^ 31 → (h : AreNeeded c optimize marks total)
-    → AreBelow (length c.nodes) further → length further < 2 ^ 63
-    → IsFormula (length h.lists) (clauses_in h.lists ++ further)
-formula_of c optimize marks total further few h below short =
+    → AreBelow (length c.nodes) extra → length extra < 2 ^ 63
+    → IsFormula (length h.lists) (clauses_in h.lists ++ extra)
+formula_of c optimize marks total extra few h below short =
     let same = h.has_clauses.count in
     let some : 0 < length h.lists = slice_get_within h.lists 0 _ h.has_clauses.zero in
     let sum : total ≡ sum_by length h.lists = h.count ∙ length-flat_map (λ clauses. clauses) h.lists in
-    IsFormula-from h.lists further (total + length further) (record { some = some; few = omega (arith, few, same); below = h.below }) (rw same below) (omega (arith, sum)) (omega (arith, h.few, few, short))
+    IsFormula-from h.lists extra (total + length extra) (record { some = some; few = omega (arith, few, same); below = h.below }) (rw same below) (omega (arith, sum)) (omega (arith, h.few, few, short))

@@ -13,16 +13,16 @@ lists_lines [] = refl
 lists_lines (clauses ∷ lists) = flat_map-append clause_line clauses (clauses_in lists) ∙ ap (λ l. flat_map clause_line clauses ++ l) (lists_lines lists)
 
 -- the lines of the variables' clauses, and those of the further ones
-line_pieces : (lists : List (List (List Lit))) (further : List (List Lit)) → flat_map clause_line (clauses_in lists ++ further) ≡ flat_map (flat_map clause_line) lists ++ flat_map clause_line further
-line_pieces lists further = flat_map-append clause_line (clauses_in lists) further ∙ ap (λ l. l ++ flat_map clause_line further) (lists_lines lists)
+line_pieces : (lists : List (List (List Lit))) (extra : List (List Lit)) → flat_map clause_line (clauses_in lists ++ extra) ≡ flat_map (flat_map clause_line) lists ++ flat_map clause_line extra
+line_pieces lists extra = flat_map-append clause_line (clauses_in lists) extra ∙ ap (λ l. l ++ flat_map clause_line extra) (lists_lines lists)
 
 -- after the header line
-pub text_pieces : (header : List ℕ) (lists : List (List (List Lit))) (further : List (List Lit))
-    → header ++ flat_map clause_line (clauses_in lists ++ further) ≡ then_texts header (flat_map (flat_map clause_line) lists ∷ flat_map clause_line further ∷ [])
-text_pieces header lists further = ap (λ l. header ++ l) (line_pieces lists further) ∙ sym (append_assoc header (flat_map (flat_map clause_line) lists) (flat_map clause_line further))
+pub text_pieces : (header : List ℕ) (lists : List (List (List Lit))) (extra : List (List Lit))
+    → header ++ flat_map clause_line (clauses_in lists ++ extra) ≡ then_texts header (flat_map (flat_map clause_line) lists ∷ flat_map clause_line extra ∷ [])
+text_pieces header lists extra = ap (λ l. header ++ l) (line_pieces lists extra) ∙ sym (append_assoc header (flat_map (flat_map clause_line) lists) (flat_map clause_line extra))
 
-pub clause_count : (lists : List (List (List Lit))) (further : List (List Lit)) → length (clauses_in lists ++ further) ≡ sum_by length lists + length further
-clause_count lists further = length-append (clauses_in lists) further ∙ ap (λ n. n + length further) (length-flat_map (λ clauses. clauses) lists)
+pub clause_count : (lists : List (List (List Lit))) (extra : List (List Lit)) → length (clauses_in lists ++ extra) ≡ sum_by length lists + length extra
+clause_count lists extra = length-append (clauses_in lists) extra ∙ ap (λ n. n + length extra) (length-flat_map (λ clauses. clauses) lists)
 
 -- ---- clauses of variables that are there
 
@@ -31,8 +31,8 @@ all_below n [] h = All-from_recursion (λ clause. All (λ lit. variable_of lit <
 all_below n (clauses ∷ lists) h =
     All-append (λ clause. All (λ lit. variable_of lit < n) clause) clauses (clauses_in lists) (h 0 clauses (omega arith)) (all_below n lists (All-tail (AreBelow n) clauses lists h))
 
-pub IsFormula-from : (lists : List (List (List Lit))) (further : List (List Lit)) (count : ℕ) → AreRelations lists → AreBelow (length lists) further → count ≡ sum_by length lists + length further → count < 2 ^ 64
-    → IsFormula (length lists) (clauses_in lists ++ further)
-IsFormula-from lists further count h below exact low =
-    let n = clause_count lists further in
-    record { few = omega (arith, h.few); count = omega arith; below = All-append (λ clause. All (λ lit. variable_of lit < length lists) clause) (clauses_in lists) further (all_below (length lists) lists h.below) below }
+pub IsFormula-from : (lists : List (List (List Lit))) (extra : List (List Lit)) (count : ℕ) → AreRelations lists → AreBelow (length lists) extra → count ≡ sum_by length lists + length extra → count < 2 ^ 64
+    → IsFormula (length lists) (clauses_in lists ++ extra)
+IsFormula-from lists extra count h below exact low =
+    let n = clause_count lists extra in
+    record { few = omega (arith, h.few); count = omega arith; below = All-append (λ clause. All (λ lit. variable_of lit < length lists) clause) (clauses_in lists) extra (all_below (length lists) lists h.below) below }

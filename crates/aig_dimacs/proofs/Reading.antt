@@ -91,8 +91,8 @@ unfolding parse_formula after_comments dimacs_of
 parse_formula-dimacs_of variables clauses h =
     ap counted_in (words_from-header variables (length clauses) (flat_map clause_line clauses) h.few h.count) ∙ counted variables clauses h
 
-pub dimacs_of-injective : (variables others : ℕ) (clauses further : List (List Lit)) → IsFormula variables clauses → IsFormula others further → dimacs_of variables clauses ≡ dimacs_of others further
-    → (variables ≡ others) × (clauses ≡ further)
-dimacs_of-injective variables others clauses further h k same =
-    let pair : (variables, clauses) ≡ (others, further) = same_Some _ _ (sym (parse_formula-dimacs_of variables clauses h) ∙ ap parse_formula same ∙ parse_formula-dimacs_of others further k) in
+pub dimacs_of-injective : (variables others : ℕ) (clauses extra : List (List Lit)) → IsFormula variables clauses → IsFormula others extra → dimacs_of variables clauses ≡ dimacs_of others extra
+    → (variables ≡ others) × (clauses ≡ extra)
+dimacs_of-injective variables others clauses extra h k same =
+    let pair : (variables, clauses) ≡ (others, extra) = same_Some _ _ (sym (parse_formula-dimacs_of variables clauses h) ∙ ap parse_formula same ∙ parse_formula-dimacs_of others extra k) in
     (ap (λ p. p.0) pair, ap (λ p. p.1) pair)

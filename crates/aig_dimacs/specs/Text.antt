@@ -38,8 +38,8 @@ pub record IsFormula (variables : ℕ) (clauses : List (List Lit)) : Type 0 wher
 -- the text of the variables' clauses and then further ones is written, or a beginning of it, and
 -- they are a formula
 pub record IsTextWith {W T E : Type 0} (held : W → Option (List ℕ)) (failed : W → Bool) (old : W)
-    (result : Result T E) (lists : List (List (List Lit))) (further : List (List Lit)) (new : W)
+    (result : Result T E) (lists : List (List (List Lit))) (extra : List (List Lit)) (new : W)
     : Type 0 where
   pub writes : WritesOrStops held failed old result
-      (dimacs_of (length lists) (clauses_in lists ++ further)) new
-  pub formula : IsFormula (length lists) (clauses_in lists ++ further)
+      (dimacs_of (length lists) (clauses_in lists ++ extra)) new
+  pub formula : IsFormula (length lists) (clauses_in lists ++ extra)

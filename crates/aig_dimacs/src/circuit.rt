@@ -75,7 +75,7 @@ fn write_all<W: Sink>(
     optimize: bool,
     marks: &[bool],
     total: usize,
-    further: &LitVvec,
+    extra: &LitVvec,
 ) -> Result<(), StreamFault>
     requires sound { AreNodes nodes.now }
     requires few { length nodes.now ≤ 2 ^ 31 }
@@ -83,11 +83,11 @@ fn write_all<W: Sink>(
     ensures { (lists : List (List (List Lit))) → AreByMarks nodes.now optimize marks.now lists
         → BuffersOrStops W.held W.failed buffer.old w.old result
         (header_line (length nodes.now) total
-        ++ flat_map clause_line (clauses_in lists ++ further.now)) buffer.new w.new }
+        ++ flat_map clause_line (clauses_in lists ++ extra.now)) buffer.new w.new }
 {
     write_header(buffer, w, nodes.len(), total)?;
     write_gates(buffer, w, nodes, optimize, marks)?;
-    write_list(buffer, w, further)
+    write_list(buffer, w, extra)
 }
 
 /// Writes the clauses of a circuit in DIMACS form, with further clauses after them, as `write_dimacs` writes those that
@@ -99,26 +99,18 @@ pub fn write_circuit<W: Sink>(
     circuit: &CircuitView<'_>,
     optimize: bool,
     needed: &NeededGates,
-    further: &LitVvec,
+    extra: &LitVvec,
 ) -> Result<(), StreamFault>
     requires few { length circuit.now.nodes ≤ 2 ^ 31 }
     requires needed { AreNeeded circuit.now optimize needed.now.marks.items needed.now.clauses }
-    requires below { AreBelow (length circuit.now.nodes) further.now }
+    requires below { AreBelow (length circuit.now.nodes) extra.now }
     // The text is that of the circuit's clauses and the further ones, and they are read from it again.
     ensures { (lists : List (List (List Lit))) × HasClauses circuit.now optimize lists
-        × IsTextWith W.held W.failed w.old result lists further.now w.new }
+        × IsTextWith W.held W.failed w.old result lists extra.now w.new }
 {
     let mut buffer = OutputBuffer::new();
-    let total = needed.clauses + further.len();
+    let total = needed.clauses + extra.len();
     let nodes = circuit.nodes();
-    write_all(
-        &mut buffer,
-        w,
-        nodes,
-        optimize,
-        &needed.marks,
-        total,
-        further,
-    )?;
+    write_all(&mut buffer, w, nodes, optimize, &needed.marks, total, extra)?;
     buffer.flush(w)
 }

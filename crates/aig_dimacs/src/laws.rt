@@ -14,8 +14,8 @@ pub fn formulas_are_read()
 
 /// Law: the text tells the count of variables and the clauses, with their order and that of their literals.
 pub fn texts_tell_formulas()
-    ensures { (variables others : ℕ) (clauses further : List (List Lit))
-        → IsFormula variables clauses → IsFormula others further
-        → dimacs_of variables clauses ≡ dimacs_of others further
-        → (variables ≡ others) × (clauses ≡ further) }
+    ensures { (variables others : ℕ) (clauses extra : List (List Lit))
+        → IsFormula variables clauses → IsFormula others extra
+        → dimacs_of variables clauses ≡ dimacs_of others extra
+        → (variables ≡ others) × (clauses ≡ extra) }
 {}

@@ -91,13 +91,13 @@ fn write_lists<W: Sink>(
 }
 
 /// How many variables and how many clauses there are.
-fn counts(clauses: &DagCnf, further: &LitVvec) -> (usize, usize)
-    requires { AreBelow (length clauses.now) further.now }
+fn counts(clauses: &DagCnf, extra: &LitVvec) -> (usize, usize)
+    requires { AreBelow (length clauses.now) extra.now }
     ensures variables { result.0 ≡ length clauses.now }
-    ensures clauses { result.1 ≡ length (clauses_in clauses.now ++ further.now) }
-    ensures formula { IsFormula (length clauses.now) (clauses_in clauses.now ++ further.now) }
+    ensures clauses { result.1 ≡ length (clauses_in clauses.now ++ extra.now) }
+    ensures formula { IsFormula (length clauses.now) (clauses_in clauses.now ++ extra.now) }
 {
-    (clauses.num_vars(), clauses.num_clauses() + further.len())
+    (clauses.num_vars(), clauses.num_clauses() + extra.len())
 }
 
 /// Writes the header line of these counts, and the line of each clause.
@@ -106,15 +106,15 @@ fn write_lines<W: Sink>(
     w: &mut W,
     counts: (usize, usize),
     clauses: &DagCnf,
-    further: &LitVvec,
+    extra: &LitVvec,
 ) -> Result<(), StreamFault>
     ensures { let text = header_line counts.0 counts.1
-        ++ flat_map clause_line (clauses_in clauses.now ++ further.now) in
+        ++ flat_map clause_line (clauses_in clauses.now ++ extra.now) in
         BuffersOrStops W.held W.failed buffer.old w.old result text buffer.new w.new }
 {
     write_header(buffer, w, counts.0, counts.1)?;
     write_lists(buffer, w, clauses)?;
-    write_list(buffer, w, further)
+    write_list(buffer, w, extra)
 }
 
 /// Writes clauses in DIMACS form: the counts of variables and of clauses, and then each clause's line, in rising order of
@@ -124,18 +124,18 @@ fn write_lines<W: Sink>(
 pub fn write_dimacs<W: Sink>(
     w: &mut W,
     clauses: &DagCnf,
-    further: &LitVvec,
+    extra: &LitVvec,
 ) -> Result<(), StreamFault>
-    requires { AreBelow (length clauses.now) further.now }
+    requires { AreBelow (length clauses.now) extra.now }
     // After Ok the writer holds what it held and the text, and after Err what it held and a beginning of it.
     ensures writes { let text = dimacs_of (length clauses.now)
-        (clauses_in clauses.now ++ further.now) in
+        (clauses_in clauses.now ++ extra.now) in
         WritesOrStops W.held W.failed w.old result text w.new }
     // From that text the clauses are read again.
-    ensures formula { IsFormula (length clauses.now) (clauses_in clauses.now ++ further.now) }
+    ensures formula { IsFormula (length clauses.now) (clauses_in clauses.now ++ extra.now) }
 {
     let mut buffer = OutputBuffer::new();
-    let counts = counts(clauses, further);
-    write_lines(&mut buffer, w, counts, clauses, further)?;
+    let counts = counts(clauses, extra);
+    write_lines(&mut buffer, w, counts, clauses, extra)?;
     buffer.flush(w)
 }

@@ -1,9 +1,9 @@
 -- Words give one command.
 use Rattle.aig_base.proofs.Words.{◌≡◌, ◌↔◌, ℕ, ◌<◌, ◌≤◌, Option, Some, None, List, [], ◌∷◌, length, get_or, refl, sym, ap, subst, ◌∙◌, arith}
 use Rattle.std.specs.Prelude.{All, Contains, Err, IfNone, IfSome, Ok, Result, codes}
-use Rattle.aig_command_line.specs.declared.about.Question.{Question}
-use Rattle.aig_command_line.specs.declared.about.Question.TheVariants.{Usage, Version}
-use Rattle.aig_command_line.specs.About.{word_of}
+use Rattle.aig_command_line.specs.declared.help.Help.{Help}
+use Rattle.aig_command_line.specs.declared.help.Help.TheVariants.{Usage, Version}
+use Rattle.aig_command_line.specs.Help.{word_of}
 use Rattle.aig_command_line.specs.declared.status.Ending.TheVariants as endings
 use Rattle.aig_command_line.specs.Arguments.{AreStep, Arguments, Gives}
 use Rattle.aig_command_line.specs.declared.arguments.Step.TheVariants.{At}
@@ -18,7 +18,7 @@ use Rattle.aig_edit_commands.specs.declared.command.Command.{Command}
 use Rattle.aig_edit_commands.specs.declared.command.TheConstants.Action.{ALL}
 use Rattle.aig_edit_commands.specs.declared.command.Command.TheVariants as commands
 use Rattle.aig_edit_commands.specs.declared.command.FileCommand.TheVariants as files
-use Rattle.aig_edit_commands.specs.Words.{IsCall, IsCommandOf, form_of, name_of}
+use Rattle.aig_edit_commands.specs.CommandWords.{IsCall, IsCommandOf, form_of, name_of}
 
 -- each command is in the list
 among : (a : Action) → Contains ALL a
@@ -119,13 +119,13 @@ further_none words rest limit a x limited gives none other c paths g =
     (subst (λ b. IsCommandOf b g.arguments.step g.arguments.further c) same.0 g.command))
 
 -- a question is no command
-pub no_command : (words : List (List ℕ)) (q : Question) (limit : ℕ) (c : Command)
+pub no_command : (words : List (List ℕ)) (q : Help) (limit : ℕ) (c : Command)
     (paths : List (List ℕ)) → words ≡ word_of q ∷ []
     → ¬ IsCall words limit c paths
 no_command words q limit c paths are g =
     no_question q g.action g.arguments (rw (asked_alone words g.rest q limit are g.limited) at g.gives)
   where
-    no_question : (q : Question) (a : Action) (x : Arguments)
+    no_question : (q : Help) (a : Action) (x : Arguments)
         → ¬ Gives (name_of a) (form_of a) (word_of q ∷ []) x
     no_question Usage a x = apart.no_name name_of form_of ALL refl among (codes "--help") [] refl a x
     no_question Version a x =

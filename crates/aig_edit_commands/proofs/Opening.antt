@@ -6,8 +6,8 @@ use Rattle.aig_reader.specs.Verdicts.{Accepted, IsOfFile, verdict_by}
 use Rattle.aig_reader.proofs.Verdicts.{of_no_file}
 use Rattle.aig_edits.specs.declared.edit_error.EditError.{EditError}
 use Rattle.aig_edits.specs.declared.edit_error.EditError.TheVariants as edit
-use Rattle.aig_edits.specs.declared.error.PairError.{PairError}
-use Rattle.aig_edits.specs.declared.error.PairError.TheVariants as errors
+use Rattle.aig_edits.specs.declared.pair_error.PairError.{PairError}
+use Rattle.aig_edits.specs.declared.pair_error.PairError.TheVariants as errors
 use Rattle.aig_edits.specs.declared.pairing.Pairing.{Pairing}
 use Rattle.aig_edits.specs.Edits.{IsEditOwn, IsEditUnwritten, ReadsFile, edit_verdict}
 use Rattle.aig_edits.specs.Joints.{IsOwn, IsUnwritten, PrintsJoint, first_verdict, second_verdict}

@@ -4,8 +4,8 @@
 -- the bytes held, whether a write failed, and whether all of them are in their place.
 use Rattle.std.specs.Prelude.{◌≡◌, ◌↔◌, ℕ, Bool, IsTrue, List, [], ◌∷◌, ◌++◌, Option, Result, Ok, Err, IfErr, OnOk}
 use Rattle.aig_circuit.specs.declared.view.CircuitLists.{CircuitLists}
-use Rattle.aig_command_line.specs.declared.about.Question.{Question}
-use Rattle.aig_command_line.specs.About.{word_of}
+use Rattle.aig_command_line.specs.declared.help.Help.{Help}
+use Rattle.aig_command_line.specs.Help.{word_of}
 use Rattle.aig_command_line.specs.declared.files.OpenError.{OpenError}
 use Rattle.aig_command_line.specs.declared.files.OpenError.TheVariants as opening
 use Rattle.aig_command_line.specs.declared.status.Ending.{Ending}
@@ -17,14 +17,14 @@ use Rattle.aig_command_line.specs.declared.tally.Place.{Place}
 use Rattle.aig_command_line.specs.declared.tally.Place.TheVariants.{Whole}
 use Rattle.aig_edits.specs.declared.edit_error.EditError.{EditError}
 use Rattle.aig_edits.specs.declared.edit_error.EditError.TheVariants as edit
-use Rattle.aig_edits.specs.declared.error.PairError.{PairError}
-use Rattle.aig_edits.specs.declared.error.PairError.TheVariants as errors
+use Rattle.aig_edits.specs.declared.pair_error.PairError.{PairError}
+use Rattle.aig_edits.specs.declared.pair_error.PairError.TheVariants as errors
 use Rattle.aig_edits.specs.declared.pairing.Pairing.{Pairing}
 use Rattle.aig_edits.specs.Edits.{IsEditOwn, IsEditUnwritten, PrintsEdit, ReadsFile, edit_verdict}
 use Rattle.aig_edits.specs.Info.{PrintsInfo}
 use Rattle.aig_edits.specs.Joints.{IsOwn, IsUnwritten, PrintsJoint, first_verdict, second_verdict}
 use Rattle.aig_edits.specs.Pairs.{ReadsPair}
-use Rattle.aig_edits.specs.Parts.{AreListsOfBoth}
+use Rattle.aig_edits.specs.JointParts.{AreListsOfBoth}
 use Rattle.aig_edits.specs.Lives.{PrintsLive}
 use Rattle.aig_edits.specs.Questions.{PrintsQuestion}
 use Rattle.aig_edits.specs.Reductions.{PrintsReduction}
@@ -38,7 +38,7 @@ use Rattle.aig_edit_commands.specs.declared.command.Command.{Command}
 use Rattle.aig_edit_commands.specs.declared.command.Command.TheVariants as commands
 use Rattle.aig_edit_commands.specs.declared.command.FileCommand.{FileCommand}
 use Rattle.aig_edit_commands.specs.declared.command.FileCommand.TheVariants as files
-use Rattle.aig_edit_commands.specs.Words.{IsCall}
+use Rattle.aig_edit_commands.specs.CommandWords.{IsCall}
 
 -- ---- two files
 
@@ -203,16 +203,16 @@ Acts opens left failed held write_failed flushed limit (commands.Pair pairing) p
 -- what the words ask for was done, and how the program ends by it
 pub record Obeys {F W : Type 0} (opens : List ℕ → Result F OpenError → Type 0)
     (left : F → Option (List ℕ)) (failed : F → Bool) (held : W → Option (List ℕ))
-    (write_failed flushed : W → Bool) (answer_of : Question → List ℕ) (words : List (List ℕ))
+    (write_failed flushed : W → Bool) (answer_of : Help → List ℕ) (words : List (List ℕ))
     (w : W) (ending : Ending (Placed CommandError)) (made : W) : Type 0 where
   -- a question of the program is answered by a line
-  pub tells : (q : Question) → words ≡ word_of q ∷ [] → (done : Result Unit CommandError)
+  pub tells : (q : Help) → words ≡ word_of q ∷ [] → (done : Result Unit CommandError)
       × (ending ≡ ended (in_whole done))
       × Says held write_failed flushed refusals.Write (answer_of q ++ 10 ∷ []) w done made
   -- other words give no command exactly where it ends so
   pub none : (ending ≡ endings.NoCommand)
       ↔ (((limit : ℕ) (c : Command) (paths : List (List ℕ)) → ¬ IsCall words limit c paths)
-      × ((q : Question) → ¬ (words ≡ word_of q ∷ [])))
+      × ((q : Help) → ¬ (words ≡ word_of q ∷ [])))
   pub kept : ending ≡ endings.NoCommand → made ≡ w
   -- and else the command that they give was run on its files
   pub acts : (limit : ℕ) (c : Command) (paths : List (List ℕ)) → IsCall words limit c paths

@@ -5,12 +5,12 @@ use Rattle.std.specs.Prelude.{◌≡◌, ℕ, List, Option, None, IfSome, slice_
 use Rattle.aig_command_line.specs.Faults.{IsAlone, error_of, path_of, place_in}
 use Rattle.aig_command_line.specs.declared.fault.Fault.{Fault}
 use Rattle.aig_command_line.specs.declared.placed.Placed.{Placed}
-use Rattle.aig_edit_commands.specs.declared.about.Subject.{Subject}
-use Rattle.aig_edit_commands.specs.declared.about.Subject.TheVariants as subjects
+use Rattle.aig_edit_commands.specs.declared.subjects.Subject.{Subject}
+use Rattle.aig_edit_commands.specs.declared.subjects.Subject.TheVariants as subjects
 use Rattle.aig_edit_commands.specs.declared.acting.CommandError.{CommandError}
 use Rattle.aig_edit_commands.specs.declared.command.Command.{Command}
-use Rattle.aig_edit_commands.specs.About.{about_error}
-use Rattle.aig_edit_commands.specs.Words.{IsCall}
+use Rattle.aig_edit_commands.specs.Subjects.{about_error}
+use Rattle.aig_edit_commands.specs.CommandWords.{IsCall}
 
 -- the path of what an error is about, if it is about a file
 abbrev pub word_of : Subject → List (List ℕ) → Option (List ℕ)

@@ -1,6 +1,6 @@
-pub mod Words
+pub mod CommandWords
 pub mod Acting
-pub mod Asked
-pub mod About
+pub mod Help
+pub mod Subjects
 pub mod Explaining
 pub mod Noticing

@@ -14,7 +14,7 @@ use Rattle.aig_edit_commands.specs.declared.acting.CommandError.{CommandError}
 use Rattle.aig_edit_commands.specs.declared.command.Command.{Command}
 use Rattle.aig_edit_commands.specs.declared.command.Command.TheVariants as commands
 use Rattle.aig_edit_commands.specs.declared.command.FileCommand.TheVariants as files
-use Rattle.aig_edit_commands.specs.Words.{IsCall}
+use Rattle.aig_edit_commands.specs.CommandWords.{IsCall}
 
 -- what is made of the files has no justice and fairness, though they may
 abbrev pub leaves_out : Regard

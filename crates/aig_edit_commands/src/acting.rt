@@ -12,21 +12,21 @@ ghost use Rattle.aig_format.specs.Fits.{Fits};
 ghost use Rattle.aig_format.specs.Writable.{IsWritable};
 ghost use Rattle.aig_reader.specs.Reading.{AreListsOf};
 ghost use Rattle.aig_reader.specs.Verdicts.{Accepted, verdict_by};
-ghost use Rattle.aig_edits.specs.declared.error.PairError.TheVariants as errors;
+ghost use Rattle.aig_edits.specs.declared.pair_error.PairError.TheVariants as errors;
 ghost use Rattle.aig_edits.specs.declared.edit_error.EditError.TheVariants as edit_errors;
 ghost use Rattle.aig_edits.specs.Joints.{IsUnwritten, PrintsJoint, first_verdict, second_verdict};
 ghost use Rattle.aig_edits.specs.Pairs.{OfTwoFiles};
 ghost use Rattle.aig_edit_commands.specs.declared.acting.CommandError.TheVariants as refusals;
 ghost use Rattle.aig_edit_commands.specs.Acting.{Acts, Obeys, Prints, PrintsBeside, PrintsFile, PrintsFiles, PrintsOpen, PrintsPair, ReadsBoth, edit_unopened, told, unopened};
-ghost use Rattle.aig_edit_commands.specs.Asked.{answer_of};
+ghost use Rattle.aig_edit_commands.specs.Help.{answer_of};
 ghost use Rattle.aig_edits.specs.Edits.{IsEditUnwritten, edit_verdict};
-ghost use Rattle.aig_edit_commands.specs.Words.{paths_of};
+ghost use Rattle.aig_edit_commands.specs.CommandWords.{paths_of};
 
 use crate::command::{Command, FileCommand, call_of};
 use aig_base::{MemoryError, Sink, Source, StreamFault};
 use aig_circuit::{CircuitLists, CircuitView};
 use aig_command_line::{
-    Ending, Flush, HasStatus, OpenError, Opens, Placed, Question, asked, read_placed, write_text,
+    Ending, Flush, HasStatus, Help, OpenError, Opens, Placed, asked, read_placed, write_text,
 };
 use aig_edits::{
     EditError, PairError, Pairing, write_edit, write_info, write_joint, write_live, write_question,
@@ -385,12 +385,12 @@ fn say<W: Flush>(text: &str, w: &mut W) -> Result<(), CommandError>
 }
 
 /// The answer to a question of the program.
-fn answer(question: Question) -> &'static str
+fn answer(question: Help) -> &'static str
     ensures { result.now ≡ answer_of question }
 {
     match question {
-        Question::Usage => USAGE,
-        Question::Version => VERSION,
+        Help::Usage => USAGE,
+        Help::Version => VERSION,
     }
 }
 

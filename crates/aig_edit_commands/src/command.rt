@@ -4,7 +4,7 @@ ghost use Rattle.std.specs.Prelude.{◌≡◌, List, ℕ, IfNone, IfSome, length
 ghost use Rattle.aig_command_line.specs.Limits.{IsLimit};
 ghost use Rattle.aig_command_line.specs.Arguments.{AreStep};
 ghost use Rattle.aig_command_line.specs.declared.arguments.Step.TheVariants.{At};
-ghost use Rattle.aig_edit_commands.specs.Words.{IsCall, IsCommandOf, command_of, edit_by, form_of, name_of, paths_of};
+ghost use Rattle.aig_edit_commands.specs.CommandWords.{IsCall, IsCommandOf, command_of, edit_by, form_of, name_of, paths_of};
 ghost use Rattle.aig_edit_commands.specs.declared.command.Command.{Command};
 
 use aig_command_line::{Form, HasForm, Step, find, limited, steps};

@@ -4,9 +4,9 @@ ghost use Rattle.std.specs.Prelude.{◌≡◌, IfNone, IfOk, IfSome, IsErr, IsNo
 ghost use Rattle.aig_command_line.specs.Ending.{IsMapped};
 ghost use Rattle.aig_edit_commands.specs.Explaining.{IsToldAlone, Tells, TellsOf, word_of};
 
-use crate::about::{Subject, about_error};
 use crate::acting::CommandError;
 use crate::command::call_of;
+use crate::subjects::{Subject, about_error};
 use aig_base::MemoryError;
 use aig_command_line::{Ending, Fault, Placed, path_at};
 

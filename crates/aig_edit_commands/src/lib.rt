@@ -1,11 +1,11 @@
 //! The commands of `aigedit`: which words give them, and what they do with the bytes of files.
 #![tactic(auto)]
 
-mod about;
 mod acting;
 mod command;
 mod explaining;
 mod noticing;
+mod subjects;
 
 pub use acting::{CommandError, USAGE, VERSION, act};
 pub use command::{Action, Call, Command, FileCommand, call_of};

@@ -7,7 +7,7 @@ use Rattle.aig_renumber.proofs.Kept.{is_in-back, is_in-there}
 use Rattle.aig_renumber.proofs.Places.{position_of-get_or}
 use Rattle.aig_runs.specs.CircuitQueries.{IsCircuitWitness}
 use Rattle.aig_edit_laws.specs.Reduction.{HaveSameWitnesses, IsAskedCone, asked_alone}
-use Rattle.aig_edit_laws.proofs.Asked.{InCone, bads_in, constraints_in, edge_same, starts_in, step_in}
+use Rattle.aig_edit_laws.proofs.AskedCones.{InCone, bads_in, constraints_in, edge_same, starts_in, step_in}
 
 -- what holds of what a filter keeps holds of each entry that passes
 from_filter : {X : Type 0} (test : X → Bool) (P : X → Type 0) (xs : List X)

@@ -10,7 +10,7 @@ pub mod Cones
 pub mod Asserted
 mod Carrying
 pub mod Witnesses
-pub mod Asked
+pub mod AskedCones
 pub mod Dropped
 mod Sizes
 mod Reducing

@@ -10,7 +10,7 @@ use Rattle.aig_cone.specs.Refine.{AreKept, refined, refining_roots, variable_nod
 use Rattle.aig_cone.proofs.Keeping.{kept-few, reached_within}
 use Rattle.aig_format.specs.Writable.{FitsFormat, HasLineFeed, IsWritable, list_lengths, named_nodes}
 use Rattle.aig_edit_laws.specs.Reduction.{IsAskedCone, IsReduced, asked_alone}
-use Rattle.aig_edit_laws.proofs.Asked.{bads_in, constraints_in, latch_leaves-asked, starts_in, step_in}
+use Rattle.aig_edit_laws.proofs.AskedCones.{bads_in, constraints_in, latch_leaves-asked, starts_in, step_in}
 use Rattle.aig_renumber.proofs.Kept.{is_in-back, is_in-there}
 use Rattle.aig_renumber.proofs.NodesInOrder.{length-nodes_in_order}
 use Rattle.aig_strash.specs.Strash.{strashed}

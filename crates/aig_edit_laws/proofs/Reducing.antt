@@ -5,7 +5,7 @@ use Rattle.aig_cone.specs.Refine.{AreKept, CutsRuns, refined}
 use Rattle.aig_strash.specs.Exchange.{image_of}
 use Rattle.aig_strash.specs.Strash.{strashed}
 use Rattle.aig_edit_laws.specs.Reduction.{IsAskedCone, IsReduced, asked_alone}
-use Rattle.aig_edit_laws.proofs.Asked.{IsCircuit-asked}
+use Rattle.aig_edit_laws.proofs.AskedCones.{IsCircuit-asked}
 use Rattle.aig_edit_laws.proofs.Dropped.{asked_witnesses}
 use Rattle.aig_edit_laws.proofs.Sizes.{reduced_bads, reduced_few, reduced_latchs}
 use Rattle.aig_edit_laws.proofs.Witnesses.{both_witnesses, cut_witnesses, renumbered_witnesses}

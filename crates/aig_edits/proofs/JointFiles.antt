@@ -8,13 +8,13 @@ use Rattle.aig_format.proofs.Circuits.{IsCircuit-of_file}
 use Rattle.aig_join.proofs.Written.{written-certified, written-miter}
 use Rattle.aig_reader.specs.Verdicts.{Accepted, IsOfFile, verdict_by}
 use Rattle.aig_reader.proofs.Verdicts.{of_no_file}
-use Rattle.aig_edits.specs.declared.error.PairError.{PairError}
-use Rattle.aig_edits.specs.declared.error.PairError.TheVariants as errors
+use Rattle.aig_edits.specs.declared.pair_error.PairError.{PairError}
+use Rattle.aig_edits.specs.declared.pair_error.PairError.TheVariants as errors
 use Rattle.aig_edits.specs.declared.pairing.Pairing.{Pairing}
 use Rattle.aig_edits.specs.declared.pairing.Pairing.TheVariants.{Certificate, Merge, Miter}
 use Rattle.aig_edits.specs.Joints.{DoFit, IsJoint, IsJointOf, IsMisfit, IsOwn, Joins, counted, ShowsOf, first_verdict, second_verdict}
 use Rattle.aig_edits.proofs.MergedFiles.{written-merged}
-use Rattle.aig_edits.specs.Parts.{AreListsOfBoth, CanPair, IsJoinOf, counted_circuit}
+use Rattle.aig_edits.specs.JointParts.{AreListsOfBoth, CanPair, IsJoinOf, counted_circuit}
 
 -- ---- counts
 

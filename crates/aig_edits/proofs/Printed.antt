@@ -1,8 +1,8 @@
 -- What is printed of the joint circuit of two files.
 use Rattle.std.proofs.Common.{ℕ, Bool, List, Option, Err}
 use Rattle.aig_format.specs.File.{File}
-use Rattle.aig_edits.specs.declared.error.PairError.{PairError}
-use Rattle.aig_edits.specs.declared.error.PairError.TheVariants as errors
+use Rattle.aig_edits.specs.declared.pair_error.PairError.{PairError}
+use Rattle.aig_edits.specs.declared.pair_error.PairError.TheVariants as errors
 use Rattle.aig_edits.specs.declared.pairing.Pairing.{Pairing}
 use Rattle.aig_edits.specs.Joints.{IsRefusalOf, PrintsJoint}
 

@@ -6,7 +6,7 @@ use Rattle.aig_reader.specs.Reading.{AreListsOf, IsReadAs}
 use Rattle.aig_reader.specs.Verdicts.{Accepted, Judges, Verdict, verdict_by}
 use Rattle.aig_edits.specs.Pairs.{ReadsPair}
 use Rattle.aig_edits.specs.Joints.{IsOwn, first_verdict, second_verdict}
-use Rattle.aig_edits.specs.Parts.{AreListsOfBoth}
+use Rattle.aig_edits.specs.JointParts.{AreListsOfBoth}
 
 module _ {R S : Type 0} (left : R → Option (List ℕ)) (failed : R → Bool)
     (left_of : S → Option (List ℕ)) (failed_of : S → Bool) (limit : ℕ) (r : R) (s : S) (rest : R)

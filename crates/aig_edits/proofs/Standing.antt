@@ -2,8 +2,8 @@
 use Rattle.aig_base.proofs.Words.{Result, Ok, Err, IfErr}
 use Rattle.aig_circuit.proofs.Words.{Circuit}
 use Rattle.aig_circuit.specs.declared.view.CircuitLists.{CircuitLists}
-use Rattle.aig_edits.specs.declared.error.PairError.{PairError}
-use Rattle.aig_edits.specs.declared.error.PairError.TheVariants as errors
+use Rattle.aig_edits.specs.declared.pair_error.PairError.{PairError}
+use Rattle.aig_edits.specs.declared.pair_error.PairError.TheVariants as errors
 use Rattle.aig_edits.specs.declared.pairing.Pairing.{Pairing}
 use Rattle.aig_edits.specs.Circuits.{IsJoinOf}
 use Rattle.aig_edits.specs.Joints.{IsOfBeside}

@@ -7,8 +7,8 @@ use Rattle.aig_circuit.specs.declared.view.CircuitLists.{CircuitLists}
 use Rattle.aig_format.specs.Writable.{FitsFormat}
 use Rattle.aig_join.specs.Certificate.{HasLeavesOf}
 use Rattle.aig_join.specs.Miter.{HaveSameCounts}
-use Rattle.aig_edits.specs.declared.error.PairError.{PairError}
-use Rattle.aig_edits.specs.declared.error.PairError.TheVariants as errors
+use Rattle.aig_edits.specs.declared.pair_error.PairError.{PairError}
+use Rattle.aig_edits.specs.declared.pair_error.PairError.TheVariants as errors
 use Rattle.aig_edits.specs.declared.pairing.Pairing.{Pairing}
 use Rattle.aig_edits.specs.declared.pairing.Pairing.TheVariants.{Certificate, Merge, Miter}
 use Rattle.aig_edits.specs.declared.misfit.Misfit.{Misfit}

@@ -19,8 +19,8 @@ use Rattle.aig_output.specs.Sinks.{Stops}
 use Rattle.aig_reader.specs.declared.error.ReadError.TheVariants as read
 use Rattle.aig_reader.specs.Verdicts.{Accepted, Verdict, verdict_of}
 use Rattle.aig_runs.specs.Queries.{IsSafeTo}
-use Rattle.aig_edits.specs.declared.error.PairError.{PairError}
-use Rattle.aig_edits.specs.declared.error.PairError.TheVariants as errors
+use Rattle.aig_edits.specs.declared.pair_error.PairError.{PairError}
+use Rattle.aig_edits.specs.declared.pair_error.PairError.TheVariants as errors
 use Rattle.aig_edits.specs.declared.misfit.Misfit.{Misfit}
 use Rattle.aig_edits.specs.declared.misfit.Misfit.TheVariants as misfits
 use Rattle.aig_edits.specs.declared.pairing.Pairing.{Pairing}

@@ -1,7 +1,7 @@
 pub mod Pairs
 pub mod Joints
 pub mod Circuits
-pub mod Parts
+pub mod JointParts
 pub mod Edits
 pub mod EditParts
 pub mod Info

@@ -11,8 +11,8 @@ ghost use Rattle.aig_format.specs.Fits.{Accepts};
 ghost use Rattle.aig_reader.specs.Reading.{IsReadAs};
 ghost use Rattle.aig_reader.specs.Verdicts.{Accepted, Judges, verdict_by};
 
-use crate::error::PairError;
 use crate::joining::join_of;
+use crate::pair_error::PairError;
 use crate::pairing::Pairing;
 use aig_base::Source;
 use aig_circuit::CircuitLists;

@@ -6,12 +6,12 @@ ghost use Rattle.aig_circuit.specs.View.{lists_circuit};
 ghost use Rattle.aig_edits.specs.Pairs.{ReadsPair};
 ghost use Rattle.aig_edits.specs.Joints.{IsOwn, Joins, first_verdict, second_verdict};
 ghost use Rattle.aig_edits.specs.Circuits.{IsJoinOf};
-ghost use Rattle.aig_edits.specs.Parts.{IsPaired};
+ghost use Rattle.aig_edits.specs.JointParts.{IsPaired};
 ghost use Rattle.aig_edits.specs.declared.pairing.Pairing.TheVariants.{Certificate, Merge, Miter};
 
-use crate::error::PairError;
 use crate::format::fits_format;
 use crate::misfit::{certificate_misfit, miter_misfit};
+use crate::pair_error::PairError;
 use crate::pairing::Pairing;
 use crate::pairs::read_pair;
 use aig_base::Source;

@@ -1,6 +1,6 @@
 //! Which counts of two files don't fit.
 
-ghost use Rattle.aig_edits.specs.Parts.{MayMisfit};
+ghost use Rattle.aig_edits.specs.JointParts.{MayMisfit};
 ghost use Rattle.aig_edits.specs.declared.pairing.Pairing.TheVariants.{Certificate, Miter};
 
 use aig_circuit::CircuitView;

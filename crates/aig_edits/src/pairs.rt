@@ -3,9 +3,9 @@
 ghost use Rattle.std.specs.Prelude.{◌^◌, ◌≤◌};
 ghost use Rattle.aig_edits.specs.Pairs.{ReadsPair};
 ghost use Rattle.aig_edits.specs.Joints.{IsOwn, first_verdict, second_verdict};
-ghost use Rattle.aig_edits.specs.Parts.{AreListsOfBoth};
+ghost use Rattle.aig_edits.specs.JointParts.{AreListsOfBoth};
 
-use crate::error::PairError;
+use crate::pair_error::PairError;
 use aig_base::Source;
 use aig_circuit::CircuitLists;
 use std::alloc::Global;

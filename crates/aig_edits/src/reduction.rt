@@ -12,7 +12,7 @@ ghost use Rattle.aig_edits.specs.Edits.{IsEditOwn, IsEditUnwritten, ReadsFile, e
 ghost use Rattle.aig_edits.specs.Reductions.{IsReductionOf, PrintsReduction};
 
 use crate::edit_error::EditError;
-use crate::edit_printing::same_witnesses_are_as_safe;
+use crate::printing_edits::same_witnesses_are_as_safe;
 use crate::reducing::reduced;
 use aig_base::{Sink, Source};
 use aig_circuit::CircuitView;

@@ -14,7 +14,7 @@ use Rattle.aig_encode.specs.declared.encoding.Encoded.{Encoded}
 use Rattle.aig_encode.specs.declared.error.EncodeError.{EncodeError}
 use Rattle.aig_encode.specs.declared.error.EncodeError.TheVariants as errors
 use Rattle.aig_encode.specs.Encoding.{encoded_verdict, verdict_of}
-use Rattle.aig_encode.specs.Parts.{EncodesCircuit, EncodesOrRefuses, Parts}
+use Rattle.aig_encode.specs.EncodedCircuits.{EncodesCircuit, EncodesOrRefuses, Parts}
 use Rattle.aig_encode.proofs.Verdicts.{encoded_verdict-beyond, encoded_verdict-within}
 
 module _ (of : Circuit) (limit k : ℕ) (optimize : Bool) where

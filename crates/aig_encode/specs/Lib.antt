@@ -1,5 +1,5 @@
 pub mod Encoding
-pub mod Parts
+pub mod EncodedCircuits
 pub use Rattle.aig_format.specs.Machine
 pub use Rattle.aig_format_laws.specs.MachineRuns
 pub use Rattle.aig_runs.specs.Circuits

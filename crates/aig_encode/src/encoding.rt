@@ -8,7 +8,7 @@ ghost use Rattle.aig_reader.specs.Verdicts.{Judges, verdict_by};
 ghost use Rattle.aig_runs.specs.Encodes.{Encodes};
 ghost use Rattle.aig_unroll.specs.Places.{unrolled_size};
 ghost use Rattle.aig_encode.specs.Encoding.{encoded_verdict, verdict_of};
-ghost use Rattle.aig_encode.specs.Parts.{EncodesOrRefuses};
+ghost use Rattle.aig_encode.specs.EncodedCircuits.{EncodesOrRefuses};
 
 use crate::error::EncodeError;
 use aig::{Aig, ReadError};

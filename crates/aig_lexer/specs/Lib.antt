@@ -1,7 +1,7 @@
 pub mod Bytes
 pub mod Takes
 pub mod Faults
-pub mod Words
+pub mod WordReaders
 pub mod Header
 pub mod Digits
 pub mod SignedNumbers

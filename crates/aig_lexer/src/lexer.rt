@@ -15,7 +15,7 @@ ghost use Rattle.aig_format.specs.Parse.{
 ghost use Rattle.aig_lexer.specs.Digits.{GivesDigits};
 ghost use Rattle.aig_lexer.specs.Faults.{word_cause};
 ghost use Rattle.aig_lexer.specs.Takes.{Gives, feed};
-ghost use Rattle.aig_lexer.specs.Words.{parse_number_from};
+ghost use Rattle.aig_lexer.specs.WordReaders.{parse_number_from};
 
 use crate::buffer::InputBuffer;
 use crate::error::LexError;

@@ -6,7 +6,7 @@ use Rattle.aig_refutation.specs.Checking.{Live, are_named, clause_at, is_named}
 use Rattle.aig_refutation.specs.Propagation.{has, is_lit, is_rup, is_tautology, propagates, when_false}
 use Rattle.aig_refutation.specs.Rat.{hints_for, is_apart, is_rat, resolvent, without_lit}
 use Rattle.aig_refutation.specs.Tables.{Holds, SaysSame, Table, clause_by, clause_in, entry_at, entry_in, is_apart_if, name_in, place_in, places_of}
-use Rattle.aig_refutation.specs.Words.{said_numbers}
+use Rattle.aig_refutation.specs.Tokens.{said_numbers}
 use Rattle.aig_refutation.specs.declared.words.Number.{Number}
 use Rattle.aig_refutation.proofs.Conflicts.{inverse_twice}
 use Rattle.aig_refutation.proofs.HintedRup.{rup_same}

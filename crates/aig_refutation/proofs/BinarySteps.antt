@@ -16,7 +16,7 @@ use Rattle.aig_refutation.specs.ReadingBinary.{GivesCode, GivesItems, GivesLette
 use Rattle.aig_refutation.specs.Steps.{Drops, Learns, PlainStep}
 use Rattle.aig_refutation.specs.Tables.{Table}
 use Rattle.aig_refutation.specs.Text.{◌>>=◌}
-use Rattle.aig_refutation.specs.Words.{Leaves, Says, Tells, front}
+use Rattle.aig_refutation.specs.Tokens.{Leaves, Says, Tells, front}
 use Rattle.aig_refutation.proofs.Known.{leaves_on, leaves_same, leaves_start, says_now, says_on, step_leaves, tells, tells_on}
 use Rattle.aig_refutation.proofs.Plainly.{PassesOn, line_passes, line_refused, passed_on, refused_on}
 

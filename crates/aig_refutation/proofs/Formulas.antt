@@ -16,7 +16,7 @@ use Rattle.aig_refutation.specs.Proofs.{Script, allowed, plain_of, script_if}
 use Rattle.aig_refutation.specs.Steps.{PlainStep}
 use Rattle.aig_refutation.specs.Tables.{Checked, HoldsFormula}
 use Rattle.aig_refutation.specs.Text.{lines_of}
-use Rattle.aig_refutation.specs.Words.{Says, Tells}
+use Rattle.aig_refutation.specs.Tokens.{Says, Tells}
 use Rattle.aig_lexer.specs.Takes.{Feed}
 use Rattle.aig_refutation.proofs.Known.{tells_both, tells_on}
 
@@ -60,22 +60,22 @@ module _ (variables : ℕ) where
       (one_out clauses i clause there out) ∙ and_false (are_in variables c)
 
   -- one of these lists is out
-  pub part_out : (lists : List (List (List Lit))) (further : List (List Lit)) (i : ℕ) (clauses :
+  pub part_out : (lists : List (List (List Lit))) (extra : List (List Lit)) (i : ℕ) (clauses :
       List (List Lit)) → slice_get lists i ≡ Some clauses → are_all_in variables clauses ≡ false →
-      are_all_in variables (clauses_in lists ++ further) ≡ false
-  part_out [] further i clauses there out = cc
-  part_out (c ∷ lists) further zero clauses there out =
+      are_all_in variables (clauses_in lists ++ extra) ≡ false
+  part_out [] extra i clauses there out = cc
+  part_out (c ∷ lists) extra zero clauses there out =
       let same : c ≡ clauses = cc in
-      list_all-append (are_in variables) (c ++ clauses_in lists) further ∙ ap (λ (b : Bool). b &&
-      are_all_in variables further) (list_all-append (are_in variables) c (clauses_in lists) ∙ ap
+      list_all-append (are_in variables) (c ++ clauses_in lists) extra ∙ ap (λ (b : Bool). b &&
+      are_all_in variables extra) (list_all-append (are_in variables) c (clauses_in lists) ∙ ap
       (λ (b : Bool). b && are_all_in variables (clauses_in lists)) (ap (are_all_in variables) same ∙
       out))
-  part_out (c ∷ lists) further (suc i) clauses there out =
-      let later = part_out lists further i clauses there out in
-      let here : are_all_in variables ((c ++ clauses_in lists) ++ further) ≡ (are_all_in variables c
-      && are_all_in variables (clauses_in lists ++ further)) = list_all-append (are_in variables) (c
-      ++ clauses_in lists) further ∙ ap (λ (b : Bool). b && are_all_in variables further) (list_all-append (are_in variables) c (clauses_in lists)) ∙ and_assoc (are_all_in variables
-      c) (are_all_in variables (clauses_in lists)) (are_all_in variables further) ∙ ap (λ (b : Bool). are_all_in variables c && b) (sym (list_all-append (are_in variables) (clauses_in lists) further)) in
+  part_out (c ∷ lists) extra (suc i) clauses there out =
+      let later = part_out lists extra i clauses there out in
+      let here : are_all_in variables ((c ++ clauses_in lists) ++ extra) ≡ (are_all_in variables c
+      && are_all_in variables (clauses_in lists ++ extra)) = list_all-append (are_in variables) (c
+      ++ clauses_in lists) extra ∙ ap (λ (b : Bool). b && are_all_in variables extra) (list_all-append (are_in variables) c (clauses_in lists)) ∙ and_assoc (are_all_in variables
+      c) (are_all_in variables (clauses_in lists)) (are_all_in variables extra) ∙ ap (λ (b : Bool). are_all_in variables c && b) (sym (list_all-append (are_in variables) (clauses_in lists) extra)) in
       here ∙ ap (λ (b : Bool). are_all_in variables c && b) later ∙ and_false (are_all_in variables
       c)
     where
@@ -83,20 +83,20 @@ module _ (variables : ℕ) where
       and_assoc true b c = refl
       and_assoc false b c = refl
 
-  pub last_out : (clauses further : List (List Lit)) → are_all_in variables further ≡ false →
-      are_all_in variables (clauses ++ further) ≡ false
-  last_out clauses further out = list_all-append (are_in variables) clauses further ∙ ap (λ (b :
+  pub last_out : (clauses extra : List (List Lit)) → are_all_in variables extra ≡ false →
+      are_all_in variables (clauses ++ extra) ≡ false
+  last_out clauses extra out = list_all-append (are_in variables) clauses extra ∙ ap (λ (b :
       Bool). are_all_in variables clauses && b) out ∙ and_false (are_all_in variables clauses)
 
 -- the last ones are refused
-pub refused_last : {X : Type 0} (n m : ℕ) → n ≡ m → (clauses further : List (List Lit)) (r : Result X
-    RefutationError) → RefusesFormula n further r → RefusesFormula m (clauses ++ further) r
-refused_last n m is clauses further (Ok x) h = tt
-refused_last n m is clauses further (Err e) h = tells_on e ((e ≡ errors.Variable) × (are_all_in n
-    further ≡ false)) ((e ≡ errors.Variable) × (are_all_in m (clauses ++ further) ≡ false)) (λ
+pub refused_last : {X : Type 0} (n m : ℕ) → n ≡ m → (clauses extra : List (List Lit)) (r : Result X
+    RefutationError) → RefusesFormula n extra r → RefusesFormula m (clauses ++ extra) r
+refused_last n m is clauses extra (Ok x) h = tt
+refused_last n m is clauses extra (Err e) h = tells_on e ((e ≡ errors.Variable) × (are_all_in n
+    extra ≡ false)) ((e ≡ errors.Variable) × (are_all_in m (clauses ++ extra) ≡ false)) (λ
     wrong. (
       wrong.0,
-      ap (λ (k : ℕ). are_all_in k (clauses ++ further)) (sym is) ∙ last_out n clauses further wrong.1,
+      ap (λ (k : ℕ). are_all_in k (clauses ++ extra)) (sym is) ∙ last_out n clauses extra wrong.1,
     )) h
 
 -- ---- the first clauses

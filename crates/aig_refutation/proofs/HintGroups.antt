@@ -6,7 +6,7 @@ use Rattle.aig_refutation.specs.Rat.{hints_for}
 use Rattle.aig_refutation.specs.Starts.{AreStarts, IsStart, several, start_in, with_start}
 use Rattle.aig_refutation.specs.Tables.{Holds, Table, entry_at, name_in, place_by, place_in}
 use Rattle.aig_refutation.specs.Checking.{Live}
-use Rattle.aig_refutation.specs.Words.{said_numbers}
+use Rattle.aig_refutation.specs.Tokens.{said_numbers}
 
 -- ---- hints of a number
 

@@ -10,7 +10,7 @@ use Rattle.aig_refutation.specs.Checking.{Live, all_live, clause_at, deleted, nu
 use Rattle.aig_refutation.specs.Reading.{plain_by}
 use Rattle.aig_refutation.specs.Steps.{Drops, Follows, Learns, are_same, dropped, is_empty, is_unit, without_one}
 use Rattle.aig_refutation.specs.Tables.{Holds, HoldsFormula, Moves, SaysSame, Table, clause_in, entry_at}
-use Rattle.aig_refutation.specs.Words.{Tells}
+use Rattle.aig_refutation.specs.Tokens.{Tells}
 use Rattle.aig_refutation.proofs.Adding.{deleted_one}
 use Rattle.aig_refutation.proofs.Amounts.{copies_without, enough_all, enough_next, enough_without, row_all, row_next, row_without}
 use Rattle.aig_refutation.proofs.Known.{tells_on}

@@ -3,7 +3,7 @@ use Rattle.aig_base.proofs.Words.{◌≡◌, ℕ, List, [], ◌∷◌, ◌++◌,
 use Rattle.aig_lexer.specs.Takes.{Feed, Steps}
 use Rattle.aig_refutation.specs.declared.error.RefutationError.{RefutationError}
 use Rattle.aig_refutation.specs.declared.error.RefutationError.TheVariants as errors
-use Rattle.aig_refutation.specs.Words.{Leaves, Says, Tells, front}
+use Rattle.aig_refutation.specs.Tokens.{Leaves, Says, Tells, front}
 
 pub consumed : (old new : Option (List ℕ)) (taken xs : List ℕ) → Consumes old new taken
     → old ≡ Some xs → (ys : List ℕ) × (new ≡ Some ys) × (xs ≡ taken ++ ys)

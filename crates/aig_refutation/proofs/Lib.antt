@@ -13,7 +13,7 @@ mod Following
 mod Examples
 mod Known
 mod Texts
-mod Parts
+mod ReadersInTurn
 mod LineParts
 mod ReadWords
 mod NearWords

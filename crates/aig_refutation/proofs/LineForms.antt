@@ -13,7 +13,7 @@ use Rattle.aig_refutation.specs.Skipping.{end_line}
 use Rattle.aig_refutation.specs.Steps.{Step, Deletes, Drops, Learns}
 use Rattle.aig_refutation.specs.Text as text
 use Rattle.aig_refutation.specs.Text.{◌>>=◌, begins, word_in}
-use Rattle.aig_refutation.specs.Words.{end_of, fault_of, first_in, held_word, is_last, next_in, next_number, said_number}
+use Rattle.aig_refutation.specs.Tokens.{end_of, fault_of, first_in, held_word, is_last, next_in, next_number, said_number}
 use Rattle.aig_refutation.proofs.LineParts.{bound_ok, clause_err, clause_is, clause_next, clause_next_wrong, ended_err, ended_ok, fault_missing, held_letter, held_number, next_end_is, next_letter_is, next_number_is, next_wrong, numbers_next, numbers_next_wrong, pair_parts}
 
 abbrev Said : Type 0

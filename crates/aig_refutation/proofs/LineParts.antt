@@ -12,7 +12,7 @@ use Rattle.aig_refutation.specs.Reading.{appended, appended_numbers, parted, rea
 use Rattle.aig_refutation.specs.Skipping.{end_line}
 use Rattle.aig_refutation.specs.Text as text
 use Rattle.aig_refutation.specs.Text.{◌>>=◌, word_in}
-use Rattle.aig_refutation.specs.Words.{end_of, fault_of, held_word, next_in, next_number, said_number}
+use Rattle.aig_refutation.specs.Tokens.{end_of, fault_of, held_word, next_in, next_number, said_number}
 
 module _ {A B : Type 0} (x : Result A RefutationError) (f : A → Result B RefutationError) where
   pub bind_ok : (a : A) → x ≡ Ok a → (x >>= f) ≡ f a

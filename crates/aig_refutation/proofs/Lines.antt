@@ -10,7 +10,7 @@ use Rattle.aig_refutation.specs.declared.words.Word.TheVariants as words
 use Rattle.aig_refutation.specs.Proofs.{is_none}
 use Rattle.aig_refutation.specs.Text as text
 use Rattle.aig_refutation.specs.Text.{◌>>=◌, is_blank, lines_after, lines_of, word_at, word_in, words_after, words_of}
-use Rattle.aig_refutation.specs.Words.{ClosesAt, Gives, GivesFirst, GivesWord, IsReadOn, IsWord, Leaves, Place, Says, end_of, first_in, front, held_word, left_after, left_at, lines_at, lines_past, next_in}
+use Rattle.aig_refutation.specs.Tokens.{ClosesAt, Gives, GivesFirst, GivesWord, IsReadOn, IsWord, Leaves, Place, Says, end_of, first_in, front, held_word, left_after, left_at, lines_at, lines_past, next_in}
 use Rattle.aig_refutation.proofs.Known.{leaves_on, leaves_same, leaves_start, says_now, says_on, tells, tells_on}
 use Rattle.aig_refutation.proofs.Texts.{end_first, feed_first, line_first, past_comment, past_empty, past_none, past_word, word_whole}
 

@@ -10,7 +10,7 @@ use Rattle.aig_refutation.specs.declared.words.End.{End}
 use Rattle.aig_refutation.specs.declared.words.Word as code
 use Rattle.aig_refutation.specs.declared.words.Word.TheVariants as words
 use Rattle.aig_refutation.specs.Text.{is_blank, lines_of, number_in, signed, word_in}
-use Rattle.aig_refutation.specs.Words.{Gives, GivesWord, end_after, front, next_in}
+use Rattle.aig_refutation.specs.Tokens.{Gives, GivesWord, end_after, front, next_in}
 use Rattle.aig_refutation.proofs.Known.{leaves_same, step_leaves}
 use Rattle.aig_refutation.proofs.Lines.{at, next_some}
 use Rattle.aig_refutation.proofs.ReadWords.{minus_word, number_ends, number_stops, plain_word}

@@ -9,10 +9,10 @@ use Rattle.aig_refutation.specs.declared.words.Word.TheVariants as words
 use Rattle.aig_refutation.specs.Proofs.{Line, after_clause, is_none, line_in}
 use Rattle.aig_refutation.specs.Reading.{GivesStep, next_said, said_line}
 use Rattle.aig_refutation.specs.Text.{◌>>=◌}
-use Rattle.aig_refutation.specs.Words.{Gives, GivesFirst, IsClosed, IsReadOn, Place, Says, Tells, Tries, first_in, held_word, is_last, left_at, left_of, lines_at, lines_past, next_in}
+use Rattle.aig_refutation.specs.Tokens.{Gives, GivesFirst, IsClosed, IsReadOn, Place, Says, Tells, Tries, first_in, held_word, is_last, left_at, left_of, lines_at, lines_past, next_in}
 use Rattle.aig_refutation.proofs.Known.{leaves_on, says_on, tells_on}
 use Rattle.aig_refutation.proofs.LineForms.{added_after, added_end_err, added_end_ok, line_wrong}
-use Rattle.aig_refutation.proofs.Parts.{GoesOn, Reader, Reads, gives_ok, on_on, on_read, says_wrong}
+use Rattle.aig_refutation.proofs.ReadersInTurn.{GoesOn, Reader, Reads, gives_ok, on_on, on_read, says_wrong}
 
 -- ---- a clause that ends a line
 

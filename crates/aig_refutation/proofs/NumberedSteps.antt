@@ -15,7 +15,7 @@ use Rattle.aig_refutation.specs.Steps.{Step, Adds, Deletes}
 use Rattle.aig_refutation.specs.Tables.{Holds, Table}
 use Rattle.aig_refutation.specs.Taken.{CanHold, KeepsLive}
 use Rattle.aig_refutation.specs.Text.{◌>>=◌}
-use Rattle.aig_refutation.specs.Words.{Leaves, Says, Tells}
+use Rattle.aig_refutation.specs.Tokens.{Leaves, Says, Tells}
 use Rattle.aig_refutation.proofs.BinarySteps.{first_word, passes_as, passes_on, said_now, said_on}
 use Rattle.aig_refutation.proofs.Known.{leaves_same, says_now, tells, tells_on}
 use Rattle.aig_refutation.proofs.Outcomes.{outcome_last, outcome_more, outcome_none, outcome_wrong}

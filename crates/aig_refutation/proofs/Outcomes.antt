@@ -11,7 +11,7 @@ use Rattle.aig_refutation.specs.declared.step.Step as held
 use Rattle.aig_base.specs.declared.logic.literal.Lit.{Lit}
 use Rattle.aig_refutation.specs.Tables.{Holds, Table}
 use Rattle.aig_refutation.specs.Text.{lines_of}
-use Rattle.aig_refutation.specs.Words.{Leaves, Place, Says, Tells, lines_at, lines_past, said_numbers}
+use Rattle.aig_refutation.specs.Tokens.{Leaves, Place, Says, Tells, lines_at, lines_past, said_numbers}
 use Rattle.aig_refutation.specs.Taken.{CanHold, KeepsLive}
 use Rattle.aig_refutation.proofs.Known.{leaves_on, says_now, says_on, tells, tells_on}
 use Rattle.aig_refutation.proofs.Taken.{last_fails, taken_keeps}

@@ -15,7 +15,7 @@ use Rattle.aig_refutation.specs.Reading.{GivesStep, next_said, plain_by, said_by
 use Rattle.aig_refutation.specs.Steps.{Drops, Follows, Learns, PlainStep, Refute, Stand, Step, adds_empty, are_same, dropped, is_empty, is_unit, without_one}
 use Rattle.aig_refutation.specs.Tables.{Table}
 use Rattle.aig_refutation.specs.Text.{lines_of}
-use Rattle.aig_refutation.specs.Words.{Leaves, Place, Says, Tells, lines_at, lines_past}
+use Rattle.aig_refutation.specs.Tokens.{Leaves, Place, Says, Tells, lines_at, lines_past}
 use Rattle.aig_refutation.proofs.Following.{rup_implied}
 use Rattle.aig_refutation.proofs.Known.{leaves_on, says_now, says_on, tells, tells_on}
 use Rattle.aig_refutation.proofs.Outcomes.{Said, script_if_past, script_if_said}

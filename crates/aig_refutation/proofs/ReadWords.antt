@@ -11,7 +11,7 @@ use Rattle.aig_refutation.specs.declared.words.Word as code
 use Rattle.aig_refutation.specs.declared.words.Word.TheVariants as words
 use Rattle.aig_refutation.specs.Text as text
 use Rattle.aig_refutation.specs.Text.{◌>>=◌, digits_after, fault, letter_before, number_in, signed, word_in}
-use Rattle.aig_refutation.specs.Words.{GivesWord, Leaves, Says, end_after, front, held_word, left_after, left_at}
+use Rattle.aig_refutation.specs.Tokens.{GivesWord, Leaves, Says, end_after, front, held_word, left_after, left_at}
 use Rattle.aig_refutation.proofs.Known.{at_end, consumed, leaves_on, leaves_same, says_now, says_on, step_leaves, tells, tells_on}
 use Rattle.aig_refutation.proofs.Texts.{digit_no_blank, digit_no_line, digit_on, digit_wrong, digits_end, digits_refused, first_digit, left_end, letter_end, letter_refused, no_digit, number_digit, number_none, word_goes, word_letter, word_minus, word_plain}
 

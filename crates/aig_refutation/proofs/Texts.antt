@@ -7,7 +7,7 @@ use Rattle.aig_refutation.specs.declared.words.End.{End}
 use Rattle.aig_refutation.specs.declared.words.End.TheVariants as ends
 use Rattle.aig_refutation.specs.Proofs.{is_comment}
 use Rattle.aig_refutation.specs.Text.{Deletes, digits_after, ends_word, fault, is_blank, letter_before, lines_after, lines_of, number_in, signed, word_at, word_in, words_after, words_of}
-use Rattle.aig_refutation.specs.Words.{end_after, front, left_after, left_at, lines_past}
+use Rattle.aig_refutation.specs.Tokens.{end_after, front, left_after, left_at, lines_past}
 
 pub blank_no_line : (b : ℕ) → is_blank b ≡ true → (b == 10) ≡ false
 blank_no_line b is = ne_eqb b 10 (λ e. false≢true (subst (λ n. is_blank n ≡ true) e is))

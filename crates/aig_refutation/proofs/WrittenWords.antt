@@ -8,7 +8,7 @@ use Rattle.aig_format.specs.Text.{IsDigit}
 use Rattle.aig_format.proofs.NumberReaders.{true_digit}
 use Rattle.aig_format.proofs.Printed.{number_written}
 use Rattle.aig_refutation.specs.Text.{Number, begins, digits_after, ends_word, is_blank, lines_after, lines_of, number_in, signed, word_at, word_in, words_after, words_of}
-use Rattle.aig_refutation.specs.Words.{left_after}
+use Rattle.aig_refutation.specs.Tokens.{left_after}
 use Rattle.aig_refutation.specs.declared.words.End.TheVariants as ends
 use Rattle.aig_refutation.specs.Written.{literal_text, number_text, signed_text}
 use Rattle.aig_refutation.proofs.Texts.{digit_no_blank, digit_no_line, digit_on, first_digit, left_end, word_goes, word_minus, word_plain}

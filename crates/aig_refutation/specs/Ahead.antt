@@ -7,7 +7,7 @@ use Rattle.aig_refutation.specs.declared.error.RefutationError.TheVariants as er
 use Rattle.aig_refutation.specs.Checking.{Live, clause_at, is_used}
 use Rattle.aig_refutation.specs.Steps.{Drops, Follows, Learns, PlainStep, are_same, dropped, is_empty}
 use Rattle.aig_refutation.specs.Tables.{Holds, Table}
-use Rattle.aig_refutation.specs.Words.{Tells}
+use Rattle.aig_refutation.specs.Tokens.{Tells}
 
 -- how many clauses have the same literals as this one
 abbrev pub copies : List Lit → List (List Lit) → ℕ

@@ -12,7 +12,7 @@ use Rattle.aig_refutation.specs.Proofs.{Line, Numbered, Plain, Script, plain_of,
 use Rattle.aig_refutation.specs.Steps.{PlainStep, Step}
 use Rattle.aig_refutation.specs.Tables.{Checked, Holds, HoldsFormula, Table, clause_by}
 use Rattle.aig_refutation.specs.Text.{lines_of}
-use Rattle.aig_refutation.specs.Words.{Place, Says, Tells, lines_at}
+use Rattle.aig_refutation.specs.Tokens.{Place, Says, Tells, lines_at}
 
 -- the clauses are those of a formula, whose literals all have variables
 pub record IsFormula (checker : Checked) : Type 0 where

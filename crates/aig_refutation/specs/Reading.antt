@@ -8,7 +8,7 @@ use Rattle.aig_refutation.specs.Proofs.{Line, Numbered, Plain, after_first, afte
 use Rattle.aig_refutation.specs.Steps.{Step, Adds, Deletes, PlainStep, Drops, Learns}
 use Rattle.aig_refutation.specs.Text as text
 use Rattle.aig_refutation.specs.Text.{◌>>=◌}
-use Rattle.aig_refutation.specs.Words.{Leaves, Place, Says, Tells, lines_at, lines_past, said_numbers}
+use Rattle.aig_refutation.specs.Tokens.{Leaves, Place, Says, Tells, lines_at, lines_past, said_numbers}
 
 -- ---- parts of a line
 

@@ -11,7 +11,7 @@ use Rattle.aig_refutation.specs.BinaryNumbered.{Adding, Begun, Deleting, Listing
 use Rattle.aig_refutation.specs.Proofs.{Script, groups_at, hints_at, widened}
 use Rattle.aig_refutation.specs.Steps.{Step}
 use Rattle.aig_refutation.specs.Text.{◌>>=◌}
-use Rattle.aig_refutation.specs.Words.{Leaves, Says, Tells}
+use Rattle.aig_refutation.specs.Tokens.{Leaves, Says, Tells}
 
 -- ---- what bytes say
 

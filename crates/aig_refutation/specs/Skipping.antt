@@ -8,7 +8,7 @@ use Rattle.aig_refutation.specs.declared.error.RefutationError.{RefutationError}
 use Rattle.aig_refutation.specs.declared.error.RefutationError.TheVariants as errors
 use Rattle.aig_refutation.specs.Proofs.{ended}
 use Rattle.aig_refutation.specs.Text.{◌>>=◌, is_blank, lines_after, lines_of}
-use Rattle.aig_refutation.specs.Words.{Leaves, Says, Text, front}
+use Rattle.aig_refutation.specs.Tokens.{Leaves, Says, Text, front}
 
 -- the next byte that isn't blank, if there is one
 abbrev pub SkipsBlanks : Feed → Feed → Result (Option ℕ) RefutationError → Type 0

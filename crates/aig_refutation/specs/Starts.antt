@@ -5,7 +5,7 @@ use Rattle.aig_refutation.specs.declared.words.Number.{Number}
 use Rattle.aig_refutation.specs.Proofs.{hints_at}
 use Rattle.aig_refutation.specs.Rat.{hints_for}
 use Rattle.aig_refutation.specs.Tables.{Table, name_in}
-use Rattle.aig_refutation.specs.Words.{said_numbers}
+use Rattle.aig_refutation.specs.Tokens.{said_numbers}
 
 -- what stands for a clause for which hints begin at several places
 abbrev pub several : ℕ

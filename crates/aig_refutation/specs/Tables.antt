@@ -8,7 +8,7 @@ use Rattle.aig_refutation.specs.declared.error.RefutationError.TheVariants as er
 use Rattle.aig_refutation.specs.Checking.{Live, all_live, are_in, clause_at, is_used}
 use Rattle.aig_refutation.specs.Propagation.{reading_of}
 use Rattle.aig_refutation.specs.Rat.{is_apart}
-use Rattle.aig_refutation.specs.Words.{Tells}
+use Rattle.aig_refutation.specs.Tokens.{Tells}
 
 -- clauses by their places, the number of each place, for each number one more than its clause's
 -- place, or 0 where it was never used, and how many were added

@@ -11,7 +11,7 @@ ghost use Rattle.aig_refutation.specs.Binary.{binary_steps_in, literal_by};
 ghost use Rattle.aig_refutation.specs.Checking.{are_in};
 ghost use Rattle.aig_refutation.specs.ReadingBinary.{GivesCode, GivesItems, GivesLetter, GivesNext};
 ghost use Rattle.aig_refutation.specs.Reading.{plain_by};
-ghost use Rattle.aig_refutation.specs.Words.{Answers};
+ghost use Rattle.aig_refutation.specs.Tokens.{Answers};
 
 use crate::error::RefutationError;
 use crate::list::push;

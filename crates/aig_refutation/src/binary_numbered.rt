@@ -10,7 +10,7 @@ ghost use Rattle.aig_lexer.specs.Takes.{feed};
 ghost use Rattle.aig_refutation.specs.BinaryNumbered.{deleted_by, hint_by, numbered_steps_in};
 ghost use Rattle.aig_refutation.specs.ReadingBinary.{EndsStep, GivesHints, GivesItems, GivesNext, GivesNumber, begun_by};
 ghost use Rattle.aig_refutation.specs.Reading.{step_by};
-ghost use Rattle.aig_refutation.specs.Words.{Answers, said_number, said_numbers};
+ghost use Rattle.aig_refutation.specs.Tokens.{Answers, said_number, said_numbers};
 
 use crate::binary::{read_code, read_letter, read_literals};
 use crate::error::RefutationError;

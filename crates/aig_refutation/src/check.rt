@@ -16,7 +16,7 @@ ghost use Rattle.aig_refutation.specs.Steps as steps;
 ghost use Rattle.aig_refutation.specs.Steps.{Follows};
 ghost use Rattle.aig_refutation.specs.Tables.{Holds, HoldsFormula};
 ghost use Rattle.aig_refutation.specs.Taken.{CanHold};
-ghost use Rattle.aig_refutation.specs.Words.{place};
+ghost use Rattle.aig_refutation.specs.Tokens.{place};
 
 use crate::binary::read_step;
 use crate::binary_numbered::read_numbered_step;
@@ -53,22 +53,22 @@ fn assume_all(checker: &mut Checker, clauses: &LitVvec) -> Result<(), Refutation
 fn number_clauses(
     checker: &mut Checker,
     cnf: &DagCnf,
-    further: &LitVvec,
+    extra: &LitVvec,
 ) -> Result<(), RefutationError>
     requires { checker.old.table.clauses ≡ [] }
     ensures formula { OnOk result (checker.new.table.clauses
-        ≡ clauses_in cnf.now ++ further.now) }
+        ≡ clauses_in cnf.now ++ extra.now) }
     ensures variables { checker.new.variables ≡ checker.old.variables }
     ensures holds { IsFormula checker.old → OnOk result (IsFormula checker.new) }
     ensures refused { IsFormula checker.old
-        → RefusesFormula checker.old.variables (clauses_in cnf.now ++ further.now) result }
+        → RefusesFormula checker.old.variables (clauses_in cnf.now ++ extra.now) result }
     ensures no_stream { IsErrOf result RefutationError.Stream → ⊥ }
 {
     for i in 0..cnf.num_vars() {
         let var = Var::new(i);
         assume_all(checker, cnf.clauses_of(var))?;
     }
-    assume_all(checker, further)
+    assume_all(checker, extra)
 }
 
 /// Whether the clauses of the formula have the empty one, or two of one literal each that are in
@@ -561,20 +561,20 @@ fn check_proof<R: Source>(
 fn check_clauses<R: Source>(
     alloc: Global,
     cnf: &DagCnf,
-    further: &LitVvec,
+    extra: &LitVvec,
     r: &mut R,
     checker: &mut Checker,
     step: &mut Step,
 ) -> Result<(), RefutationError>
     requires { checker.old.table.clauses ≡ [] }
     ensures refuted { IsFormula checker.old
-        → OnOk result (¬ IsSatisfiable (clauses_in cnf.now ++ further.now)) }
+        → OnOk result (¬ IsSatisfiable (clauses_in cnf.now ++ extra.now)) }
     ensures stream { IsErrOf result RefutationError.Stream → R.failed r.new ≡ true }
     ensures shown { IsFormula checker.old → checker.old.variables ≡ length cnf.now
         → step.old.is_numbered ≡ false
-        → Shows (length cnf.now) (clauses_in cnf.now ++ further.now) (R.left r.old) result }
+        → Shows (length cnf.now) (clauses_in cnf.now ++ extra.now) (R.left r.old) result }
 {
-    number_clauses(checker, cnf, further)?;
+    number_clauses(checker, cnf, extra)?;
     if refutes_at_once(alloc, checker)? {
         return Ok(());
     }
@@ -583,7 +583,7 @@ fn check_clauses<R: Source>(
 
 /// Checks a proof that clauses can't be satisfied: an LRAT or a DRAT file, text or binary, whose
 /// steps follow by reverse unit propagation or have the RAT property. The clauses of `cnf`, variable
-/// by variable, and those of `further` after them are numbered from 1 on, and variable v is written
+/// by variable, and those of `extra` after them are numbered from 1 on, and variable v is written
 /// as v + 1.
 ///
 /// Clauses of which a literal has no variable are refused as `Variable`. Others in conflict at once
@@ -626,11 +626,11 @@ fn check_clauses<R: Source>(
 pub fn check_refutation<R: Source>(
     alloc: Global,
     cnf: &DagCnf,
-    further: &LitVvec,
+    extra: &LitVvec,
     r: &mut R,
 ) -> Result<(), RefutationError>
     // No assignment makes all clauses true.
-    ensures refuted { OnOk result (¬ IsSatisfiable (clauses_in cnf.now ++ further.now)) }
+    ensures refuted { OnOk result (¬ IsSatisfiable (clauses_in cnf.now ++ extra.now)) }
     // Stream only where a read failed in this call.
     ensures stream { IsErrOf result RefutationError.Stream → R.failed r.new ≡ true }
     // Memory and the stream aside: Variable where a literal has no variable, else Ok where the
@@ -639,10 +639,10 @@ pub fn check_refutation<R: Source>(
     // binary, is refused only as Step, where not all its steps follow even from clauses of one literal
     // that were deleted, or as what is wrong with its bytes after steps none of which adds the empty
     // clause. Of one with RAT steps no more is said.
-    ensures shown { Shows (length cnf.now) (clauses_in cnf.now ++ further.now) (R.left r.old)
+    ensures shown { Shows (length cnf.now) (clauses_in cnf.now ++ extra.now) (R.left r.old)
         result }
 {
     let mut checker = Checker::new(alloc, cnf.num_vars())?;
     let mut step = Step::new(alloc);
-    check_clauses(alloc, cnf, further, r, &mut checker, &mut step)
+    check_clauses(alloc, cnf, extra, r, &mut checker, &mut step)
 }

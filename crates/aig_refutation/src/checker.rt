@@ -11,7 +11,7 @@ ghost use Rattle.aig_refutation.specs.Propagation.{FitsMarks, is_lit, reading_of
 ghost use Rattle.aig_refutation.specs.Steps.{Follows, without_one};
 ghost use Rattle.aig_refutation.specs.Tables.{Holds, HoldsFormula, Moves, RefusesClause};
 ghost use Rattle.aig_refutation.specs.Taken.{KeepsLive};
-ghost use Rattle.aig_refutation.specs.Words.{said_numbers};
+ghost use Rattle.aig_refutation.specs.Tokens.{said_numbers};
 
 use crate::closure::is_entailed;
 use crate::compare::are_same;

@@ -7,7 +7,7 @@ ghost use Rattle.aig_refutation.specs.Propagation.{FitsMarks, has, is_rup, is_ta
 ghost use Rattle.aig_refutation.specs.Rat.{hints_for, is_rat, resolvent};
 ghost use Rattle.aig_refutation.specs.Starts.{AreStarts, IsStart, start_in};
 ghost use Rattle.aig_refutation.specs.Tables.{FindsHints, Holds, entry_in, is_apart_if, place_in, places_of};
-ghost use Rattle.aig_refutation.specs.Words.{said_numbers};
+ghost use Rattle.aig_refutation.specs.Tokens.{said_numbers};
 
 use crate::hints::Search;
 use crate::list::push;

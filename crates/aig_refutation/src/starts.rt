@@ -6,7 +6,7 @@ ghost use Rattle.aig_refutation.specs.Proofs.{hints_at};
 ghost use Rattle.aig_refutation.specs.Rat.{hints_for};
 ghost use Rattle.aig_refutation.specs.Starts.{AreStarts, IsStart, start_in, with_start};
 ghost use Rattle.aig_refutation.specs.Tables.{Holds, place_in};
-ghost use Rattle.aig_refutation.specs.Words.{said_numbers};
+ghost use Rattle.aig_refutation.specs.Tokens.{said_numbers};
 
 use crate::list::push;
 use crate::numbered::Numbered;

@@ -5,7 +5,7 @@ ghost use Rattle.aig_base.specs.Clauses.{variable_of};
 ghost use Rattle.aig_refutation.specs.Checking.{are_in};
 ghost use Rattle.aig_refutation.specs.Proofs.{after_clause, clause_number, groups_at, hints_at, literal_of};
 ghost use Rattle.aig_refutation.specs.Reading.{GivesStep, reads_added, reads_after, reads_clause, reads_deleted, reads_dropped, reads_hints, reads_numbers, said_by};
-ghost use Rattle.aig_refutation.specs.Words.{Answers, Gives, IsClosed, Tries, is_last, place, rest, said_number, said_numbers};
+ghost use Rattle.aig_refutation.specs.Tokens.{Answers, Gives, IsClosed, Tries, is_last, place, rest, said_number, said_numbers};
 
 use crate::error::RefutationError;
 use crate::list::push;

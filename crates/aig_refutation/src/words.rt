@@ -8,7 +8,7 @@ ghost use Rattle.std.specs.Prelude.{◌≡◌, ◌+◌, ◌<◌, ◌≤◌, ◌^
 ghost use Rattle.aig_lexer.specs.Takes.{feed};
 ghost use Rattle.aig_refutation.specs.Skipping.{EndsLine, IsNear, SkipsBlanks, end_line};
 ghost use Rattle.aig_refutation.specs.Text.{fault, number_in, signed, word_in};
-ghost use Rattle.aig_refutation.specs.Words.{Answers, ClosesAt, Gives, GivesFirst, GivesWord, IsAfter, IsClosed, IsWord, end_after, fault_of, is_last, next_in, next_number, place, rest, said_number};
+ghost use Rattle.aig_refutation.specs.Tokens.{Answers, ClosesAt, Gives, GivesFirst, GivesWord, IsAfter, IsClosed, IsWord, end_after, fault_of, is_last, next_in, next_number, place, rest, said_number};
 
 use crate::error::RefutationError;
 use aig_base::Source;
@@ -119,7 +119,7 @@ impl Drop for Words {
 }
 
 impl Model for Words {
-    ghost use Rattle.aig_refutation.specs.Words.{Text};
+    ghost use Rattle.aig_refutation.specs.Tokens.{Text};
 
     ghost Value = { Text };
 

@@ -28,10 +28,10 @@ module _ (f : File) (limit k : ℕ) (optimize : Bool) (u : UnrolledCircuit)
       (node_values_satisfy u.unrolled optimize lists is.unrolls.is.unrolled has)
 
   -- and asked for
-  pub asks : (further : List (List Lit)) → further ≡ query_clauses u.circuit u.steps u.unrolled
-      → IsQueryOf f k (circuit_of f) u.unrolled lists further
-  asks further exact =
-      let same = subst (λ (c : Circuit). further ≡ query_clauses c k u.unrolled) is.unrolls.circuit
-      (subst (λ (n : ℕ). further ≡ query_clauses u.circuit n u.unrolled) is.unrolls.steps exact) in
+  pub asks : (extra : List (List Lit)) → extra ≡ query_clauses u.circuit u.steps u.unrolled
+      → IsQueryOf f k (circuit_of f) u.unrolled lists extra
+  asks extra exact =
+      let same = subst (λ (c : Circuit). extra ≡ query_clauses c k u.unrolled) is.unrolls.circuit
+      (subst (λ (n : ℕ). extra ≡ query_clauses u.circuit n u.unrolled) is.unrolls.steps exact) in
       subst (IsQueryOf f k (circuit_of f) u.unrolled lists) (sym same)
       (queries_ask f limit k optimize (circuit_of f) u.unrolled lists is.fits encodes)

@@ -158,7 +158,7 @@ states_below es l n steps count all t low =
 
 -- ---- windows
 
-module _ (form : Window) (c : Circuit) (k : ℕ) (optimize : Bool) (lists : List (List (List Lit))) (further : List (List Lit)) (asks : AsksWindow form c k optimize lists further) where
+module _ (form : Window) (c : Circuit) (k : ℕ) (optimize : Bool) (lists : List (List (List Lit))) (extra : List (List Lit)) (asks : AsksWindow form c k optimize lists extra) where
   -- how many variables there are
   pub variables_of_window : length lists ≡ length asks.clauses + count_free form c k
   variables_of_window = ap length asks.exact ∙ length-append asks.clauses (replicate (count_free form c k) []) ∙ ap (λ m. length asks.clauses + m) (length-replicate (count_free form c k) [])
@@ -177,13 +177,13 @@ outputs_count c k u unrolls =
     let states : length (state_edges c) ≡ length c.latchs = length-map _ _ ∙ length-map _ _ in
     count ∙ ap (λ m. (k + 1 + 1) * m) states ∙ ap (λ m. m * length c.latchs) (omega arith)
 
-pub window_below : (form : Window) (c : Circuit) (k : ℕ) (optimize : Bool) (lists : List (List (List Lit))) (further : List (List Lit))
-    → AsksWindow form c k optimize lists further → clauses.AreBelow (length lists) further
-window_below Plain c k optimize lists further asks =
+pub window_below : (form : Window) (c : Circuit) (k : ℕ) (optimize : Bool) (lists : List (List (List Lit))) (extra : List (List Lit))
+    → AsksWindow form c k optimize lists extra → clauses.AreBelow (length lists) extra
+window_below Plain c k optimize lists extra asks =
     let n = length asks.clauses in
     let low = induction_below c asks.unrolled k n asks.has_clauses.count asks.is_circuit in
-    rw (asks.further_exact, append-nil) (weaker_below n (length lists) (omega (arith, variables_of_window Plain c k optimize lists further asks)) _ (below_all n _ low))
-window_below Distinct c k optimize lists further asks =
+    rw (asks.further_exact, append-nil) (weaker_below n (length lists) (omega (arith, variables_of_window Plain c k optimize lists extra asks)) _ (below_all n _ low))
+window_below Distinct c k optimize lists extra asks =
     let n = length asks.clauses in
     let l = length c.latchs in
     let u = asks.unrolled in
@@ -193,4 +193,4 @@ window_below Distinct c k optimize lists further asks =
     let range = subst (λ m. All (λ (e : AigEdge). e.node_id < m) u.properties.outputs) (sym asks.has_clauses.count) asks.is_circuit.properties.outputs in
     let states = states_below u.properties.outputs l n (k + 2) (outputs_count c k u asks.steps) range in
     let second = below_all m (distinct_clauses n l u.properties.outputs (k + 2)) (distinct_below n (k + 2) u.properties.outputs l states n (k + 2) m (omega arith) (omega arith) (omega arith)) in
-    rw (asks.further_exact, variables_of_window Distinct c k optimize lists further asks) (All-append (All (λ lit. variable_of lit < m)) (induction_clauses c k u) (distinct_clauses n l u.properties.outputs (k + 2)) first second)
+    rw (asks.further_exact, variables_of_window Distinct c k optimize lists extra asks) (All-append (All (λ lit. variable_of lit < m)) (induction_clauses c k u) (distinct_clauses n l u.properties.outputs (k + 2)) first second)

@@ -17,8 +17,8 @@ use Rattle.aig_runs.proofs.Rows.{all_is}
 use Rattle.aig_runs.proofs.Starting.{starts_same, starts_say}
 
 module _ (c u : Circuit) (k : ℕ) (lists : List (List (List Lit))) (unrolls : UnrollsTo c k u) (fixes : FixesRoots u lists) where
-  abbrev further : List (List Lit)
-  further = query_clauses c k u
+  abbrev extra : List (List Lit)
+  extra = query_clauses c k u
 
   module _ (v : ℕ → Bool) (holds : Satisfies v lists) (x : ℕ → ℕ → Bool) (is_run : IsRun c k x) (reads : Reads c u k v x) where
     -- the three parts, in order
@@ -59,9 +59,9 @@ module _ (c u : Circuit) (k : ℕ) (lists : List (List (List Lit))) (unrolls : U
     last_is = clause_says v (last_bads c k u) ∙ stand_any k (λ t. edge_value c.nodes (x t)) c.properties.bads (edge_in v) u.properties.bads shows.properties.bads
 
     -- so the query clauses hold exactly where the run is a witness
-    further_are : IsTrue (are_true v further) ↔ IsCircuitWitness c k x
+    further_are : IsTrue (are_true v extra) ↔ IsCircuitWitness c k x
     further_are =
-        let all = all_is (is_true_clause v) further in
+        let all = all_is (is_true_clause v) extra in
         let end = rec_append (Holds v) (starts ++ units) (last ∷ []) in
         let front = rec_append (Holds v) starts units in (
           λ h.
@@ -72,10 +72,10 @@ module _ (c u : Circuit) (k : ℕ) (lists : List (List (List Lit))) (unrolls : U
         )
 
   -- the run that an assignment of both reads is a witness
-  read_witness : (v : ℕ → Bool) → SatisfiesBoth v lists further → (run : ℕ → ℕ → Bool) → IsRun c k run → Reads c u k v run → IsCircuitWitness c k run
+  read_witness : (v : ℕ → Bool) → SatisfiesBoth v lists extra → (run : ℕ → ℕ → Bool) → IsRun c k run → Reads c u k v run → IsCircuitWitness c k run
   read_witness v both run is reads = (further_are v both.clauses_hold run is reads).0 both.further_hold
 
-  pub circuit_queries_ask : IsCircuit c → NodeValuesSatisfy u lists → AsksOfCircuit c k u lists further
+  pub circuit_queries_ask : IsCircuit c → NodeValuesSatisfy u lists → AsksOfCircuit c k u lists extra
   circuit_queries_ask is satisfied = record {
     exact = refl;
     satisfiable = (

@@ -14,8 +14,8 @@ use Rattle.aig_runs.proofs.FileRuns.{leaves_reads}
 use Rattle.aig_runs.proofs.Witnesses.{to_machine, witness_back, witness_forth}
 
 -- what asks for the witnesses of a file's circuit asks for those of its machine
-pub asks_of_file : (f : File) (limit k : ℕ) (u : Circuit) (lists : List (List (List Lit))) (further : List (List Lit)) → Fits f limit → AsksOfCircuit (circuit_of f) k u lists further → IsQueryOf f k (circuit_of f) u lists further
-asks_of_file f limit k u lists further fits asks = record {
+pub asks_of_file : (f : File) (limit k : ℕ) (u : Circuit) (lists : List (List (List Lit))) (extra : List (List Lit)) → Fits f limit → AsksOfCircuit (circuit_of f) k u lists extra → IsQueryOf f k (circuit_of f) u lists extra
+asks_of_file f limit k u lists extra fits asks = record {
   exact = asks.exact;
   satisfiable = (
     λ s. let w = asks.satisfiable.0 s in (values_over f w.0, witness_back f limit k w.0 fits w.1),

@@ -23,9 +23,9 @@ module _ (f : File) (n : ℕ) where
   )
 
   -- and so exactly where each query is refuted
-  pub refuted_queries_are_safe : (circuit unrolled : ℕ → Circuit) (clauses : ℕ → List (List (List Lit))) (further : ℕ → List (List Lit)) → ((k : ℕ) → k ≤ n → IsQueryOf f k (circuit k) (unrolled k) (clauses k) (further k))
-      → ((k : ℕ) → k ≤ n → IsRefuted (clauses k) (further k)) ↔ IsSafeTo f n
-  refuted_queries_are_safe circuit unrolled clauses further asks = (
+  pub refuted_queries_are_safe : (circuit unrolled : ℕ → Circuit) (clauses : ℕ → List (List (List Lit))) (extra : ℕ → List (List Lit)) → ((k : ℕ) → k ≤ n → IsQueryOf f k (circuit k) (unrolled k) (clauses k) (extra k))
+      → ((k : ℕ) → k ≤ n → IsRefuted (clauses k) (extra k)) ↔ IsSafeTo f n
+  refuted_queries_are_safe circuit unrolled clauses extra asks = (
     λ refuted. safe_is.0 (λ k h w. refuted k h ((asks k h).satisfiable.1 w)),
     λ safe k h s. safe_is.1 safe k h ((asks k h).satisfiable.0 s),
   )

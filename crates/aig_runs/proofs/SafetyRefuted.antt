@@ -16,12 +16,12 @@ clauses_in_true v (clauses ∷ lists) s =
     ∙ and_from (are_true v clauses) (are_true v (clauses_in lists)) (All-head IsSatisfied clauses lists s) (clauses_in_true v lists (All-tail IsSatisfied clauses lists s))
 
 -- what makes both lists true makes them true as one
-pub both_true : (v : ℕ → Bool) (lists : List (List (List Lit))) (further : List (List Lit)) → Satisfies v lists → IsTrue (are_true v further) → IsTrue (are_true v (clauses_in lists ++ further))
-both_true v lists further holds also = list_all-append (is_true_clause v) (clauses_in lists) further ∙ and_from (are_true v (clauses_in lists)) (are_true v further) (clauses_in_true v lists holds) also
+pub both_true : (v : ℕ → Bool) (lists : List (List (List Lit))) (extra : List (List Lit)) → Satisfies v lists → IsTrue (are_true v extra) → IsTrue (are_true v (clauses_in lists ++ extra))
+both_true v lists extra holds also = list_all-append (is_true_clause v) (clauses_in lists) extra ∙ and_from (are_true v (clauses_in lists)) (are_true v extra) (clauses_in_true v lists holds) also
 
 -- where no assignment makes all clauses true, none satisfies both lists
-pub refuted_both : (lists : List (List (List Lit))) (further : List (List Lit)) → ¬ IsSatisfiable (clauses_in lists ++ further) → IsRefuted lists further
-refuted_both lists further none s = none (s.0, both_true s.0 lists further s.1.clauses_hold s.1.further_hold)
+pub refuted_both : (lists : List (List (List Lit))) (extra : List (List Lit)) → ¬ IsSatisfiable (clauses_in lists ++ extra) → IsRefuted lists extra
+refuted_both lists extra none s = none (s.0, both_true s.0 lists extra s.1.clauses_hold s.1.further_hold)
 
-pub no_witness : (f : File) (k : ℕ) (circuit unrolled : Circuit) (clauses : List (List (List Lit))) (further : List (List Lit)) → IsQueryOf f k circuit unrolled clauses further → ¬ IsSatisfiable (clauses_in clauses ++ further) → IsSafeAt f k
-no_witness f k circuit unrolled clauses further asks none w = refuted_both clauses further none (asks.satisfiable.1 w)
+pub no_witness : (f : File) (k : ℕ) (circuit unrolled : Circuit) (clauses : List (List (List Lit))) (extra : List (List Lit)) → IsQueryOf f k circuit unrolled clauses extra → ¬ IsSatisfiable (clauses_in clauses ++ extra) → IsSafeAt f k
+no_witness f k circuit unrolled clauses extra asks none w = refuted_both clauses extra none (asks.satisfiable.1 w)

@@ -248,30 +248,30 @@ module _ (f : File) (limit k : ℕ) (outputs : List AigEdge) (u : Circuit) (list
       differ_there s t less low equal =
           distinct s t less (omega arith) (equal_rows (λ (line : LatchLine). run s (line.literal / 2)) (λ (line : LatchLine). run t (line.literal / 2)) v f.latches (state_at l u.properties.outputs s) (state_at l u.properties.outputs t) (rows_are s (omega arith)) (rows_are t (omega arith)) equal)
 
-      abbrev further : List (List Lit)
-      further = induction_clauses (circuit_of f) k u ++ distinct_clauses n l u.properties.outputs (k + 2)
+      abbrev extra : List (List Lit)
+      extra = induction_clauses (circuit_of f) k u ++ distinct_clauses n l u.properties.outputs (k + 2)
 
-      distinct_satisfiable : (free : ℕ) → IsSatisfiable (clauses_in (lists ++ replicate free []) ++ further)
+      distinct_satisfiable : (free : ℕ) → IsSatisfiable (clauses_in (lists ++ replicate free []) ++ extra)
       distinct_satisfiable free =
           let more = distinct_extends n (k + 2) u.properties.outputs l states_are v differ_there n (k + 2) (omega arith) (omega arith) (omega arith) in
           let w = more.values in
           let kept = hold_alike n v w more.agree (induction_clauses (circuit_of f) k u) (induction_below (circuit_of f) u k n has in_range) induction_hold in
           let holds = satisfies_more w lists free (satisfies_alike n v w more.agree lists relations.below one.satisfies) in
-          (w, both_true w (lists ++ replicate free []) further holds ((all_is (is_true_clause w) further).1 ((rec_append (Holds w) (induction_clauses (circuit_of f) k u) (distinct_clauses n l u.properties.outputs (k + 2))).1 (kept, more.hold))))
+          (w, both_true w (lists ++ replicate free []) extra holds ((all_is (is_true_clause w) extra).1 ((rec_append (Holds w) (induction_clauses (circuit_of f) k u) (distinct_clauses n l u.properties.outputs (k + 2))).1 (kept, more.hold))))
 
 -- ---- the law
 
 -- a window with a bad literal at its end satisfies its clauses
-pub window_satisfies : (form : Window) (f : File) (limit k : ℕ) (optimize : Bool) (lists : List (List (List Lit))) (further : List (List Lit)) → Fits f limit → AsksWindow form (circuit_of f) k optimize lists further
-    → (run : ℕ → ℕ → Bool) → IsWindow form f k run → IsTrue (list_any (value_of_literal (run (k + 1))) f.properties.bads) → IsSatisfiable (clauses_in lists ++ further)
-window_satisfies Plain f limit k optimize lists further fits asks run w bad =
+pub window_satisfies : (form : Window) (f : File) (limit k : ℕ) (optimize : Bool) (lists : List (List (List Lit))) (extra : List (List Lit)) → Fits f limit → AsksWindow form (circuit_of f) k optimize lists extra
+    → (run : ℕ → ℕ → Bool) → IsWindow form f k run → IsTrue (list_any (value_of_literal (run (k + 1))) f.properties.bads) → IsSatisfiable (clauses_in lists ++ extra)
+window_satisfies Plain f limit k optimize lists extra fits asks run w bad =
     rw (asks.exact, asks.further_exact, append-nil (induction_clauses (circuit_of f) k asks.unrolled)) (plain_satisfiable f limit k (circuit_of f).properties.outputs asks.unrolled asks.clauses fits (IsCircuit-of_file f limit fits) asks.steps asks.fixes asks.satisfied run w.is_run w.constraints w.good bad)
-window_satisfies Distinct f limit k optimize lists further fits asks run w bad =
+window_satisfies Distinct f limit k optimize lists extra fits asks run w bad =
     rw (asks.exact, asks.further_exact)
     (distinct_satisfiable f limit k (state_edges (circuit_of f)) asks.unrolled asks.clauses fits (watched_circuit Distinct (circuit_of f) (IsCircuit-of_file f limit fits)) asks.steps asks.fixes asks.satisfied run w.is_run w.constraints w.good bad
     refl asks.is_circuit asks.relations asks.has_clauses.count w.states (count_free Distinct (circuit_of f) k))
 
-pub refuted_window : (form : Window) (f : File) (limit k : ℕ) (optimize : Bool) (lists : List (List (List Lit))) (further : List (List Lit)) → Fits f limit → AsksWindow form (circuit_of f) k optimize lists further
-    → ¬ IsSatisfiable (clauses_in lists ++ further) → IsKInductive form f k
-refuted_window form f limit k optimize lists further fits asks none run w =
-    (any_none (value_of_literal (run (k + 1))) f.properties.bads).0 (false_from_ne_true (list_any (value_of_literal (run (k + 1))) f.properties.bads) (λ bad. none (window_satisfies form f limit k optimize lists further fits asks run w bad)))
+pub refuted_window : (form : Window) (f : File) (limit k : ℕ) (optimize : Bool) (lists : List (List (List Lit))) (extra : List (List Lit)) → Fits f limit → AsksWindow form (circuit_of f) k optimize lists extra
+    → ¬ IsSatisfiable (clauses_in lists ++ extra) → IsKInductive form f k
+refuted_window form f limit k optimize lists extra fits asks none run w =
+    (any_none (value_of_literal (run (k + 1))) f.properties.bads).0 (false_from_ne_true (list_any (value_of_literal (run (k + 1))) f.properties.bads) (λ bad. none (window_satisfies form f limit k optimize lists extra fits asks run w bad)))

@@ -26,11 +26,11 @@ HasCircuitWitness c k = (run : ℕ → ℕ → Bool) × IsCircuitWitness c k run
 
 -- The clauses of the circuit unrolled and the further ones ask for the circuit's witnesses.
 pub record AsksOfCircuit (c : Circuit) (k : ℕ) (unrolled : Circuit)
-    (clauses : List (List (List Lit))) (further : List (List Lit)) : Type 0 where
+    (clauses : List (List (List Lit))) (extra : List (List Lit)) : Type 0 where
   -- which query clauses there are, and in which order
-  pub exact : further ≡ query_clauses c k unrolled
+  pub exact : extra ≡ query_clauses c k unrolled
   -- some assignment satisfies both exactly where there is a witness
-  pub satisfiable : ((v : ℕ → Bool) × SatisfiesBoth v clauses further) ↔ HasCircuitWitness c k
+  pub satisfiable : ((v : ℕ → Bool) × SatisfiesBoth v clauses extra) ↔ HasCircuitWitness c k
   -- and the run that such an assignment's leaf values read is a witness
-  pub read_off : (v : ℕ → Bool) → SatisfiesBoth v clauses further → (run : ℕ → ℕ → Bool)
+  pub read_off : (v : ℕ → Bool) → SatisfiesBoth v clauses extra → (run : ℕ → ℕ → Bool)
       → IsRun c k run → Reads c unrolled k v run → IsCircuitWitness c k run

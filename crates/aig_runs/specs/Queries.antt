@@ -66,25 +66,25 @@ IsThere n latch = (latch.input < n) × IfSome latch.init (λ e. e.node_id < n)
 
 -- the assignment satisfies the clauses and the further ones together
 pub record SatisfiesBoth (v : ℕ → Bool) (clauses : List (List (List Lit)))
-    (further : List (List Lit)) : Type 0 where
+    (extra : List (List Lit)) : Type 0 where
   pub clauses_hold : Satisfies v clauses
-  pub further_hold : IsTrue (are_true v further)
+  pub further_hold : IsTrue (are_true v extra)
 
 -- The clauses and the further ones ask for the witnesses of the file's machine.
 pub record IsQueryOf (f : File) (k : ℕ) (circuit unrolled : Circuit)
-    (clauses : List (List (List Lit))) (further : List (List Lit)) : Type 0 where
+    (clauses : List (List (List Lit))) (extra : List (List Lit)) : Type 0 where
   -- which query clauses there are, and in which order
-  pub exact : further ≡ query_clauses circuit k unrolled
+  pub exact : extra ≡ query_clauses circuit k unrolled
   -- some assignment satisfies both exactly where there is a witness
-  pub satisfiable : ((v : ℕ → Bool) × SatisfiesBoth v clauses further)
+  pub satisfiable : ((v : ℕ → Bool) × SatisfiesBoth v clauses extra)
       ↔ ((run : ℕ → ℕ → Bool) × IsWitness f k run)
   -- and the run with the leaf values of such an assignment is a witness
-  pub read_off : (v : ℕ → Bool) → SatisfiesBoth v clauses further → (run : ℕ → ℕ → Bool)
+  pub read_off : (v : ℕ → Bool) → SatisfiesBoth v clauses extra → (run : ℕ → ℕ → Bool)
       → IsMachineRun f k run → HasLeafValues f circuit unrolled k v run → IsWitness f k run
 
 -- no assignment satisfies both
 abbrev pub IsRefuted : List (List (List Lit)) → List (List Lit) → Type 0
-IsRefuted clauses further = ¬ ((v : ℕ → Bool) × SatisfiesBoth v clauses further)
+IsRefuted clauses extra = ¬ ((v : ℕ → Bool) × SatisfiesBoth v clauses extra)
 
 -- On every run from an initial state, each bad literal is false at each step up to n at which, and
 -- before which, every constraint holds.

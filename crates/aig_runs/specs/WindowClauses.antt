@@ -106,7 +106,7 @@ window_clauses form n c k unrolled =
 
 -- The clauses of the circuit, unrolled by k + 1 steps, and the further ones of a window.
 pub record AsksWindow (form : Window) (c : Circuit) (k : ℕ) (optimize : Bool)
-    (lists : List (List (List Lit))) (further : List (List Lit)) : Type 0 where
+    (lists : List (List (List Lit))) (extra : List (List Lit)) : Type 0 where
   pub unrolled : Circuit
   pub clauses : List (List (List Lit))
   pub is_circuit : IsCircuit unrolled
@@ -118,4 +118,4 @@ pub record AsksWindow (form : Window) (c : Circuit) (k : ℕ) (optimize : Bool)
   pub relations : AreRelations clauses
   -- and then free variables
   pub exact : lists ≡ clauses ++ replicate (count_free form c k) []
-  pub further_exact : further ≡ window_clauses form (length clauses) c k unrolled
+  pub further_exact : extra ≡ window_clauses form (length clauses) c k unrolled

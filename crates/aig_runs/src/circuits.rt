@@ -16,9 +16,9 @@ use crate::circuit_witnesses_are_file_witnesses;
 /// start on which every constraint holds and, at the last step, some bad edge.
 pub fn refuted_circuit_queries_have_no_witness()
     ensures { (c unrolled : Circuit) (k : ℕ) (clauses : List (List (List Lit)))
-        (further : List (List Lit))
-        → AsksOfCircuit c k unrolled clauses further
-        → ¬ IsSatisfiable (clauses_in clauses ++ further) → IsCircuitSafeAt c k }
+        (extra : List (List Lit))
+        → AsksOfCircuit c k unrolled clauses extra
+        → ¬ IsSatisfiable (clauses_in clauses ++ extra) → IsCircuitSafeAt c k }
 {}
 
 /// Law: a file's machine has no such run exactly where the file's circuit has none.

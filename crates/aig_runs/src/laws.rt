@@ -57,9 +57,9 @@ pub fn circuit_witnesses_are_file_witnesses()
     ensures one { (f : File) (limit k : ℕ) (x z run : ℕ → ℕ → Bool) → Fits f limit
         → HasNodeValues f k x run → HasNodeValues f k z run → AgreeOnLeaves (circuit_of f) k x z }
     ensures asks { (f : File) (limit k : ℕ) (unrolled : Circuit) (clauses : List (List (List Lit)))
-        (further : List (List Lit)) → Fits f limit
-        → AsksOfCircuit (circuit_of f) k unrolled clauses further
-        → IsQueryOf f k (circuit_of f) unrolled clauses further }
+        (extra : List (List Lit)) → Fits f limit
+        → AsksOfCircuit (circuit_of f) k unrolled clauses extra
+        → IsQueryOf f k (circuit_of f) unrolled clauses extra }
 {}
 
 /// Law: the query clauses of an encoded file ask for the witnesses of its machine.
@@ -73,17 +73,17 @@ pub fn queries_ask()
 /// Law: the queries of all steps up to n are refuted exactly where no bad literal is reached up to step n.
 pub fn refuted_queries_are_safe()
     ensures { (f : File) (n : ℕ) (circuit unrolled : ℕ → Circuit)
-        (clauses : ℕ → List (List (List Lit))) (further : ℕ → List (List Lit))
-        → ((k : ℕ) → k ≤ n → IsQueryOf f k (circuit k) (unrolled k) (clauses k) (further k))
-        → ((k : ℕ) → k ≤ n → IsRefuted (clauses k) (further k)) ↔ IsSafeTo f n }
+        (clauses : ℕ → List (List (List Lit))) (extra : ℕ → List (List Lit))
+        → ((k : ℕ) → k ≤ n → IsQueryOf f k (circuit k) (unrolled k) (clauses k) (extra k))
+        → ((k : ℕ) → k ≤ n → IsRefuted (clauses k) (extra k)) ↔ IsSafeTo f n }
 {}
 
 /// Law: for each file, each number of steps and each setting there is one encoding.
 pub fn encodings_are_one()
-    ensures { (f : File) (k : ℕ) (optimize : Bool) (circuit unrolled other further : Circuit)
+    ensures { (f : File) (k : ℕ) (optimize : Bool) (circuit unrolled other extra : Circuit)
         (clauses others : List (List (List Lit)))
-        → Encodes f k optimize circuit unrolled clauses → Encodes f k optimize other further others
-        → (circuit ≡ other) × (unrolled ≡ further) × (clauses ≡ others) }
+        → Encodes f k optimize circuit unrolled clauses → Encodes f k optimize other extra others
+        → (circuit ≡ other) × (unrolled ≡ extra) × (clauses ≡ others) }
 {
     clauses_are_one();
 }
@@ -91,9 +91,9 @@ pub fn encodings_are_one()
 /// Law: for each circuit, each window and each setting there is one list of clauses of either kind.
 pub fn windows_are_one()
     ensures { (form : Window) (c : Circuit) (k : ℕ) (optimize : Bool)
-        (lists others : List (List (List Lit))) (further more : List (List Lit))
-        → AsksWindow form c k optimize lists further → AsksWindow form c k optimize others more
-        → (lists ≡ others) × (further ≡ more) }
+        (lists others : List (List (List Lit))) (extra more : List (List Lit))
+        → AsksWindow form c k optimize lists extra → AsksWindow form c k optimize others more
+        → (lists ≡ others) × (extra ≡ more) }
 {
     clauses_are_one();
 }

@@ -25,18 +25,18 @@ use crate::refuted_queries_are_safe;
 /// start on which every constraint holds and, at the last step, some bad literal.
 pub fn refuted_queries_have_no_witness()
     ensures { (f : File) (k : ℕ) (circuit unrolled : Circuit) (clauses : List (List (List Lit)))
-        (further : List (List Lit))
-        → IsQueryOf f k circuit unrolled clauses further
-        → ¬ IsSatisfiable (clauses_in clauses ++ further) → IsSafeAt f k }
+        (extra : List (List Lit))
+        → IsQueryOf f k circuit unrolled clauses extra
+        → ¬ IsSatisfiable (clauses_in clauses ++ extra) → IsSafeAt f k }
 {}
 
 /// Law: where that holds of the queries for 0 to n, no bad literal holds, at a step up to n, on any run from an initial state on which
 /// the constraints hold up to there.
 pub fn refutations_are_safe()
     ensures { (f : File) (n : ℕ) (circuit unrolled : ℕ → Circuit)
-        (clauses : ℕ → List (List (List Lit))) (further : ℕ → List (List Lit))
-        → ((k : ℕ) → k ≤ n → IsQueryOf f k (circuit k) (unrolled k) (clauses k) (further k))
-        → ((k : ℕ) → k ≤ n → ¬ IsSatisfiable (clauses_in (clauses k) ++ further k))
+        (clauses : ℕ → List (List (List Lit))) (extra : ℕ → List (List Lit))
+        → ((k : ℕ) → k ≤ n → IsQueryOf f k (circuit k) (unrolled k) (clauses k) (extra k))
+        → ((k : ℕ) → k ≤ n → ¬ IsSatisfiable (clauses_in (clauses k) ++ extra k))
         → IsSafeTo f n }
 {
     refuted_queries_are_safe();
@@ -84,9 +84,9 @@ pub fn distinct_windows_are_complete()
 /// there is none.
 pub fn refuted_windows_are_inductive()
     ensures { (form : Window) (f : File) (limit k : ℕ) (optimize : Bool)
-        (clauses : List (List (List Lit))) (further : List (List Lit))
-        → Fits f limit → AsksWindow form (circuit_of f) k optimize clauses further
-        → ¬ IsSatisfiable (clauses_in clauses ++ further) → IsKInductive form f k }
+        (clauses : List (List (List Lit))) (extra : List (List Lit))
+        → Fits f limit → AsksWindow form (circuit_of f) k optimize clauses extra
+        → ¬ IsSatisfiable (clauses_in clauses ++ extra) → IsKInductive form f k }
 {}
 
 /// Law: a file that extends another by inputs, latches or gates has its runs: for each run of the

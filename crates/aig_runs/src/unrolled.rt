@@ -112,7 +112,7 @@ impl Unrolled {
     /// The clauses that ask for a bad state at the last step. The one error is refused memory.
     pub fn query_clauses(&self, alloc: Global) -> Result<LitVvec, MemoryError>
         requires { length self.now.unrolled.nodes ≤ 2 ^ 31 }
-        ensures exact { IfOk result (λ further. further
+        ensures exact { IfOk result (λ extra. extra
             ≡ queries.query_clauses self.now.circuit self.now.steps self.now.unrolled) }
         ensures below { IfOk result (AreBelow (length self.now.unrolled.nodes)) }
     {

@@ -7,7 +7,7 @@ pub mod Giving
 pub mod Meaning
 pub mod Reading
 pub mod Deciding
-pub mod Asked
+pub mod AskedCircuits
 pub mod Constant
 mod Examples
 pub mod Adding

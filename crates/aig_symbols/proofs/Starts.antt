@@ -4,7 +4,7 @@ use Rattle.aig_base.proofs.Words.{Consumes-whole, ne_eqb, lt-ltb, le-ltb}
 use Rattle.aig_format.proofs.Words.{HeaderNumbers, count_of}
 use Rattle.aig_format.specs.Parse.{is_comment, parse_ended, parse_if, parse_number}
 use Rattle.aig_lexer.specs.Takes.{Feed, Advances, Steps, Takes, Misses}
-use Rattle.aig_lexer.specs.Words.{parse_number_from}
+use Rattle.aig_lexer.specs.WordReaders.{parse_number_from}
 use Rattle.aig_lexer.proofs.Feeds.{ends_on, steps_end}
 use Rattle.aig_lexer.proofs.Going.{GoesOn, goes_call, goes_done, known_rest}
 use Rattle.aig_lexer.proofs.Taking.{misses_first, takes_mapped, misses_mapped, takes_tested, misses_test, misses_tested}

@@ -6,7 +6,7 @@ use Rattle.aig_base.specs.declared.logic.three.Lbool.{Lbool}
 use Rattle.aig_format.specs.Parse.{◌>>=◌, parse_map, strip}
 use Rattle.aig_lexer.specs.Faults.{Cause, Tells}
 use Rattle.aig_lexer.specs.Takes.{Feed, Ends, Gives, Misses, Steps, Takes}
-use Rattle.aig_lexer.specs.Words.{parse_expected}
+use Rattle.aig_lexer.specs.WordReaders.{parse_expected}
 use Rattle.aig_lexer.proofs.Faults.{tells-weaker}
 use Rattle.aig_lexer.proofs.Taking.{takes_mapped}
 use Rattle.aig_lexer.proofs.Going.{GoesOn, goes_call, goes_done, goes_wrong, known_rest}

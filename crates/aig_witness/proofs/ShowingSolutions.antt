@@ -60,8 +60,8 @@ zip_unright g R [] (y ∷ ys) zip = absurd zip
 zip_unright g R (x ∷ xs) [] zip = absurd zip
 zip_unright g R (x ∷ xs) (y ∷ ys) zip = (zip.0, zip_unright g R xs ys zip.1)
 
-module _ (f : File) (limit k : ℕ) (optimize : Bool) (c u : Circuit) (clauses : List (List (List Lit))) (further : List (List Lit)) (v : ℕ → Bool) (values : List Lbool) (w : Witness)
-    (fits : Fits f limit) (is : IsCircuit u) (encodes : Encodes f k optimize c u clauses) (asks : IsQueryOf f k c u clauses further) (holds : SatisfiesBoth v clauses further)
+module _ (f : File) (limit k : ℕ) (optimize : Bool) (c u : Circuit) (clauses : List (List (List Lit))) (extra : List (List Lit)) (v : ℕ → Bool) (values : List Lbool) (w : Witness)
+    (fits : Fits f limit) (is : IsCircuit u) (encodes : Encodes f k optimize c u clauses) (asks : IsQueryOf f k c u clauses extra) (holds : SatisfiesBoth v clauses extra)
     (of : AreValuesOf v (length u.nodes) values) (says : IsWitnessIn c u k values w) where
   one : IsOneRun f c u k v
   one = encodes.assignments v holds.clauses_hold

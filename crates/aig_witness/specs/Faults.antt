@@ -3,7 +3,7 @@
 use Rattle.std.specs.Prelude.{◌≡◌, ◌≢◌, ℕ, Bool, true, false, List, [], codes, Option, Some, None, IfSome, Result, Ok, Err}
 use Rattle.aig_lexer.specs.Faults.{Cause, Memory, Never, Other, Stream, Tells}
 use Rattle.aig_lexer.specs.Takes.{Feed, Ends, Misses, Takes}
-use Rattle.aig_lexer.specs.Words.{parse_expected}
+use Rattle.aig_lexer.specs.WordReaders.{parse_expected}
 use Rattle.aig_format.specs.Parse.{strip}
 use Rattle.aig_witness.specs.declared.error.WitnessError.{WitnessError}
 use Rattle.aig_witness.specs.declared.error.WitnessError.TheVariants as errors

@@ -8,7 +8,7 @@ use Rattle.aig_circuit.specs.declared.node.AigLatch.{AigLatch}
 use Rattle.aig_circuit.specs.Circuit.{Circuit, latch_leaves}
 use Rattle.aig_format.specs.declared.FileKind.TheVariants.{Text}
 use Rattle.aig_format.proofs.Words.{NameLine, name_text, file_of, name_lines}
-use Rattle.aig_writer.specs.Parts.{text_of_name}
+use Rattle.aig_writer.specs.TextParts.{text_of_name}
 
 -- ---- the lines of names
 

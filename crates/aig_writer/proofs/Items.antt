@@ -10,7 +10,7 @@ use Rattle.aig_circuit.specs.declared.node.AigNodeType.TheVariants.{False, Leaf,
 use Rattle.aig_circuit.proofs.Words.{literal_of, and_of, renumbered_edge, renumbered_kind, renumbered_latch}
 use Rattle.aig_format.proofs.Words.{GateLine, line_text, lines_text, latch_text, gate_text, latch_line, gate_line}
 use Rattle.aig_format.specs.declared.FileKind.{FileKind}
-use Rattle.aig_writer.specs.Parts.{edges_of_sets}
+use Rattle.aig_writer.specs.TextParts.{edges_of_sets}
 use Rattle.aig_writer.specs.Numbering.{renumbered_node}
 
 abbrev pub input_line : ℕ → List ℕ

@@ -1,4 +1,4 @@
 pub mod Forms
 pub mod Literals
 pub mod Numbering
-pub mod Parts
+pub mod TextParts

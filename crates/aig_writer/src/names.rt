@@ -6,7 +6,7 @@ ghost use Rattle.aig_format.specs.Written.{name_text};
 ghost use Rattle.aig_format.specs.declared.FileKind.TheVariants.{Text};
 ghost use Rattle.aig_format.specs.Circuit.{file_of};
 ghost use Rattle.aig_output.specs.Writing.{WritesPieces};
-ghost use Rattle.aig_writer.specs.Parts.{text_of_name};
+ghost use Rattle.aig_writer.specs.TextParts.{text_of_name};
 
 use aig_circuit::CircuitView;
 use aig_output::{SHORT_PIECE, TextOut};

@@ -8,7 +8,7 @@ ghost use Rattle.aig_format.specs.declared.FileKind.TheVariants.{Text};
 ghost use Rattle.aig_format.specs.Written.{gate_text, inputs_text, latch_text, lines_text, properties_text};
 ghost use Rattle.aig_format.specs.Circuit.{latch_line, gate_line};
 ghost use Rattle.aig_output.specs.Writing.{WritesPieces};
-ghost use Rattle.aig_writer.specs.Parts.{edges_of_sets};
+ghost use Rattle.aig_writer.specs.TextParts.{edges_of_sets};
 ghost use Rattle.aig_writer.specs.Numbering.{written_number, numbered_file, renumbered_node};
 ghost use Rattle.aig_writer.specs.Literals.{HasSmallNumbers, IsSmallEdge, IsSmallLatch, IsSmallNode, FallsBelow};
 ghost use Rattle.aig_writer.specs.Forms.{FitsForm};

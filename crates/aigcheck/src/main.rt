@@ -1,8 +1,8 @@
 //! `aigcheck` checks proofs and witnesses about the machines of AIGER files, and prints the clauses that such proofs are of.
 #![tactic(auto)]
 
-use aig_checks::{USAGE, act, advise, explain, notice};
-pub use aig_checks::{
+use aig_check_commands::{USAGE, act, advise, explain, notice};
+pub use aig_check_commands::{
     CheckError, Command, FileCommand, PairCommand, parse, print_bounded, print_certified,
     print_clauses, print_equal, print_inductive, print_obligations, print_refuted,
     print_refuted_to, print_run, print_window, print_witness, print_witness_to,

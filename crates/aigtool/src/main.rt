@@ -10,8 +10,8 @@ mod target;
 
 use crate::outs::SystemOuts;
 use aig_command_line::{FlushedWriter, StandardError, SystemFiles, end, words};
-use aig_commands::act;
-pub use aig_commands::{Command, ToolError, parse, run};
+use aig_tool_commands::act;
+pub use aig_tool_commands::{Command, ToolError, parse, run};
 use std::io;
 use std::process::ExitCode;
 

@@ -11,7 +11,7 @@ use crate::system::size_limit;
 use crate::target::{AtEnd, Target};
 use aig::WriteError;
 use aig_base::{MemoryError, Sink, StreamFault, ToWrite};
-use aig_commands::{Commit, ToolError};
+use aig_tool_commands::{Commit, ToolError};
 use std::fs::{self, File, OpenFile};
 use std::random::RandomSource;
 use std::rt::Files;

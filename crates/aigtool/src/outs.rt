@@ -4,7 +4,7 @@ ghost use Rattle.std.specs.Prelude.{⊤};
 
 use crate::output::Output;
 use crate::place::{self, Place};
-use aig_commands::{Outs, ToolError};
+use aig_tool_commands::{Outs, ToolError};
 use std::random::RandomSource;
 use std::rt::Files;
 

@@ -30,7 +30,7 @@ fn refute<P: Source>(
     proof: &mut P,
 ) -> Result<(), BoundedAnswerError>
     ensures refuted { OnOk result (IsSettled made.now
-        ⊎ (¬ IsSatisfiable (clauses_in made.now.clauses ++ made.now.further))) }
+        ⊎ (¬ IsSatisfiable (clauses_in made.now.clauses ++ made.now.extra))) }
     ensures told { TellsOfProof P.left made.now proof.old proof.new result }
     ensures own { IfErr result (λ e. (x : RefutationError) × (e ≡ errors.Refutation x)) }
     ensures stream { IsErrOf result (BoundedAnswerError.Refutation RefutationError.Stream)
@@ -39,7 +39,7 @@ fn refute<P: Source>(
     if made.is_settled() {
         return Ok(());
     }
-    check_refutation(alloc, &made.clauses, &made.further, proof)?;
+    check_refutation(alloc, &made.clauses, &made.extra, proof)?;
     Ok(())
 }
 

@@ -15,7 +15,7 @@ ghost use Rattle.aig_answers.specs.Encoded.{IsEncoded, IsEncodedQuestion};
 use crate::bounded_checks::error::BoundedAnswerError;
 use crate::bounded_checks::naming::{Named, name_places};
 use aig_base::{DagCnf, LitVvec, MemoryError, Source};
-use aig_bounded::{BoundedError, Question, bounded_question};
+use aig_bounded::{BoundedCircuit, BoundedError, bounded_question};
 use aig_circuit::{CircuitLists, CircuitView};
 use aig_cnf::encode;
 use aig_reader::read;
@@ -25,13 +25,13 @@ use std::alloc::Global;
 /// The clauses of a bounded check.
 pub struct BoundedClauses {
     /// The question.
-    pub question: Question,
+    pub question: BoundedCircuit,
     /// What its inputs stand for, one for one.
     pub named: Vec<Named>,
     /// The clauses of its circuit.
     pub clauses: DagCnf,
     /// The clause that its output is true.
-    pub further: LitVvec,
+    pub extra: LitVvec,
 }
 
 impl Drop for BoundedClauses {
@@ -40,7 +40,7 @@ impl Drop for BoundedClauses {
             question: _,
             named: _,
             clauses: _,
-            further: _,
+            extra: _,
         } = self;
     }
 }
@@ -64,17 +64,17 @@ impl BoundedClauses {
 /// The clause that the output of a question is true.
 fn output_clauses(alloc: Global, circuit: &CircuitView<'_>) -> Result<LitVvec, MemoryError>
     requires { length circuit.now.nodes ≤ 2 ^ 31 }
-    ensures { IfOk result (λ further. further ≡ unit_clauses circuit.now.properties.outputs) }
+    ensures { IfOk result (λ extra. extra ≡ unit_clauses circuit.now.properties.outputs) }
 {
-    let mut further = LitVvec::new(alloc);
-    push_units(&mut further, circuit.outputs())?;
-    Ok(further)
+    let mut extra = LitVvec::new(alloc);
+    push_units(&mut extra, circuit.outputs())?;
+    Ok(extra)
 }
 
 /// The clauses of a question, with the names of its inputs.
 fn clauses_of(
     alloc: Global,
-    question: Question,
+    question: BoundedCircuit,
     named: Vec<Named>,
     optimize: bool,
 ) -> Result<BoundedClauses, MemoryError>
@@ -82,13 +82,13 @@ fn clauses_of(
     requires few { length question.circuit.nodes.items ≤ 2 ^ 31 }
     ensures { IfOk result (IsEncoded question named.items optimize) }
 {
-    let further = output_clauses(alloc, &CircuitView::new(&question.circuit))?;
+    let extra = output_clauses(alloc, &CircuitView::new(&question.circuit))?;
     let clauses = encode(alloc, &CircuitView::new(&question.circuit), optimize)?;
     Ok(BoundedClauses {
         question,
         named,
         clauses,
-        further,
+        extra,
     })
 }
 
@@ -156,7 +156,7 @@ pub fn bounded<R: Source>(
     ensures answer { IfOk result (IsReadAs (IsAskedWithin limit) (λ f. AsksBounded f k optimize)
         (R.left r.old) (R.left r.new)) }
     // The further clause is of variables that are there.
-    ensures below { IfOk result (λ made. AreBelow (length made.clauses) made.further) }
+    ensures below { IfOk result (λ made. AreBelow (length made.clauses) made.extra) }
     // A file is refused exactly where it isn't within the limit or has no bad literal, and a refusal says why.
     ensures verdict { Judges bounded_verdict limit (R.left r.old) (R.left r.new) (R.failed r.new)
         (verdict_by verdict_of result) }

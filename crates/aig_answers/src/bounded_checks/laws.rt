@@ -17,7 +17,7 @@ ghost use Rattle.aig_answers.specs.Asking.{AsksBounded, AsksOfBads};
 pub fn refuted_questions_are_safe()
     ensures refuted { (f : File) (limit k : ℕ) (optimize : Bool) (made : BoundedClauses)
         → Fits f limit → AsksBounded f k optimize made
-        → (¬ IsSatisfiable (clauses_in made.clauses ++ made.further)) ↔ IsSafeTo f k }
+        → (¬ IsSatisfiable (clauses_in made.clauses ++ made.extra)) ↔ IsSafeTo f k }
     ensures folded { (f : File) (limit k : ℕ) (optimize : Bool) (made : BoundedClauses)
         → Fits f limit → AsksBounded f k optimize made
         → All (λ e. e ≡ edge_to 0 false) made.question.circuit.properties.outputs.items
@@ -29,7 +29,7 @@ pub fn refuted_questions_are_safe()
 pub fn refuted_circuit_questions_are_safe()
     ensures refuted { (c : Circuit) (k : ℕ) (optimize : Bool) (made : BoundedClauses)
         → IsCircuit c → AsksOfBads c k optimize made
-        → (¬ IsSatisfiable (clauses_in made.clauses ++ made.further))
+        → (¬ IsSatisfiable (clauses_in made.clauses ++ made.extra))
         ↔ ((n : ℕ) → n ≤ k → IsCircuitSafeAt c n) }
     ensures folded { (c : Circuit) (k : ℕ) (optimize : Bool) (made : BoundedClauses)
         → IsCircuit c → AsksOfBads c k optimize made
@@ -41,7 +41,7 @@ pub fn refuted_circuit_questions_are_safe()
 pub fn circuit_questions_are_one()
     ensures clauses { (c : Circuit) (k : ℕ) (optimize : Bool) (one other : BoundedClauses)
         → AsksOfBads c k optimize one → AsksOfBads c k optimize other
-        → (one.clauses ≡ other.clauses) × (one.further ≡ other.further) }
+        → (one.clauses ≡ other.clauses) × (one.extra ≡ other.extra) }
     ensures places { (c : Circuit) (k : ℕ) (optimize : Bool) (one other : BoundedClauses)
         → AsksOfBads c k optimize one → AsksOfBads c k optimize other
         → (lists_circuit one.question.circuit ≡ lists_circuit other.question.circuit)
@@ -53,7 +53,7 @@ pub fn circuit_questions_are_one()
 pub fn bounded_clauses_are_one()
     ensures clauses { (f : File) (k : ℕ) (optimize : Bool) (one other : BoundedClauses)
         → AsksBounded f k optimize one → AsksBounded f k optimize other
-        → (one.clauses ≡ other.clauses) × (one.further ≡ other.further) }
+        → (one.clauses ≡ other.clauses) × (one.extra ≡ other.extra) }
     ensures places { (f : File) (k : ℕ) (optimize : Bool) (one other : BoundedClauses)
         → AsksBounded f k optimize one → AsksBounded f k optimize other
         → (lists_circuit one.question.circuit ≡ lists_circuit other.question.circuit)

@@ -44,7 +44,7 @@ fn check_base<P: Source>(
     refuted_circuit_queries_have_no_witness();
     circuit_clauses_are_one();
     let made = ask_query(alloc, asked, optimize)?;
-    refute(alloc, &made.clauses, &made.further, base)
+    refute(alloc, &made.clauses, &made.extra, base)
 }
 
 /// Checks a proof for the plain window of two steps of a joint circuit.
@@ -67,7 +67,7 @@ fn check_step<Q: Source>(
     let made = ask_window(alloc, &asked.circuit(), limit, optimize)?;
     // The clauses are all that the proof is held against.
     drop(asked);
-    refute(alloc, &made.clauses, &made.further, step)
+    refute(alloc, &made.clauses, &made.extra, step)
 }
 
 /// Checks proofs for the query of a joint circuit for step 0 and for its window of two steps.

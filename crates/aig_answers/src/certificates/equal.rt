@@ -74,7 +74,7 @@ pub fn check_step_of<P: Source>(
     refuted_circuit_queries_have_no_witness();
     circuit_clauses_are_one();
     let made = ask_joint(alloc, circuit, limit, k, optimize)?;
-    refute(alloc, &made.clauses, &made.further, proof)
+    refute(alloc, &made.clauses, &made.extra, proof)
 }
 
 /// The same, with the error of the query.

@@ -110,7 +110,7 @@ pub(crate) fn ask_window(
 ) -> Result<WindowClauses, AnswerError>
     requires { limit ≤ 2 ^ 31 }
     ensures asks { IfOk result
-        (λ made. AsksWindow Plain joint.now 0 optimize made.clauses made.further) }
+        (λ made. AsksWindow Plain joint.now 0 optimize made.clauses made.extra) }
     ensures said { IsSaidOf (joint_verdict limit 1 joint.now) (verdict_by verdict_of result) }
     ensures own { IfErr result IsOfQuery }
 {
@@ -130,7 +130,7 @@ pub(crate) fn part_window(
     ensures circuit { IfOk result (λ made. IsCircuit (lists_circuit made.0)) }
     ensures written { IfOk result (λ made. AreWrittenFrom (lists_circuit made.0) optimize made.1) }
     ensures asks { IfOk result (λ made. AskWith (lists_circuit made.0) optimize
-        (λ lists. AsksWindow Plain joint.now 0 optimize lists.clauses lists.further) made.1) }
+        (λ lists. AsksWindow Plain joint.now 0 optimize lists.clauses lists.extra) made.1) }
     ensures said { IsSaidOf (joint_verdict limit 1 joint.now) (verdict_by verdict_of result) }
     ensures own { IfErr result IsOfQuery }
 {

@@ -72,7 +72,7 @@ fn check_at<P: Source>(
     refuted_circuit_queries_have_no_witness();
     circuit_clauses_are_one();
     let made = ask_at(alloc, circuit, step, optimize)?;
-    refute(alloc, &made.clauses, &made.further, proof)
+    refute(alloc, &made.clauses, &made.extra, proof)
 }
 
 /// Checks a proof for each of the steps from 0 on, up to the first that is refused.

@@ -1,5 +1,5 @@
 use Rattle.aig_simulation.specs.Questions.{Holds}
-use Rattle.aig_simulation.proofs.Asked.{safe_where_holds}
+use Rattle.aig_simulation.proofs.AskedCircuits.{safe_where_holds}
 use Rattle.aig_simulation.proofs.conditions_hold_where_questions_are_safe.Goals as goal
 
 pub returns : goal.returns

@@ -1,4 +1,4 @@
-use Rattle.aig_simulation.proofs.Asked.{shown_certify}
+use Rattle.aig_simulation.proofs.AskedCircuits.{shown_certify}
 use Rattle.aig_simulation.proofs.unanswered_questions_certify.Goals as goal
 
 pub returns : goal.returns

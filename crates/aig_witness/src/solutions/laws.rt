@@ -20,12 +20,12 @@ ghost use Rattle.aig_witness.specs.Machine.{ShowsBad};
 /// witness that they say shows a bad state of the file's machine.
 pub fn solutions_show()
     ensures { (f : File) (limit k : ℕ) (optimize : Bool) (circuit unrolled : Circuit)
-        (clauses : List (List (List Lit))) (further : List (List Lit))
+        (clauses : List (List (List Lit))) (extra : List (List Lit))
         (v : ℕ → Bool) (values : List Lbool) (w : Witness)
         → Fits f limit → IsCircuit unrolled
         → Encodes f k optimize circuit unrolled clauses
-        → IsQueryOf f k circuit unrolled clauses further
-        → SatisfiesBoth v clauses further → AreValuesOf v (length unrolled.nodes) values
+        → IsQueryOf f k circuit unrolled clauses extra
+        → SatisfiesBoth v clauses extra → AreValuesOf v (length unrolled.nodes) values
         → IsWitnessIn circuit unrolled k values w
         → ShowsBad f w }
 {}

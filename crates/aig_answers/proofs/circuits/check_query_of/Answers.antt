@@ -6,7 +6,7 @@ use Rattle.aig_answers.proofs.circuits.check_query_of.Goals as goal
 pub returns-clause-answer : goal.returns-clause-answer
 returns-clause-answer g c =
     let q = c.in_ok-asked.asked in
-    on_ok_weaker c.refute.result (c.refuted_circuit_queries_have_no_witness.ensures c.args.circuit.now q.unrolled c.args.k q.clauses q.further c.in_ok-asked.ensures.query.asks) c.refute.ensures.refuted
+    on_ok_weaker c.refute.result (c.refuted_circuit_queries_have_no_witness.ensures c.args.circuit.now q.unrolled c.args.k q.clauses q.extra c.in_ok-asked.ensures.query.asks) c.refute.ensures.refuted
 
 pub returns-clause-own : goal.returns-clause-own
 returns-clause-own g c = proof_of_circuit c.refute.result c.refute.ensures.own

@@ -75,7 +75,7 @@ returns c =
     let cut = take_all left (drop first c.bads-bads.result.now) (simp length-drop (omega arith)) in
     let last = cut ∙ ap₂ (λ (es fs : List AigEdge). drop (c.args.k * length es) fs)
     c.bads.ensures.value c.bads-bads.ensures.value in
-    let exact : c.in_ok-further.further ≡ query_clauses circuit c.args.k u = c.in_ok-further.ensures
+    let exact : c.in_ok-extra.extra ≡ query_clauses circuit c.args.k u = c.in_ok-extra.ensures
     ∙ ap (λ (ls : List AigLatch). asking_clauses ls c.constraints.result.now part) c.latchs.ensures.value
     ∙ ap₂ (λ (es fs : List AigEdge). asking_clauses circuit.latchs es fs) c.constraints.ensures.value
     last in
@@ -87,7 +87,7 @@ returns c =
       asks = subst (AsksOfCircuit circuit c.args.k u lists) (sym exact)
           (c.circuit_queries_ask.ensures circuit u c.args.k lists c.in_ok-unrolled.ensures.circuit
           steps made.fixes made.satisfied);
-      below = subst (λ n. AreBelow n c.in_ok-further.further) (sym made.clauses.count)
+      below = subst (λ n. AreBelow n c.in_ok-extra.extra) (sym made.clauses.count)
           (subst (AreBelow (length u.nodes)) (sym exact)
           (query_below circuit c.args.k u c.latchs.ensures.circuit c.constraints.ensures.circuit
           steps.keeps.nodes.longer));

@@ -42,10 +42,10 @@ loop-s-preserved c =
     let next : suc s ≡ s + 1 = omega arith in
     let at : length c.loop-s.clauses ≡ n + s * l = ap length before.clauses ∙ free_length c.args.clauses.now (s * l) in
     let rows : s * l + l ≡ (s + 1) * l = omega (arith, add-mul s 1 l) in
-    let pair = pair_cut _ c.loop-s.further _ (n + s * l) l s t edges _ _ c.in_ok-push_pair.ensures.further at c.state_of-before.ensures.state c.state_of-state.ensures.state in
+    let pair = pair_cut _ c.loop-s.extra _ (n + s * l) l s t edges _ _ c.in_ok-push_pair.ensures.extra at c.state_of-before.ensures.state c.state_of-state.ensures.state in
     record {
       clauses = free_step _ c.args.clauses.now c.loop-s.clauses (s * l) l before.clauses (c.in_ok-push_pair.ensures.clauses ∙ ap (λ m. c.loop-s.clauses ++ free m) c.state_of-before.ensures.count) ∙ ap (λ m. c.args.clauses.now ++ free m) rows;
-      further =
-          more_step _ c.args.further.now c.loop-s.further (apart_clauses n l edges t s) (pair_clauses (n + s * l) (state_at l edges s) (state_at l edges t)) before.further pair
-          ∙ ap (λ m. c.args.further.now ++ apart_clauses n l edges t m) next;
+      extra =
+          more_step _ c.args.extra.now c.loop-s.extra (apart_clauses n l edges t s) (pair_clauses (n + s * l) (state_at l edges s) (state_at l edges t)) before.extra pair
+          ∙ ap (λ m. c.args.extra.now ++ apart_clauses n l edges t m) next;
     }

@@ -6,5 +6,5 @@ use Rattle.aig_answers.proofs.distinct.push_apart.Given as goal
 abbrev pub invariant-loop-s : goal.invariant-loop-s
 invariant-loop-s l = record {
   clauses : l.clauses ≡ l.initial.clauses ++ free (l.s * l.latchs);
-  further : l.further ≡ l.initial.further ++ apart_clauses (length l.initial.clauses) l.latchs l.edges l.t l.s;
+  extra : l.extra ≡ l.initial.extra ++ apart_clauses (length l.initial.clauses) l.latchs l.edges l.t l.s;
 }

@@ -20,10 +20,10 @@ loop-t-preserved c =
     let pairs : count_pairs t * l + t * l ≡ count_pairs (t + 1) * l = sym (add-mul (count_pairs t) t l) ∙ ap (λ m. count_pairs m * l) next in
     record {
       clauses = free_step _ c.args.clauses.now c.loop-t.clauses (count_pairs t * l) (t * l) before.clauses c.in_ok-push_apart.ensures.clauses ∙ ap (λ m. c.args.clauses.now ++ free m) pairs;
-      further =
-          more_step _ c.args.further.now c.loop-t.further (pairwise_clauses n l c.args.edges.now t) (apart_clauses (n + count_pairs t * l) l c.args.edges.now t t) before.further
-          (c.in_ok-push_apart.ensures.further ∙ ap (λ m. c.loop-t.further ++ apart_clauses m l c.args.edges.now t t) at)
-          ∙ ap (λ m. c.args.further.now ++ pairwise_clauses n l c.args.edges.now m) next;
+      extra =
+          more_step _ c.args.extra.now c.loop-t.extra (pairwise_clauses n l c.args.edges.now t) (apart_clauses (n + count_pairs t * l) l c.args.edges.now t t) before.extra
+          (c.in_ok-push_apart.ensures.extra ∙ ap (λ m. c.loop-t.extra ++ apart_clauses m l c.args.edges.now t t) at)
+          ∙ ap (λ m. c.args.extra.now ++ pairwise_clauses n l c.args.edges.now m) next;
     }
 
 pub push_apart-requires-clause-there : goal.push_apart-requires-clause-there
@@ -36,8 +36,8 @@ returns-clause-clauses c =
     let end : c.loop-t.t ≡ c.args.steps = omega arith in
     c.loop-t.invariant.clauses ∙ ap (λ t. c.args.clauses.now ++ free (count_pairs t * c.args.latchs)) end
 
-pub returns-clause-further : goal.returns-clause-further
-returns-clause-further c =
+pub returns-clause-extra : goal.returns-clause-extra
+returns-clause-extra c =
     let end : c.loop-t.t ≡ c.args.steps = omega arith in
-    c.loop-t.invariant.further ∙ ap (λ t. c.args.further.now ++ pairwise_clauses (length c.args.clauses.now) c.args.latchs c.args.edges.now t) end
-    ∙ ap (λ all. c.args.further.now ++ all) (some_latches (length c.args.clauses.now) c.args.latchs c.args.edges.now c.args.steps c.if-latchs-eq0.false)
+    c.loop-t.invariant.extra ∙ ap (λ t. c.args.extra.now ++ pairwise_clauses (length c.args.clauses.now) c.args.latchs c.args.edges.now t) end
+    ∙ ap (λ all. c.args.extra.now ++ all) (some_latches (length c.args.clauses.now) c.args.latchs c.args.edges.now c.args.steps c.if-latchs-eq0.false)

@@ -6,5 +6,5 @@ use Rattle.aig_answers.proofs.distinct.push_distinct.Given as goal
 abbrev pub invariant-loop-t : goal.invariant-loop-t
 invariant-loop-t l = record {
   clauses : l.clauses ≡ l.initial.clauses ++ free (count_pairs l.t * l.latchs);
-  further : l.further ≡ l.initial.further ++ pairwise_clauses (length l.initial.clauses) l.latchs l.edges l.t;
+  extra : l.extra ≡ l.initial.extra ++ pairwise_clauses (length l.initial.clauses) l.latchs l.edges l.t;
 }

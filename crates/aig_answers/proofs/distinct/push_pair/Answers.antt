@@ -13,7 +13,7 @@ loop-i-preserved c =
     let at = c.in_ok-var.ensures.var ∙ ap length before.clauses ∙ free_length c.args.clauses.now i in
     record {
       clauses = free_step _ c.args.clauses.now c.loop-i.clauses i 1 before.clauses c.in_ok-var.ensures.ok;
-      further = difference_step _ c.args.further.now c.loop-i.further n _ i c.args.xs.now c.args.ys.now _ _ _ _ low also at refl refl before.further c.in_ok-push_difference.ensures;
+      extra = difference_step _ c.args.extra.now c.loop-i.extra n _ i c.args.xs.now c.args.ys.now _ _ _ _ low also at refl refl before.extra c.in_ok-push_difference.ensures;
       some = variables_step _ c.loop-i.some.items n _ i at before.some (c.in_ok-push.ensures.items ∙ ap (λ x. c.loop-i.some.items ++ x ∷ []) c.lit.ensures);
     }
 
@@ -33,8 +33,8 @@ returns-clause-clauses c =
     let end : c.loop-i.i ≡ length c.args.xs.now = omega arith in
     on_ok_given c.push-2.result (c.loop-i.invariant.clauses ∙ ap (λ m. c.args.clauses.now ++ free m) end)
 
-pub returns-clause-further : goal.returns-clause-further
-returns-clause-further c =
+pub returns-clause-extra : goal.returns-clause-extra
+returns-clause-extra c =
     let end : c.loop-i.i ≡ length c.args.xs.now = omega arith in
     let before = c.loop-i.invariant in
-    on_ok_weaker c.push-2.result (pair_done _ c.args.further.now c.loop-i.further _ (length c.args.clauses.now) c.loop-i.i c.args.xs.now c.args.ys.now end c.requires.long before.further (c.deref.ensures.value ∙ before.some)) c.push-2.ensures.ok
+    on_ok_weaker c.push-2.result (pair_done _ c.args.extra.now c.loop-i.extra _ (length c.args.clauses.now) c.loop-i.i c.args.xs.now c.args.ys.now end c.requires.long before.extra (c.deref.ensures.value ∙ before.some)) c.push-2.ensures.ok

@@ -6,6 +6,6 @@ use Rattle.aig_answers.proofs.distinct.push_pair.Given as goal
 abbrev pub invariant-loop-i : goal.invariant-loop-i
 invariant-loop-i l = record {
   clauses : l.clauses ≡ l.initial.clauses ++ free l.i;
-  further : l.further ≡ l.initial.further ++ difference_clauses (length l.initial.clauses) (take l.i l.xs) (take l.i l.ys);
+  extra : l.extra ≡ l.initial.extra ++ difference_clauses (length l.initial.clauses) (take l.i l.xs) (take l.i l.ys);
   some : l.some.items ≡ variables_from (length l.initial.clauses) l.i;
 }

@@ -11,14 +11,14 @@ returns-clause-written c =
     record {
       few = c.requires;
       needed = subst (λ (d : Circuit). AreNeeded d c.args.optimize needed.marks.items needed.clauses) c.unrolled.ensures.value c.in_ok-needed.ensures;
-      below = c.in_ok-further.ensures.below;
+      below = c.in_ok-extra.ensures.below;
     }
 
 pub returns-clause-asks : goal.returns-clause-asks
 returns-clause-asks c = λ lists has.
     let asked = c.args.asked.now in
     let u = asked.unrolled in
-    let further = c.in_ok-further.further in
+    let extra = c.in_ok-extra.extra in
     let is = c.unrolled.ensures.unrolled in
     let fixes = c.clauses_fix_roots.ensures.fixes u c.args.optimize lists is.unrolled has in
     let satisfied = c.clauses_fix_roots.ensures.satisfied u c.args.optimize lists is.unrolled has in
@@ -27,7 +27,7 @@ returns-clause-asks c = λ lists has.
       has_clauses = has;
       fixes = fixes;
       satisfied = satisfied;
-      asks = subst (AsksOfCircuit asked.circuit asked.steps u lists) (sym c.in_ok-further.ensures.exact)
+      asks = subst (AsksOfCircuit asked.circuit asked.steps u lists) (sym c.in_ok-extra.ensures.exact)
           (c.circuit_queries_ask.ensures asked.circuit u asked.steps lists is.circuit is.steps fixes satisfied);
-      below = subst (λ n. AreBelow n further) (sym has.count) c.in_ok-further.ensures.below;
+      below = subst (λ n. AreBelow n extra) (sym has.count) c.in_ok-extra.ensures.below;
     }

@@ -4,7 +4,7 @@ use Rattle.aig_circuit.specs.Circuit.{IsCircuit}
 use Rattle.aig_circuit.specs.View.{lists_circuit}
 use Rattle.aig_format.proofs.Circuits.{IsCircuit-of_file}
 use Rattle.aig_answers.specs.Answers.{asked_verdict, verdict_of}
-use Rattle.aig_answers.specs.Parts.{circuit_verdict}
+use Rattle.aig_answers.specs.CircuitVerdicts.{circuit_verdict}
 use Rattle.aig_answers.proofs.Answering.{circuit_answers, read_lists}
 use Rattle.aig_answers.proofs.Verdicts.{asked_alike, circuit_of_file, judged, unread}
 use Rattle.aig_answers.proofs.step.asked_circuit.Goals as goal

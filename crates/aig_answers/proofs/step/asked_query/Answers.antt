@@ -1,7 +1,7 @@
 use Rattle.std.proofs.lemmas.Result.{err_from_is_err_and}
 use Rattle.aig_reader.specs.Verdicts.{Accepted}
 use Rattle.aig_answers.specs.Answers.{asked_verdict, verdict_of}
-use Rattle.aig_answers.specs.Parts.{circuit_verdict}
+use Rattle.aig_answers.specs.CircuitVerdicts.{circuit_verdict}
 use Rattle.aig_answers.proofs.Answering.{query_answers}
 use Rattle.aig_answers.proofs.Verdicts.{asked_alike, circuit_of_file, judged, unread}
 use Rattle.aig_answers.proofs.step.asked_query.Goals as goal

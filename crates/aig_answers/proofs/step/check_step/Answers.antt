@@ -52,8 +52,8 @@ returns-clause-shown g c taken =
         (_, o.means),
         λ q is.
             let one = c.encodings_are_one.ensures o.file c.args.k c.args.optimize _ _ q.encoded.circuit q.encoded.unrolled _ q.encoded.clauses o.means.0 is.0 in
-            let further = o.means.1.exact ∙ ap₂ (λ d u. query_clauses d c.args.k u) one.0 one.1 ∙ sym is.1.exact in
-            told_alike _ q.encoded.clauses _ q.extra _ c.refute.result one.2 further c.refute.ensures.shown,
+            let extra = o.means.1.exact ∙ ap₂ (λ d u. query_clauses d c.args.k u) one.0 one.1 ∙ sym is.1.exact in
+            told_alike _ q.encoded.clauses _ q.extra _ c.refute.result one.2 extra c.refute.ensures.shown,
       );
       taken = o.taken;
     }

@@ -11,5 +11,5 @@ returns c =
     let u = c.args.unrolled.now in
     let lists = c.in_ok-clauses.clauses in
     let made = c.in_ok-clauses.ensures in
-    asks c.args.circuit.now k c.args.optimize u lists lists c.in_ok-further.further c.in_ok-further.ensures.circuit made.clauses made.fixes made.satisfied c.tell_relations.ensures Plain c.requires.unrolls
-    (sym (append-nil lists)) (c.in_ok-further.ensures.exact ∙ sym (append-nil (induction_clauses c.args.circuit.now k u)))
+    asks c.args.circuit.now k c.args.optimize u lists lists c.in_ok-extra.extra c.in_ok-extra.ensures.circuit made.clauses made.fixes made.satisfied c.tell_relations.ensures Plain c.requires.unrolls
+    (sym (append-nil lists)) (c.in_ok-extra.ensures.exact ∙ sym (append-nil (induction_clauses c.args.circuit.now k u)))

@@ -10,7 +10,7 @@ returns c =
     let asked = c.args.asked.now in
     let u = asked.unrolled in
     let lists = c.in_ok-clauses.clauses in
-    let further = c.in_ok-further.further in
+    let extra = c.in_ok-extra.extra in
     let is = c.unrolled.ensures.unrolled in
     let made = c.in_ok-clauses.ensures in
     let same = c.unrolled.ensures.value in
@@ -22,7 +22,7 @@ returns c =
       has_clauses = has;
       fixes = fixes;
       satisfied = satisfied;
-      asks = subst (AsksOfCircuit asked.circuit asked.steps u lists) (sym c.in_ok-further.ensures.exact)
+      asks = subst (AsksOfCircuit asked.circuit asked.steps u lists) (sym c.in_ok-extra.ensures.exact)
           (c.circuit_queries_ask.ensures asked.circuit u asked.steps lists is.circuit is.steps fixes satisfied);
-      below = subst (λ n. AreBelow n further) (sym has.count) c.in_ok-further.ensures.below;
+      below = subst (λ n. AreBelow n extra) (sym has.count) c.in_ok-extra.ensures.below;
     }

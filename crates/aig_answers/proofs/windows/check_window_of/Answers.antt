@@ -10,7 +10,7 @@ returns-clause-answer g c =
     let made = c.in_ok-asked.asked in
     on_ok_weaker c.refute.result (λ none f bound fits is.
     c.refuted_windows_are_inductive.ensures form f bound c.args.k c.args.optimize _ _ fits
-    (asks_of_file form f bound (lists_circuit c.args.circuit) c.args.k c.args.optimize made.clauses made.further fits is
+    (asks_of_file form f bound (lists_circuit c.args.circuit) c.args.k c.args.optimize made.clauses made.extra fits is
     c.in_ok-asked.ensures.asks) none) c.refute.ensures.refuted
 
 pub returns-clause-shown : goal.returns-clause-shown

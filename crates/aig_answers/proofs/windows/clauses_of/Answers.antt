@@ -25,5 +25,5 @@ returns c =
     λ source now.
     let steps = subst (λ w. UnrollsTo w (k + 1) u) now c.requires.unrolls in
     let exact = apart.clauses ∙ ap (λ w. lists ++ replicate (count_free form w k) []) now in
-    let further = apart.further ∙ ap (λ all. all ++ states_clauses form (length lists) c.args.circuit.now k u) c.in_ok-further.ensures.exact ∙ ap (λ w. induction_clauses w k u ++ states_clauses form (length lists) w k u) now in
-    asks source k c.args.optimize u lists _ _ c.in_ok-further.ensures.circuit made.clauses made.fixes made.satisfied c.tell_relations.ensures form steps exact further
+    let extra = apart.extra ∙ ap (λ all. all ++ states_clauses form (length lists) c.args.circuit.now k u) c.in_ok-extra.ensures.exact ∙ ap (λ w. induction_clauses w k u ++ states_clauses form (length lists) w k u) now in
+    asks source k c.args.optimize u lists _ _ c.in_ok-extra.ensures.circuit made.clauses made.fixes made.satisfied c.tell_relations.ensures form steps exact extra

@@ -7,9 +7,9 @@ returns-clause-query c pairing f g h m limit k optimize one other joint accepts 
     c.clauses_are_one.ensures one other
 
 pub returns-clause-window : goal.returns-clause-window
-returns-clause-window c pairing f g h m limit k form optimize lists others further more joint accepts =
+returns-clause-window c pairing f g h m limit k form optimize lists others extra more joint accepts =
     window_same c.reads_exactly.ensures.one pairing f g h m limit k optimize joint accepts
-    c.windows_are_one.ensures form lists others further more
+    c.windows_are_one.ensures form lists others extra more
 
 pub returns-clause-question : goal.returns-clause-question
 returns-clause-question c pairing f g h m limit k optimize one other joint accepts =

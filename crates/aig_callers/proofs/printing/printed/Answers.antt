@@ -1,5 +1,5 @@
 use Rattle.aig_base.proofs.Words.{[], ◌∷◌, Some, ap, refl, sym, ◌∙◌, codes}
-use Rattle.aig_commands.specs.declared.command.Command.TheVariants as commands
+use Rattle.aig_tool_commands.specs.declared.command.Command.TheVariants as commands
 use Rattle.aig_callers.proofs.Text.{call, text_printed}
 use Rattle.aig_callers.proofs.printing.printed.Goals as goal
 

@@ -1,6 +1,6 @@
 use Rattle.aig_base.proofs.Words.{Some, ap, sym, subst, ◌∙◌}
 use Rattle.std.proofs.Common.{subst₂}
-use Rattle.aig_checks.specs.Pairs.{IsObligationsText}
+use Rattle.aig_check_commands.specs.Pairs.{IsObligationsText}
 use Rattle.aig_callers.proofs.Answered.{both_read}
 use Rattle.aig_callers.proofs.Text.{all_held}
 use Rattle.aig_callers.proofs.taking.obligations_text.Goals as goal

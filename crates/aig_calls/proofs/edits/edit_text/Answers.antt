@@ -1,6 +1,6 @@
 use Rattle.std.proofs.Common.{Ok, Err}
 use Rattle.std.proofs.lemmas.Result.{err_from_is_err_and}
-use Rattle.aig_commands.specs.declared.tool.TheConstants.{LIMIT}
+use Rattle.aig_tool_commands.specs.declared.tool.TheConstants.{LIMIT}
 use Rattle.aig_calls.proofs.Seen.{edit_seen, file_seen, held_all, held_nothing, on, wrote}
 use Rattle.aig_calls.proofs.edits.edit_text.Goals as goal
 

@@ -1,6 +1,6 @@
 use Rattle.std.proofs.Common.{Ok, Err}
 use Rattle.std.proofs.lemmas.Result.{err_from_is_err_and}
-use Rattle.aig_commands.specs.declared.tool.TheConstants.{LIMIT}
+use Rattle.aig_tool_commands.specs.declared.tool.TheConstants.{LIMIT}
 use Rattle.aig_calls.proofs.Seen.{file_seen, held_all, held_nothing, on, question_seen, wrote}
 use Rattle.aig_calls.proofs.edits.question_text.Goals as goal
 

@@ -1,4 +1,4 @@
-use Rattle.aig_commands.specs.declared.tool.TheConstants.{LIMIT}
+use Rattle.aig_tool_commands.specs.declared.tool.TheConstants.{LIMIT}
 use Rattle.aig_calls.proofs.Seen.{bytes_left, file_seen, lassos_seen, on, read_failed}
 use Rattle.aig_calls.proofs.liveness.refute_lassos.Goals as goal
 

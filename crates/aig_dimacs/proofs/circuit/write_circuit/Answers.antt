@@ -10,14 +10,14 @@ pub returns-in_err-write_all : goal.returns-in_err-write_all
 unfolding dimacs_of
 returns-in_err-write_all g c =
     let h = c.requires.needed in
-    let count : length (clauses_in h.lists ++ c.args.further.now) ≡ c.args.needed.now.clauses + c.len.result = omega (arith, length-append (clauses_in h.lists) c.args.further.now, h.count, c.len.ensures.count) in
+    let count : length (clauses_in h.lists ++ c.args.extra.now) ≡ c.args.needed.now.clauses + c.len.result = omega (arith, length-append (clauses_in h.lists) c.args.extra.now, h.count, c.len.ensures.count) in
     let nodes = h.has_clauses.count ∙ sym (ap length c.nodes-nodes.ensures.value) in
     let told = c.in_err-write_all.ensures h.lists (rw (c.nodes-nodes.ensures.value, c.deref.ensures.value) (by_marks c.args.circuit.now c.args.optimize c.args.needed.now.marks.items c.args.needed.now.clauses h)) in (
       h.lists,
       h.has_clauses,
       record {
         writes = failed_put (rw (c.new-buffer.ensures, sym nodes, sym count) at told.err) (search rules);
-        formula = formula_of c.args.circuit.now c.args.optimize c.args.needed.now.marks.items c.args.needed.now.clauses c.args.further.now c.requires.few h c.requires.below (omega (arith, c.len.ensures.count, c.len.ensures.few));
+        formula = formula_of c.args.circuit.now c.args.optimize c.args.needed.now.marks.items c.args.needed.now.clauses c.args.extra.now c.requires.few h c.requires.below (omega (arith, c.len.ensures.count, c.len.ensures.few));
       },
     )
 
@@ -25,13 +25,13 @@ pub returns : goal.returns
 unfolding dimacs_of
 returns g c =
     let h = c.requires.needed in
-    let count : length (clauses_in h.lists ++ c.args.further.now) ≡ c.args.needed.now.clauses + c.len.result = omega (arith, length-append (clauses_in h.lists) c.args.further.now, h.count, c.len.ensures.count) in
+    let count : length (clauses_in h.lists ++ c.args.extra.now) ≡ c.args.needed.now.clauses + c.len.result = omega (arith, length-append (clauses_in h.lists) c.args.extra.now, h.count, c.len.ensures.count) in
     let nodes = h.has_clauses.count ∙ sym (ap length c.nodes-nodes.ensures.value) in
     let told = c.in_ok-write_all.ensures h.lists (rw (c.nodes-nodes.ensures.value, c.deref.ensures.value) (by_marks c.args.circuit.now c.args.optimize c.args.needed.now.marks.items c.args.needed.now.clauses h)) in (
       h.lists,
       h.has_clauses,
       record {
         writes = written_through c.new-buffer.ensures (rw (sym nodes, sym count) at told.ok) c.flush.ensures.writes;
-        formula = formula_of c.args.circuit.now c.args.optimize c.args.needed.now.marks.items c.args.needed.now.clauses c.args.further.now c.requires.few h c.requires.below (omega (arith, c.len.ensures.count, c.len.ensures.few));
+        formula = formula_of c.args.circuit.now c.args.optimize c.args.needed.now.marks.items c.args.needed.now.clauses c.args.extra.now c.requires.few h c.requires.below (omega (arith, c.len.ensures.count, c.len.ensures.few));
       },
     )

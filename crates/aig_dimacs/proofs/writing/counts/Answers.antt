@@ -3,7 +3,7 @@ use Rattle.aig_dimacs.proofs.Pieces.{IsFormula-from, clause_count}
 use Rattle.aig_dimacs.proofs.writing.counts.Goals as goal
 
 pub returns-clause-clauses : goal.returns-clause-clauses
-returns-clause-clauses c = omega (arith, clause_count c.args.clauses.now c.args.further.now, c.num_clauses.ensures.count, c.len.ensures.count)
+returns-clause-clauses c = omega (arith, clause_count c.args.clauses.now c.args.extra.now, c.num_clauses.ensures.count, c.len.ensures.count)
 
 pub returns-clause-formula : goal.returns-clause-formula
-returns-clause-formula c = IsFormula-from c.args.clauses.now c.args.further.now (c.num_clauses.result + c.len.result) c.num_vars.ensures.relations c.requires (omega (arith, c.num_clauses.ensures.count, c.len.ensures.count)) (omega (arith, c.num_clauses.ensures.few, c.len.ensures.few))
+returns-clause-formula c = IsFormula-from c.args.clauses.now c.args.extra.now (c.num_clauses.result + c.len.result) c.num_vars.ensures.relations c.requires (omega (arith, c.num_clauses.ensures.count, c.len.ensures.count)) (omega (arith, c.num_clauses.ensures.few, c.len.ensures.few))

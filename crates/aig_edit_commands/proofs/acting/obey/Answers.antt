@@ -3,7 +3,7 @@ use Rattle.std.specs.Prelude.{Result, string_bytes}
 use Rattle.aig_command_line.specs.Ending.{Says, ended}
 use Rattle.aig_command_line.specs.Places.{in_whole}
 use Rattle.aig_edit_commands.specs.declared.acting.CommandError.{CommandError}
-use Rattle.aig_edit_commands.specs.Asked.{answer_of}
+use Rattle.aig_edit_commands.specs.Help.{answer_of}
 use Rattle.aig_edit_commands.proofs.Calling.{never_none, no_command, one_call}
 use Rattle.aig_edit_commands.specs.declared.acting.CommandError.TheVariants as refusals
 use Rattle.aig_edit_commands.proofs.acting.obey.Goals as goal

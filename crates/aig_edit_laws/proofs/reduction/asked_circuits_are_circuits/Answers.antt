@@ -1,4 +1,4 @@
-use Rattle.aig_edit_laws.proofs.Asked.{IsCircuit-asked}
+use Rattle.aig_edit_laws.proofs.AskedCones.{IsCircuit-asked}
 use Rattle.aig_edit_laws.proofs.reduction.asked_circuits_are_circuits.Goals as goal
 
 pub returns : goal.returns

@@ -2,7 +2,7 @@ use Rattle.std.proofs.Common.{refl}
 use Rattle.aig_cone.specs.Refine.{refined}
 use Rattle.aig_strash.specs.Strash.{strashed}
 use Rattle.aig_edit_laws.specs.Reduction.{asked_alone}
-use Rattle.aig_edit_laws.proofs.Asked.{IsCircuit-asked}
+use Rattle.aig_edit_laws.proofs.AskedCones.{IsCircuit-asked}
 use Rattle.aig_edit_laws.proofs.Reducing.{reduces}
 use Rattle.aig_edit_laws.proofs.reduction.hashed_cuts_are_reductions.Goals as goal
 

@@ -1,6 +1,6 @@
 use Rattle.aig_base.proofs.Words.{ℕ, ◌<◌, ◌↔◌, List, length, subst, sym, ◌∙◌, All, Contains, IfOk-weaker}
 use Rattle.aig_circuit.specs.Reach.{IsInCone}
-use Rattle.aig_edit_laws.proofs.Asked.{asked_nodes_within}
+use Rattle.aig_edit_laws.proofs.AskedCones.{asked_nodes_within}
 use Rattle.aig_edits.proofs.reducing.asked_cone.Goals as goal
 
 pub coi-requires : goal.coi-requires

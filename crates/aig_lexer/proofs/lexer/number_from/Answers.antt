@@ -3,7 +3,7 @@ use Rattle.aig_format.specs.Parse.{parse_digits}
 use Rattle.aig_format.proofs.NumberReaders.{number_goes, number_stops}
 use Rattle.aig_lexer.specs.Faults.{word_cause}
 use Rattle.aig_lexer.specs.Takes.{feed}
-use Rattle.aig_lexer.specs.Words.{parse_number_from}
+use Rattle.aig_lexer.specs.WordReaders.{parse_number_from}
 use Rattle.aig_lexer.proofs.Digits.{misses_end, misses_large, takes_number}
 use Rattle.aig_lexer.proofs.Faults.{tells-weaker}
 use Rattle.aig_lexer.proofs.Front.{is_other_than_digit}

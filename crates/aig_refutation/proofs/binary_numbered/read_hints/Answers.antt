@@ -2,7 +2,7 @@ use Rattle.aig_base.proofs.Words.{[], ◌∷◌, ◌++◌, sym, ap, refl, arith,
 use Rattle.aig_lexer.specs.Takes.{feed}
 use Rattle.aig_refutation.specs.BinaryNumbered.{hint_by}
 use Rattle.aig_refutation.specs.ReadingBinary.{items_left}
-use Rattle.aig_refutation.specs.Words.{said_number, said_numbers}
+use Rattle.aig_refutation.specs.Tokens.{said_number, said_numbers}
 use Rattle.aig_refutation.proofs.BinarySteps.{items_end, items_more, items_unread, items_wrong, passes_start}
 use Rattle.aig_refutation.proofs.binary_numbered.read_hints.Goals as goal
 

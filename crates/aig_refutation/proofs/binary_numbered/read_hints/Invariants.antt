@@ -2,7 +2,7 @@ use Rattle.aig_base.proofs.Words.{◌≡◌, ◌≤◌, ℕ, Bool, List, []}
 use Rattle.aig_lexer.specs.Takes.{feed}
 use Rattle.aig_refutation.specs.BinaryNumbered.{hint_by}
 use Rattle.aig_refutation.specs.Proofs.{groups_at, hints_at}
-use Rattle.aig_refutation.specs.Words.{said_numbers}
+use Rattle.aig_refutation.specs.Tokens.{said_numbers}
 use Rattle.aig_refutation.proofs.BinarySteps.{ReadsOn}
 use Rattle.aig_refutation.proofs.binary_numbered.read_hints.Given as goal
 

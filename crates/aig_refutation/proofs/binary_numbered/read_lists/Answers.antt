@@ -5,7 +5,7 @@ use Rattle.aig_refutation.specs.Binary.{literal_by}
 use Rattle.aig_refutation.specs.BinaryNumbered.{deleted_by}
 use Rattle.aig_refutation.specs.ReadingBinary.{GivesItems}
 use Rattle.aig_refutation.specs.Steps.{Deletes}
-use Rattle.aig_refutation.specs.Words.{said_numbers}
+use Rattle.aig_refutation.specs.Tokens.{said_numbers}
 use Rattle.aig_refutation.proofs.NumberedSteps.{deletion_ends, hints_end, literals_fail}
 use Rattle.aig_refutation.proofs.binary_numbered.read_lists.Goals as goal
 

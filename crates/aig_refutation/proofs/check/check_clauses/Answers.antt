@@ -4,14 +4,14 @@ use Rattle.aig_base.specs.Formula.{IsSatisfiable, clauses_in}
 use Rattle.aig_refutation.specs.declared.error.RefutationError.TheVariants as errors
 use Rattle.aig_refutation.specs.Checking.{IsInConflict, Shows, are_all_in}
 use Rattle.aig_refutation.specs.Concluding.{ConcludesConflict}
-use Rattle.aig_refutation.specs.Words.{Tells}
+use Rattle.aig_refutation.specs.Tokens.{Tells}
 use Rattle.aig_refutation.proofs.Formulas.{formula_inside, shows_conflict, shows_memory, shows_refused}
 use Rattle.aig_refutation.proofs.Conflicts.{conflict_fails}
 use Rattle.aig_refutation.proofs.check.check_clauses.Goals as goal
 
 pub returns-in_err-number_clauses-clause-shown : goal.returns-in_err-number_clauses-clause-shown
 returns-in_err-number_clauses-clause-shown g c formula same fresh =
-    let clauses = clauses_in c.args.cnf.now ++ c.args.further.now in
+    let clauses = clauses_in c.args.cnf.now ++ c.args.extra.now in
     let e = c.in_err-number_clauses.field-0.0 in
     let p = err_from_is_err_and c.from_residual.result c.from_residual.ensures.1 in
     rw (p.1, p.2)
@@ -21,7 +21,7 @@ returns-in_err-number_clauses-clause-shown g c formula same fresh =
 
 pub returns-in_err-refutes_at_once-clause-shown : goal.returns-in_err-refutes_at_once-clause-shown
 returns-in_err-refutes_at_once-clause-shown g c formula same fresh =
-    let clauses = clauses_in c.args.cnf.now ++ c.args.further.now in
+    let clauses = clauses_in c.args.cnf.now ++ c.args.extra.now in
     let e = c.in_err-refutes_at_once.field-0.0 in
     let p = err_from_is_err_and c.from_residual-in_err-refutes_at_once.result
     c.from_residual-in_err-refutes_at_once.ensures.1 in
@@ -31,7 +31,7 @@ returns-in_err-refutes_at_once-clause-shown g c formula same fresh =
 
 pub returns-then-branch-clause-shown : goal.returns-then-branch-clause-shown
 returns-then-branch-clause-shown g c formula same fresh =
-    let clauses = clauses_in c.args.cnf.now ++ c.args.further.now in
+    let clauses = clauses_in c.args.cnf.now ++ c.args.extra.now in
     let checker = c.number_clauses.new.checker in
     let holds = c.in_ok-number_clauses.ensures.holds formula in
     let list = c.in_ok-number_clauses.ensures.formula in
@@ -45,7 +45,7 @@ returns-then-branch-clause-shown g c formula same fresh =
 
 pub returns-clause-shown : goal.returns-clause-shown
 returns-clause-shown g c formula same fresh =
-    let clauses = clauses_in c.args.cnf.now ++ c.args.further.now in
+    let clauses = clauses_in c.args.cnf.now ++ c.args.extra.now in
     let checker = c.number_clauses.new.checker in
     let holds = c.in_ok-number_clauses.ensures.holds formula in
     let list = c.in_ok-number_clauses.ensures.formula in

@@ -10,7 +10,7 @@ use Rattle.aig_refutation.specs.Concluding.{Concludes, ConcludesPlain, ShowsPlai
 use Rattle.aig_refutation.specs.Forms.{has_word, is_binary, is_numbered}
 use Rattle.aig_refutation.specs.Tables.{Holds}
 use Rattle.aig_refutation.specs.Taken.{CanHold}
-use Rattle.aig_refutation.specs.Words.{Text}
+use Rattle.aig_refutation.specs.Tokens.{Text}
 use Rattle.aig_refutation.proofs.Formulas.{formula_inside, numbered_form, shows_binary, shows_numbered, shows_text, word_form}
 use Rattle.aig_refutation.proofs.Fronts.{front_binary, front_coming, front_numbered, front_word, word_coming}
 use Rattle.aig_refutation.proofs.Keeping.{formula_ahead}

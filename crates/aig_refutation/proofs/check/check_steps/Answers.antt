@@ -8,7 +8,7 @@ use Rattle.aig_refutation.specs.Kept.{KeepsOrEnds}
 use Rattle.aig_refutation.specs.Reading.{GivesStep, said_by}
 use Rattle.aig_refutation.specs.Tables.{Checked, Holds}
 use Rattle.aig_refutation.specs.Taken.{CanHold}
-use Rattle.aig_refutation.specs.Words.{place}
+use Rattle.aig_refutation.specs.Tokens.{place}
 use Rattle.aig_refutation.specs.declared.step.Step as held
 use Rattle.aig_refutation.proofs.Outcomes.{by_truth, text_none, text_numbered, text_unnumbered, text_wrong}
 use Rattle.aig_refutation.proofs.Plainly.{first_none, first_numbered, first_plain, first_wrong, numbered_said, plain_same, shows_stays}

@@ -28,14 +28,14 @@ returns-in_err-assume_all-clause-refused c h =
     let so_far = c.loop-i.invariant in
     let e = c.in_err-assume_all.field-0.0 in
     let p = err_from_is_err_and c.from_residual.result c.from_residual.ensures.1 in
-    let clauses = clauses_in c.args.cnf.now ++ c.args.further.now in
+    let clauses = clauses_in c.args.cnf.now ++ c.args.extra.now in
     rw (p.1, p.2)
     (tells_on e _ ((e ≡ errors.Variable) × (are_all_in c.args.checker.now.variables clauses ≡
     false))
     (λ wrong. (
       wrong.0,
       sym (ap (λ n. are_all_in n clauses) so_far.variables) ∙ part_out c.loop-i.checker.variables
-          c.args.cnf.now c.args.further.now c.loop-i.i c.clauses_of.result.now (ap (slice_get
+          c.args.cnf.now c.args.extra.now c.loop-i.i c.clauses_of.result.now (ap (slice_get
           c.args.cnf.now) (sym c.new-var.ensures) ∙ c.clauses_of.ensures) wrong.1,
     )) (c.in_err-assume_all.ensures.refused (so_far.formula h)))
 
@@ -49,5 +49,5 @@ pub returns-clause-refused : goal.returns-clause-refused
 returns-clause-refused c h =
     let so_far = c.loop-i.invariant in
     refused_last c.loop-i.checker.variables c.args.checker.now.variables so_far.variables
-    (clauses_in c.args.cnf.now) c.args.further.now c.assume_all-2.result
+    (clauses_in c.args.cnf.now) c.args.extra.now c.assume_all-2.result
     (c.assume_all-2.ensures.refused (so_far.formula h))

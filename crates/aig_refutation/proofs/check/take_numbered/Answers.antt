@@ -1,6 +1,6 @@
 use Rattle.aig_base.proofs.Words.{◌≡◌, ℕ, Err, length, sym, ap, ◌∙◌, err_from_is_err_and, ◌==◌}
 use Rattle.aig_refutation.specs.Checking.{added, deleted, taken}
-use Rattle.aig_refutation.specs.Words.{said_numbers}
+use Rattle.aig_refutation.specs.Tokens.{said_numbers}
 use Rattle.aig_refutation.proofs.Known.{tells_on}
 use Rattle.aig_refutation.proofs.Outcomes.{adds_last, adds_taken, deletes_more, deletes_taken, empty_length}
 use Rattle.aig_refutation.proofs.check.take_numbered.Goals as goal

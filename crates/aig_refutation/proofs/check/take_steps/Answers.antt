@@ -2,7 +2,7 @@ use Rattle.aig_base.proofs.Words.{Bool, true, false, Ok, Err, subst, ◌∙◌, 
 use Rattle.aig_refutation.specs.Concluding.{TakesLine, TakesStep}
 use Rattle.aig_refutation.specs.Kept.{KeepsOrEnds}
 use Rattle.aig_refutation.specs.Reading.{GivesStep, said_by}
-use Rattle.aig_refutation.specs.Words.{place}
+use Rattle.aig_refutation.specs.Tokens.{place}
 use Rattle.aig_refutation.proofs.Kept.{kept_on}
 use Rattle.aig_refutation.proofs.Outcomes.{loop_last, loop_more, loop_none, loop_unread, loop_wrong, step_fails}
 use Rattle.aig_refutation.proofs.Plainly.{is_plain, plain_more, plain_none, plain_unread, plain_wrong}

@@ -7,7 +7,7 @@ use Rattle.aig_refutation.specs.Kept.{IsKept}
 use Rattle.aig_refutation.specs.Reading.{said_by}
 use Rattle.aig_refutation.specs.Tables.{Holds}
 use Rattle.aig_refutation.specs.Taken.{KeepsLive}
-use Rattle.aig_refutation.specs.Words.{place, rest}
+use Rattle.aig_refutation.specs.Tokens.{place, rest}
 use Rattle.aig_refutation.proofs.Outcomes.{GoesOn}
 use Rattle.aig_refutation.proofs.Plainly.{GoesPlain}
 use Rattle.aig_refutation.proofs.check.take_steps.Given as goal

@@ -1,6 +1,6 @@
 use Rattle.aig_base.proofs.Words.{◌≡◌, ◌++◌, false, drop}
 use Rattle.aig_refutation.specs.Rat.{hints_for}
-use Rattle.aig_refutation.specs.Words.{said_numbers}
+use Rattle.aig_refutation.specs.Tokens.{said_numbers}
 use Rattle.aig_refutation.proofs.starts.push_all_for.Given as goal
 
 abbrev pub invariant-loop-hint : goal.invariant-loop-hint

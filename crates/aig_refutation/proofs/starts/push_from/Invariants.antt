@@ -1,6 +1,6 @@
 use Rattle.aig_base.proofs.Words.{◌≡◌, ◌++◌, drop}
 use Rattle.aig_refutation.specs.Proofs.{hints_at}
-use Rattle.aig_refutation.specs.Words.{said_numbers}
+use Rattle.aig_refutation.specs.Tokens.{said_numbers}
 use Rattle.aig_refutation.proofs.starts.push_from.Given as goal
 
 abbrev pub invariant-loop-i : goal.invariant-loop-i

@@ -1,6 +1,6 @@
 use Rattle.aig_base.proofs.Words.{◌≡◌, ℕ, Bool, true, false, List, [], ◌∷◌, ◌++◌, length, refl, sym, ap, ◌∙◌, arith, map-append, on_ok_weaker, eq-eqb, eqb-true, false≢true, ◌==◌}
 use Rattle.aig_refutation.specs.Proofs.{groups_at}
-use Rattle.aig_refutation.specs.Words.{said_number, said_numbers}
+use Rattle.aig_refutation.specs.Tokens.{said_number, said_numbers}
 use Rattle.aig_refutation.specs.declared.words.Number.{Number}
 use Rattle.aig_refutation.proofs.LineParts.{group_pushed, hint_pushed}
 use Rattle.aig_refutation.proofs.step.push_number.Goals as goal

@@ -2,9 +2,9 @@ use Rattle.aig_base.proofs.Words.{◌≡◌, List, Err, true, false, sym, ap, �
 use Rattle.aig_base.specs.declared.logic.literal.Lit.{Lit}
 use Rattle.aig_refutation.specs.Proofs.{is_zero}
 use Rattle.aig_refutation.specs.Reading.{reads_clause}
-use Rattle.aig_refutation.specs.Words.{next_number, place, said_number}
+use Rattle.aig_refutation.specs.Tokens.{next_number, place, said_number}
 use Rattle.aig_refutation.proofs.LineParts.{clause_broken, clause_done, clause_more, clause_refused}
-use Rattle.aig_refutation.proofs.Parts.{gives_after, gives_ok, gives_wrong, on_on, on_read, on_start, part_wrong}
+use Rattle.aig_refutation.proofs.ReadersInTurn.{gives_after, gives_ok, gives_wrong, on_on, on_read, on_start, part_wrong}
 use Rattle.aig_refutation.proofs.Plainly.{inside_more}
 use Rattle.aig_refutation.proofs.step.read_clause.Goals as goal
 

@@ -1,8 +1,8 @@
 use Rattle.std.proofs.Common.{◌≡◌, ◌≤◌, true}
 use Rattle.aig_refutation.specs.Checking.{are_in}
 use Rattle.aig_refutation.specs.Reading.{reads_clause}
-use Rattle.aig_refutation.specs.Words.{place, rest, said_number}
-use Rattle.aig_refutation.proofs.Parts.{GoesOn}
+use Rattle.aig_refutation.specs.Tokens.{place, rest, said_number}
+use Rattle.aig_refutation.proofs.ReadersInTurn.{GoesOn}
 use Rattle.aig_refutation.proofs.step.read_clause.Given as goal
 
 abbrev pub invariant-loop-number : goal.invariant-loop-number

@@ -2,9 +2,9 @@ use Rattle.aig_base.proofs.Words.{◌≡◌, ℕ, Bool, List, [], ◌∷◌, ◌
 use Rattle.aig_refutation.specs.Proofs.{groups_at, hint_number, hints_at, is_zero}
 use Rattle.aig_refutation.specs.Reading.{reads_hints, reads_numbers}
 use Rattle.aig_refutation.specs.Skipping.{end_line}
-use Rattle.aig_refutation.specs.Words.{next_number, place, said_number, said_numbers}
+use Rattle.aig_refutation.specs.Tokens.{next_number, place, said_number, said_numbers}
 use Rattle.aig_refutation.proofs.LineParts.{numbers_broken, numbers_done, numbers_more, numbers_not_done, parted_err, parted_ok}
-use Rattle.aig_refutation.proofs.Parts.{gives_after, gives_same, on_on, on_read, on_start, part_wrong}
+use Rattle.aig_refutation.proofs.ReadersInTurn.{gives_after, gives_same, on_on, on_read, on_start, part_wrong}
 use Rattle.aig_refutation.proofs.step.read_hints.Goals as goal
 
 pub loop-number-init : goal.loop-number-init

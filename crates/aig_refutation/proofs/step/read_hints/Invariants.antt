@@ -1,8 +1,8 @@
 use Rattle.aig_base.proofs.Words.{◌≡◌, ◌≤◌, ℕ, Bool, List, []}
 use Rattle.aig_refutation.specs.Proofs.{groups_at, hint_number, hints_at}
 use Rattle.aig_refutation.specs.Reading.{reads_numbers}
-use Rattle.aig_refutation.specs.Words.{place, rest, said_number, said_numbers}
-use Rattle.aig_refutation.proofs.Parts.{GoesOn}
+use Rattle.aig_refutation.specs.Tokens.{place, rest, said_number, said_numbers}
+use Rattle.aig_refutation.proofs.ReadersInTurn.{GoesOn}
 use Rattle.aig_refutation.proofs.step.read_hints.Given as goal
 
 abbrev pub invariant-loop-number : goal.invariant-loop-number

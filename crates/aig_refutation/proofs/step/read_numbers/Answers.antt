@@ -2,9 +2,9 @@ use Rattle.aig_base.proofs.Words.{◌≡◌, ℕ, List, Err, true, false, sym, a
 use Rattle.aig_refutation.specs.Proofs.{clause_number, is_zero}
 use Rattle.aig_refutation.specs.Reading.{reads_numbers}
 use Rattle.aig_refutation.specs.Skipping.{end_line}
-use Rattle.aig_refutation.specs.Words.{next_number, place, said_number}
+use Rattle.aig_refutation.specs.Tokens.{next_number, place, said_number}
 use Rattle.aig_refutation.proofs.LineParts.{numbers_broken, numbers_done, numbers_more, numbers_not_done, numbers_refused}
-use Rattle.aig_refutation.proofs.Parts.{gives_after, gives_same, gives_wrong, on_on, on_read, on_start, part_wrong}
+use Rattle.aig_refutation.proofs.ReadersInTurn.{gives_after, gives_same, gives_wrong, on_on, on_read, on_start, part_wrong}
 use Rattle.aig_refutation.proofs.step.read_numbers.Goals as goal
 
 pub loop-number-init : goal.loop-number-init

@@ -1,7 +1,7 @@
 use Rattle.std.proofs.Common.{◌≡◌, ◌≤◌}
 use Rattle.aig_lexer.specs.Takes.{feed}
 use Rattle.aig_refutation.specs.Text.{lines_after}
-use Rattle.aig_refutation.specs.Words.{Leaves}
+use Rattle.aig_refutation.specs.Tokens.{Leaves}
 use Rattle.aig_refutation.proofs.words.skip_line.Given as goal
 
 abbrev pub invariant-loop-byte : goal.invariant-loop-byte

@@ -1,7 +1,7 @@
 use Rattle.aig_base.proofs.Words.{[], ◌∷◌, ◌++◌, ℕ, List, Option, Some, refl, err_from_is_err_and}
 use Rattle.aig_base.specs.declared.logic.three.Lbool.{Lbool}
 use Rattle.aig_lexer.specs.Takes.{feed, Misses}
-use Rattle.aig_lexer.specs.Words.{parse_expected}
+use Rattle.aig_lexer.specs.WordReaders.{parse_expected}
 use Rattle.aig_lexer.proofs.Faults.{tells-weaker}
 use Rattle.aig_lexer.proofs.Going.{goes_byte, goes_call, goes_done, goes_end, goes_wrong}
 use Rattle.aig_lexer.proofs.Taking.{misses_where}

@@ -2,7 +2,7 @@ use Rattle.aig_base.proofs.Words.{Err, inl, inr, sym, subst, err_from_is_err_and
 use Rattle.aig_circuit.specs.View.{lists_circuit}
 use Rattle.aig_refutation.specs.declared.error.RefutationError.TheVariants as RefutationError
 use Rattle.aig_answers.specs.Asking.{IsSaidOfBads}
-use Rattle.aig_answers.proofs.Asked.{asks_of}
+use Rattle.aig_answers.proofs.AskedFiles.{asks_of}
 use Rattle.aig_answers.proofs.Single.{told_same}
 use Rattle.aig_answers.proofs.BoundedVerdicts.{no_proof, other_value, proof_own, proof_taken, question_of_check, untaken_question}
 use Rattle.aig_answers.proofs.bounded_checks.checking.check_bounded_of.Goals as goal

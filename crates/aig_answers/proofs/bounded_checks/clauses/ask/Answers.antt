@@ -2,7 +2,7 @@ use Rattle.aig_base.proofs.Words.{sym, subst, All, AllZip}
 use Rattle.aig_bounded.specs.declared.place.Place.{Place}
 use Rattle.aig_circuit.proofs.Words.{IsLeaf}
 use Rattle.aig_answers.specs.Naming.{IsNamed}
-use Rattle.aig_answers.proofs.Asked.{encoded_question}
+use Rattle.aig_answers.proofs.AskedFiles.{encoded_question}
 use Rattle.aig_answers.proofs.bounded_checks.clauses.ask.Goals as goal
 
 pub returns-clause-asks : goal.returns-clause-asks

@@ -1,7 +1,7 @@
 use Rattle.aig_base.proofs.Words.{Err, ap, err_from_is_err_and}
 use Rattle.aig_reader.specs.Verdicts.{Accepted}
 use Rattle.aig_answers.specs.Asking.{verdict_of}
-use Rattle.aig_answers.proofs.Asked.{AreBelow-further, asked_of, read_circuit, read_closed, read_starts, size_of}
+use Rattle.aig_answers.proofs.AskedFiles.{AreBelow-extra, asked_of, read_circuit, read_closed, read_starts, size_of}
 use Rattle.aig_answers.proofs.BoundedVerdicts.{judged, unread}
 use Rattle.aig_answers.proofs.bounded_checks.clauses.bounded.Goals as goal
 
@@ -55,7 +55,7 @@ returns-clause-below g c =
     c.in_ok-lists.lists _ _
     c.in_ok-lists.ensures.circuit c.in_ok-made.made c.in_ok-made.ensures.said
     c.in_ok-made.ensures.asks in
-    AreBelow-further asked.file c.args.k c.args.optimize c.in_ok-made.made
+    AreBelow-extra asked.file c.args.k c.args.optimize c.in_ok-made.made
     asked.means
 
 pub returns-clause-verdict : goal.returns-clause-verdict

@@ -25,7 +25,7 @@ returns-in-Ok-part_window c =
             c.in-Ok-part_query.ensures.asks);
         step =
             subst (λ (d : Circuit). AskWith stepped optimize
-            (λ made. AsksWindow Plain d 0 optimize made.clauses made.further) step)
+            (λ made. AsksWindow Plain d 0 optimize made.clauses made.extra) step)
             (c.circuit.ensures.value ∙ steps.circuit) c.in-Ok-part_window.ensures.asks;
       };
       circuit = c.in-Ok-part_window.ensures.circuit;

@@ -8,7 +8,7 @@ returns-clause-safe g c =
     let made = c.in_ok-made.made in
     let asks = c.in_ok-made.ensures.asks in
     on_ok_weaker c.refute.result (c.refuted_circuit_queries_have_no_witness.ensures asked.circuit
-    asks.0 asked.steps made.clauses made.further asks.1.asks) c.refute.ensures.refuted
+    asks.0 asked.steps made.clauses made.extra asks.1.asks) c.refute.ensures.refuted
 
 pub returns-clause-shown : goal.returns-clause-shown
 returns-clause-shown g c = λ taken.

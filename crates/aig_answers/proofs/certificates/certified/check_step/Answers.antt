@@ -17,4 +17,4 @@ returns-clause-tells g c =
     (checked_two limit optimize text m refute (proof_of_refutation refute c.refute.ensures.own)
     c.in_ok-made.ensures.said
     (λ taken. c.circuit_clauses_are_one.ensures.window Plain m 0 optimize text refute made.clauses
-    made.further c.in_ok-made.ensures.asks c.refute.ensures.shown))
+    made.extra c.in_ok-made.ensures.asks c.refute.ensures.shown))

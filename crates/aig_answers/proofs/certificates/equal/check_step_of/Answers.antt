@@ -9,7 +9,7 @@ returns-clause-safe g c =
     let made = c.in_ok-made.made in
     let asks = c.in_ok-made.ensures.asks in
     on_ok_weaker c.refute.result (c.refuted_circuit_queries_have_no_witness.ensures
-    (lists_circuit c.args.circuit) asks.0 c.args.k made.clauses made.further asks.1.asks)
+    (lists_circuit c.args.circuit) asks.0 c.args.k made.clauses made.extra asks.1.asks)
     c.refute.ensures.refuted
 
 pub returns-clause-tells : goal.returns-clause-tells

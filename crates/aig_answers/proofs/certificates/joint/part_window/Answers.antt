@@ -9,5 +9,5 @@ pub returns-clause-asks : goal.returns-clause-asks
 returns-clause-asks c =
     let optimize = c.args.optimize in
     subst (λ (d : Circuit). AskWith d optimize
-    (λ lists. AsksWindow Plain c.args.joint.now 0 optimize lists.clauses lists.further) c.in_ok-parts.parts)
+    (λ lists. AsksWindow Plain c.args.joint.now 0 optimize lists.clauses lists.extra) c.in_ok-parts.parts)
     c.new.ensures c.in_ok-parts.ensures.asks

@@ -8,7 +8,7 @@ returns-clause-answer g c =
     let asks = c.in_ok-made.ensures in
     on_ok_weaker c.refute.result
     (c.refuted_circuit_queries_have_no_witness.ensures c.args.circuit.now asks.0 c.args.step
-    made.clauses made.further asks.1.asks) c.refute.ensures.refuted
+    made.clauses made.extra asks.1.asks) c.refute.ensures.refuted
 
 pub returns-clause-shown : goal.returns-clause-shown
 returns-clause-shown g c =

@@ -4,7 +4,7 @@ use Rattle.aig_refutation.specs.declared.error.RefutationError.{RefutationError}
 use Rattle.aig_refutation.specs.declared.words.Number.{Number}
 use Rattle.aig_refutation.specs.Checking.{Live, added, are_named, is_named, stands}
 use Rattle.aig_refutation.specs.Tables.{FindsHints, Holds, Moves, Table, place_in}
-use Rattle.aig_refutation.specs.Words.{said_numbers}
+use Rattle.aig_refutation.specs.Tokens.{said_numbers}
 use Rattle.aig_refutation.proofs.Adding.{added_not, added_on, added_unnamed}
 use Rattle.aig_refutation.proofs.Apart.{groups_named}
 use Rattle.aig_refutation.proofs.HintedRup.{all_named}

@@ -6,7 +6,7 @@ use Rattle.aig_refutation.specs.Rat.{is_rat}
 use Rattle.aig_refutation.specs.declared.words.Number.{Number}
 use Rattle.aig_refutation.specs.Tables.{Holds, Table, place_in}
 use Rattle.aig_refutation.specs.Taken.{KeepsLive}
-use Rattle.aig_refutation.specs.Words.{said_numbers}
+use Rattle.aig_refutation.specs.Tokens.{said_numbers}
 use Rattle.aig_refutation.proofs.Apart.{groups_named}
 use Rattle.aig_refutation.proofs.Kept.{rat_keeps}
 use Rattle.aig_refutation.proofs.checker.Checker.has_rat.Goals as goal

@@ -6,7 +6,7 @@ use Rattle.aig_refutation.specs.Propagation.{FitsMarks, has, is_rup, is_tautolog
 use Rattle.aig_refutation.specs.Rat.{hints_for, resolvent}
 use Rattle.aig_refutation.specs.Starts.{IsStart, start_in}
 use Rattle.aig_refutation.specs.Tables.{FindsHints, Table}
-use Rattle.aig_refutation.specs.Words.{said_numbers}
+use Rattle.aig_refutation.specs.Tokens.{said_numbers}
 use Rattle.aig_refutation.proofs.Apart.{all_hints_named, found_apart, resolved_literals}
 use Rattle.aig_refutation.proofs.HintedRup.{all_named}
 use Rattle.aig_refutation.proofs.Literals.{clause_there}

@@ -1,6 +1,6 @@
 use Rattle.aig_base.proofs.Words.{◌<◌, List, length, sym, ap, ◌∙◌, arith}
 use Rattle.aig_base.specs.declared.logic.literal.Lit.{Lit}
-use Rattle.aig_refutation.specs.Words.{said_numbers}
+use Rattle.aig_refutation.specs.Tokens.{said_numbers}
 use Rattle.aig_refutation.proofs.Apart.{rat_all, rat_not}
 use Rattle.aig_refutation.proofs.standing.Resolvent.is_rat.Goals as goal
 

@@ -2,7 +2,7 @@ use Rattle.aig_base.proofs.Words.{◌≡◌, ◌<◌, ℕ, true, length}
 use Rattle.aig_refutation.specs.Checking.{Live, are_named, clause_at}
 use Rattle.aig_refutation.specs.Starts.{AreStarts}
 use Rattle.aig_refutation.specs.Tables.{Holds, entry_in, is_apart_if}
-use Rattle.aig_refutation.specs.Words.{said_numbers}
+use Rattle.aig_refutation.specs.Tokens.{said_numbers}
 use Rattle.aig_refutation.proofs.standing.Resolvent.is_rat.Given as goal
 
 abbrev pub invariant-loop-place : goal.invariant-loop-place

@@ -2,7 +2,7 @@ use Rattle.aig_base.proofs.Words.{◌≡◌, ℕ, ◌||◌, Bool, true, List, is
 use Rattle.aig_refutation.specs.Checking.{Live, are_named, follows, is_named}
 use Rattle.aig_refutation.specs.Rat.{is_rat}
 use Rattle.aig_refutation.specs.Tables.{Holds, Table, place_in}
-use Rattle.aig_refutation.specs.Words.{said_numbers}
+use Rattle.aig_refutation.specs.Tokens.{said_numbers}
 use Rattle.aig_refutation.proofs.HintedRup.{all_named}
 use Rattle.aig_refutation.proofs.Kept.{same_follows}
 use Rattle.aig_refutation.proofs.standing.Resolvent.stands.Goals as goal

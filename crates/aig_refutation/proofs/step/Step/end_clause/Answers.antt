@@ -1,6 +1,6 @@
 use Rattle.aig_base.proofs.Words.{◌≡◌, [], Some, Err, sym, ap, ◌∙◌, err_from_is_err_and}
 use Rattle.aig_refutation.specs.Proofs.{after_clause}
-use Rattle.aig_refutation.specs.Words.{is_last, said_number}
+use Rattle.aig_refutation.specs.Tokens.{is_last, said_number}
 use Rattle.aig_refutation.proofs.Known.{tells}
 use Rattle.aig_refutation.proofs.LineForms.{end_added, end_numbered, end_refused}
 use Rattle.aig_refutation.proofs.step.Step.end_clause.Goals as goal

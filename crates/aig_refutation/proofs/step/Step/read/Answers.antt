@@ -3,7 +3,7 @@ use Rattle.aig_refutation.specs.declared.words.Word.TheVariants as words
 use Rattle.aig_refutation.specs.Proofs.{Line, Plain}
 use Rattle.aig_refutation.specs.Reading.{reads_after, reads_dropped, said_by}
 use Rattle.aig_refutation.specs.Steps.{Learns}
-use Rattle.aig_refutation.specs.Words.{place, said_number}
+use Rattle.aig_refutation.specs.Tokens.{place, said_number}
 use Rattle.aig_refutation.proofs.LineForms.{line_after_err, line_after_ok, line_dropped_err, line_dropped_ok}
 use Rattle.aig_refutation.proofs.NextSteps.{first_fails, step_fails, step_read}
 use Rattle.aig_refutation.proofs.step.Step.read.Goals as goal

@@ -5,10 +5,10 @@ use Rattle.aig_refutation.specs.declared.words.Word.TheVariants as words
 use Rattle.aig_refutation.specs.Proofs.{Line, Plain, Numbered, adds, groups_at, hint_number, hints_at}
 use Rattle.aig_refutation.specs.Reading.{reads_added, reads_clause, reads_hints, said_by}
 use Rattle.aig_refutation.specs.Steps.{Step, Adds, Learns}
-use Rattle.aig_refutation.specs.Words.{next_in, place, said_number, said_numbers}
+use Rattle.aig_refutation.specs.Tokens.{next_in, place, said_number, said_numbers}
 use Rattle.aig_refutation.proofs.LineForms.{added_after, added_clause, added_clause_wrong, added_hints, added_letter, added_refused, added_wrong, numbers_step, numbers_step_err, numbers_step_ok}
 use Rattle.aig_refutation.proofs.NextSteps.{clause_ends}
-use Rattle.aig_refutation.proofs.Parts.{Reader, gives_after, gives_same, gives_wrong, on_on, on_read, part_wrong}
+use Rattle.aig_refutation.proofs.ReadersInTurn.{Reader, gives_after, gives_same, gives_wrong, on_on, on_read, part_wrong}
 use Rattle.aig_refutation.proofs.step.Step.read_added.Goals as goal
 
 abbrev no_step : Line

@@ -3,9 +3,9 @@ use Rattle.aig_refutation.specs.declared.words.Word.TheVariants as words
 use Rattle.aig_refutation.specs.Proofs.{Line, Plain, is_zero}
 use Rattle.aig_refutation.specs.Reading.{reads_added, reads_after, reads_deleted, said_by}
 use Rattle.aig_refutation.specs.Steps.{Learns}
-use Rattle.aig_refutation.specs.Words.{fault_of, next_in, place, said_number}
+use Rattle.aig_refutation.specs.Tokens.{fault_of, next_in, place, said_number}
 use Rattle.aig_refutation.proofs.LineForms.{after_letter, after_missing, after_number_word, after_wrong, after_zero}
-use Rattle.aig_refutation.proofs.Parts.{Reader, gives_after, gives_ok, gives_wrong, on_read, part_wrong}
+use Rattle.aig_refutation.proofs.ReadersInTurn.{Reader, gives_after, gives_ok, gives_wrong, on_read, part_wrong}
 use Rattle.aig_refutation.proofs.step.Step.read_after.Goals as goal
 
 abbrev no_step : Line

@@ -2,9 +2,9 @@ use Rattle.aig_base.proofs.Words.{[], refl, err_from_is_err_and}
 use Rattle.aig_refutation.specs.Proofs.{Line, Plain, Numbered, clause_number}
 use Rattle.aig_refutation.specs.Reading.{reads_deleted, reads_numbers}
 use Rattle.aig_refutation.specs.Steps.{Deletes, Learns}
-use Rattle.aig_refutation.specs.Words.{next_number, place, said_number}
+use Rattle.aig_refutation.specs.Tokens.{next_number, place, said_number}
 use Rattle.aig_refutation.proofs.LineForms.{deleted_number, deleted_number_wrong, deleted_refused, numbers_step, numbers_step_err, numbers_step_ok}
-use Rattle.aig_refutation.proofs.Parts.{gives_after, gives_same, gives_wrong, on_read, on_start, part_wrong}
+use Rattle.aig_refutation.proofs.ReadersInTurn.{gives_after, gives_same, gives_wrong, on_read, on_start, part_wrong}
 use Rattle.aig_refutation.proofs.step.Step.read_deleted.Goals as goal
 
 abbrev no_step : Line

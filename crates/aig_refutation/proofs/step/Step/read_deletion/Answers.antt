@@ -3,9 +3,9 @@ use Rattle.aig_refutation.specs.Proofs.{Line, Plain}
 use Rattle.aig_refutation.specs.Reading.{reads_clause, reads_dropped}
 use Rattle.aig_refutation.specs.Skipping.{end_line}
 use Rattle.aig_refutation.specs.Steps.{Drops, Learns}
-use Rattle.aig_refutation.specs.Words.{next_number, place, said_number}
+use Rattle.aig_refutation.specs.Tokens.{next_number, place, said_number}
 use Rattle.aig_refutation.proofs.LineForms.{drop_tail, drop_tail_err, drop_tail_ok, dropped_clause, dropped_clause_wrong, dropped_from, dropped_number, dropped_wrong}
-use Rattle.aig_refutation.proofs.Parts.{gives_after, gives_same, on_on, on_read, part_wrong}
+use Rattle.aig_refutation.proofs.ReadersInTurn.{gives_after, gives_same, on_on, on_read, part_wrong}
 use Rattle.aig_refutation.proofs.step.Step.read_deletion.Goals as goal
 
 abbrev no_step : Line

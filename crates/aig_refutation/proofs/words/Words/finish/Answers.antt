@@ -2,9 +2,9 @@ use Rattle.aig_base.proofs.Words.{Ok, Err, refl, err_from_is_err_and}
 use Rattle.aig_refutation.specs.declared.error.RefutationError.TheVariants as errors
 use Rattle.aig_refutation.specs.declared.words.Word.TheVariants as words
 use Rattle.aig_refutation.specs.Skipping.{end_line}
-use Rattle.aig_refutation.specs.Words.{next_in, place}
+use Rattle.aig_refutation.specs.Tokens.{next_in, place}
 use Rattle.aig_refutation.proofs.LineParts.{finish_end, finish_more, finish_wrong}
-use Rattle.aig_refutation.proofs.Parts.{Reader, gives_ok, gives_wrong, on_read, part_wrong}
+use Rattle.aig_refutation.proofs.ReadersInTurn.{Reader, gives_ok, gives_wrong, on_read, part_wrong}
 use Rattle.aig_refutation.proofs.words.Words.finish.Goals as goal
 
 pub returns-in_err-next-clause-ended : goal.returns-in_err-next-clause-ended

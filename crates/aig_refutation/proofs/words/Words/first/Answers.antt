@@ -2,7 +2,7 @@ use Rattle.aig_base.proofs.Words.{nat_tests, rules, ◌≡◌, ◌∷◌, false,
 use Rattle.aig_lexer.specs.Takes.{feed}
 use Rattle.aig_refutation.specs.declared.error.RefutationError.TheVariants as errors
 use Rattle.aig_refutation.specs.Text.{is_blank, word_at}
-use Rattle.aig_refutation.specs.Words.{first_in, place}
+use Rattle.aig_refutation.specs.Tokens.{first_in, place}
 use Rattle.aig_refutation.proofs.Lines.{comment_byte, comment_no_line, first_given, first_is_binary, first_refused, first_wrong, no_comment_byte, passed_all, passed_blank, passed_comment, passed_last, skips_as, some_of}
 use Rattle.aig_refutation.proofs.Texts.{past_none}
 use Rattle.aig_refutation.proofs.words.Words.first.Goals as goal

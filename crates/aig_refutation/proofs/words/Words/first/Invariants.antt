@@ -1,7 +1,7 @@
 use Rattle.std.proofs.Common.{◌≡◌, ◌≤◌, None}
 use Rattle.aig_lexer.specs.Takes.{feed}
 use Rattle.aig_refutation.specs.Text.{lines_of}
-use Rattle.aig_refutation.specs.Words.{Leaves, lines_at, lines_past}
+use Rattle.aig_refutation.specs.Tokens.{Leaves, lines_at, lines_past}
 use Rattle.aig_refutation.proofs.words.Words.first.Given as goal
 
 abbrev pub invariant-loop-byte : goal.invariant-loop-byte

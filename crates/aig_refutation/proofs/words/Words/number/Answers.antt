@@ -1,9 +1,9 @@
 use Rattle.aig_base.proofs.Words.{ℕ, Bool, Ok, Err, refl, err_from_is_err_and}
 use Rattle.aig_refutation.specs.declared.error.RefutationError.TheVariants as errors
 use Rattle.aig_refutation.specs.declared.words.Word.TheVariants as words
-use Rattle.aig_refutation.specs.Words.{fault_of, next_in, next_number, place, said_number}
+use Rattle.aig_refutation.specs.Tokens.{fault_of, next_in, next_number, place, said_number}
 use Rattle.aig_refutation.proofs.LineParts.{number_end, number_letter, number_taken, number_wrong}
-use Rattle.aig_refutation.proofs.Parts.{Reader, gives_ok, gives_wrong, on_read, part_wrong}
+use Rattle.aig_refutation.proofs.ReadersInTurn.{Reader, gives_ok, gives_wrong, on_read, part_wrong}
 use Rattle.aig_refutation.proofs.words.Words.number.Goals as goal
 
 pub returns-in_err-number-clause-number : goal.returns-in_err-number-clause-number

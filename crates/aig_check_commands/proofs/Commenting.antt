@@ -1,0 +1,145 @@
+-- The lines of comments, as a text for each place in a list, and behind them the clauses.
+use Rattle.std.proofs.Common.{◌≡◌, ℕ, Bool, ◌+◌, ◌<◌, ◌==◌, true, false, Option, Some, List, [], ◌∷◌, ◌++◌, length, get_or, refl, sym, ap, ◌∙◌, zero-add}
+use Rattle.aig_base.proofs.Words.{codes, decimal, enumerate_from, flat_map, range_with_len, zip}
+use Rattle.std.proofs.lemmas.Slice.Zip.{get_or-zip}
+use Rattle.std.proofs.lemmas.List.FromFn.{get_or-enumerate_from}
+use Rattle.aig_base.specs.declared.logic.literal.Lit.{Lit}
+use Rattle.aig_base.specs.Clauses.{lit_to, variable_of}
+use Rattle.aig_base.specs.Formula.{clauses_in}
+use Rattle.aig_circuit.proofs.Words.{Circuit, latch_leaves, lit_of}
+use Rattle.aig_unroll.specs.Places.{place_at}
+use Rattle.aig_runs.specs.Queries.{last_bads}
+use Rattle.aig_dimacs.specs.Reading.{after_comments, parse_formula}
+use Rattle.aig_dimacs.specs.Text.{IsFormula, dimacs_of, sign_of}
+use Rattle.aig_dimacs.proofs.Comments.{ArePassed, StaysInside, decimal_inside, ends-append, ends-line_feed, inside-append, inside-cons, line_passed, parse_formula-passed, passed-append, passed-flat_map, sign_inside}
+use Rattle.aig_dimacs.proofs.Reading.{parse_formula-dimacs_of}
+use Rattle.aig_format.proofs.Words.{File, circuit_of}
+use Rattle.aig_runs.proofs.Asking.{asks, encodes}
+use Rattle.aig_runs.specs.Unrolled.{IsUnrolledOf, UnrolledCircuit}
+use Rattle.aig_answers.specs.declared.bounded_checks.clauses.BoundedClauses.{BoundedClauses}
+use Rattle.aig_check_commands.proofs.Passing.{title_passed}
+use Rattle.aig_check_commands.specs.Sums.{IsSum}
+use Rattle.aig_check_commands.specs.Titles.{title_text}
+use Rattle.aig_check_commands.specs.declared.titles.title.Question.TheVariants.{Clauses}
+use Rattle.aig_check_commands.specs.declared.titles.title.Title.{Title}
+use Rattle.aig_check_commands.specs.Bounded.{bounded_comments, letter_of, place_line}
+use Rattle.aig_check_commands.specs.Comments.{bad_line, comments_of, input_line, input_lines, latch_comment, literal_line}
+use Rattle.aig_check_commands.specs.Printing.{IsQueryText}
+use Rattle.aig_check_commands.specs.Running.{IsClausesText}
+use Rattle.aig_check_commands.specs.Titling.{title_of}
+
+pub line_at : {X : Type 0} (line : ℕ × X → List ℕ) (xs : List X) (i : ℕ) (d : X) → i < length xs → line (get_or (enumerate_from 0 xs) i (0, d)) ≡ line (i, get_or xs i d)
+line_at {X} line xs i d h = ap line (get_or-enumerate_from 0 xs i (0, d) h) ∙ ap (λ j. line (j, get_or xs i d)) (zero-add i)
+
+-- a pair of two lists
+pub get_or-pair : {K X : Type 0} (ks : List K) (xs : List X) (i : ℕ) (k : K) (x : X) → i < length ks → i < length xs → k ≡ get_or ks i k → x ≡ get_or xs i x
+    → get_or (zip ks xs) i (k, x) ≡ (k, x)
+get_or-pair ks xs i k x low down at is =
+    get_or-zip ks xs i (k, x) low down ∙ ap (λ n. (n, get_or xs i x)) (sym at) ∙ ap (λ y. (k, y)) (sym is)
+
+-- ---- comments are passed over
+
+-- the words between two numbers
+words_inside : StaysInside (codes "at step ")
+unfolding after_comments
+words_inside rest = refl
+
+is_inside : StaysInside (codes "is ")
+unfolding after_comments
+is_inside rest = refl
+
+space_inside : StaysInside (32 ∷ [])
+unfolding after_comments
+space_inside rest = refl
+
+-- the line of a literal, whose letter is no line feed
+literal_passed : (letter number step : ℕ) (lit : Lit) → (letter == 10) ≡ false
+    → ArePassed (literal_line (99 ∷ 32 ∷ letter ∷ []) number step lit)
+unfolding literal_line
+literal_passed letter number step lit other =
+    let tail = 32 ∷ letter ∷ [] in
+    let first = decimal number ++ 32 ∷ [] in
+    let second = decimal step ++ 32 ∷ [] in
+    let last = decimal (variable_of lit + 1) ++ 10 ∷ [] in
+    let numbered = inside-append tail first (inside-cons 32 (letter ∷ []) refl (inside-cons letter [] other (λ rest. refl))) (inside-append (decimal number) (32 ∷ []) (decimal_inside number) space_inside) in
+    let placed = inside-append (tail ++ first) (codes "at step ") numbered words_inside in
+    let stepped = inside-append (tail ++ first ++ codes "at step ") second placed (inside-append (decimal step) (32 ∷ []) (decimal_inside step) space_inside) in
+    let named = inside-append (tail ++ first ++ codes "at step " ++ second) (codes "is ") stepped is_inside in
+    let signed = inside-append (tail ++ first ++ codes "at step " ++ second ++ codes "is ") (sign_of lit) named (sign_inside lit) in
+    let ends = ends-append (decimal (variable_of lit + 1)) (10 ∷ []) (decimal_inside (variable_of lit + 1)) ends-line_feed in
+    line_passed (tail ++ first ++ codes "at step " ++ second ++ codes "is " ++ sign_of lit ++ last) (ends-append (tail ++ first ++ codes "at step " ++ second ++ codes "is " ++ sign_of lit) last signed ends)
+
+inputs_passed : (c u : Circuit) (t : ℕ) → ArePassed (input_lines c u t)
+unfolding input_lines
+inputs_passed c u t = passed-flat_map (input_line c u t) (λ x. literal_passed 105 x.0 t (lit_to (place_at c u t x.1) true) refl) (enumerate_from 0 c.inputs)
+
+comments_passed : (c u : Circuit) (k : ℕ) → ArePassed (comments_of c u k)
+unfolding comments_of
+comments_passed c u k =
+    let inputs = flat_map (input_lines c u) (range_with_len 0 (k + 1)) in
+    let latches = flat_map latch_comment (enumerate_from 0 (latch_leaves c.latchs)) in
+    let bads = flat_map (bad_line k) (enumerate_from 0 (last_bads c k u)) in
+    passed-append (inputs ++ latches) bads
+    (passed-append inputs latches (passed-flat_map (input_lines c u) (inputs_passed c u) (range_with_len 0 (k + 1))) (passed-flat_map latch_comment (λ x. literal_passed 108 x.0 0 (lit_to x.1 true) refl) (enumerate_from 0 (latch_leaves c.latchs))))
+    (passed-flat_map (bad_line k) (λ x. literal_passed 98 x.0 k (lit_of x.1) refl) (enumerate_from 0 (last_bads c k u)))
+
+place_passed : (is_latch : Bool) (number step n : ℕ) → ArePassed (literal_line (letter_of is_latch) number step (lit_to n true))
+place_passed true number step n = literal_passed 108 number step (lit_to n true) refl
+place_passed false number step n = literal_passed 105 number step (lit_to n true) refl
+
+bounded_passed : (made : BoundedClauses) → ArePassed (bounded_comments made)
+unfolding bounded_comments
+bounded_passed made =
+    passed-flat_map place_line (λ x. place_passed x.1.is_latch x.1.number x.1.step x.0) (zip made.question.circuit.inputs.items made.named.items)
+
+-- the clauses behind comments are read again
+again : (front : List ℕ) (variables : ℕ) (clauses : List (List Lit)) → ArePassed front
+    → IsFormula variables clauses
+    → parse_formula (front ++ dimacs_of variables clauses) ≡ Some (variables, clauses)
+again front variables clauses passed formula =
+    parse_formula-passed front (dimacs_of variables clauses) passed
+    ∙ parse_formula-dimacs_of variables clauses formula
+
+pub titled_again : (t : Title) (variables : ℕ) (clauses : List (List Lit))
+    → IsFormula variables clauses
+    → parse_formula (title_text t ++ dimacs_of variables clauses) ≡ Some (variables, clauses)
+titled_again t variables clauses = again (title_text t) variables clauses (title_passed t)
+
+pub bounded_again : (t : Title) (made : BoundedClauses)
+    → IsFormula (length made.clauses) (clauses_in made.clauses ++ made.extra)
+    → parse_formula (title_text t ++ bounded_comments made
+    ++ dimacs_of (length made.clauses) (clauses_in made.clauses ++ made.extra))
+    ≡ Some (length made.clauses, clauses_in made.clauses ++ made.extra)
+bounded_again t made =
+    again (title_text t ++ bounded_comments made) (length made.clauses)
+    (clauses_in made.clauses ++ made.extra)
+    (passed-append (title_text t) (bounded_comments made) (title_passed t) (bounded_passed made))
+
+-- the text of the query of the file's circuit is that of the file
+pub clauses_text : (bytes : Option (List ℕ)) (sum : List ℕ) → IsSum bytes sum → (f : File)
+    (limit k : ℕ) (optimize : Bool) (u : UnrolledCircuit) (text : List ℕ) → IsUnrolledOf k limit f u
+    → IsQueryText (title_of (Clauses k) optimize sum) u optimize text
+    → IsClausesText bytes f k optimize text
+clauses_text bytes sum sums f limit k optimize u text of is =
+    let t = title_of (Clauses k) optimize sum in
+    let all = clauses_in is.lists ++ is.extra in
+    let comments = ap (λ (c : Circuit). comments_of c u.unrolled u.steps) of.unrolls.circuit
+    ∙ ap (comments_of (circuit_of f) u.unrolled) of.unrolls.steps in
+    record {
+      sum = sum;
+      sums = sums;
+      query = record {
+        encoded = record { circuit = circuit_of f; unrolled = u.unrolled; clauses = is.lists };
+        extra = is.extra;
+      };
+      asks = (
+        encodes f limit k optimize u is.lists of is.has,
+        asks f limit k optimize u is.lists of is.has is.extra is.asks,
+      );
+      exact = is.exact
+          ∙ ap (λ (cs : List ℕ). title_text t ++ cs ++ dimacs_of (length is.lists) all) comments;
+      again = ap parse_formula is.exact
+          ∙ again (title_text t ++ comments_of u.circuit u.unrolled u.steps) (length is.lists) all
+          (passed-append (title_text t) (comments_of u.circuit u.unrolled u.steps) (title_passed t)
+          (comments_passed u.circuit u.unrolled u.steps)) is.formula;
+    }

@@ -1,0 +1,243 @@
+-- The comments of a small query, computed; and wrong words and lines, of which the definitions are
+-- false.
+use Rattle.aig_base.proofs.Words.{◌≡◌, ◌≢◌, ℕ, Bool, true, false, None, Option, List, [], ◌∷◌, ◌++◌, length, refl, ap, subst, sym, arith, length-append, ◌∙◌, inl, inr, Some}
+use Rattle.std.specs.Prelude.{IsTrue, codes, not, slice_get, slice_index, slice_index_or}
+use Rattle.std.specs.Fmt.{digits}
+use Rattle.aig_base.specs.Clauses.{lit_to}
+use Rattle.aig_circuit.specs.declared.node.AigNodeType.TheVariants.{False, Leaf}
+use Rattle.aig_circuit.proofs.Words.{Circuit, only_false, edge_to, no_properties}
+use Rattle.aig_format.specs.File.{File}
+use Rattle.aig_reader.specs.Verdicts.{Accepted, Judges}
+use Rattle.aig_refutation.specs.declared.error.RefutationError.{RefutationError}
+use Rattle.aig_answers.specs.declared.error.AnswerError.{AnswerError}
+use Rattle.aig_answers.specs.declared.error.AnswerError.TheVariants as answers
+use Rattle.aig_check_commands.specs.Titles.{title_text}
+use Rattle.aig_witness.specs.declared.error.WitnessError.TheVariants as witness
+use Rattle.aig_witness.specs.declared.file.ShowError.TheVariants as shows
+use Rattle.aig_witness.specs.declared.fair.file.ShownProperty.TheVariants as properties
+use Rattle.aig_check_commands.specs.declared.command.Asked.{Asked}
+use Rattle.aig_check_commands.specs.declared.command.Command.{Command}
+use Rattle.aig_check_commands.specs.declared.command.FileCommand.{FileCommand}
+use Rattle.aig_check_commands.specs.declared.justice.Justice.{Justice}
+use Rattle.aig_check_commands.proofs.Calling.{no_justice}
+use Rattle.aig_check_commands.specs.declared.error.CheckError.TheVariants as errors
+use Rattle.aig_check_commands.specs.Running.{Answers, IsErrorOf, TellsOfGiven, error_status, file_verdict, shown_line, step_line, window_line}
+use Rattle.aig_command_line.specs.Arguments.{Arguments, Gives, setting_words}
+use Rattle.aig_command_line.specs.Limits.{IsLimited}
+use Rattle.aig_check_commands.specs.declared.command.Action.{Action}
+use Rattle.aig_check_commands.specs.declared.command.Action.TheVariants as actions
+use Rattle.aig_check_commands.specs.declared.command.Command.TheVariants as asked
+use Rattle.aig_check_commands.specs.declared.command.PairCommand.TheVariants as on_pair
+use Rattle.aig_check_commands.specs.Pairs.{IsObligationsText, PairAnswers, RefusesPair, safe_line}
+use Rattle.aig_answers.specs.declared.certificates.error.CertificateError.TheVariants as certificate
+use Rattle.aig_check_commands.specs.declared.command.FileCommand.TheVariants as commands
+use Rattle.aig_check_commands.specs.Comments.{comments_of, input_lines, literal_line}
+use Rattle.aig_check_commands.specs.CommandWords.{AreCommand, Give, IsWhole, command_of, form_of, name_of, raw_alone}
+
+-- ---- words
+
+is_run : (a : Action) (k : ℕ) (d o : Bool) → asked.File commands.Run ≡ command_of a k d o → a ≡
+    actions.Run
+is_run actions.Run k d o is = refl
+is_run a k d o is = cc
+
+is_witness : (a : Action) (k m : ℕ) (d o p : Bool) → asked.File (commands.Witness m p) ≡ command_of
+    a k d o → a ≡ actions.Witness
+is_witness actions.Witness k m d o p is = refl
+is_witness a k m d o p is = cc
+
+-- a command of a justice property, or of none
+abbrev of_property : Option Justice → Command → Asked
+of_property a c = record { justice = a; command = c }
+
+-- no command on a file has raw clauses of one proof alone
+whole_of : (words : List (List ℕ)) (c : Command) (d : FileCommand) (x : Arguments)
+    → asked.File d ≡ c → AreCommand words c x → IsWhole words c x
+whole_of words c d x is (inl whole) = whole
+whole_of words c d x is (inr alone) =
+    absurd (never alone.1.step alone.1.usual (alone.1.command ∙ ap Some (sym is)))
+  where
+    never : (step : Bool) (c : Command) → ¬ (raw_alone step c ≡ Some (asked.File d))
+    never step (asked.Safe k form o p) is = cc
+    never step (asked.Pair (on_pair.AlwaysEqual k form o p)) is = cc
+    never step c is = cc
+
+-- words that do not begin with `--limit` stand alone
+no_limit : (words : List (List ℕ)) (limit : ℕ) (rest : List (List ℕ))
+    → ((more : List (List ℕ)) → ¬ (words ≡ codes "--limit" ∷ more)) → IsLimited words limit rest
+    → rest ≡ words
+no_limit words limit rest other (inl g) = absurd (other _ g.spelled)
+no_limit words limit rest other (inr g) = g.all
+
+-- a witness, and a word more
+no_more_words : (file witness more : List ℕ) (a : Option Justice)
+    → ¬ Give (codes "run" ∷ file ∷ witness ∷ more ∷ []) (of_property a (asked.File commands.Run))
+no_more_words file witness more a give =
+    let call = give.3 in
+    let x = call.arguments in
+    let all = no_limit (codes "run" ∷ file ∷ witness ∷ more ∷ []) give.0 call.rest (λ further is.
+    let letter = ap (λ (words : List (List ℕ)). slice_index (slice_index_or words 0 []) 0) is in
+    omega (arith, letter)) call.limited in
+    let every = (no_justice (codes "run" ∷ file ∷ witness ∷ more ∷ []) a call.more
+    (λ further is.
+    let letter = ap (λ (words : List (List ℕ)). slice_index (slice_index_or words 0 []) 0) is in
+    omega (arith, letter)) (rw all at call.asked)).1 in
+    let whole = whole_of (codes "run" ∷ file ∷ witness ∷ more ∷ []) (asked.File commands.Run) _ x refl
+    (rw every at call.gives) in
+    let run = is_run whole.action x.step x.distinct x.optimize whole.command in
+    let gives = subst (λ a. Gives (name_of a) (form_of a) (codes "run" ∷ file ∷ witness ∷ more ∷ [])
+    x) run whole.gives in
+    let settings = setting_words x.distinct x.optimize in
+    let count = ap length gives.spelled in
+    let parts = length-append x.paths (gives.steps ++ (x.further ++ settings)) in
+    let others = length-append gives.steps (x.further ++ settings) in
+    let last = length-append x.further settings in
+    let none = ap length gives.step.1 in
+    let plain = no_settings x.distinct x.optimize gives.distinct gives.raw in
+    omega (arith, count, parts, others, last, none, plain, gives.paths, gives.further)
+  where
+    no_settings : (d o : Bool) → (IsTrue d → IsTrue false) → (IsTrue (not o) → IsTrue false) →
+        length (setting_words d o) ≡ 0
+    no_settings false true distinct raw = refl
+    no_settings true o distinct raw = let no = distinct refl in cc
+    no_settings d false distinct raw = let no = raw refl in cc
+
+-- a proof for a witness
+no_other_name : (file steps proof : List ℕ) (k : ℕ) (optimize : Bool) (a : Option Justice)
+    → ¬ Give (codes "refuted" ∷ file ∷ steps ∷ proof ∷ []) (of_property a (asked.File
+    (commands.Witness k optimize)))
+no_other_name file steps proof k optimize a give =
+    let call = give.3 in
+    let x = call.arguments in
+    let all = no_limit (codes "refuted" ∷ file ∷ steps ∷ proof ∷ []) give.0 call.rest (λ further is.
+    let letter = ap (λ (words : List (List ℕ)). slice_index (slice_index_or words 0 []) 0) is in
+    omega (arith, letter)) call.limited in
+    let every = (no_justice (codes "refuted" ∷ file ∷ steps ∷ proof ∷ []) a call.more
+    (λ further is.
+    let letter = ap (λ (words : List (List ℕ)). slice_index (slice_index_or words 0 []) 0) is in
+    omega (arith, letter)) (rw all at call.asked)).1 in
+    let whole = whole_of (codes "refuted" ∷ file ∷ steps ∷ proof ∷ []) (asked.File (commands.Witness k optimize)) _ x refl
+    (rw every at call.gives) in
+    let is = is_witness whole.action x.step k x.distinct x.optimize optimize whole.command
+    in
+    let letter = ap (λ (words : List (List ℕ)). slice_index (slice_index_or words 0 []) 0)
+    whole.gives.spelled in
+    let first = ap (λ a. slice_index (name_of a) 0) is in
+    omega (arith, letter, first)
+
+-- ---- comments
+
+-- Latch 1 keeps what it has, and is bad where it is false. With one step more input 2 is node 3.
+abbrev held : Circuit
+held = record only_false {
+  nodes =
+      record { node_id = 0; typ = False } ∷ record { node_id = 1; typ = Leaf }
+      ∷ record { node_id = 2; typ = Leaf } ∷ [];
+  inputs = 2 ∷ [];
+  latchs = record { input = 1; next = edge_to 1 false; init = None } ∷ [];
+  properties = record no_properties { bads = edge_to 1 true ∷ [] };
+}
+
+abbrev held_once : Circuit
+held_once = record held {
+  nodes =
+      record { node_id = 0; typ = False } ∷ record { node_id = 1; typ = Leaf }
+      ∷ record { node_id = 2; typ = Leaf } ∷ record { node_id = 3; typ = Leaf } ∷ [];
+  inputs = 2 ∷ 3 ∷ [];
+  properties = record no_properties { bads = edge_to 1 true ∷ edge_to 1 true ∷ [] };
+}
+
+held-comments : comments_of held held_once 1
+    ≡ codes "c i0 at step 0 is 3\nc i0 at step 1 is 4\n"
+    ++ codes "c l0 at step 0 is 2\nc b0 at step 1 is -2\n"
+unfolding comments_of input_lines literal_line digits
+held-comments = refl
+
+-- an input is named inverted
+no_inverted_input : literal_line (codes "c i") 0 1 (lit_to 3 true) ≢ codes "c i0 at step 1 is -4\n"
+unfolding literal_line digits
+no_inverted_input same = let sign = ap (λ text. slice_get text 18) same in cc
+
+-- ---- lines
+
+-- the step as the bad state's number
+no_step_as_number : shown_line (properties.Bad (record { bad = 3; step = 5 })) ≢ codes
+    "b5 at step 5\n"
+unfolding digits
+no_step_as_number same =
+    let number : 51 ≡ 53 = ap (λ text. slice_index text 1) same in omega (arith, number)
+
+-- a loop's steps are told, the first one first
+loop-told : shown_line (properties.Lasso (record { justice = 0; start = 2; last = 15 })) ≡ codes
+    "j0 in a loop from step 2 to 15\n"
+unfolding digits
+loop-told = refl
+
+-- a proof for one step is told as one for each
+no_window_told : (optimize : Bool) (given bytes : Option (List ℕ)) (f : File)
+    → ¬ Answers (commands.Refuted 1 optimize) given bytes f (window_line 1)
+unfolding digits
+no_window_told optimize given bytes f answers =
+    let word : 97 ≡ 115 = ap (λ text. slice_index text 16) answers.0 in omega (arith, word)
+
+-- steps up to one are told as that one
+no_one_step_told : (optimize : Bool) (given bytes : Option (List ℕ)) (f : File)
+    → ¬ Answers (commands.RefutedTo 1 optimize) given bytes f (step_line 1)
+unfolding digits
+no_one_step_told optimize given bytes f answers =
+    let word : 97 ≡ 117 = ap (λ text. slice_index text 13) answers.0 in omega (arith, word)
+
+-- equal machines are told as a safe one
+no_safety_told : (k limit : ℕ) (optimize : Bool) (base step bytes others : Option (List ℕ))
+    (f g : File)
+    → ¬ PairAnswers (on_pair.Equal k optimize) limit base step bytes others f g safe_line
+no_safety_told k limit optimize base step bytes others f g answers =
+    let letter : 110 ≡ 101 = ap (λ text. slice_index text 0) answers.0 in omega (arith, letter)
+
+-- the clauses of BASE under the name of those of STEP
+no_step_first : (optimize : Bool) (bytes others : Option (List ℕ)) (f g : File)
+    (text rest : List ℕ) (is : IsObligationsText optimize bytes others f g text)
+    → is.base ≢ codes "c step" ++ rest
+no_step_first optimize bytes others f g text rest is same =
+    let letter : 115 ≡ 98 = ap (λ text. slice_index text 2) (sym same ∙ is.base_exact) in
+    omega (arith, letter)
+
+-- clauses without their title
+no_bare_clauses : (optimize : Bool) (bytes others : Option (List ℕ)) (f g : File) (rest : List ℕ)
+    → ¬ IsObligationsText optimize bytes others f g (codes "c base" ++ rest)
+unfolding title_text
+no_bare_clauses optimize bytes others f g rest is =
+    let letter : 98 ≡ 97 = ap (λ text. slice_index text 2) is.exact in omega (arith, letter)
+
+-- ---- errors
+
+-- one proof is refused as the second of two
+no_second_proof : (k limit : ℕ) (optimize : Bool) (base step : Option (List ℕ)) (f g : File) (e :
+    AnswerError)
+    → ¬ RefusesPair (on_pair.Equal k optimize) limit base step f g (certificate.Window e)
+no_second_proof k limit optimize base step f g e refuses = refuses
+
+-- clauses are refused as a proof would be
+no_proof_of_clauses : (k : ℕ) (optimize : Bool) (e : RefutationError)
+    → ¬ IsErrorOf (commands.Clauses k optimize) (errors.Answer (answers.Refutation e))
+no_proof_of_clauses k optimize e is = is
+
+-- another step is told as settled
+no_other_step : (optimize : Bool) → ¬ IsErrorOf (commands.Bounded 1 optimize) (errors.Settled 0)
+no_other_step optimize is = omega (arith, is)
+
+-- a settled question ends as a refused file does
+no_status_of_refusals : (k : ℕ) → error_status (errors.Settled k) ≢ error_status errors.Open
+no_status_of_refusals k same = omega (arith, same)
+
+-- a witness that is refused is told as a read that failed, where none did
+no_failed_read : (limit : ℕ) (old new given : Option (List ℕ))
+    → ¬ TellsOfGiven commands.Run limit old new given false (errors.Show (shows.Witness
+    witness.Stream))
+no_failed_read limit old new given tells = let failed : false ≡ true = tells in cc
+
+-- a file is answered, a read of which failed
+no_answer_after_a_failure : (c : FileCommand) (limit : ℕ) (old new : Option (List ℕ))
+    → ¬ Judges (file_verdict c limit) limit old new true Accepted
+no_answer_after_a_failure c limit old new said =
+    let failed : true ≡ false = (said.whole tt).0 in cc

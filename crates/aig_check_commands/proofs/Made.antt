@@ -1,0 +1,491 @@
+-- What the text of the file that is made for a justice property shows of the file itself.
+use Rattle.aig_base.proofs.Words.{◌≡◌, ◌≢◌, ◌==◌, ◌↔◌, ℕ, zero, suc, ◌+◌, ◌≤◌, ◌<◌, eqb-true, false_from_ne_true, sym, true≢false, Bool, true, false, List, [], ◌∷◌, Option, None, Some, Ok, Err, Vec, Global, refl, subst, arith, length, Appends, IsAtEnd, Consumes-whole}
+use mathlib.Core.List.{map-id}
+use Rattle.std.specs.Prelude.{IfErr, IsTrue, MatchOption, Result, is_none}
+use Rattle.std.proofs.lemmas.Option.{slice_get_within}
+use Rattle.aig_output.specs.Sinks.{Stops}
+use Rattle.aig_circuit.specs.Circuit.{Circuit}
+use Rattle.aig_edits.specs.declared.edit_error.EditError.{EditError}
+use Rattle.aig_edits.specs.declared.edit_error.EditError.TheVariants as edit
+use Rattle.aig_edits.specs.Edits.{IsEditOwn, ReadsFile, edit_verdict}
+use Rattle.aig_edits.specs.Lives.{IsLiveFile, IsLiveRefusal, PrintsLive}
+use Rattle.aig_edits.specs.Rounds.{IsRoundsFile, IsRoundsRefusal, PrintsRounds}
+use Rattle.aig_edits.proofs.ReadFiles.{file_on}
+use Rattle.aig_edit_laws.specs.Shown.{HasWitness}
+use Rattle.aig_format.specs.Circuit.{IsReadAgain, text_of}
+use Rattle.aig_format.specs.declared.FileKind.TheVariants.{Text}
+use Rattle.aig_format.specs.Fits.{Accepts}
+use Rattle.aig_format.proofs.Words.{File, file_of}
+use Rattle.aig_edit_laws.specs.Fair.{HasFairLasso, HasFairRun}
+use Rattle.aig_reader.specs.Reading.{IsReadAs}
+use Rattle.aig_reader.specs.Verdicts.{Accepted, verdict_by}
+use Rattle.aig_reader.proofs.Verdicts.{one_file}
+use Rattle.aig_runs.specs.Queries.{IsSafeTo}
+use Rattle.aig_runs.specs.declared.window.Window.{Window}
+use Rattle.aig_runs.proofs.SafeSteps.{safe_is}
+use Rattle.aig_command_line.specs.declared.discarded.Discarded.{Discarded}
+use Rattle.aig_check_commands.specs.declared.command.Command.{Command}
+use Rattle.aig_check_commands.specs.declared.command.Command.TheVariants as commands
+use Rattle.aig_check_commands.specs.declared.command.FileCommand.{FileCommand}
+use Rattle.aig_check_commands.specs.declared.command.FileCommand.TheVariants as on_file
+use Rattle.aig_check_commands.specs.declared.command.PairCommand.{PairCommand}
+use Rattle.aig_check_commands.specs.declared.command.PairCommand.TheVariants as on_pair
+use Rattle.aig_check_commands.specs.declared.justice.Justice.{Justice}
+use Rattle.aig_check_commands.specs.declared.error.CheckError.{CheckError}
+use Rattle.aig_check_commands.specs.declared.error.CheckError.TheVariants as errors
+use Rattle.aig_check_commands.specs.Comparing.{IsErrorOfComparing, RunsComparing}
+use Rattle.aig_check_commands.specs.Inputs.{Ran, Stream, bytes_of, has_failed}
+use Rattle.aig_check_commands.specs.Justice.{is_asked}
+use Rattle.aig_check_commands.specs.Living.{ChecksText, Concludes, IsMadeOf, IsMadeOwn, IsOfMaking, IsUnmade, PrintsMade, RunsMade, ShowsFair, TellsMade, keeps_nothing, made_verdict, never_fails}
+use Rattle.aig_check_commands.specs.LivingParts.{MakesText, WritesMade, text_error}
+use Rattle.aig_check_commands.specs.Pairs.{IsErrorOfPair, RunsPair}
+use Rattle.aig_check_commands.specs.Running.{IsErrorOf, Runs}
+use Rattle.aig_check_commands.specs.Safe.{IsErrorOfSafe, RunsSafe}
+use Rattle.aig_check_commands.specs.SafeBySteps.{IsErrorOfSteps, RunsSafeBySteps}
+use Rattle.aig_check_commands.specs.CommandWords.{beside_of, prints}
+use Rattle.aig_check_commands.proofs.Outcomes.{err_of}
+use Rattle.aig_check_commands.proofs.Viewed.{ran_seen}
+
+-- ---- the file of a text
+
+-- a file is accepted within a higher limit too
+within_more : (low high : ℕ) (bytes : List ℕ) (f : File) → low ≤ high → Accepts bytes low f
+    → Accepts bytes high f
+within_more low high bytes f le is = (
+  is.0,
+  record {
+    within = omega (arith, le, is.1.within);
+    enough = is.1.enough;
+    definable = is.1.definable;
+    distinct = is.1.distinct;
+    in_range = is.1.in_range;
+    resets = is.1.resets;
+    order = is.1.order;
+    named = is.1.named;
+    once = is.1.once;
+  },
+)
+
+-- what is read of the text of a circuit is its file
+read_back : {T : Type 0} {Holds : List ℕ → File → Type 0} {Means : File → T → Type 0}
+    {rest : Option (List ℕ)} {x : T} (limit : ℕ) (m : Circuit)
+    → ((bytes : List ℕ) (f : File) → Holds bytes f → Accepts bytes limit f)
+    → IsReadAgain m (file_of Text m) → IsAtEnd rest → IsReadAs Holds Means (Some (text_of m)) rest x
+    → Means (file_of Text m) x
+read_back {Means = Means} {rest = rest} {x = x} limit m accepts again end read =
+    let text = text_of m in
+    let wide = limit + length m.nodes in
+    let is = Consumes-whole (Some text) rest read.bytes (λ bytes. Accepts bytes limit read.file)
+    read.taken end (accepts read.bytes read.file read.holds) in
+    let same = one_file wide text read.file (file_of Text m)
+    (within_more limit wide text read.file (omega arith) is) (again.0 wide (omega arith)) in
+    subst (λ f. Means f x) same read.means
+
+-- ---- what is so of the file
+
+-- a justice property has a fair run exactly where it has a fair lasso
+abbrev pub AreLassos : Type 0
+AreLassos = (g : File) (i : ℕ) → HasFairRun g i ↔ ((k : ℕ) × HasFairLasso g i k)
+
+-- what is made reaches no bad state: there is no fair run
+no_run : (runs_are : AreLassos) (a : Justice) (f : File) (m : Circuit) → IsMadeOf a f m
+    → ((n : ℕ) → IsSafeTo (file_of Text m) n) → ¬ HasFairRun f a.property
+no_run runs_are a f m made safe = none a.rounds made
+  where
+    never : (n : ℕ) → ¬ HasWitness (file_of Text m) n
+    never n = (safe_is (file_of Text m) n).1 (safe n) n (omega arith)
+
+    none : (rounds : Option ℕ)
+        → MatchOption rounds (IsLiveFile a.property f m) (λ n. IsRoundsFile a.property n f m)
+        → ¬ HasFairRun f a.property
+    none None live = λ run.
+        let lasso = (runs_are f a.property).0 run in
+        never lasso.0 ((live.shows lasso.0).1 lasso.1)
+    none (Some n) rounds = rounds.none never
+
+-- its text is read as its file
+made_again : (a : Justice) (f : File) (m : Circuit) → IsMadeOf a f m
+    → IsReadAgain m (file_of Text m)
+made_again a f m made = again a.rounds made
+  where
+    again : (rounds : Option ℕ)
+        → MatchOption rounds (IsLiveFile a.property f m) (λ n. IsRoundsFile a.property n f m)
+        → IsReadAgain m (file_of Text m)
+    again None live = live.again
+    again (Some n) rounds = rounds.again
+
+-- it is asked about, without rounds
+live_of : (rounds : Option ℕ) (property : ℕ) (f : File) (m : Circuit) → is_none rounds ≡ true
+    → MatchOption rounds (IsLiveFile property f m) (λ n. IsRoundsFile property n f m)
+    → IsLiveFile property f m
+live_of None property f m is live = live
+live_of (Some n) property f m is live = cc
+
+-- what was given beside its text was taken
+module _ (runs_are : AreLassos) (limit : ℕ) (a : Justice) (f : File) (m : Circuit)
+    (made : IsMadeOf a f m) (failed : Bool) (rest : Stream) (w done : Discarded) where
+  file_shows : {P : Type 0} {given : P → Option (List ℕ)} {given_failed : P → Bool} (p used : P)
+      (c : FileCommand) → 0 < beside_of (commands.File c)
+      → IsTrue (is_asked (Some a) (commands.File c))
+      → Runs bytes_of has_failed given given_failed keeps_nothing never_fails c limit
+      (Some (text_of m), failed) p w (Ok tt) rest used done
+      → ShowsFair (commands.File c) a.property f
+  file_shows p used (on_file.Refuted k optimize) some asked runs =
+      let live = live_of a.rounds a.property f m asked made in
+      let answer = read_back limit m (λ bytes g is. is.0.0) live.again (runs.verdict.whole tt).1
+      runs.ok.1 in
+      λ lasso. answer.1 ((live.shows k).1 lasso)
+  file_shows p used (on_file.RefutedTo k optimize) some asked runs =
+      let live = live_of a.rounds a.property f m asked made in
+      let answer = read_back limit m (λ bytes g is. is.0) live.again (runs.verdict.whole tt).1
+      runs.ok.1 in
+      λ n low lasso. (safe_is (file_of Text m) k).1 answer.1 n low ((live.shows n).1 lasso)
+  file_shows p used (on_file.Inductive k form optimize) some asked runs =
+      let live = live_of a.rounds a.property f m asked made in
+      let answer = read_back limit m (λ bytes g is. is.0.0) live.again (runs.verdict.whole tt).1
+      runs.ok.1 in
+      let g = file_of Text m in
+      λ none run.
+      let lasso = (runs_are f a.property).0 run in
+      let first = (safe_is g k).0 (λ n low found. none n low ((live.shows n).0 found)) in
+      (safe_is g lasso.0).1 (answer.2 first lasso.0) lasso.0 (omega arith) ((live.shows lasso.0).1
+      lasso.1)
+  file_shows p used (on_file.Clauses k optimize) some asked runs = absurd (omega (arith, some))
+  file_shows p used (on_file.Window k form optimize) some asked runs = absurd (omega (arith, some))
+  file_shows p used (on_file.Bounded k optimize) some asked runs = absurd (omega (arith, some))
+  file_shows p used c some asked runs = absurd (true≢false (sym asked))
+
+  pair_shows : {S P Q : Type 0} {left_of : S → Option (List ℕ)} {failed_of : S → Bool}
+      {base_left : P → Option (List ℕ)} {base_failed : P → Bool} {step_left : Q → Option (List ℕ)}
+      {step_failed : Q → Bool} (s other : S) (p used : P) (q spent : Q) (c : PairCommand)
+      → 0 < beside_of (commands.Pair c) → IsTrue (is_asked (Some a) (commands.Pair c))
+      → RunsPair bytes_of has_failed left_of failed_of base_left base_failed step_left step_failed
+      keeps_nothing never_fails c limit (Some (text_of m), failed) s p q w (Ok tt) rest other used
+      spent done
+      → ShowsFair (commands.Pair c) a.property f
+  pair_shows s other p used q spent (on_pair.Certified optimize) some asked runs =
+      let both = runs.reads in
+      no_run runs_are a f m made
+      (read_back limit m (λ bytes g is. is) (made_again a f m made) (both.verdict.whole tt).1
+      (both.answer refl refl)).means.1.1.0.1
+  pair_shows s other p used q spent (on_pair.Obligations optimize) some asked runs =
+      absurd (omega (arith, some))
+  pair_shows s other p used q spent c some asked runs = absurd (true≢false (sym asked))
+
+  ran_shows : {S : Type 0} (left_of : S → Option (List ℕ)) (failed_of : S → Bool) (c : Command)
+      (files others : List S) → 0 < beside_of c → IsTrue (is_asked (Some a) c)
+      → Ran bytes_of has_failed left_of failed_of keeps_nothing never_fails limit c
+      (Some (text_of m), failed) files w (Ok tt) rest others done
+      → ShowsFair c a.property f
+  ran_shows left_of failed_of (commands.File c) [] [] some asked ran =
+      file_shows tt tt c some asked ran
+  ran_shows left_of failed_of (commands.File c) (p ∷ []) (used ∷ []) some asked ran =
+      file_shows p used c some asked ran
+  ran_shows left_of failed_of (commands.Pair c) (s ∷ []) (other ∷ []) some asked ran =
+      pair_shows s other tt tt tt tt c some asked ran
+  ran_shows left_of failed_of (commands.Pair c) (s ∷ p ∷ []) (other ∷ used ∷ []) some asked ran =
+      pair_shows s other p used tt tt c some asked ran
+  ran_shows left_of failed_of (commands.Pair c) (s ∷ p ∷ q ∷ []) (other ∷ used ∷ spent ∷ []) some
+      asked ran =
+      pair_shows s other p used q spent c some asked ran
+  ran_shows left_of failed_of (commands.Safe k form base_optimize step_optimize) (p ∷ q ∷ [])
+      (used ∷ spent ∷ []) some asked runs =
+      no_run runs_are a f m made
+      (read_back limit m (λ bytes g is. is.0.0) (made_again a f m made) (runs.verdict.whole tt).1
+      (runs.safe tt)).0
+  ran_shows left_of failed_of (commands.SafeBySteps k form base_optimize step_optimize) files
+      others some asked ran =
+      absurd (true≢false (sym asked))
+  ran_shows left_of failed_of (commands.EqualBy optimize) files others some asked ran =
+      absurd (true≢false (sym asked))
+  ran_shows left_of failed_of c files others some asked ran = absurd ran
+
+pub shows_fair : {S : Type 0} (left_of : S → Option (List ℕ)) (failed_of : S → Bool)
+    (runs_are : AreLassos) (limit : ℕ) (a : Justice) (f : File) (m : Circuit) → IsMadeOf a f m
+    → (c : Command) (files others : List S) → 0 < beside_of c → IsTrue (is_asked (Some a) c)
+    → ChecksText left_of failed_of limit c files others (text_of m) (Ok tt)
+    → ShowsFair c a.property f
+shows_fair left_of failed_of runs_are limit a f m made c files others some asked checks =
+    let on = checks.2 in
+    ran_shows runs_are limit a f m made on.0 on.1 checks.0 checks.1 left_of failed_of c files others
+    some asked on.2
+
+-- ---- the making
+
+-- which file is written of the two
+pub writes_made : {R W : Type 0} (left : R → Option (List ℕ)) (failed : R → Bool) (limit : ℕ)
+    (held : W → Option (List ℕ)) (write_failed : W → Bool) (a : Justice) (r rest : R) (w made : W)
+    (result : Result (Unit {0}) EditError) (Writes : File → Result (Unit {0}) EditError → Type 0)
+    → ReadsFile left failed limit Writes edit_verdict IsEditOwn r result rest
+    → ((f : File) → Writes f result → WritesMade held write_failed a w made f result)
+    → ReadsFile left failed limit (WritesMade held write_failed a w made) edit_verdict IsEditOwn r
+    result rest
+writes_made left failed limit held write_failed a r rest w made result Writes told so =
+    file_on left failed limit r rest (WritesMade held write_failed a w made) edit_verdict IsEditOwn
+    result told refl told.own (λ f fits. so f)
+
+-- a writer that held nothing holds just the text
+only_text : (old new : Option (List ℕ)) (text items : List ℕ) → Appends old new text
+    → old ≡ Some [] → new ≡ Some items → items ≡ text
+only_text old new text items appends none all =
+    subst (λ n. Appends (Some []) n text) all (subst (λ o. Appends o new text) none appends)
+
+module _ {W : Type 0} (held : W → Option (List ℕ)) (write_failed : W → Bool) (a : Justice) (w made
+    : W) (f : File) where
+  pub made_whole : (u : Unit {0}) (text : Vec ℕ Global) → held w ≡ Some [] → held made ≡ Some
+      text.items
+      → WritesMade held write_failed a w made f (Ok u) → MakesText a f (Ok text)
+  made_whole u text none all told = by a.rounds told
+    where
+      by : (rounds : Option ℕ) → MatchOption rounds (PrintsLive held write_failed a.property w made
+          f (Ok u)) (λ n. PrintsRounds held write_failed a.property n w made f (Ok u))
+          → (m : Circuit) × MatchOption rounds (IsLiveFile a.property f m) (λ n. IsRoundsFile
+          a.property n f m) × (text.items ≡ text_of m)
+      by None told = (told.0, told.1, only_text _ _ _ _ told.2 none all)
+      by (Some n) told = (told.0, told.1, only_text _ _ _ _ told.2 none all)
+
+  pub made_not : (e : EditError) → WritesMade held write_failed a w made f (Err e) → IsUnmade a f
+      (text_error e)
+  made_not e told = by e a.rounds told
+    where
+      by : (e : EditError) → (rounds : Option ℕ) → MatchOption rounds (PrintsLive held write_failed
+          a.property w made f (Err e)) (λ n. PrintsRounds held write_failed a.property n w made f
+          (Err e))
+          → MatchOption rounds (IsLiveRefusal a.property f (text_error e)) (λ n. IsRoundsRefusal
+          a.property n f (text_error e))
+      by edit.Write None told = slice_get_within f.properties.justice a.property told.1.asked.0
+          told.1.asked.1
+      by edit.Write (Some n) told = slice_get_within f.properties.justice a.property told.1.asked.0
+          told.1.asked.1
+      by e None told = told
+      by e (Some n) told = told
+
+-- an error is said of the same bytes where the text is made in memory
+pub same_said : (e : EditError) → edit_verdict (text_error e) ≡ edit_verdict e
+same_said edit.Write = refl
+same_said e = refl
+
+pub same_own : (e : EditError) → IsEditOwn e → IsEditOwn (text_error e)
+same_own edit.Write own = tt
+same_own e own = own
+
+module _ {R : Type 0} (left : R → Option (List ℕ)) (failed : R → Bool) (limit : ℕ) (a : Justice)
+    (Means : File → List ℕ → Result (Unit {0}) CheckError → Type 0) (Unread : Type 0) (r rest : R)
+  where
+    -- nothing was made
+    pub unmade : (e : EditError)
+        → ReadsFile left failed limit (MakesText a) edit_verdict IsEditOwn r (Err e) rest → Unread
+        → RunsMade left failed limit a Means Unread r (Err (errors.Unmade e)) rest
+    unmade e told same = record {
+      reads = file_on left failed limit r rest (TellsMade a Means) made_verdict IsMadeOwn
+          (Err (errors.Unmade e)) told refl told.own (λ f fits means. means);
+      unread = λ is. same;
+    }
+
+    -- what the command did on the text that was made
+    pub ran : (text : Vec ℕ Global) (result : Result (Unit {0}) CheckError)
+        → IfErr result (λ e. ¬ IsOfMaking e)
+        → ReadsFile left failed limit (MakesText a) edit_verdict IsEditOwn r (Ok text) rest
+        → ((f : File) (m : Circuit) → IsMadeOf a f m → text.items ≡ text_of m → Means f (text_of m)
+        result)
+        → RunsMade left failed limit a Means Unread r result rest
+    ran text result not told means = record {
+      reads = file_on left failed limit r rest (TellsMade a Means) made_verdict IsMadeOwn result
+          told (accepted result not) (own result not)
+          (λ f fits made. tells result not f made.0 made.1 (means f made.0 made.1 made.2));
+      unread = unread result not;
+    }
+      where
+        accepted : (x : Result (Unit {0}) CheckError) → IfErr x (λ e. ¬ IsOfMaking e)
+            → verdict_by made_verdict x ≡ Accepted
+        accepted (Ok u) not = refl
+        accepted (Err (errors.Unmade e)) not = absurd (not tt)
+        accepted (Err e) not = refl
+
+        own : (x : Result (Unit {0}) CheckError) → IfErr x (λ e. ¬ IsOfMaking e) → IfErr x IsMadeOwn
+        own (Ok u) not = tt
+        own (Err (errors.Unmade e)) not = absurd (not tt)
+        own (Err e) not = tt
+
+        unread : (x : Result (Unit {0}) CheckError) → IfErr x (λ e. ¬ IsOfMaking e)
+            → IfErr x (λ e. IsOfMaking e → Unread)
+        unread (Ok u) not = tt
+        unread (Err e) not = λ is. absurd (not is)
+
+        tells : (x : Result (Unit {0}) CheckError) → IfErr x (λ e. ¬ IsOfMaking e) → (f : File)
+            (m : Circuit) → IsMadeOf a f m → Means f (text_of m) x → TellsMade a Means f x
+        tells (Ok u) not f m made means = (m, made, means)
+        tells (Err (errors.Unmade e)) not f m made means = absurd (not tt)
+        tells (Err e) not f m made means = (m, made, means)
+
+-- ---- which errors a command has on the text
+
+never_unmade : (c : FileCommand) (e : CheckError) → IsErrorOf c e → ¬ IsOfMaking e
+never_unmade (on_file.Clauses k o) (errors.Unmade e) own is = own
+never_unmade (on_file.Window k form o) (errors.Unmade e) own is = own
+never_unmade (on_file.Refuted k o) (errors.Unmade e) own is = own
+never_unmade (on_file.Inductive k form o) (errors.Unmade e) own is = own
+never_unmade (on_file.Witness k o) (errors.Unmade e) own is = own
+never_unmade on_file.Run (errors.Unmade e) own is = own
+never_unmade (on_file.Bounded k o) (errors.Unmade e) own is = own
+never_unmade (on_file.RefutedTo k o) (errors.Unmade e) own is = own
+never_unmade (on_file.WitnessTo k o) (errors.Unmade e) own is = own
+never_unmade c e own is = is
+
+pair_never_unmade : (c : PairCommand) (e : CheckError) → IsErrorOfPair c e → ¬ IsOfMaking e
+pair_never_unmade (on_pair.Certified o) (errors.Unmade e) own is = own
+pair_never_unmade (on_pair.Equal k o) (errors.Unmade e) own is = own
+pair_never_unmade (on_pair.Obligations o) (errors.Unmade e) own is = own
+pair_never_unmade (on_pair.AlwaysEqual k form o p) (errors.Unmade e) own is = own
+pair_never_unmade c e own is = is
+
+compare_never_unmade : (e : CheckError) → IsErrorOfComparing e → ¬ IsOfMaking e
+compare_never_unmade (errors.Unmade e) own is = own
+compare_never_unmade e own is = is
+
+safe_never_unmade : (e : CheckError) → IsErrorOfSafe e → ¬ IsOfMaking e
+safe_never_unmade (errors.Unmade e) own is = own
+safe_never_unmade e own is = is
+
+steps_never_unmade : (k : ℕ) (e : CheckError) → IsErrorOfSteps k e → ¬ IsOfMaking e
+steps_never_unmade k (errors.Unmade e) own is = own
+steps_never_unmade k e own is = is
+
+each_error : (IsOwn IsSuch : CheckError → Type 0) → ((e : CheckError) → IsOwn e → IsSuch e)
+    → (result : Result (Unit {0}) CheckError) → IfErr result IsOwn → IfErr result IsSuch
+each_error IsOwn IsSuch so (Ok u) own = tt
+each_error IsOwn IsSuch so (Err e) own = so e own
+
+-- a check that was not passed, and no line
+pub concludes_refused : {W : Type 0} (held : W → Option (List ℕ)) (write_failed : W → Bool)
+    (line : List ℕ) (Shown : Type 0) (Checks : Result (Unit {0}) CheckError → Type 0) (w made : W)
+    (e : CheckError) → e ≢ errors.Write → Checks (Err e) → made ≡ w
+    → Concludes held write_failed line Shown Checks w made (Err e)
+concludes_refused held write_failed line Shown Checks w made errors.Write not checks same =
+    absurd (not refl)
+concludes_refused held write_failed line Shown Checks w made e not checks same = (checks, same)
+
+-- where nothing is written, no write fails
+stops_never : {text : List ℕ} → ¬ Stops None None false text
+stops_never stops = let no = stops.has_failed in cc
+
+runs_no_write : {R P : Type 0} {left : R → Option (List ℕ)} {failed : R → Bool}
+    {given : P → Option (List ℕ)} {given_failed : P → Bool} {c : FileCommand} {limit : ℕ}
+    {r rest : R} {p used : P} {w made : Discarded} (e : CheckError)
+    → Runs left failed given given_failed keeps_nothing never_fails c limit r p w (Err e) rest used
+    made
+    → e ≢ errors.Write
+runs_no_write e runs is = stops_never (runs.stopped (err_of e errors.Write is)).2
+
+safe_no_write : {R P Q : Type 0} {left : R → Option (List ℕ)} {failed : R → Bool}
+    {base_left : P → Option (List ℕ)} {base_failed : P → Bool} {step_left : Q → Option (List ℕ)}
+    {step_failed : Q → Bool} {k : ℕ} {form : Window} {base_optimize step_optimize : Bool}
+    {limit : ℕ} {r rest : R} {p used : P} {q spent : Q} {w made : Discarded} (e : CheckError)
+    → RunsSafe left failed base_left base_failed step_left step_failed keeps_nothing never_fails k
+    form base_optimize step_optimize limit r p q w (Err e) rest used spent made
+    → e ≢ errors.Write
+safe_no_write e runs is = stops_never (runs.stopped (err_of e errors.Write is))
+
+steps_no_write : {R P Q : Type 0} {left : R → Option (List ℕ)} {failed : R → Bool}
+    {base_left : P → Option (List ℕ)} {base_failed : P → Bool} {step_left : Q → Option (List ℕ)}
+    {step_failed : Q → Bool} {k : ℕ} {form : Window} {base_optimize step_optimize : Bool}
+    {limit : ℕ} {r rest : R} {ps used : List P} {q spent : Q} {w made : Discarded} (e : CheckError)
+    → RunsSafeBySteps left failed base_left base_failed step_left step_failed keeps_nothing
+    never_fails k form base_optimize step_optimize limit r ps q w (Err e) rest used spent made
+    → e ≢ errors.Write
+steps_no_write e runs is = stops_never (runs.stopped (err_of e errors.Write is))
+
+pair_no_write : {R S P Q : Type 0} {left : R → Option (List ℕ)} {failed : R → Bool}
+    {left_of : S → Option (List ℕ)} {failed_of : S → Bool} {base_left : P → Option (List ℕ)}
+    {base_failed : P → Bool} {step_left : Q → Option (List ℕ)} {step_failed : Q → Bool}
+    {c : PairCommand} {limit : ℕ} {r rest : R} {s other : S} {p used : P} {q spent : Q}
+    {w made : Discarded} (e : CheckError)
+    → RunsPair left failed left_of failed_of base_left base_failed step_left step_failed
+    keeps_nothing never_fails c limit r s p q w (Err e) rest other used spent made
+    → e ≢ errors.Write
+pair_no_write errors.Write runs is = stops_never (runs.reads.answer refl refl).means.means.2
+pair_no_write e runs is = cc
+
+comparing_no_write : {R S : Type 0} {left : R → Option (List ℕ)} {failed : R → Bool}
+    {left_of : S → Option (List ℕ)} {failed_of : S → Bool} {optimize : Bool} {limit : ℕ}
+    {r rest : R} {s other c tried p used q spent : S} {w made : Discarded} (e : CheckError)
+    → RunsComparing left failed left_of failed_of left_of failed_of left_of failed_of left_of
+    failed_of keeps_nothing never_fails optimize limit r s c p q w (Err e) rest other tried used
+    spent made
+    → e ≢ errors.Write
+comparing_no_write errors.Write runs is = stops_never (runs.reads.answer refl refl).means.means.1
+comparing_no_write e runs is = cc
+
+module _ {R S : Type 0} (left : R → Option (List ℕ)) (failed : R → Bool)
+    (left_of : S → Option (List ℕ)) (failed_of : S → Bool) (limit : ℕ) (r rest : R) where
+  pub ran_no_write : (w made : Discarded) (c : Command) (files others : List S) (e : CheckError)
+      → Ran left failed left_of failed_of keeps_nothing never_fails limit c r files w (Err e) rest
+      others made
+      → e ≢ errors.Write
+  ran_no_write w made (commands.File c) [] [] e ran = runs_no_write e ran
+  ran_no_write w made (commands.File c) (p ∷ []) (used ∷ []) e ran = runs_no_write e ran
+  ran_no_write w made (commands.Pair c) (s ∷ []) (other ∷ []) e ran = pair_no_write e ran
+  ran_no_write w made (commands.Pair c) (s ∷ p ∷ []) (other ∷ used ∷ []) e ran = pair_no_write e ran
+  ran_no_write w made (commands.Pair c) (s ∷ p ∷ q ∷ []) (other ∷ used ∷ spent ∷ []) e ran =
+      pair_no_write e ran
+  ran_no_write w made (commands.Safe k form o y) (p ∷ q ∷ []) (used ∷ spent ∷ []) e ran =
+      safe_no_write e ran
+  ran_no_write w made (commands.SafeBySteps k form o y) files others e ran =
+      steps_no_write e ran.runs
+  ran_no_write w made (commands.EqualBy o) (s ∷ c ∷ p ∷ q ∷ []) (other ∷ tried ∷ used ∷ spent ∷ []) e ran =
+      comparing_no_write e ran
+  ran_no_write w made c files others e ran = absurd ran
+
+  module _ {W : Type 0} (held : W → Option (List ℕ)) (write_failed : W → Bool) (w made : W)
+      (result : Result (Unit {0}) CheckError) where
+    pub ran_no_making : (c : Command) (files others : List S)
+        → Ran left failed left_of failed_of held write_failed limit c r files w result rest others
+        made
+        → IfErr result (λ e. ¬ IsOfMaking e)
+    ran_no_making (commands.File c) [] [] ran = each_error _ _ (never_unmade c) result ran.own
+    ran_no_making (commands.File c) (p ∷ []) (used ∷ []) ran =
+        each_error _ _ (never_unmade c) result ran.own
+    ran_no_making (commands.Pair c) (s ∷ []) (other ∷ []) ran =
+        each_error _ _ (pair_never_unmade c) result ran.reads.own
+    ran_no_making (commands.Pair c) (s ∷ p ∷ []) (other ∷ used ∷ []) ran =
+        each_error _ _ (pair_never_unmade c) result ran.reads.own
+    ran_no_making (commands.Pair c) (s ∷ p ∷ q ∷ []) (other ∷ used ∷ spent ∷ []) ran =
+        each_error _ _ (pair_never_unmade c) result ran.reads.own
+    ran_no_making (commands.Safe k form o y) (p ∷ q ∷ []) (used ∷ spent ∷ []) ran =
+        each_error _ _ safe_never_unmade result ran.own
+    ran_no_making (commands.SafeBySteps k form o y) files others ran =
+        each_error _ _ (steps_never_unmade k) result ran.runs.own
+    ran_no_making (commands.EqualBy o) (s ∷ c ∷ p ∷ q ∷ []) (other ∷ tried ∷ used ∷ spent ∷ []) ran =
+        each_error _ _ compare_never_unmade result ran.reads.own
+    ran_no_making c files others ran = absurd ran
+
+    -- a command that was run on a text
+    pub ran_on_text : (text : List ℕ) (c : Command) (files others : List S)
+        → left r ≡ Some text
+        → Ran left failed left_of failed_of held write_failed limit c r files w result rest others
+        made
+        → PrintsMade left_of failed_of held write_failed limit c files others w made text result
+    ran_on_text text c files others is ran =
+        let seen = ran_seen (λ x. (left x, failed x)) bytes_of has_failed held write_failed limit r
+        rest w made result (λ (x : S). x) left_of failed_of c files others ran in (
+          failed r,
+          (left rest, failed rest),
+          rw (is, map-id files, map-id others) at seen,
+        )
+
+-- ---- which commands print
+
+pub prints_not : (c : Command) → 0 < beside_of c → prints c ≡ false
+prints_not c some = false_from_ne_true _ (λ is.
+    let none = eqb-true (beside_of c) 0 is in
+    omega (arith, some, none))
+
+pub checks_where : (c : Command) → prints c ≡ false → 0 < beside_of c
+checks_where c not = from (beside_of c) not
+  where
+    from : (n : ℕ) → (n == 0) ≡ false → 0 < n
+    from zero is = cc
+    from (suc n) is = omega arith
+
+pub prints_where : (c : Command) → prints c ≡ true → beside_of c ≡ 0
+prints_where c is = eqb-true (beside_of c) 0 is

@@ -1,0 +1,448 @@
+-- What a command does is so of what is seen of its files: of their bytes alone.
+use Rattle.aig_base.proofs.Words.{◌≡◌, ℕ, ◌+◌, Bool, true, false, List, [], ◌∷◌, Option, None, Some, Ok, Err, ap, map, map-append, sym, ◌∙◌}
+use Rattle.std.specs.Prelude.{IfErr, IsTrue, Result, option_map, slice_get}
+use Rattle.std.proofs.lemmas.Option.{slice_get-map}
+use Rattle.aig_answers.specs.Answers.{TellsOfStep, TellsOfWindow}
+use Rattle.aig_answers.specs.Asking.{AnswersCircuit}
+use Rattle.aig_answers.specs.declared.bounded_checks.error.BoundedAnswerError.{BoundedAnswerError}
+use Rattle.aig_answers.specs.Comparing.{CertifiesMiter, EqualsBy}
+use Rattle.aig_answers.specs.declared.certificates.compare_error.MiterError.{MiterError}
+use Rattle.aig_answers.specs.declared.certificates.compare_error.MiterError.TheVariants as miter
+use Rattle.aig_answers.specs.declared.certificates.error.CertificateError.{CertificateError}
+use Rattle.aig_circuit.specs.Circuit.{Circuit}
+use Rattle.aig_format.specs.File.{File}
+use Rattle.aig_reader.specs.Reading.{IsReadAs}
+use Rattle.aig_runs.specs.declared.window.Window.{Window}
+use Rattle.aig_answers.specs.Safety.{Shows, ShowsCircuit}
+use Rattle.aig_answers.specs.declared.safety.error.SafetyError.{SafetyError}
+use Rattle.aig_answers.specs.Steps.{AreTaken, HasAt, Show, ShowEach, Told}
+use Rattle.aig_answers.specs.declared.safety.error.SafetyError.TheVariants as proving
+use Rattle.aig_answers.specs.declared.safety.error.StepsError.{StepsError}
+use Rattle.aig_answers.specs.declared.safety.error.StepsError.TheVariants as stepping
+use Rattle.aig_check_commands.specs.declared.command.Command.{Command}
+use Rattle.aig_check_commands.specs.declared.command.Command.TheVariants as commands
+use Rattle.aig_check_commands.specs.declared.command.FileCommand.{FileCommand}
+use Rattle.aig_check_commands.specs.declared.command.PairCommand.{PairCommand}
+use Rattle.aig_check_commands.specs.declared.error.CheckError.{CheckError}
+use Rattle.aig_check_commands.specs.declared.error.CheckError.TheVariants as errors
+use Rattle.aig_check_commands.specs.Comparing.{RunsComparing, TellsOfComparing}
+use Rattle.aig_check_commands.specs.Acting.{RanBy}
+use Rattle.aig_check_commands.specs.declared.justice.Justice.{Justice}
+use Rattle.aig_check_commands.specs.Inputs.{Ran, bytes_of, has_failed}
+use Rattle.aig_check_commands.specs.Living.{ChecksText, Concludes, MeansMade, PrintsMade, ShowsFair, TellsMade, fair_line}
+use Rattle.aig_check_commands.specs.CommandWords.{prints}
+use Rattle.aig_check_commands.specs.Pairs.{RunsPair}
+use Rattle.aig_check_commands.specs.Running.{Runs, nothing_fails, nothing_given}
+use Rattle.aig_check_commands.specs.Safe.{RunsSafe, TellsWhy}
+use Rattle.aig_check_commands.specs.SafeBySteps as by_steps
+use Rattle.aig_check_commands.specs.SafeBySteps.{RunsOnProofs, RunsSafeBySteps}
+
+-- a value of the same file, with another meaning
+pub read_as : {T U : Type 0} {Holds : List ℕ → File → Type 0} (Means : File → T → Type 0)
+    (Other : File → U → Type 0) {old new : Option (List ℕ)}
+    {value : T} {another : U} → ((f : File) → Means f value → Other f another)
+    → IsReadAs Holds Means old new value → IsReadAs Holds Other old new another
+read_as Means Other so was = record {
+  file = was.file;
+  bytes = was.bytes;
+  holds = was.holds;
+  means = so was.file was.means;
+  taken = was.taken;
+}
+
+-- what isn't read stays as it is seen
+left_as : {P Q : Type 0} (on : P → Q) (Leaves : CheckError → Type 0) (p used : P)
+    (result : Result (Unit {0}) CheckError) → IfErr result (λ e. Leaves e → used ≡ p)
+    → IfErr result (λ e. Leaves e → on used ≡ on p)
+left_as on Leaves p used (Ok u) unread = tt
+left_as on Leaves p used (Err e) unread = λ is. ap on (unread is)
+
+module _ {P Q B C : Type 0} (by : P → B) (base_left : B → Option (List ℕ)) (at : Q → C)
+    (step_left : C → Option (List ℕ)) (k : ℕ) (form : Window) (base_optimize step_optimize : Bool)
+    (p used : P) (q : Q) where
+  base_seen : (c : Circuit) (x : Result (Unit {0}) BoundedAnswerError)
+      → AnswersCircuit (λ y. base_left (by y)) k base_optimize p used c x
+      → AnswersCircuit base_left k base_optimize (by p) (by used) c x
+  base_seen c x told = (
+    told.0,
+    λ made asks.
+        let of = told.1 made asks in
+        record {
+          settled = λ is. ((of.settled is).0, ap by (of.settled is).1);
+          shown = of.shown;
+        },
+  )
+
+  circuit_seen : (c : Circuit) (x : Result (Unit {0}) SafetyError)
+      → ShowsCircuit (λ y. base_left (by y)) (λ y. step_left (at y)) k base_optimize form
+      step_optimize p used q c x
+      → ShowsCircuit base_left step_left k base_optimize form step_optimize (by p) (by used)
+      (at q) c x
+  circuit_seen c (Ok u) told = (base_seen c (Ok tt) told.0, told.1)
+  circuit_seen c (Err (proving.File e)) told = absurd told
+  circuit_seen c (Err (proving.Base e)) told = base_seen c (Err e) told
+  circuit_seen c (Err (proving.Step e)) told = (base_seen c (Ok tt) told.0, told.1)
+
+  shown_seen : (f : File) (x : Result (Unit {0}) SafetyError)
+      → Shows (λ y. base_left (by y)) (λ y. step_left (at y)) k base_optimize form step_optimize p
+      used q f x
+      → Shows base_left step_left k base_optimize form step_optimize (by p) (by used) (at q) f x
+  shown_seen f (Ok u) told = (told.0, circuit_seen _ (Ok tt) told.1)
+  shown_seen f (Err e) told = circuit_seen _ (Err e) told
+
+  why_seen : (limit : ℕ) (old new : Option (List ℕ)) (x : Result (Unit {0}) CheckError)
+      → IfErr x (TellsWhy (Shows (λ y. base_left (by y)) (λ y. step_left (at y)) k base_optimize
+      form step_optimize p used q) limit k old new)
+      → IfErr x (TellsWhy (Shows base_left step_left k base_optimize form step_optimize (by p)
+      (by used) (at q)) limit k old new)
+  why_seen limit old new (Ok u) told = tt
+  why_seen limit old new (Err (errors.Safe e)) told =
+      (λ is. read_as _ _ (λ f. shown_seen f (Err e)) (told.0 is), told.1)
+  why_seen limit old new (Err e) told = told
+
+-- what holds of one of a list holds of it as it is seen
+at_seen : {A B : Type 0} (on : A → B) (xs : List A) (n : ℕ) (Holds : B → Type 0)
+    → HasAt xs n (λ x. Holds (on x)) → HasAt (map on xs) n Holds
+at_seen on xs n Holds at = (on at.0, slice_get-map on xs n ∙ ap (option_map on) at.1, at.2)
+
+module _ {S B : Type 0} (on : S → B) (left_of : B → Option (List ℕ)) (k : ℕ) (form : Window)
+    (base_optimize step_optimize : Bool) (bases : List S) (step : S) where
+  taken_seen : (OfStep : ℕ → Told) (n : ℕ) → AreTaken (λ y. left_of (on y)) OfStep bases n
+      → AreTaken left_of OfStep (map on bases) n
+  taken_seen OfStep n taken j low =
+      at_seen on bases j (λ y. OfStep j (left_of y) (Ok tt)) (taken j low)
+
+  each_seen : (OfStep : ℕ → Told) (OfWindow : Told) (x : Result (Unit {0}) StepsError)
+      → ShowEach (λ y. left_of (on y)) (λ y. left_of (on y)) OfStep OfWindow k bases step x
+      → ShowEach left_of left_of OfStep OfWindow k (map on bases) (on step) x
+  each_seen OfStep OfWindow (Ok u) told = (taken_seen OfStep (k + 1) told.0, told.1)
+  each_seen OfStep OfWindow (Err (stepping.File e)) told = absurd told
+  each_seen OfStep OfWindow (Err (stepping.At n e)) told =
+      (taken_seen OfStep n told.0, at_seen on bases n (λ y. OfStep n (left_of y) (Err e)) told.1)
+  each_seen OfStep OfWindow (Err (stepping.Step e)) told =
+      (taken_seen OfStep (k + 1) told.0, told.1)
+
+  show_seen : (f : File) (x : Result (Unit {0}) StepsError)
+      → Show (λ y. left_of (on y)) (λ y. left_of (on y)) k base_optimize form step_optimize bases
+      step f x
+      → Show left_of left_of k base_optimize form step_optimize (map on bases) (on step) f x
+  show_seen f x told = (
+    told.0,
+    each_seen (λ n text. TellsOfStep n base_optimize text f)
+        (λ text. TellsOfWindow form k step_optimize text f) x told.1,
+  )
+
+  tells_seen : (limit : ℕ) (old new : Option (List ℕ)) (x : Result (Unit {0}) CheckError)
+      → IfErr x (by_steps.TellsWhy (Show (λ y. left_of (on y)) (λ y. left_of (on y)) k
+      base_optimize form step_optimize bases step) limit k old new)
+      → IfErr x (by_steps.TellsWhy (Show left_of left_of k base_optimize form step_optimize
+      (map on bases) (on step)) limit k old new)
+  tells_seen limit old new (Ok u) told = tt
+  tells_seen limit old new (Err (errors.Steps e)) told =
+      λ is. read_as _ _ (λ f. show_seen f (Err e)) (told is)
+  tells_seen limit old new (Err e) told = told
+
+  -- so are those that aren't read
+  bases_left : (used : List S) (x : Result (Unit {0}) CheckError)
+      → IfErr x (λ e. (n : ℕ) → by_steps.LeavesBase n e → slice_get used n ≡ slice_get bases n)
+      → IfErr x (λ e. (n : ℕ) → by_steps.LeavesBase n e
+      → slice_get (map on used) n ≡ slice_get (map on bases) n)
+  bases_left used (Ok u) unread = tt
+  bases_left used (Err e) unread =
+      λ n is. slice_get-map on used n ∙ ap (option_map on) (unread n is)
+      ∙ sym (slice_get-map on bases n)
+
+module _ {S B : Type 0} (on : S → B) (left_of : B → Option (List ℕ)) (failed_of : B → Bool)
+    (optimize : Bool) (limit : ℕ) (base step : Option (List ℕ)) (c tried : S) where
+  miter_seen : (f g : File) (x : Result (Unit {0}) CertificateError)
+      → CertifiesMiter (λ y. left_of (on y)) (λ y. failed_of (on y)) limit optimize
+      base step c tried f g x
+      → CertifiesMiter left_of failed_of limit optimize base step (on c)
+      (on tried) f g x
+  miter_seen f g x told =
+      (told.0, told.1, record { verdict = told.2.verdict; answer = told.2.answer })
+
+  equals_seen : (f g : File) (x : Result (Unit {0}) MiterError)
+      → EqualsBy (λ y. left_of (on y)) (λ y. failed_of (on y)) limit optimize base step c tried f g x
+      → EqualsBy left_of failed_of limit optimize base step (on c)
+      (on tried) f g x
+  equals_seen f g (Ok u) told = (told.0, miter_seen f g (Ok tt) told.1)
+  equals_seen f g (Err (miter.Pair e)) told = told
+  equals_seen f g (Err (miter.Certificate e)) told = miter_seen f g (Err e) told
+
+  told_seen : {W : Type 0} (held : W → Option (List ℕ)) (write_failed : W → Bool) (w made : W)
+      (f g : File) (x : Result (Unit {0}) CheckError)
+      → TellsOfComparing (λ y. left_of (on y)) (λ y. failed_of (on y)) held write_failed optimize
+      limit base step c tried w made f g x
+      → TellsOfComparing left_of failed_of held write_failed optimize limit base step (on c) (on tried) w made f g x
+  told_seen held write_failed w made f g (Ok u) told = (equals_seen f g (Ok tt) told.0, told.1, told.2)
+  told_seen held write_failed w made f g (Err errors.Write) told = (equals_seen f g (Ok tt) told.0, told.1)
+  told_seen held write_failed w made f g (Err (errors.Miter e)) told = equals_seen f g (Err e) told
+  told_seen held write_failed w made f g (Err e) told = absurd told
+
+module _ {R A : Type 0} (to : R → A) (left : A → Option (List ℕ)) (failed : A → Bool) {W : Type 0}
+    (held : W → Option (List ℕ)) (write_failed : W → Bool) (limit : ℕ) (r rest : R) (w made : W)
+    (result : Result (Unit {0}) CheckError) where
+  runs_seen : {P B : Type 0} (on : P → B) (given : B → Option (List ℕ)) (given_failed : B → Bool)
+      {c : FileCommand} {p used : P}
+      → Runs (λ x. left (to x)) (λ x. failed (to x)) (λ x. given (on x)) (λ x. given_failed (on x))
+      held write_failed c limit r p w result rest used made
+      → Runs left failed given given_failed held write_failed c limit (to r) (on p) w result
+      (to rest) (on used) made
+  runs_seen on given given_failed {p = p} {used = used} runs = record {
+    verdict = runs.verdict;
+    own = runs.own;
+    ok = runs.ok;
+    stopped = runs.stopped;
+    taken = runs.taken;
+    kept = runs.kept;
+    unread = left_as on _ p used result runs.unread;
+    refusal = runs.refusal;
+  }
+
+  pair_seen : {S P Q B C D : Type 0} (on : S → B) (left_of : B → Option (List ℕ))
+      (failed_of : B → Bool) (by : P → C) (base_left : C → Option (List ℕ)) (base_failed : C → Bool)
+      (at : Q → D) (step_left : D → Option (List ℕ)) (step_failed : D → Bool)
+      {c : PairCommand} {s other : S} {p used : P} {q spent : Q}
+      → RunsPair (λ x. left (to x)) (λ x. failed (to x)) (λ x. left_of (on x))
+      (λ x. failed_of (on x)) (λ x. base_left (by x)) (λ x. base_failed (by x))
+      (λ x. step_left (at x)) (λ x. step_failed (at x)) held write_failed c limit r s p q w result
+      rest other used spent made
+      → RunsPair left failed left_of failed_of base_left base_failed step_left step_failed held
+      write_failed c limit (to r) (on s) (by p) (at q) w result (to rest) (on other) (by used)
+      (at spent) made
+  pair_seen on left_of failed_of by base_left base_failed at step_left step_failed {p = p}
+      {used = used} {q = q} {spent = spent} runs = record {
+        reads = record {
+          verdict = runs.reads.verdict;
+          other_verdict = runs.reads.other_verdict;
+          unread = λ not. ap on (runs.reads.unread not);
+          answer = runs.reads.answer;
+          own = runs.reads.own;
+        };
+        kept = runs.kept;
+        base_unread = left_as by _ p used result runs.base_unread;
+        step_unread = left_as at _ q spent result runs.step_unread;
+        base_stream = runs.base_stream;
+        step_stream = runs.step_stream;
+        miter_base_stream = runs.miter_base_stream;
+        miter_step_stream = runs.miter_step_stream;
+      }
+
+  module _ {P Q B C : Type 0} (by : P → B) (base_left : B → Option (List ℕ))
+      (base_failed : B → Bool) (at : Q → C) (step_left : C → Option (List ℕ))
+      (step_failed : C → Bool) (k : ℕ) (form : Window) (base_optimize step_optimize : Bool)
+      (p used : P) (q spent : Q) where
+    safe_seen : RunsSafe (λ x. left (to x)) (λ x. failed (to x)) (λ x. base_left (by x))
+        (λ x. base_failed (by x)) (λ x. step_left (at x)) (λ x. step_failed (at x)) held
+        write_failed k form base_optimize step_optimize limit r p q w result rest used spent made
+        → RunsSafe left failed base_left base_failed step_left step_failed held write_failed k form
+        base_optimize step_optimize limit (to r) (by p) (at q) w result (to rest) (by used)
+        (at spent) made
+    safe_seen runs = record {
+      verdict = runs.verdict;
+      own = runs.own;
+      safe = λ taken. read_as _ _ (λ f. shown_seen by base_left at step_left k form base_optimize
+          step_optimize p used q f (Ok tt)) (runs.safe taken);
+      ok = runs.ok;
+      stopped = runs.stopped;
+      kept = runs.kept;
+      refusal = why_seen by base_left at step_left k form base_optimize step_optimize p used q limit
+          (left (to r)) (left (to rest)) result runs.refusal;
+      base_unread = left_as by _ p used result runs.base_unread;
+      step_unread = left_as at _ q spent result runs.step_unread;
+      base_stream = runs.base_stream;
+      step_stream = runs.step_stream;
+    }
+
+  module _ {S B : Type 0} (on : S → B) (left_of : B → Option (List ℕ)) (failed_of : B → Bool)
+      (k : ℕ) (form : Window) (base_optimize step_optimize : Bool) where
+    steps_seen : (bases used : List S) (step spent : S)
+        → RunsSafeBySteps (λ x. left (to x)) (λ x. failed (to x)) (λ x. left_of (on x))
+        (λ x. failed_of (on x)) (λ x. left_of (on x)) (λ x. failed_of (on x)) held write_failed k
+        form base_optimize step_optimize limit r bases step w result rest used spent made
+        → RunsSafeBySteps left failed left_of failed_of left_of failed_of held write_failed k form
+        base_optimize step_optimize limit (to r) (map on bases) (on step) w result (to rest)
+        (map on used) (on spent) made
+    steps_seen bases used step spent runs = record {
+      verdict = runs.verdict;
+      own = runs.own;
+      safe = λ taken. read_as _ _ (λ f. show_seen on left_of k form base_optimize step_optimize bases
+          step f (Ok tt)) (runs.safe taken);
+      ok = runs.ok;
+      stopped = runs.stopped;
+      kept = runs.kept;
+      refusal = tells_seen on left_of k form base_optimize step_optimize bases step limit
+          (left (to r)) (left (to rest)) result runs.refusal;
+      base_unread = bases_left on left_of k form base_optimize step_optimize bases step used result
+          runs.base_unread;
+      step_unread = left_as on _ step spent result runs.step_unread;
+      base_stream = λ n is.
+          at_seen on used n (λ p. IsTrue (failed_of p)) (runs.base_stream n is);
+      step_stream = runs.step_stream;
+    }
+
+    proofs_seen : (proofs others : List S)
+        → RunsOnProofs (λ x. left (to x)) (λ x. failed (to x)) (λ x. left_of (on x))
+        (λ x. failed_of (on x)) held write_failed k form base_optimize step_optimize limit r proofs w
+        result rest others made
+        → RunsOnProofs left failed left_of failed_of held write_failed k form base_optimize
+        step_optimize limit (to r) (map on proofs) w result (to rest) (map on others) made
+    proofs_seen proofs others ran = record {
+      bases = map on ran.bases;
+      step = on ran.step;
+      are = ap (λ (l : List S). map on l) ran.are ∙ map-append on ran.bases (ran.step ∷ []);
+      used = map on ran.used;
+      spent = on ran.spent;
+      become = ap (λ (l : List S). map on l) ran.become ∙ map-append on ran.used (ran.spent ∷ []);
+      runs = steps_seen ran.bases ran.used ran.step ran.spent ran.runs;
+    }
+
+  module _ {S B : Type 0} (on : S → B) (left_of : B → Option (List ℕ)) (failed_of : B → Bool)
+      (optimize : Bool) (s other c tried p used q spent : S) where
+    comparing_seen : RunsComparing (λ x. left (to x)) (λ x. failed (to x)) (λ x. left_of (on x))
+        (λ x. failed_of (on x)) (λ x. left_of (on x)) (λ x. failed_of (on x)) (λ x. left_of (on x))
+        (λ x. failed_of (on x)) (λ x. left_of (on x)) (λ x. failed_of (on x)) held write_failed
+        optimize limit r s c p q w result rest other tried used spent made
+        → RunsComparing left failed left_of failed_of left_of failed_of left_of failed_of left_of
+        failed_of held write_failed optimize limit (to r) (on s) (on c) (on p) (on q) w result
+        (to rest) (on other) (on tried) (on used) (on spent) made
+    comparing_seen runs = record {
+      reads = record {
+        verdict = runs.reads.verdict;
+        other_verdict = runs.reads.other_verdict;
+        unread = λ not. ap on (runs.reads.unread not);
+        answer = λ first second. read_as _ _ (λ f. read_as _ _ (λ g. told_seen on left_of failed_of
+            optimize limit (left_of (on p)) (left_of (on q)) c tried held write_failed w made f g result))
+            (runs.reads.answer first second);
+        own = runs.reads.own;
+      };
+      kept = runs.kept;
+      certificate_unread = left_as on _ c tried result runs.certificate_unread;
+      base_unread = left_as on _ p used result runs.base_unread;
+      step_unread = left_as on _ q spent result runs.step_unread;
+      base_stream = runs.base_stream;
+      step_stream = runs.step_stream;
+    }
+
+  same : Unit {0} → Unit {0}
+  same x = x
+
+  -- a command is seen so
+  pub ran_seen : {S B : Type 0} (on : S → B) (left_of : B → Option (List ℕ)) (failed_of : B → Bool)
+      (c : Command) (files others : List S)
+      → Ran (λ x. left (to x)) (λ x. failed (to x)) (λ x. left_of (on x)) (λ x. failed_of (on x))
+      held write_failed limit c r files w result rest others made
+      → Ran left failed left_of failed_of held write_failed limit c (to r) (map on files) w result
+      (to rest) (map on others) made
+  ran_seen on left_of failed_of (commands.File c) [] [] ran =
+      runs_seen same nothing_given nothing_fails ran
+  ran_seen on left_of failed_of (commands.File c) (p ∷ []) (used ∷ []) ran =
+      runs_seen on left_of failed_of ran
+  ran_seen on left_of failed_of (commands.Pair c) (s ∷ []) (other ∷ []) ran =
+      pair_seen on left_of failed_of same nothing_given nothing_fails same nothing_given
+      nothing_fails ran
+  ran_seen on left_of failed_of (commands.Pair c) (s ∷ p ∷ []) (other ∷ used ∷ []) ran =
+      pair_seen on left_of failed_of on left_of failed_of same nothing_given nothing_fails ran
+  ran_seen on left_of failed_of (commands.Pair c) (s ∷ p ∷ q ∷ []) (other ∷ used ∷ spent ∷ []) ran =
+      pair_seen on left_of failed_of on left_of failed_of on left_of failed_of ran
+  ran_seen on left_of failed_of (commands.Safe k form base_optimize step_optimize) (p ∷ q ∷ [])
+      (used ∷ spent ∷ []) ran =
+      safe_seen on left_of failed_of on left_of failed_of k form base_optimize step_optimize p used
+      q spent ran
+  ran_seen on left_of failed_of (commands.SafeBySteps k form base_optimize step_optimize) proofs
+      others ran =
+      proofs_seen on left_of failed_of k form base_optimize step_optimize proofs others ran
+  ran_seen on left_of failed_of (commands.EqualBy optimize) (s ∷ c ∷ p ∷ q ∷ [])
+      (other ∷ tried ∷ used ∷ spent ∷ []) ran =
+      comparing_seen on left_of failed_of optimize s other c tried p used q spent ran
+  ran_seen on left_of failed_of c files others ran = absurd ran
+
+-- ---- on what is made
+
+-- what is told of a check may be told of what follows from it
+pub concludes_on : {W : Type 0} (held : W → Option (List ℕ)) (write_failed : W → Bool)
+    (line : List ℕ) (Shown : Type 0) (Checks Also : Result (Unit {0}) CheckError → Type 0) (w made : W)
+    → ((x : Result (Unit {0}) CheckError) → Checks x → Also x) → (x : Result (Unit {0}) CheckError)
+    → Concludes held write_failed line Shown Checks w made x
+    → Concludes held write_failed line Shown Also w made x
+concludes_on held write_failed line Shown Checks Also w made so (Ok u) told =
+    (so (Ok tt) told.0, told.1, told.2, told.3)
+concludes_on held write_failed line Shown Checks Also w made so (Err errors.Write) told =
+    (so (Ok tt) told.0, told.1, told.2)
+concludes_on held write_failed line Shown Checks Also w made so (Err e) told =
+    (so (Err e) told.0, told.1)
+
+-- and what is told of what is made
+tells_on : (a : Justice) (Means Also : File → List ℕ → Result (Unit {0}) CheckError → Type 0)
+    (x : Result (Unit {0}) CheckError) → ((f : File) (text : List ℕ) → Means f text x → Also f text x)
+    → (f : File) → TellsMade a Means f x → TellsMade a Also f x
+tells_on a Means Also (Ok u) so f told = (told.0, told.1, so f _ told.2)
+tells_on a Means Also (Err (errors.Unmade e)) so f told = told
+tells_on a Means Also (Err e) so f told = (told.0, told.1, so f _ told.2)
+
+module _ {S B : Type 0} (on : S → B) (left_of : B → Option (List ℕ)) (failed_of : B → Bool)
+    {W : Type 0} (limit : ℕ) (c : Command) (files others : List S) where
+  prints_seen : (held : W → Option (List ℕ)) (write_failed : W → Bool) (w made : W) (text : List ℕ)
+      (x : Result (Unit {0}) CheckError)
+      → PrintsMade (λ y. left_of (on y)) (λ y. failed_of (on y)) held write_failed limit c files
+      others w made text x
+      → PrintsMade left_of failed_of held write_failed limit c (map on files) (map on others) w made
+      text x
+  prints_seen held write_failed w made text x told = (
+    told.0,
+    told.1,
+    ran_seen (λ y. y) bytes_of has_failed held write_failed limit (Some text, told.0) told.1 w made x
+        on left_of failed_of c files others told.2,
+  )
+
+module _ {S B : Type 0} (on : S → B) (left_of : B → Option (List ℕ)) (failed_of : B → Bool)
+    {W : Type 0} (held : W → Option (List ℕ)) (write_failed : W → Bool) (limit : ℕ) (c : Command)
+    (files others : List S) (w made : W) where
+  means_seen : (b : Bool) (property : ℕ) (x : Result (Unit {0}) CheckError) (f : File)
+      (text : List ℕ)
+      → MeansMade b (λ y. left_of (on y)) (λ y. failed_of (on y)) held write_failed limit property c
+      files others w made f text x
+      → MeansMade b left_of failed_of held write_failed limit property c (map on files)
+      (map on others) w made f text x
+  means_seen true property x f text told =
+      prints_seen on left_of failed_of limit c files others held write_failed w made text x told
+  means_seen false property x f text told =
+      concludes_on held write_failed (fair_line c property) (ShowsFair c property f)
+      (ChecksText (λ y. left_of (on y)) (λ y. failed_of (on y)) limit c files others text)
+      (ChecksText left_of failed_of limit c (map on files) (map on others) text) w made
+      (λ y checks. (
+        checks.0,
+        checks.1,
+        prints_seen on left_of failed_of limit c files others _ _ checks.0 checks.1 text y checks.2,
+      )) x told
+
+  made_unread : (Leaves : CheckError → Type 0) (x : Result (Unit {0}) CheckError)
+      → IfErr x (λ e. Leaves e → (others ≡ files) × (made ≡ w))
+      → IfErr x (λ e. Leaves e → (map on others ≡ map on files) × (made ≡ w))
+  made_unread Leaves (Ok u) unread = tt
+  made_unread Leaves (Err e) unread =
+      λ is. (ap (λ (xs : List S). map on xs) (unread is).0, (unread is).1)
+
+  -- what is asked is seen so
+  pub by_seen : {R A : Type 0} (to : R → A) (left : A → Option (List ℕ)) (failed : A → Bool)
+      (asked : Option Justice) (r rest : R) (x : Result (Unit {0}) CheckError)
+      → RanBy (λ y. left (to y)) (λ y. failed (to y)) (λ y. left_of (on y)) (λ y. failed_of (on y))
+      held write_failed limit asked c r files w x rest others made
+      → RanBy left failed left_of failed_of held write_failed limit asked c (to r) (map on files) w
+      x (to rest) (map on others) made
+  by_seen to left failed None r rest x ran =
+      ran_seen to left failed held write_failed limit r rest w made x on left_of failed_of c files
+      others ran
+  by_seen to left failed (Some a) r rest x ran = record {
+    reads = record {
+      verdict = ran.reads.verdict;
+      answer = λ is. read_as _ _ (tells_on a
+          (MeansMade (prints c) (λ y. left_of (on y)) (λ y. failed_of (on y)) held write_failed limit
+          a.property c files others w made)
+          (MeansMade (prints c) left_of failed_of held write_failed limit a.property c (map on files)
+          (map on others) w made) x (means_seen (prints c) a.property x)) (ran.reads.answer is);
+      own = ran.reads.own;
+    };
+    unread = made_unread _ x ran.unread;
+  }

@@ -1,0 +1,97 @@
+use Rattle.aig_base.proofs.Words.{◌++◌, length, refl, ap, sym, ◌∙◌, err_from_is_err_and}
+use Rattle.aig_base.specs.Formula.{clauses_in}
+use Rattle.aig_dimacs.specs.Text.{dimacs_of}
+use Rattle.aig_check_commands.specs.Titles.{title_text}
+use Rattle.aig_check_commands.specs.declared.titles.title.Question.TheVariants.{Bounded}
+use Rattle.aig_check_commands.specs.declared.error.CheckError.TheVariants as errors
+use Rattle.aig_check_commands.specs.Bounded.{bounded_comments}
+use Rattle.aig_check_commands.specs.Titling.{title_of}
+use Rattle.aig_check_commands.proofs.Commenting.{bounded_again}
+use Rattle.aig_check_commands.proofs.Outcomes.{answered, question_refused, read_again, refused, stopped, summed}
+use Rattle.aig_check_commands.proofs.Placing.{inputs_few}
+use Rattle.aig_check_commands.proofs.bounded.print_bounded_of.Goals as goal
+
+pub write_bounded-requires-clause-few : goal.write_bounded-requires-clause-few
+write_bounded-requires-clause-few g c =
+    let read = c.in_ok-made.ensures.answer in
+    inputs_few read.file c.args.k c.args.optimize c.in_ok-made.made read.means
+    c.tell_formula.ensures.few
+
+pub returns-in_err-made : goal.returns-in_err-made
+returns-in_err-made g c =
+    let p = err_from_is_err_and c.from_residual.result c.from_residual.ensures.1 in
+    let told = c.in_err-made.ensures in
+    let e = c.in_err-made.field-0.0 in
+    rw (sym c.new-file.ensures, p.1, p.2)
+    (c.bounded.new.r.source, question_refused e told.verdict told.own told.own told.large refl refl)
+
+pub returns-then-is_settled : goal.returns-then-is_settled
+returns-then-is_settled g c =
+    let told = c.in_ok-made.ensures in
+    let made = c.in_ok-made.made in
+    let settled = c.is_settled.ensures.0 c.if-is_settled.true in
+    rw (sym c.new-file.ensures) (
+      c.bounded.new.r.source,
+      refused (errors.Settled c.args.k) told.verdict refl (λ is. cc) refl
+          (λ alone. refl)
+          (read_again told.answer (λ bytes f holds asks. record {
+            made = made;
+            asks = asks;
+            settled = settled;
+            safe = c.refuted_questions_are_safe.ensures.folded f c.args.limit c.args.k c.args.optimize
+                made holds.0.1 asks settled;
+          })),
+    )
+
+pub returns-in_err-write_bounded : goal.returns-in_err-write_bounded
+returns-in_err-write_bounded g c =
+    let p = err_from_is_err_and c.from_residual-in_err-write_bounded.result
+    c.from_residual-in_err-write_bounded.ensures.1 in
+    let told = c.in_ok-made.ensures in
+    let made = c.in_ok-made.made in
+    let sum = c.finish.result in
+    let t = title_of (Bounded c.args.k) c.args.optimize sum in
+    let all = clauses_in made.clauses ++ made.extra in
+    let start = ap g.R.Source.left c.new-file.ensures ∙ c.requires.origin in
+    rw (sym c.new-file.ensures, p.1, p.2) (
+      c.bounded.new.r.source,
+      stopped
+          (title_text t ++ bounded_comments made ++ dimacs_of (length made.clauses) all) tt told.verdict
+          (read_again told.answer (λ bytes f holds asks. record {
+            sum = sum;
+            sums = summed g.B.Origin.bytes sum told.verdict start c.finish.ensures;
+            made = made;
+            asks = asks;
+            unsettled = λ settled.
+                let true_test = c.is_settled.ensures.1 settled in
+                let false_test = c.if-is_settled.false in cc;
+            exact = refl;
+            again = bounded_again t made c.tell_formula.ensures.formula;
+          })) c.in_err-write_bounded.ensures.err,
+    )
+
+pub returns : goal.returns
+returns g c =
+    let told = c.in_ok-made.ensures in
+    let made = c.in_ok-made.made in
+    let wrote = c.in_ok-write_bounded.ensures in
+    let sum = c.finish.result in
+    let t = title_of (Bounded c.args.k) c.args.optimize sum in
+    let all = clauses_in made.clauses ++ made.extra in
+    let start = ap g.R.Source.left c.new-file.ensures ∙ c.requires.origin in
+    rw (sym c.new-file.ensures) (
+      c.bounded.new.r.source,
+      answered tt
+          (title_text t ++ bounded_comments made ++ dimacs_of (length made.clauses) all) tt told.verdict
+          (read_again told.answer (λ bytes f holds asks. record {
+            sum = sum;
+            sums = summed g.B.Origin.bytes sum told.verdict start c.finish.ensures;
+            made = made;
+            asks = asks;
+            unsettled = λ settled.
+                let true_test = c.is_settled.ensures.1 settled in
+                let false_test = c.if-is_settled.false in cc;
+            exact = refl;
+            again = bounded_again t made c.tell_formula.ensures.formula;
+          })) wrote.ok wrote.sound,
+    )

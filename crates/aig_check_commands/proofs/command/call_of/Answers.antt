@@ -1,0 +1,47 @@
+use Rattle.std.proofs.Common.{refl, sym, ◌∙◌}
+use Rattle.aig_check_commands.proofs.Calling.{fits_none, unasked_none, unjust_none}
+use Rattle.aig_check_commands.proofs.command.call_of.Goals as goal
+
+pub returns-in_err-limit-clause-none : goal.returns-in_err-limit-clause-none
+returns-in_err-limit-clause-none c =
+    let none = c.in_err-limit.ensures.none in
+    rw c.from_residual.ensures (λ limit d paths further g. none limit g.rest g.limited)
+
+pub returns-in_err-justice-clause-none : goal.returns-in_err-justice-clause-none
+returns-in_err-justice-clause-none c =
+    rw c.from_residual-in_err-justice.ensures
+    (unjust_none _ _ c.in_ok-limit.limit c.in_ok-limit.ensures.some c.in_err-justice.ensures.none)
+
+pub returns-in_err-command-clause-none : goal.returns-in_err-command-clause-none
+returns-in_err-command-clause-none c =
+    rw c.from_residual-in_err-command.ensures
+    (fits_none _ _ _ c.in_ok-limit.limit c.in_ok-justice.justice c.in_ok-limit.ensures.some
+    c.in_ok-justice.ensures.some c.in_err-command.ensures.none)
+
+pub returns-then-not-is_asked-clause-none : goal.returns-then-not-is_asked-clause-none
+returns-then-not-is_asked-clause-none c =
+    unasked_none _ _ _ c.in_ok-limit.limit c.in_ok-justice.justice c.in_ok-command.command _
+    c.in_ok-limit.ensures.some c.in_ok-justice.ensures.some c.in_ok-command.ensures.some
+    (sym c.is_asked.ensures ∙ c.if-not-is_asked.true)
+
+pub returns-clause-some : goal.returns-clause-some
+returns-clause-some c = record {
+  rest = _;
+  limited = c.in_ok-limit.ensures.some;
+  more = _;
+  asked = c.in_ok-justice.ensures.some;
+  arguments = _;
+  gives = c.in_ok-command.ensures.some;
+  allowed = sym c.is_asked.ensures ∙ c.if-not-is_asked.false;
+  on = refl;
+  beside = refl;
+}
+
+pub returns-clause-fits : goal.returns-clause-fits
+returns-clause-fits c = record {
+  limit = c.in_ok-limit.ensures.limit;
+  asked = sym c.is_asked.ensures ∙ c.if-not-is_asked.false;
+  paths = c.in_ok-command.ensures.paths;
+  further = c.in_ok-command.ensures.further;
+  small = c.in_ok-command.ensures.small;
+}

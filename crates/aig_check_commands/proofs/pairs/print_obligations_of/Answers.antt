@@ -1,0 +1,70 @@
+use Rattle.aig_base.proofs.Words.{refl, ap, sym, ◌∙◌, err_from_is_err_and}
+use Rattle.aig_answers.specs.Certificates.{Obliges}
+use Rattle.aig_refutation.specs.declared.error.RefutationError.TheVariants as refutation
+use Rattle.aig_check_commands.specs.Under.{source_of}
+use Rattle.aig_check_commands.specs.Titling.{pair_title}
+use Rattle.aig_check_commands.proofs.Outcomes.{summed}
+use Rattle.aig_check_commands.proofs.Pairing.{no_proof_of_clauses, obligations_text, obliged_text, pair_answered, pair_refused, pair_stopped, reads_under}
+use Rattle.aig_check_commands.proofs.pairs.print_obligations_of.Goals as goal
+
+pub returns-in_err-asked : goal.returns-in_err-asked
+returns-in_err-asked g c =
+    let p = err_from_is_err_and c.from_residual.result c.from_residual.ensures.1 in
+    let told = c.in_err-asked.ensures in
+    let e = c.in_err-asked.field-0.0 in
+    let reads = reads_under g.R.Source.left g.R.Source.failed g.S.Source.left g.S.Source.failed
+    source_of source_of told.reads in
+    let none = no_proof_of_clauses e refutation.Stream reads.own in
+    rw (sym c.new-first.ensures, sym c.new-second.ensures, p.1, p.2) (
+      c.obligations_of.new.file.source,
+      c.obligations_of.new.certificate.source,
+      pair_refused (Obliges c.args.limit c.args.optimize) e reads (λ own. own)
+          (λ f h refuses. refuses) refl (λ leaves. refl) (λ leaves. refl) (λ is. absurd (none.0 is))
+          (λ is. absurd (none.1 is)),
+    )
+
+pub returns-in_err-write_obligations : goal.returns-in_err-write_obligations
+returns-in_err-write_obligations g c =
+    let p = err_from_is_err_and c.from_residual-in_err-write_obligations.result
+    c.from_residual-in_err-write_obligations.ensures.1 in
+    let o = c.in_ok-asked.asked in
+    let read = reads_under g.R.Source.left g.R.Source.failed g.S.Source.left g.S.Source.failed
+    source_of source_of c.in_ok-asked.ensures.reads in
+    let told = c.in_err-write_obligations.ensures in
+    let bytes = g.R.Source.left c.new-first.result.source in
+    let others = g.S.Source.left c.new-second.result.source in
+    let sums = summed g.A.Origin.bytes c.finish.result read.verdict
+    (ap g.R.Source.left c.new-first.ensures ∙ c.requires.origin) c.finish.ensures in
+    let beside = summed g.B.Origin.bytes c.finish-2.result (read.other_verdict refl)
+    (ap g.S.Source.left c.new-second.ensures ∙ c.requires.beside) c.finish-2.ensures in
+    let t = pair_title c.args.optimize c.finish.result c.finish-2.result in
+    rw (sym c.new-first.ensures, sym c.new-second.ensures, p.1, p.2) (
+      c.obligations_of.new.file.source,
+      c.obligations_of.new.certificate.source,
+      pair_stopped (Obliges c.args.limit c.args.optimize) o (obliged_text t o told.base told.step) read
+          (λ f h asked. obligations_text c.args.optimize bytes others c.finish.result c.finish-2.result
+          sums beside f h o told.base told.step asked told.base_has told.step_has told.base_formula told.step_formula) told.writes.err,
+    )
+
+pub returns : goal.returns
+returns g c =
+    let o = c.in_ok-asked.asked in
+    let read = reads_under g.R.Source.left g.R.Source.failed g.S.Source.left g.S.Source.failed
+    source_of source_of c.in_ok-asked.ensures.reads in
+    let told = c.in_ok-write_obligations.ensures in
+    let bytes = g.R.Source.left c.new-first.result.source in
+    let others = g.S.Source.left c.new-second.result.source in
+    let sums = summed g.A.Origin.bytes c.finish.result read.verdict
+    (ap g.R.Source.left c.new-first.ensures ∙ c.requires.origin) c.finish.ensures in
+    let beside = summed g.B.Origin.bytes c.finish-2.result (read.other_verdict refl)
+    (ap g.S.Source.left c.new-second.ensures ∙ c.requires.beside) c.finish-2.ensures in
+    let t = pair_title c.args.optimize c.finish.result c.finish-2.result in
+    rw (sym c.new-first.ensures, sym c.new-second.ensures) (
+      c.obligations_of.new.file.source,
+      c.obligations_of.new.certificate.source,
+      pair_answered (Obliges c.args.limit c.args.optimize) o tt (obliged_text t o told.base told.step)
+          read
+          (λ f h asked. obligations_text c.args.optimize bytes others c.finish.result c.finish-2.result
+          sums beside f h o told.base told.step asked told.base_has told.step_has told.base_formula told.step_formula) told.writes.ok
+          told.writes.sound,
+    )

@@ -1,0 +1,12 @@
+use Rattle.aig_base.proofs.Words.{[], ◌∷◌, rules}
+use Rattle.aig_check_commands.proofs.running.print.Goals as goal
+
+pub returns-in-File-Empty : goal.returns-in-File-Empty
+returns-in-File-Empty g c =
+    let run = c.print_file.ensures in
+    (run.0, [], search (rules, run.1))
+
+pub returns-in-Pair-Obligations-One : goal.returns-in-Pair-Obligations-One
+returns-in-Pair-Obligations-One g c =
+    let run = c.print_obligations.ensures in
+    (run.0, run.1 ∷ [], search (rules, run.2))

@@ -1,0 +1,84 @@
+-- Part of what is promised.
+-- What is told of a proof that is refused as one of other clauses is.
+use Rattle.std.specs.Prelude.{◌≡◌, ℕ, Bool, true, false, List, Option, Some, codes}
+use Rattle.aig_answers.specs.declared.error.AnswerError.{AnswerError}
+use Rattle.aig_answers.specs.declared.error.AnswerError.TheVariants as answers
+use Rattle.aig_answers.specs.declared.bounded_checks.error.BoundedAnswerError.{BoundedAnswerError}
+use Rattle.aig_answers.specs.declared.bounded_checks.error.BoundedAnswerError.TheVariants as bounded
+use Rattle.aig_answers.specs.declared.certificates.compare_error.MiterError.TheVariants as miter
+use Rattle.aig_answers.specs.declared.certificates.error.CertificateError.{CertificateError}
+use Rattle.aig_answers.specs.declared.certificates.error.CertificateError.TheVariants as certificate
+use Rattle.aig_command_line.specs.declared.status.Ending.{Ending}
+use Rattle.aig_command_line.specs.declared.status.Ending.TheVariants as endings
+use Rattle.aig_answers.specs.declared.equality.error.EqualityError.TheVariants as equality
+use Rattle.aig_refutation.specs.declared.error.RefutationError.{RefutationError}
+use Rattle.aig_refutation.specs.declared.error.RefutationError.TheVariants as refutation
+use Rattle.aig_answers.specs.declared.safety.error.SafetyError.{SafetyError}
+use Rattle.aig_answers.specs.declared.safety.error.SafetyError.TheVariants as safety
+use Rattle.aig_answers.specs.declared.safety.error.StepsError.{StepsError}
+use Rattle.aig_answers.specs.declared.safety.error.StepsError.TheVariants as steps
+use Rattle.aig_check_commands.specs.declared.error.CheckError.{CheckError}
+use Rattle.aig_check_commands.specs.declared.error.CheckError.TheVariants as errors
+
+-- a proof doesn't fit the clauses: a step of it doesn't follow, it names a literal or a clause that
+-- is none of theirs, or it ends before the empty clause
+abbrev pub is_misfit : RefutationError → Bool
+is_misfit refutation.Step = true
+is_misfit refutation.Asymmetry = true
+is_misfit refutation.Literal = true
+is_misfit refutation.Unnamed = true
+is_misfit refutation.Unfinished = true
+is_misfit e = false
+
+-- so of a proof about a step or a window
+abbrev pub misfits_answer : AnswerError → Bool
+misfits_answer (answers.Refutation e) = is_misfit e
+misfits_answer e = false
+
+-- of one about the steps up to one
+abbrev pub misfits_bounded : BoundedAnswerError → Bool
+misfits_bounded (bounded.Refutation e) = is_misfit e
+misfits_bounded e = false
+
+-- of those that a machine is safe
+abbrev pub misfits_safety : SafetyError → Bool
+misfits_safety (safety.File e) = misfits_answer e
+misfits_safety (safety.Base e) = misfits_bounded e
+misfits_safety (safety.Step e) = misfits_answer e
+
+-- of those for each step
+abbrev pub misfits_steps : StepsError → Bool
+misfits_steps (steps.File e) = misfits_answer e
+misfits_steps (steps.At n e) = misfits_answer e
+misfits_steps (steps.Step e) = misfits_answer e
+
+-- and of those about two files
+abbrev pub misfits_certificate : CertificateError → Bool
+misfits_certificate (certificate.Pair e) = false
+misfits_certificate (certificate.Query e) = misfits_answer e
+misfits_certificate (certificate.Window e) = misfits_answer e
+
+-- the program refuses a proof that doesn't fit the clauses
+abbrev pub has_misfit : Ending CheckError → Bool
+has_misfit (endings.Refused (errors.Answer e)) = misfits_answer e
+has_misfit (endings.Refused (errors.Bounded e)) = misfits_bounded e
+has_misfit (endings.Refused (errors.Safe e)) = misfits_safety e
+has_misfit (endings.Refused (errors.Steps e)) = misfits_steps e
+has_misfit (endings.Refused (errors.Certificate e)) = misfits_certificate e
+has_misfit (endings.Refused (errors.Equality (equality.Miter e))) = misfits_safety e
+has_misfit (endings.Refused (errors.Miter (miter.Certificate e))) = misfits_certificate e
+has_misfit ending = false
+
+-- the line that says what may be the matter
+abbrev pub advice : List ℕ
+advice = codes "aigcheck: it may be a proof of other clauses: of another K, another file, or the other setting (raw)"
+
+-- the line is told, or nothing
+abbrev pub advises_if : {T : Type 0} → (T → Option (List ℕ) → T → Type 0) → Bool → T → T → Type 0
+advises_if tells true old new = tells old (Some advice) new
+advises_if tells false old new = new ≡ old
+
+-- exactly beside such a refusal it is told
+abbrev pub Advises : {T : Type 0} → (T → Option (List ℕ) → T → Type 0) → Ending CheckError → T → T
+    → Type 0
+Advises tells ending old new = advises_if tells (has_misfit ending) old new

@@ -1,0 +1,203 @@
+-- Part of what is promised.
+-- Which words give which command.
+use Rattle.std.specs.Prelude.{◌≡◌, ◌⊎◌, ◌==◌, ◌+◌, ◌++◌, ◌∷◌, [], ℕ, Bool, true, false, not, IsTrue, List, None, Option, Some, codes}
+use Rattle.aig_runs.specs.declared.window.Window.{Window}
+use Rattle.aig_runs.specs.declared.window.Window.TheVariants.{Plain, Distinct}
+use Rattle.aig_command_line.specs.declared.arguments.Form.{Form}
+use Rattle.aig_command_line.specs.declared.arguments.Step.{Step}
+use Rattle.aig_command_line.specs.declared.arguments.Step.TheVariants.{Absent, At, UpTo, By, Each}
+use Rattle.aig_command_line.specs.Arguments.{Arguments, Gives}
+use Rattle.aig_command_line.specs.Limits.{IsLimited}
+use Rattle.aig_check_commands.specs.declared.command.Action.{Action}
+use Rattle.aig_check_commands.specs.declared.command.Action.TheVariants as actions
+use Rattle.aig_check_commands.specs.declared.command.Asked.{Asked}
+use Rattle.aig_check_commands.specs.declared.command.Command.{Command}
+use Rattle.aig_check_commands.specs.declared.command.Command.TheVariants as commands
+use Rattle.aig_check_commands.specs.declared.command.FileCommand.TheVariants as on_file
+use Rattle.aig_check_commands.specs.declared.command.PairCommand.TheVariants as on_pair
+use Rattle.aig_check_commands.specs.Justice.{AreJustice, is_asked}
+
+-- the word that names a command
+abbrev pub name_of : Action → List ℕ
+name_of actions.Clauses = codes "clauses"
+name_of actions.Window = codes "window"
+name_of actions.Refuted = codes "refuted"
+name_of actions.Inductive = codes "inductive"
+name_of actions.Witness = codes "witness"
+name_of actions.Run = codes "run"
+name_of actions.Certified = codes "certified"
+name_of actions.Equal = codes "equal"
+name_of actions.Obligations = codes "obligations"
+name_of actions.Bounded = codes "bounded"
+name_of actions.RefutedTo = codes "refuted"
+name_of actions.WitnessTo = codes "witness"
+name_of actions.Safe = codes "safe"
+name_of actions.AlwaysEqual = codes "equal"
+name_of actions.EqualBy = codes "equal"
+name_of actions.SafeBySteps = codes "safe"
+
+-- so many paths and a step, so many further paths, `distinct` or nothing where it may be there, and
+-- `raw` or nothing
+abbrev pub on_step : ℕ → Step → ℕ → Bool → Form
+on_step paths step further distinct =
+    record { paths = paths; step = step; further = further; distinct = distinct; raw = true }
+
+-- FILE, CERT and so many proofs, and `raw` or nothing
+abbrev pub on_certificate : ℕ → Form
+on_certificate further =
+    record { paths = 2; step = Absent; further = further; distinct = false; raw = true }
+
+-- What comes after it: the paths are FILE, and CERT or OTHER; the further ones are PROOF, SOLUTION
+-- or WITNESS, or BASE and STEP, behind CERT where that comes after OTHER; or P0 to PK and STEP.
+abbrev pub form_of : Action → Form
+form_of actions.Clauses = on_step 1 At 0 false
+form_of actions.Window = on_step 1 At 0 true
+form_of actions.Refuted = on_step 1 At 1 false
+form_of actions.Inductive = on_step 1 At 1 true
+form_of actions.Witness = on_step 1 At 1 false
+form_of actions.Run =
+    record { paths = 1; step = Absent; further = 1; distinct = false; raw = false }
+form_of actions.Certified = on_certificate 2
+form_of actions.Equal = on_step 2 At 1 false
+form_of actions.Obligations = on_certificate 0
+form_of actions.Bounded = on_step 1 At 0 false
+form_of actions.RefutedTo = on_step 1 UpTo 1 false
+form_of actions.WitnessTo = on_step 1 UpTo 1 false
+form_of actions.Safe = on_step 1 UpTo 2 true
+form_of actions.AlwaysEqual = on_step 2 UpTo 2 true
+form_of actions.EqualBy = on_step 2 By 3 false
+form_of actions.SafeBySteps = on_step 1 Each 1 true
+
+-- the form of windows
+abbrev pub window_of : Bool → Window
+window_of true = Distinct
+window_of false = Plain
+
+-- the command, with K and the settings
+abbrev pub command_of : Action → ℕ → Bool → Bool → Command
+command_of actions.Clauses k distinct optimize = commands.File (on_file.Clauses k optimize)
+command_of actions.Window k distinct optimize =
+    commands.File (on_file.Window k (window_of distinct) optimize)
+command_of actions.Refuted k distinct optimize = commands.File (on_file.Refuted k optimize)
+command_of actions.Inductive k distinct optimize =
+    commands.File (on_file.Inductive k (window_of distinct) optimize)
+command_of actions.Witness k distinct optimize = commands.File (on_file.Witness k optimize)
+command_of actions.Run k distinct optimize = commands.File on_file.Run
+command_of actions.Certified k distinct optimize = commands.Pair (on_pair.Certified optimize)
+command_of actions.Equal k distinct optimize = commands.Pair (on_pair.Equal k optimize)
+command_of actions.Obligations k distinct optimize = commands.Pair (on_pair.Obligations optimize)
+command_of actions.Bounded k distinct optimize = commands.File (on_file.Bounded k optimize)
+command_of actions.RefutedTo k distinct optimize = commands.File (on_file.RefutedTo k optimize)
+command_of actions.WitnessTo k distinct optimize = commands.File (on_file.WitnessTo k optimize)
+command_of actions.Safe k distinct optimize =
+    commands.Safe k (window_of distinct) optimize optimize
+command_of actions.AlwaysEqual k distinct optimize =
+    commands.Pair (on_pair.AlwaysEqual k (window_of distinct) optimize optimize)
+command_of actions.EqualBy k distinct optimize = commands.EqualBy optimize
+command_of actions.SafeBySteps k distinct optimize =
+    commands.SafeBySteps k (window_of distinct) optimize optimize
+
+-- the word of raw clauses of BASE alone, or of P0 to PK, where those of STEP are optimised, or of
+-- STEP alone
+abbrev pub raw_word : Bool → List ℕ
+raw_word true = codes "raw-base"
+raw_word false = codes "raw-step"
+
+-- the command, where the clauses of STEP alone are optimised, or those of BASE alone
+abbrev pub raw_alone : Bool → Command → Option Command
+raw_alone step (commands.Safe k form base_optimize step_optimize) =
+    Some (commands.Safe k form (not step) step)
+raw_alone step (commands.Pair (on_pair.AlwaysEqual k form base_optimize step_optimize)) =
+    Some (commands.Pair (on_pair.AlwaysEqual k form (not step) step))
+raw_alone step (commands.SafeBySteps k form base_optimize step_optimize) =
+    Some (commands.SafeBySteps k form (not step) step)
+raw_alone step c = None
+
+-- the words fit the command, with one setting for all its proofs
+pub record IsWhole (words : List (List ℕ)) (c : Command) (a : Arguments) : Type 0 where
+  pub action : Action
+  pub gives : Gives (name_of action) (form_of action) words a
+  pub command : c ≡ command_of action a.step a.distinct a.optimize
+
+-- without the last, which says which clauses alone are raw, the words fit one, without `raw`
+pub record IsAlone (words : List (List ℕ)) (c : Command) (a : Arguments) : Type 0 where
+  pub plain : List (List ℕ)
+  pub step : Bool
+  pub spelled : words ≡ plain ++ raw_word step ∷ []
+  pub usual : Command
+  pub whole : IsWhole plain usual a
+  pub optimized : IsTrue a.optimize
+  pub command : raw_alone step usual ≡ Some c
+
+-- the words fit a command; or they fit none, and fit one without such a last word
+abbrev pub AreCommand : List (List ℕ) → Command → Arguments → Type 0
+AreCommand words c a =
+    IsWhole words c a
+    ⊎ (((d : Command) (b : Arguments) → ¬ IsWhole words d b) × IsAlone words c a)
+
+-- the words give the limit, then the justice property that is asked about, if there is one, and
+-- then the command, with its files and what is given beside them
+pub record IsCall (words : List (List ℕ)) (limit : ℕ) (c : Asked) (paths further : List (List ℕ))
+    : Type 0 where
+  pub rest : List (List ℕ)
+  pub limited : IsLimited words limit rest
+  pub more : List (List ℕ)
+  pub asked : AreJustice c.justice rest more
+  pub arguments : Arguments
+  pub gives : AreCommand more c.command arguments
+  pub allowed : IsTrue (is_asked c.justice c.command)
+  pub on : paths ≡ arguments.paths
+  pub beside : further ≡ arguments.further
+
+-- the words give the command
+abbrev pub Give : List (List ℕ) → Asked → Type 0
+Give words c = (limit : ℕ) × (paths : List (List ℕ)) × (further : List (List ℕ))
+    × IsCall words limit c paths further
+
+-- ---- commands alone
+
+-- the step that it names, and 0 where it names none
+abbrev pub step_of : Command → ℕ
+step_of (commands.File (on_file.Clauses k optimize)) = k
+step_of (commands.File (on_file.Window k form optimize)) = k
+step_of (commands.File (on_file.Refuted k optimize)) = k
+step_of (commands.File (on_file.Inductive k form optimize)) = k
+step_of (commands.File (on_file.Witness k optimize)) = k
+step_of (commands.File (on_file.Bounded k optimize)) = k
+step_of (commands.File (on_file.RefutedTo k optimize)) = k
+step_of (commands.File (on_file.WitnessTo k optimize)) = k
+step_of (commands.Pair (on_pair.Equal k optimize)) = k
+step_of (commands.Pair (on_pair.AlwaysEqual k form base_optimize step_optimize)) = k
+step_of (commands.Safe k form base_optimize step_optimize) = k
+step_of (commands.SafeBySteps k form base_optimize step_optimize) = k
+step_of c = 0
+
+-- on how many files it is
+abbrev pub paths_of : Command → ℕ
+paths_of (commands.File c) = 1
+paths_of (commands.Pair c) = 2
+paths_of (commands.Safe k form base_optimize step_optimize) = 1
+paths_of (commands.SafeBySteps k form base_optimize step_optimize) = 1
+paths_of (commands.EqualBy optimize) = 2
+
+-- how many are given beside these
+abbrev pub beside_of : Command → ℕ
+beside_of (commands.File (on_file.Clauses k optimize)) = 0
+beside_of (commands.File (on_file.Window k form optimize)) = 0
+beside_of (commands.File (on_file.Bounded k optimize)) = 0
+beside_of (commands.Pair (on_pair.Certified optimize)) = 2
+beside_of (commands.Pair (on_pair.Obligations optimize)) = 0
+beside_of (commands.Pair (on_pair.AlwaysEqual k form base_optimize step_optimize)) = 2
+beside_of (commands.Safe k form base_optimize step_optimize) = 2
+beside_of (commands.SafeBySteps k form base_optimize step_optimize) = k + 2
+beside_of (commands.EqualBy optimize) = 3
+beside_of c = 1
+
+-- its proofs are a list, as long as its words say
+abbrev pub has_list : Command → Bool
+has_list (commands.SafeBySteps k form base_optimize step_optimize) = true
+has_list c = false
+
+-- it prints clauses, and takes nothing beside its files
+abbrev pub prints : Command → Bool
+prints c = beside_of c == 0

@@ -1,0 +1,74 @@
+-- Part of what is promised.
+-- What a command does with the list of the files that it reads: FILE, CERT or OTHER, and what is
+-- given beside these.
+use Rattle.std.specs.Prelude.{ℕ, Bool, List, [], ◌∷◌, Option, Result}
+use Rattle.aig_check_commands.specs.declared.command.Command.{Command}
+use Rattle.aig_check_commands.specs.declared.command.Command.TheVariants as commands
+use Rattle.aig_check_commands.specs.declared.inputs.Inputs.{Inputs}
+use Rattle.aig_check_commands.specs.declared.inputs.Inputs.TheVariants as inputs
+use Rattle.aig_check_commands.specs.declared.error.CheckError.{CheckError}
+use Rattle.aig_check_commands.specs.Comparing.{RunsComparing}
+use Rattle.aig_check_commands.specs.Pairs.{RunsPair}
+use Rattle.aig_check_commands.specs.Running.{Runs, nothing_fails, nothing_given}
+use Rattle.aig_check_commands.specs.Safe.{RunsSafe}
+use Rattle.aig_check_commands.specs.SafeBySteps.{RunsOnProofs}
+
+-- the files, in order
+abbrev pub listed : {S : Type 0} → Inputs S → List S
+listed inputs.Empty = []
+listed (inputs.One a) = a ∷ []
+listed (inputs.Two a b) = a ∷ b ∷ []
+listed (inputs.Three a b c) = a ∷ b ∷ c ∷ []
+listed (inputs.Four a b c d) = a ∷ b ∷ c ∷ d ∷ []
+listed (inputs.Each all) = all.items
+
+-- The command was run on FILE and on the files behind it: r, inputs and w are these and the writer
+-- before it; rest, others and made are they after it.
+abbrev pub Ran : {R S W : Type 0} → (R → Option (List ℕ)) → (R → Bool) → (S → Option (List ℕ))
+    → (S → Bool) → (W → Option (List ℕ)) → (W → Bool) → ℕ → Command → R → List S → W
+    → Result Unit CheckError → R → List S → W → Type 0
+Ran left failed left_of failed_of held write_failed limit (commands.File c) r [] w result rest []
+    made =
+    Runs left failed nothing_given nothing_fails held write_failed c limit r tt w result rest tt
+    made
+Ran left failed left_of failed_of held write_failed limit (commands.File c) r (p ∷ []) w result rest
+    (used ∷ []) made =
+    Runs left failed left_of failed_of held write_failed c limit r p w result rest used made
+Ran left failed left_of failed_of held write_failed limit (commands.Pair c) r (s ∷ []) w result rest
+    (other ∷ []) made =
+    RunsPair left failed left_of failed_of nothing_given nothing_fails nothing_given nothing_fails
+    held write_failed c limit r s tt tt w result rest other tt tt made
+Ran left failed left_of failed_of held write_failed limit (commands.Pair c) r (s ∷ p ∷ []) w result
+    rest (other ∷ used ∷ []) made =
+    RunsPair left failed left_of failed_of left_of failed_of nothing_given nothing_fails held
+    write_failed c limit r s p tt w result rest other used tt made
+Ran left failed left_of failed_of held write_failed limit (commands.Pair c) r (s ∷ p ∷ q ∷ []) w
+    result rest (other ∷ used ∷ spent ∷ []) made =
+    RunsPair left failed left_of failed_of left_of failed_of left_of failed_of held write_failed c
+    limit r s p q w result rest other used spent made
+Ran left failed left_of failed_of held write_failed limit
+    (commands.Safe k form base_optimize step_optimize) r (p ∷ q ∷ []) w result rest
+    (used ∷ spent ∷ []) made =
+    RunsSafe left failed left_of failed_of left_of failed_of held write_failed k form base_optimize
+    step_optimize limit r p q w result rest used spent made
+Ran left failed left_of failed_of held write_failed limit
+    (commands.SafeBySteps k form base_optimize step_optimize) r proofs w result rest others made =
+    RunsOnProofs left failed left_of failed_of held write_failed k form base_optimize step_optimize
+    limit r proofs w result rest others made
+Ran left failed left_of failed_of held write_failed limit (commands.EqualBy optimize) r
+    (s ∷ c ∷ p ∷ q ∷ []) w result rest (other ∷ tried ∷ used ∷ spent ∷ []) made =
+    RunsComparing left failed left_of failed_of left_of failed_of left_of failed_of left_of
+    failed_of held write_failed optimize limit r s c p q w result rest other tried used spent made
+Ran left failed left_of failed_of held write_failed limit c r files w result rest others made = ⊥
+
+-- ---- bytes alone
+
+-- the bytes of a file that are left, where they are known, and whether a read of it failed
+abbrev pub Stream : Type 0
+Stream = Option (List ℕ) × Bool
+
+abbrev pub bytes_of : Stream → Option (List ℕ)
+bytes_of s = s.0
+
+abbrev pub has_failed : Stream → Bool
+has_failed s = s.1

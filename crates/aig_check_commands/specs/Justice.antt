@@ -1,0 +1,43 @@
+-- Part of what is promised.
+-- Commands that ask about a justice property of a file, and the words that give the property.
+-- (AIGER 1.9, "Properties": justice and fairness.)
+use Rattle.std.specs.Prelude.{◌≡◌, ℕ, Bool, true, false, List, ◌∷◌, Option, Some, None, codes, is_none}
+use Rattle.aig_format.specs.Text.{IsNumber}
+use Rattle.aig_check_commands.specs.declared.command.Command.{Command}
+use Rattle.aig_check_commands.specs.declared.command.Command.TheVariants as commands
+use Rattle.aig_check_commands.specs.declared.command.FileCommand.TheVariants as on_file
+use Rattle.aig_check_commands.specs.declared.command.PairCommand.TheVariants as on_pair
+use Rattle.aig_check_commands.specs.declared.justice.Justice.{Justice}
+
+-- ---- words
+
+-- the first word is this one, and a number comes after it, and then the others; or it is another
+-- word, or none
+abbrev pub IsNumbered : List ℕ → Option ℕ → List (List ℕ) → List (List ℕ) → Type 0
+IsNumbered name (Some n) words rest =
+    (word : List ℕ) × (words ≡ name ∷ word ∷ rest) × IsNumber n word
+IsNumbered name None words rest =
+    ((more : List (List ℕ)) → ¬ (words ≡ name ∷ more)) × (rest ≡ words)
+
+-- the words give the justice property, and how many rounds, or none of these, and then the others
+abbrev pub AreJustice : Option Justice → List (List ℕ) → List (List ℕ) → Type 0
+AreJustice (Some a) words rest =
+    (more : List (List ℕ)) × IsNumbered (codes "--justice") (Some a.property) words more
+    × IsNumbered (codes "--rounds") a.rounds more rest
+AreJustice None words rest = IsNumbered (codes "--justice") None words rest
+
+-- ---- commands
+
+-- the command is asked of a justice property: one that checks one proof, of its fair lassos alone
+abbrev pub is_asked : Option Justice → Command → Bool
+is_asked None c = true
+is_asked (Some a) (commands.File (on_file.Clauses k optimize)) = true
+is_asked (Some a) (commands.File (on_file.Window k form optimize)) = true
+is_asked (Some a) (commands.File (on_file.Bounded k optimize)) = true
+is_asked (Some a) (commands.File (on_file.Refuted k optimize)) = is_none a.rounds
+is_asked (Some a) (commands.File (on_file.RefutedTo k optimize)) = is_none a.rounds
+is_asked (Some a) (commands.File (on_file.Inductive k form optimize)) = is_none a.rounds
+is_asked (Some a) (commands.Pair (on_pair.Certified optimize)) = true
+is_asked (Some a) (commands.Pair (on_pair.Obligations optimize)) = true
+is_asked (Some a) (commands.Safe k form base_optimize step_optimize) = true
+is_asked (Some a) c = false

@@ -1,0 +1,52 @@
+-- Part of what is promised.
+-- What is told beside an answer.
+use Rattle.std.specs.Prelude.{◌≡◌, ℕ, Bool, true, false, List, Option, codes, is_none}
+use Rattle.std.specs.List.{FoldsTo}
+use Rattle.aig_command_line.specs.Notices.{lines_of, tells_line}
+use Rattle.aig_command_line.specs.declared.notice.Headers.{Headers}
+use Rattle.aig_command_line.specs.declared.notice.Regard.{Regard}
+use Rattle.aig_command_line.specs.declared.status.Ending.{Ending}
+use Rattle.aig_command_line.specs.declared.status.Ending.TheVariants as endings
+use Rattle.aig_check_commands.specs.declared.command.Asked.{Asked}
+use Rattle.aig_check_commands.specs.declared.command.Command.{Command}
+use Rattle.aig_check_commands.specs.declared.command.Command.TheVariants as commands
+use Rattle.aig_check_commands.specs.declared.command.FileCommand.TheVariants as on_file
+use Rattle.aig_check_commands.specs.declared.command.PairCommand.TheVariants as on_pair
+use Rattle.aig_check_commands.specs.declared.justice.Justice.{Justice}
+use Rattle.aig_check_commands.specs.declared.error.CheckError.{CheckError}
+use Rattle.aig_check_commands.specs.declared.error.CheckError.TheVariants as errors
+use Rattle.aig_check_commands.specs.CommandWords.{IsCall}
+
+-- justice and fairness are left out, but where a justice property is asked about, and by `run`: it
+-- names the property that the witness shows, and in a fair lasso it looks at both
+abbrev pub leaves_out : Option Justice → Command → Bool
+leaves_out a (commands.File on_file.Run) = false
+leaves_out a c = is_none a
+
+-- `equal` compares files
+abbrev pub compares : Command → Bool
+compares (commands.Pair (on_pair.Equal k optimize)) = true
+compares (commands.Pair (on_pair.AlwaysEqual k form base_optimize step_optimize)) = true
+compares (commands.EqualBy optimize) = true
+compares c = false
+
+-- what is done with parts of its files that its answer is not about
+abbrev pub regard_of : Asked → Regard
+regard_of c = record { leaves_out = leaves_out c.justice c.command; compares = compares c.command }
+
+-- the program has answered: it did what was asked, or the question is settled
+abbrev pub IsAnswer : Ending CheckError → Type 0
+IsAnswer endings.Done = Unit {0}
+IsAnswer (endings.Refused (errors.Settled k)) = Unit {0}
+IsAnswer ending = ⊥
+
+-- beside an answer each file's lines are told, and else nothing
+pub record TellsBeside {T : Type 0} (tells : T → Option (List ℕ) → T → Type 0)
+    (words : List (List ℕ)) (headers : Headers) (ending : Ending CheckError) (old new : T) : Type 0
+  where
+    pub answered : IsAnswer ending → (limit : ℕ) (c : Asked) (paths further : List (List ℕ))
+        → IsCall words limit c paths further
+        → FoldsTo (tells_line tells) old (lines_of (codes "aigcheck") paths (regard_of c) headers) new
+    pub otherwise : ¬ IsAnswer ending → new ≡ old
+    pub nothing : ((limit : ℕ) (c : Asked) (paths further : List (List ℕ))
+        → ¬ IsCall words limit c paths further) → new ≡ old

@@ -1,0 +1,370 @@
+-- Part of what is promised.
+-- What a command does with the bytes of a file and of a proof or a witness: what it puts into its
+-- writer, and why it refuses them.
+use Rattle.std.specs.Prelude.{◌≡◌, ◌≢◌, ℕ, ◌+◌, Bool, false, IsTrue, List, [], ◌∷◌, ◌++◌, length, Option, Some, None, Result, Ok, Err, IfErr, IsErrOf, OnOk, codes, decimal}
+use Rattle.std.specs.Io.KnownBytes.{Appends}
+use Rattle.aig_base.specs.declared.logic.literal.Lit.{Lit}
+use Rattle.aig_base.specs.Formula.{clauses_in}
+use Rattle.aig_dimacs.specs.Reading.{parse_formula}
+use Rattle.aig_dimacs.specs.Text.{dimacs_of}
+use Rattle.aig_format.specs.Circuit.{circuit_of}
+use Rattle.aig_format.specs.File.{File}
+use Rattle.aig_format.specs.Fits.{Accepts}
+use Rattle.aig_reader.specs.declared.error.ReadError.TheVariants as read
+use Rattle.aig_reader.specs.Reading.{IsReadAs}
+use Rattle.aig_reader.specs.Verdicts.{Accepted, Judges, Refused, Short, Verdict, verdict_by}
+use Rattle.aig_runs.specs.Queries.{IsSafeTo}
+use Rattle.aig_output.specs.Sinks.{Stops}
+use Rattle.aig_runs.specs.declared.window.Window.{Window}
+use Rattle.aig_runs.specs.Induction.{IsKInductive}
+use Rattle.aig_runs.specs.Safety.{IsSafeAt}
+use Rattle.aig_runs.specs.WindowClauses.{AsksWindow}
+use Rattle.aig_refutation.specs.declared.error.RefutationError.{RefutationError}
+use Rattle.aig_refutation.specs.declared.error.RefutationError.TheVariants as refutation
+use Rattle.aig_encode.specs.declared.query_clauses.Query.{Query}
+use Rattle.aig_encode.specs.Encoding.{IsQuery}
+use Rattle.aig_answers.specs.declared.error.AnswerError.TheVariants as answers
+use Rattle.aig_answers.specs.Answers as asking
+use Rattle.aig_answers.specs.Answers.{IsAsked, IsOfInduction, IsOfQuery, IsOfStep, IsOfWindow, TellsOfStep, TellsOfWindow, asked_verdict, window_verdict}
+use Rattle.aig_witness.specs.Witness.{Witness, witness_text}
+use Rattle.aig_witness.specs.declared.file.ShowError.TheVariants as shows
+use Rattle.aig_witness.specs.Machine.{ShowsBad}
+use Rattle.aig_witness.specs.declared.fair.file.ClaimError.{ClaimError}
+use Rattle.aig_witness.specs.declared.fair.file.ClaimError.TheVariants as claims
+use Rattle.aig_witness.specs.declared.fair.file.ShownProperty.{ShownProperty}
+use Rattle.aig_witness.specs.declared.fair.file.ShownProperty.TheVariants as properties
+use Rattle.aig_witness.specs.Claims as showing
+use Rattle.aig_witness.specs.Claims.{ShowsClaim}
+use Rattle.aig_bounded.specs.Question.{question_size}
+use Rattle.aig_answers.specs.declared.bounded_checks.error.BoundedAnswerError.{BoundedAnswerError}
+use Rattle.aig_answers.specs.declared.bounded_checks.error.BoundedAnswerError.TheVariants as bounded
+use Rattle.aig_answers.specs.Asking as bounding
+use Rattle.aig_answers.specs.Asking.{IsAskedWithin, IsOfCheck, IsOfQuestion, IsOfWitness, bounded_verdict}
+use Rattle.aig_answers.specs.Certificates as certificates
+use Rattle.aig_answers.specs.Comparing as comparing
+use Rattle.aig_edits.specs.Edits.{edit_verdict}
+use Rattle.aig_answers.specs.Equality as equality
+use Rattle.aig_answers.specs.Safety as safety
+use Rattle.aig_answers.specs.Steps as stepping
+use Rattle.aig_witness.specs.declared.solutions.error.SolutionError.{SolutionError}
+use Rattle.aig_witness.specs.Checked.{RefusesSolution, SaysWitness}
+use Rattle.aig_check_commands.specs.Sums.{IsSum}
+use Rattle.aig_check_commands.specs.Titles.{title_text}
+use Rattle.aig_check_commands.specs.declared.titles.title.Question.TheVariants as questions
+use Rattle.aig_check_commands.specs.Bounded.{IsBoundedText, IsSettledTo, IsWitnessToText, TellsProof, safe_to_line}
+use Rattle.aig_check_commands.specs.Comments.{comments_of, named_text}
+use Rattle.aig_check_commands.specs.Titling.{is_distinct, title_of}
+use Rattle.aig_check_commands.specs.declared.command.FileCommand.{FileCommand}
+use Rattle.aig_check_commands.specs.declared.command.FileCommand.TheVariants as commands
+use Rattle.aig_check_commands.specs.declared.error.CheckError.{CheckError}
+use Rattle.aig_check_commands.specs.declared.error.CheckError.TheVariants as errors
+
+-- ---- answers
+
+-- the line of a step at which no bad state is reached
+abbrev pub step_line : ℕ → List ℕ
+step_line k = codes "no bad state at step " ++ (decimal k ++ 10 ∷ [])
+
+-- the line of a window that keeps a machine safe
+abbrev pub window_line : ℕ → List ℕ
+window_line k = codes "no bad state at any step, if none up to step " ++ (decimal k ++ 10 ∷ [])
+
+-- the line of a justice property, and of the first and the last step of a loop
+abbrev pub lasso_line : ℕ → ℕ → ℕ → List ℕ
+lasso_line justice start last =
+    codes "j" ++ (decimal justice ++ 32 ∷ []) ++ codes "in a loop from step "
+    ++ (decimal start ++ 32 ∷ []) ++ codes "to " ++ (decimal last ++ 10 ∷ [])
+
+-- the line of a property that is shown: of a bad state, and a step, or of justice, and a loop
+abbrev pub shown_line : ShownProperty → List ℕ
+shown_line (properties.Bad s) = named_text (codes "b") s.bad s.step 10
+shown_line (properties.Lasso s) = lasso_line s.justice s.start s.last
+
+-- the line of what the next of the witnesses that are given shows of the file's machine
+abbrev pub IsShownLine : Option (List ℕ) → File → List ℕ → Type 0
+IsShownLine given f text =
+    (shown : ShownProperty) × ShowsClaim given f shown × (text ≡ shown_line shown)
+
+-- the text of the query of the file of these bytes: its title, with their sum, comments that say
+-- where inputs, latches and bad literals stand, and then the clauses; from it a plain reader reads
+-- just these again
+pub record IsClausesText (bytes : Option (List ℕ)) (f : File) (k : ℕ) (optimize : Bool)
+    (text : List ℕ) : Type 0 where
+  pub sum : List ℕ
+  pub sums : IsSum bytes sum
+  pub query : Query
+  pub asks : IsQuery k optimize f query
+  pub exact : text
+      ≡ title_text (title_of (questions.Clauses k) optimize sum)
+      ++ comments_of query.encoded.circuit query.encoded.unrolled k
+      ++ dimacs_of (length query.encoded.clauses)
+      (clauses_in query.encoded.clauses ++ query.extra)
+  pub again : parse_formula text
+      ≡ Some (length query.encoded.clauses, clauses_in query.encoded.clauses ++ query.extra)
+
+-- the text of clauses that ask for a window of the file of these bytes, behind their title; from
+-- it a plain reader reads just these again
+pub record IsWindowText (bytes : Option (List ℕ)) (form : Window) (f : File) (k : ℕ)
+    (optimize : Bool) (text : List ℕ) : Type 0 where
+  pub sum : List ℕ
+  pub sums : IsSum bytes sum
+  pub lists : List (List (List Lit))
+  pub extra : List (List Lit)
+  pub asks : AsksWindow form (circuit_of f) k optimize lists extra
+  pub exact : text
+      ≡ title_text (title_of (questions.Window k (is_distinct form)) optimize sum)
+      ++ dimacs_of (length lists) (clauses_in lists ++ extra)
+  pub again : parse_formula text ≡ Some (length lists, clauses_in lists ++ extra)
+
+-- the text of a witness of k + 1 steps that shows a bad state of the file's machine; it is the one
+-- that the solver's answer to the file's query says
+pub record IsWitnessText (given : Option (List ℕ)) (f : File) (k : ℕ) (optimize : Bool)
+    (text : List ℕ) : Type 0 where
+  pub witness : Witness
+  pub steps : length witness.steps ≡ k + 1
+  pub shows : ShowsBad f witness
+  pub exact : text ≡ witness_text witness
+  pub query : Query
+  pub asks : IsQuery k optimize f query
+  pub said : SaysWitness given query.encoded k witness
+
+-- what the command puts into its writer for what is given and the file, which is of these bytes,
+-- and what is then so of the file's machine
+abbrev pub Answers : FileCommand → Option (List ℕ) → Option (List ℕ) → File → List ℕ → Type 0
+Answers (commands.Clauses k optimize) given bytes f text = IsClausesText bytes f k optimize text
+Answers (commands.Window k form optimize) given bytes f text =
+    IsWindowText bytes form f k optimize text
+Answers (commands.Refuted k optimize) given bytes f text = (text ≡ step_line k) × IsSafeAt f k
+Answers (commands.Inductive k form optimize) given bytes f text =
+    (text ≡ window_line k) × IsKInductive form f k × (IsSafeTo f k → (n : ℕ) → IsSafeTo f n)
+Answers (commands.Witness k optimize) given bytes f text = IsWitnessText given f k optimize text
+Answers commands.Run given bytes f text = IsShownLine given f text
+Answers (commands.Bounded k optimize) given bytes f text = IsBoundedText bytes f k optimize text
+Answers (commands.RefutedTo k optimize) given bytes f text = (text ≡ safe_to_line k) × IsSafeTo f k
+Answers (commands.WitnessTo k optimize) given bytes f text = IsWitnessToText f k text
+
+-- ---- files
+
+-- the bytes are this file, of which the command asks something: within the limit with the further
+-- steps that it makes, or alone where these are folded or where it makes none
+abbrev pub IsAskedBy : FileCommand → ℕ → List ℕ → File → Type 0
+IsAskedBy (commands.Clauses k optimize) limit = IsAsked limit k
+IsAskedBy (commands.Window k form optimize) limit = IsAsked limit (k + 1)
+IsAskedBy (commands.Refuted k optimize) limit = IsAsked limit k
+IsAskedBy (commands.Inductive k form optimize) limit = IsAsked limit (k + 1)
+IsAskedBy (commands.Witness k optimize) limit = IsAsked limit k
+IsAskedBy commands.Run limit = λ bytes. Accepts bytes limit
+IsAskedBy (commands.Bounded k optimize) limit = IsAskedWithin limit
+IsAskedBy (commands.RefutedTo k optimize) limit = IsAskedWithin limit
+IsAskedBy (commands.WitnessTo k optimize) limit = IsAskedWithin limit
+
+-- the verdict on a file that fits
+abbrev pub file_verdict : FileCommand → ℕ → File → Verdict
+file_verdict (commands.Clauses k optimize) limit f = asked_verdict limit k f
+file_verdict (commands.Window k form optimize) limit f = window_verdict form limit k f
+file_verdict (commands.Refuted k optimize) limit f = asked_verdict limit k f
+file_verdict (commands.Inductive k form optimize) limit f = window_verdict form limit k f
+file_verdict (commands.Witness k optimize) limit f = asked_verdict limit k f
+file_verdict commands.Run limit f = Accepted
+file_verdict (commands.Bounded k optimize) limit f = bounded_verdict f
+file_verdict (commands.RefutedTo k optimize) limit f = bounded_verdict f
+file_verdict (commands.WitnessTo k optimize) limit f = bounded_verdict f
+
+-- the bytes that were taken are a file of which something is asked, and this holds of what the
+-- command puts into its writer for that file
+abbrev pub AnswersFile : FileCommand → ℕ → Option (List ℕ) → Option (List ℕ) → Option (List ℕ)
+    → (List ℕ → Type 0) → Type 0
+AnswersFile c limit given old new Holds =
+    (text : List ℕ) × IsReadAs (IsAskedBy c limit) (Answers c given old) old new text
+    × Holds text
+
+-- ---- errors
+
+-- what an error says of the bytes of the file: one of the writer, or of what is given beside the
+-- file, that they are a file that is taken
+abbrev pub verdict_of : CheckError → Verdict
+verdict_of (errors.Answer e) = asking.verdict_of e
+verdict_of (errors.Show e) = showing.verdict_of (claims.Show e)
+verdict_of (errors.Solution e) = Accepted
+verdict_of (errors.Certificate e) = certificates.first_verdict e
+verdict_of errors.Write = Accepted
+verdict_of errors.Memory = Short
+verdict_of errors.Open = Refused
+verdict_of (errors.Bounded e) = bounding.verdict_of e
+verdict_of (errors.Settled k) = Accepted
+verdict_of (errors.Safe e) = safety.verdict_of e
+verdict_of (errors.Equality e) = equality.first_verdict e
+verdict_of (errors.Lasso e) = showing.verdict_of (claims.Lasso e)
+verdict_of (errors.Miter e) = comparing.first_verdict e
+verdict_of (errors.Unmade e) = edit_verdict e
+verdict_of (errors.Steps e) = stepping.verdict_of e
+
+-- the error of a witness that is refused
+abbrev pub error_of_claim : ClaimError → CheckError
+error_of_claim (claims.Show e) = errors.Show e
+error_of_claim (claims.Lasso e) = errors.Lasso e
+
+-- the status of the process that it ends with: 20 is that of a SAT solver whose clauses can't be
+-- satisfied
+abbrev pub error_status : CheckError → ℕ
+error_status (errors.Settled k) = 20
+error_status e = 1
+
+-- the command has this error
+abbrev pub IsErrorOf : FileCommand → CheckError → Type 0
+IsErrorOf c errors.Write = Unit {0}
+IsErrorOf (commands.Clauses k optimize) errors.Memory = Unit {0}
+IsErrorOf (commands.Clauses k optimize) (errors.Answer e) = IsOfQuery e
+IsErrorOf (commands.Window k form optimize) (errors.Answer e) = IsOfWindow e
+IsErrorOf (commands.Refuted k optimize) (errors.Answer e) = IsOfStep e
+IsErrorOf (commands.Inductive k form optimize) (errors.Answer e) = IsOfInduction e
+IsErrorOf (commands.Witness k optimize) (errors.Answer e) = IsOfQuery e
+IsErrorOf (commands.Witness k optimize) (errors.Solution e) = Unit {0}
+IsErrorOf commands.Run (errors.Show e) = e ≢ shows.File read.Open
+IsErrorOf commands.Run (errors.Lasso e) = Unit {0}
+IsErrorOf (commands.Bounded k optimize) (errors.Bounded e) = IsOfQuestion e
+IsErrorOf (commands.Bounded k optimize) (errors.Settled step) = step ≡ k
+IsErrorOf (commands.RefutedTo k optimize) (errors.Bounded e) = IsOfCheck e
+IsErrorOf (commands.WitnessTo k optimize) (errors.Bounded e) = IsOfWitness e
+IsErrorOf c e = ⊥
+
+-- it is of the file alone: what is given beside it wasn't read
+abbrev pub IsOfFileAlone : CheckError → Type 0
+IsOfFileAlone (errors.Answer (answers.Refutation e)) = ⊥
+IsOfFileAlone (errors.Answer e) = Unit {0}
+IsOfFileAlone (errors.Show (shows.File e)) = Unit {0}
+IsOfFileAlone (errors.Bounded (bounded.Refutation e)) = ⊥
+IsOfFileAlone (errors.Bounded (bounded.Solution e)) = ⊥
+IsOfFileAlone (errors.Bounded e) = Unit {0}
+IsOfFileAlone (errors.Settled k) = Unit {0}
+IsOfFileAlone e = ⊥
+
+-- the solver's answer to the query of the file is refused so
+pub record RefusesAnswer (given : Option (List ℕ)) (failed : Bool) (k : ℕ) (optimize : Bool)
+    (f : File) (e : SolutionError) : Type 0 where
+  pub query : Query
+  pub asks : IsQuery k optimize f query
+  pub refusal : RefusesSolution given query.encoded k failed e
+
+abbrev pub TellsOfSolution : FileCommand → ℕ → Option (List ℕ) → Option (List ℕ) → Option (List ℕ)
+    → Bool → SolutionError → Type 0
+TellsOfSolution (commands.Witness k optimize) limit old new given failed e =
+    IsReadAs (IsAsked limit k) (RefusesAnswer given failed k optimize) old new e
+TellsOfSolution c limit old new given failed e = ⊥
+
+-- a proof about a step or a window is refused so: its text shows this of the clauses of the file's
+-- query, or of its window
+abbrev pub TellsOfProof : FileCommand → ℕ → Option (List ℕ) → Option (List ℕ) → Option (List ℕ)
+    → Bool → RefutationError → Type 0
+TellsOfProof (commands.Refuted k optimize) limit old new given failed e =
+    IsReadAs (IsAsked limit k) (TellsOfStep k optimize given) old new (Err (answers.Refutation e))
+    × (e ≡ refutation.Stream → IsTrue failed)
+TellsOfProof (commands.Inductive k form optimize) limit old new given failed e =
+    IsReadAs (IsAsked limit (k + 1)) (TellsOfWindow form k optimize given) old new
+    (Err (answers.Refutation e))
+    × (e ≡ refutation.Stream → IsTrue failed)
+TellsOfProof c limit old new given failed e = ⊥
+
+-- a proof that no bad state is reached up to a step is refused so
+abbrev pub TellsOfRefutation : FileCommand → ℕ → Option (List ℕ) → Option (List ℕ)
+    → Option (List ℕ) → Bool → RefutationError → Type 0
+TellsOfRefutation (commands.RefutedTo k optimize) limit old new given failed e =
+    IsReadAs (IsAskedWithin limit) (TellsProof given k optimize) old new
+    (Err (bounded.Refutation e))
+    × (e ≡ refutation.Stream → IsTrue failed)
+TellsOfRefutation c limit old new given failed e = ⊥
+
+-- a solver's answer to a question up to a step is refused so
+abbrev pub TellsOfAnswer : FileCommand → ℕ → Option (List ℕ) → Option (List ℕ) → Option (List ℕ)
+    → Bool → SolutionError → Type 0
+TellsOfAnswer (commands.WitnessTo k optimize) limit old new given failed e =
+    IsReadAs (IsAskedWithin limit) (bounding.RefusesSolution given failed k optimize) old new e
+TellsOfAnswer c limit old new given failed e = ⊥
+
+-- the question of the file is settled
+abbrev pub TellsOfSettled : FileCommand → ℕ → Option (List ℕ) → Option (List ℕ) → Type 0
+TellsOfSettled (commands.Bounded k optimize) limit old new =
+    IsReadAs (IsAskedWithin limit) (λ f u. IsSettledTo k optimize f) old new (tt {0})
+TellsOfSettled c limit old new = ⊥
+
+-- the question of the file is too large only where the bound of what is made passes the limit
+abbrev pub TellsOfQuestion : FileCommand → ℕ → Option (List ℕ) → Option (List ℕ)
+    → BoundedAnswerError → Type 0
+TellsOfQuestion (commands.Bounded k optimize) limit old new e =
+    bounding.TellsOfSize limit (λ c. question_size c k) old new e
+TellsOfQuestion (commands.RefutedTo k optimize) limit old new e =
+    bounding.TellsOfSize limit (λ c. question_size c k) old new e
+TellsOfQuestion (commands.WitnessTo k optimize) limit old new e =
+    bounding.TellsOfSize limit (λ c. question_size c k) old new e
+TellsOfQuestion c limit old new e = ⊥
+
+-- what a refusal tells of the file's question or of what is given beside the file: a read of it is
+-- said to have failed only where one did, and a proof, a solver's answer or a witness is refused as
+-- is promised of these
+abbrev pub TellsOfGiven : FileCommand → ℕ → Option (List ℕ) → Option (List ℕ) → Option (List ℕ)
+    → Bool → CheckError → Type 0
+TellsOfGiven c limit old new given failed (errors.Answer (answers.Refutation e)) =
+    TellsOfProof c limit old new given failed e
+TellsOfGiven c limit old new given failed (errors.Solution e) =
+    TellsOfSolution c limit old new given failed e
+TellsOfGiven c limit old new given failed (errors.Show e) =
+    showing.RefusesClaim limit old new given failed (claims.Show e)
+TellsOfGiven c limit old new given failed (errors.Lasso e) =
+    showing.RefusesClaim limit old new given failed (claims.Lasso e)
+TellsOfGiven c limit old new given failed (errors.Bounded (bounded.Refutation e)) =
+    TellsOfRefutation c limit old new given failed e
+TellsOfGiven c limit old new given failed (errors.Bounded (bounded.Solution e)) =
+    TellsOfAnswer c limit old new given failed e
+TellsOfGiven c limit old new given failed (errors.Bounded (bounded.Question e)) =
+    TellsOfQuestion c limit old new (bounded.Question e)
+TellsOfGiven c limit old new given failed (errors.Settled k) = TellsOfSettled c limit old new
+TellsOfGiven c limit old new given failed e = Unit {0}
+
+-- a proof is taken where its text shows what is asked
+abbrev pub TakesProof : FileCommand → ℕ → Option (List ℕ) → Option (List ℕ) → Option (List ℕ)
+    → Type 0
+TakesProof (commands.Refuted k optimize) limit old new given =
+    IsReadAs (IsAsked limit k) (TellsOfStep k optimize given) old new (Ok tt)
+TakesProof (commands.Inductive k form optimize) limit old new given =
+    IsReadAs (IsAsked limit (k + 1)) (TellsOfWindow form k optimize given) old new (Ok tt)
+TakesProof (commands.RefutedTo k optimize) limit old new given =
+    IsReadAs (IsAskedWithin limit) (TellsProof given k optimize) old new (Ok tt)
+TakesProof c limit old new given = Unit {0}
+
+-- ---- runs
+
+-- nothing is given beside the file
+abbrev pub nothing_given : Unit {0} → Option (List ℕ)
+nothing_given p = None
+
+-- and no read of it fails
+abbrev pub nothing_fails : Unit {0} → Bool
+nothing_fails p = false
+
+-- What a command does: r, p and w are before it the file's reader, that of the proof, the solver's
+-- answer or the witness, and the writer; rest, used and made are these after it.
+pub record Runs {R P W : Type 0} (left : R → Option (List ℕ)) (read_failed : R → Bool)
+    (given : P → Option (List ℕ)) (given_failed : P → Bool) (held : W → Option (List ℕ))
+    (write_failed : W → Bool) (c : FileCommand) (limit : ℕ) (r : R) (p : P) (w : W)
+    (result : Result Unit CheckError) (rest : R) (used : P) (made : W) : Type 0 where
+  -- what is said of the bytes of the file
+  pub verdict : Judges (file_verdict c limit) limit (left r) (left rest) (read_failed rest)
+      (verdict_by verdict_of result)
+  -- which errors it has
+  pub own : IfErr result (IsErrorOf c)
+  -- its answer to the file that was read is written, and the writer has not failed
+  pub ok : OnOk result (AnswersFile c limit (given p) (left r) (left rest)
+      (λ text. Appends (held w) (held made) text × (write_failed made ≡ false)))
+  -- a beginning of it is, and the writer has failed
+  pub stopped : IsErrOf result errors.Write → AnswersFile c limit (given p) (left r) (left rest)
+      (Stops (held w) (held made) (write_failed made))
+  -- then the proof was taken
+  pub taken : IfErr result (λ e. e ≡ errors.Write)
+      → TakesProof c limit (left r) (left rest) (given p)
+  -- every other refusal leaves the writer as it was
+  pub kept : IfErr result (λ e. e ≢ errors.Write → made ≡ w)
+  -- what is given beside the file is read only where the file is taken
+  pub unread : IfErr result (λ e. IsOfFileAlone e → used ≡ p)
+  -- and a refusal of it, or of a settled question, tells why
+  pub refusal : IfErr result
+      (TellsOfGiven c limit (left r) (left rest) (given p) (given_failed used))

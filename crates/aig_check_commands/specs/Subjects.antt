@@ -1,0 +1,205 @@
+-- Part of what is promised.
+-- What an error is about: a file, or none, and how the place is found where reading it stopped.
+use Rattle.aig_answers.specs.declared.error.AnswerError.{AnswerError}
+use Rattle.aig_answers.specs.declared.error.AnswerError.TheVariants as answers
+use Rattle.aig_bounded.specs.declared.error.BoundedError.TheVariants as questions
+use Rattle.aig_answers.specs.declared.bounded_checks.error.BoundedAnswerError.{BoundedAnswerError}
+use Rattle.aig_answers.specs.declared.bounded_checks.error.BoundedAnswerError.TheVariants as bounded
+use Rattle.aig_answers.specs.declared.certificates.compare_error.MiterError.{MiterError}
+use Rattle.aig_answers.specs.declared.certificates.compare_error.MiterError.TheVariants as miter
+use Rattle.aig_answers.specs.declared.certificates.error.CertificateError.{CertificateError}
+use Rattle.aig_answers.specs.declared.certificates.error.CertificateError.TheVariants as certificate
+use Rattle.aig_command_line.specs.declared.tally.Measure.{Measure}
+use Rattle.aig_command_line.specs.declared.tally.Measure.TheVariants as measures
+use Rattle.aig_edits.specs.declared.edit_error.EditError.{EditError}
+use Rattle.aig_edits.specs.declared.edit_error.EditError.TheVariants as edit
+use Rattle.aig_edits.specs.declared.pair_error.PairError.{PairError}
+use Rattle.aig_edits.specs.declared.pair_error.PairError.TheVariants as pair
+use Rattle.aig_encode.specs.declared.error.EncodeError.{EncodeError}
+use Rattle.aig_encode.specs.declared.error.EncodeError.TheVariants as encode
+use Rattle.aig_answers.specs.declared.equality.error.EqualityError.{EqualityError}
+use Rattle.aig_answers.specs.declared.equality.error.EqualityError.TheVariants as equality
+use Rattle.aig_witness.specs.declared.fair.fault.LassoFault.{LassoFault}
+use Rattle.aig_witness.specs.declared.fair.fault.LassoFault.TheVariants as lassos
+use Rattle.aig_reader.specs.declared.error.ReadError.{ReadError}
+use Rattle.aig_reader.specs.declared.error.ReadError.TheVariants as read
+use Rattle.aig_refutation.specs.declared.error.RefutationError.{RefutationError}
+use Rattle.aig_refutation.specs.declared.error.RefutationError.TheVariants as refutation
+use Rattle.aig_answers.specs.declared.safety.error.SafetyError.{SafetyError}
+use Rattle.aig_answers.specs.declared.safety.error.SafetyError.TheVariants as safety
+use Rattle.aig_answers.specs.declared.safety.error.StepsError.{StepsError}
+use Rattle.aig_answers.specs.declared.safety.error.StepsError.TheVariants as steps
+use Rattle.aig_witness.specs.declared.solutions.error.SolutionError.{SolutionError}
+use Rattle.aig_witness.specs.declared.solutions.error.SolutionError.TheVariants as solution
+use Rattle.aig_witness.specs.declared.error.WitnessError.{WitnessError}
+use Rattle.aig_witness.specs.declared.error.WitnessError.TheVariants as witness
+use Rattle.aig_witness.specs.declared.fault.WitnessFault.{WitnessFault}
+use Rattle.aig_witness.specs.declared.fault.WitnessFault.TheVariants as faults
+use Rattle.aig_witness.specs.declared.file.ShowError.{ShowError}
+use Rattle.aig_witness.specs.declared.file.ShowError.TheVariants as shows
+use Rattle.aig_check_commands.specs.declared.subjects.About.{About}
+use Rattle.aig_check_commands.specs.declared.subjects.Search.TheVariants as searches
+use Rattle.aig_check_commands.specs.declared.subjects.Subject.{Subject}
+use Rattle.aig_check_commands.specs.declared.subjects.Subject.TheVariants as subjects
+use Rattle.aig_check_commands.specs.declared.error.CheckError.{CheckError}
+use Rattle.aig_check_commands.specs.declared.error.CheckError.TheVariants as errors
+
+-- a file as a whole
+abbrev pub whole : Subject → About
+whole subject = record { subject = subject; search = searches.Nowhere }
+
+-- no file
+abbrev pub nothing : About
+nothing = whole subjects.Nothing
+
+-- a place that is found by running the command again, and told so
+abbrev pub found : Subject → Measure → About
+found subject measure = record { subject = subject; search = searches.Run measure }
+
+-- a place that is found by reading the AIGER file again
+abbrev pub read_again : Subject → ReadError → About
+read_again subject e = record { subject = subject; search = searches.Read e }
+
+-- an AIGER file
+abbrev pub about_read : Subject → ReadError → About
+about_read subject read.Memory = nothing
+about_read subject read.Open = whole subjects.Unopened
+about_read subject e = read_again subject e
+
+-- FILE, of which clauses are made
+abbrev pub about_encode : EncodeError → About
+about_encode (encode.Read e) = about_read subjects.File e
+about_encode encode.Memory = nothing
+about_encode encode.TooLarge = whole subjects.File
+
+-- a proof
+abbrev pub about_refutation : Subject → RefutationError → About
+about_refutation subject refutation.Memory = nothing
+about_refutation subject refutation.Variable = nothing
+about_refutation subject refutation.Stream = whole subject
+about_refutation subject refutation.Unfinished = whole subject
+about_refutation subject refutation.Binary = found subject measures.Byte
+about_refutation subject e = found subject measures.Proof
+
+-- FILE or the proof about it
+abbrev pub about_answer : Subject → AnswerError → About
+about_answer proof (answers.Encode e) = about_encode e
+about_answer proof answers.NoBads = whole subjects.File
+about_answer proof answers.TooLarge = whole subjects.File
+about_answer proof (answers.Refutation e) = about_refutation proof e
+
+-- values that show no bad state
+abbrev pub about_fault : WitnessFault → About
+about_fault faults.Memory = nothing
+about_fault fault = whole subjects.Given
+
+-- a solver's answer
+abbrev pub about_solution : SolutionError → About
+about_solution solution.Memory = nothing
+about_solution solution.Answer = found subjects.Given measures.Line
+about_solution solution.Line = found subjects.Given measures.Line
+about_solution solution.Literal = found subjects.Given measures.Line
+about_solution solution.Variable = found subjects.Given measures.Line
+about_solution solution.Clash = found subjects.Given measures.Line
+about_solution (solution.Check fault) = about_fault fault
+about_solution e = whole subjects.Given
+
+-- a witness's text
+abbrev pub about_witness : WitnessError → About
+about_witness witness.Memory = nothing
+about_witness witness.Stream = whole subjects.Given
+about_witness e = found subjects.Given measures.Line
+
+-- FILE or a witness of it
+abbrev pub about_show : ShowError → About
+about_show (shows.File e) = about_read subjects.File e
+about_show (shows.Witness e) = about_witness e
+about_show shows.NoWitness = whole subjects.Given
+about_show (shows.Check fault) = about_fault fault
+
+-- values that show no fair lasso
+abbrev pub about_lasso : LassoFault → About
+about_lasso (lassos.Run fault) = about_fault fault
+about_lasso fault = whole subjects.Given
+
+-- FILE, of which something is made
+abbrev pub about_edit : EditError → About
+about_edit (edit.Read e) = about_read subjects.File e
+about_edit edit.Memory = nothing
+about_edit edit.Write = nothing
+about_edit e = whole subjects.File
+
+-- FILE, or the file beside it
+abbrev pub about_pair : PairError → About
+about_pair (pair.Read e) = about_read subjects.File e
+about_pair (pair.Other e) = about_read subjects.Other e
+about_pair (pair.Misfit m) = whole subjects.Other
+about_pair pair.TooLarge = whole subjects.File
+about_pair pair.Memory = nothing
+about_pair pair.Write = nothing
+
+-- one of two files, or of the proofs about them
+abbrev pub about_certificate : CertificateError → About
+about_certificate (certificate.Pair e) = about_pair e
+about_certificate (certificate.Query e) = about_answer subjects.Given e
+about_certificate (certificate.Window e) = about_answer subjects.Step e
+
+-- FILE, or what is given beside it
+abbrev pub about_bounded : BoundedAnswerError → About
+about_bounded (bounded.Read e) = about_read subjects.File e
+about_bounded bounded.NoBads = whole subjects.File
+about_bounded (bounded.Question questions.TooLarge) = whole subjects.File
+about_bounded (bounded.Question questions.Memory) = nothing
+about_bounded (bounded.Refutation e) = about_refutation subjects.Given e
+about_bounded (bounded.Solution e) = about_solution e
+
+-- FILE, or one of the proofs beside it
+abbrev pub about_safety : SafetyError → About
+about_safety (safety.File e) = about_answer subjects.Given e
+about_safety (safety.Base e) = about_bounded e
+about_safety (safety.Step e) = about_answer subjects.Step e
+
+-- FILE, or the proof of one of the steps, or of the window
+abbrev pub about_steps : StepsError → About
+about_steps (steps.File e) = about_answer subjects.Given e
+about_steps (steps.At n e) = about_answer (subjects.Nth n) e
+about_steps (steps.Step e) = about_answer subjects.Last e
+
+-- one of two files, or of the proofs that their machines are equal at every step
+abbrev pub about_equality : EqualityError → About
+about_equality (equality.Pair e) = about_pair e
+about_equality (equality.Miter e) = about_safety e
+
+-- the certificate of a miter, which is read after two files
+abbrev pub about_certificate_of : PairError → About
+about_certificate_of (pair.Read e) = about_read subjects.File e
+about_certificate_of (pair.Other e) = about_read subjects.Given e
+about_certificate_of (pair.Misfit m) = whole subjects.Given
+about_certificate_of pair.TooLarge = whole subjects.File
+about_certificate_of pair.Memory = nothing
+about_certificate_of pair.Write = nothing
+
+-- one of two files, or their certificate, or one of the proofs about it
+abbrev pub about_miter : MiterError → About
+about_miter (miter.Pair e) = about_pair e
+about_miter (miter.Certificate (certificate.Pair e)) = about_certificate_of e
+about_miter (miter.Certificate (certificate.Query e)) = about_answer subjects.Step e
+about_miter (miter.Certificate (certificate.Window e)) = about_answer subjects.Third e
+
+-- what an error of the program is about
+abbrev pub about_error : CheckError → About
+about_error errors.Open = whole subjects.Unopened
+about_error errors.Memory = nothing
+about_error errors.Write = nothing
+about_error (errors.Answer e) = about_answer subjects.Given e
+about_error (errors.Solution e) = about_solution e
+about_error (errors.Show e) = about_show e
+about_error (errors.Certificate e) = about_certificate e
+about_error (errors.Bounded e) = about_bounded e
+about_error (errors.Settled k) = whole subjects.File
+about_error (errors.Safe e) = about_safety e
+about_error (errors.Equality e) = about_equality e
+about_error (errors.Lasso fault) = about_lasso fault
+about_error (errors.Miter e) = about_miter e
+about_error (errors.Unmade e) = about_edit e
+about_error (errors.Steps e) = about_steps e

@@ -1,0 +1,138 @@
+//! What the program does with its words.
+
+ghost use Rattle.std.specs.Prelude.{◌≡◌, ◌++◌, ◌∷◌, [], IfOk, IfSome, IsErr, IsNone, IsTrue, OnOk, map, string_bytes};
+ghost use Rattle.aig_command_line.specs.declared.status.Ending.TheVariants as endings;
+ghost use Rattle.aig_command_line.specs.Ending.{Says};
+ghost use Rattle.aig_check_commands.specs.Acting.{Acts, Obeys};
+ghost use Rattle.aig_check_commands.specs.Help.{answer_of};
+ghost use Rattle.aig_check_commands.specs.Fits.{Fits};
+ghost use Rattle.aig_check_commands.specs.Opening.{unopened};
+
+use crate::command::{Call, call_of};
+use crate::error::CheckError;
+use crate::inputs::open_all;
+use crate::running::run;
+use aig_base::{MemoryError, Sink};
+use aig_command_line::{Ending, Flush, Help, OpenError, Opens, asked, write_text};
+use std::alloc::Global;
+
+/// How the program is used.
+pub const USAGE: &str =
+    "usage: aigcheck [--limit N] [--justice J [--rounds N]] clauses FILE K [raw], window FILE K [distinct] [raw], \
+    refuted FILE K PROOF [raw], inductive FILE K PROOF [distinct] [raw], witness FILE K SOLUTION [raw], run FILE WITNESS, \
+    certified FILE CERT BASE STEP [raw], equal FILE OTHER K PROOF [raw], obligations FILE CERT [raw], \
+    bounded FILE K [raw], refuted FILE to K PROOF [raw], witness FILE to K SOLUTION [raw], \
+    safe FILE to K BASE STEP [distinct] [raw | raw-base | raw-step], \
+    safe FILE each K P0 .. PK STEP [distinct] [raw | raw-base | raw-step], \
+    equal FILE OTHER to K BASE STEP [distinct] [raw | raw-base | raw-step], \
+    equal FILE OTHER by CERT BASE STEP [raw]";
+
+/// Its version.
+pub const VERSION: &str = "aigcheck 0.1.0";
+
+/// What a file that isn't opened is refused for.
+impl From<OpenError> for CheckError {
+    ghost from_gives = { λ error e. e ≡ unopened error };
+
+    fn from(error: OpenError) -> CheckError {
+        match error {
+            OpenError::Refused => CheckError::Open,
+        }
+    }
+}
+
+/// Opens the files that words name, and runs what they ask for.
+fn act_on<F: Opens, W: Sink>(
+    alloc: Global,
+    files: &F,
+    call: &Call<'_>,
+    w: &mut W,
+) -> Result<(), CheckError>
+    requires { Fits call.now }
+    ensures { Acts (F.opens files.now) F.File.left F.File.failed W.held W.failed call.now.limit
+        call.now.asked (map string_bytes call.now.paths.now)
+        (map string_bytes call.now.further.now) w.old result w.new }
+{
+    let (file, inputs) = open_all(alloc, files, call)?;
+    run(alloc, call.limit, call.asked, file, inputs, w)
+}
+
+/// Runs the command that words give, and flushes what it prints.
+fn print<F: Opens, W: Flush>(
+    alloc: Global,
+    files: &F,
+    call: &Call<'_>,
+    w: &mut W,
+) -> Result<(), CheckError>
+    requires { Fits call.now }
+    ensures acts { Acts (F.opens files.now) F.File.left F.File.failed W.held W.failed call.now.limit
+        call.now.asked (map string_bytes call.now.paths.now)
+        (map string_bytes call.now.further.now) w.old result w.new }
+    ensures done { OnOk result (IsTrue (W.flushed w.new)) }
+{
+    act_on(alloc, files, call, w)?;
+    Ok(w.flush()?)
+}
+
+/// Writes a line, and flushes it.
+fn say<W: Flush>(text: &str, w: &mut W) -> Result<(), CheckError>
+    ensures { Says W.held W.failed W.flushed CheckError.Write (text.now ++ 10 ∷ []) w.old
+        result w.new }
+{
+    write_text(w, text.as_bytes())?;
+    Ok(w.flush()?)
+}
+
+/// The answer to a question of the program.
+fn answer(question: Help) -> &'static str
+    ensures { result.now ≡ answer_of question }
+{
+    match question {
+        Help::Usage => USAGE,
+        Help::Version => VERSION,
+    }
+}
+
+/// Does what the words after the program's name ask for: opens FILE and what is given beside it, runs the command on them, and
+/// flushes `w`.
+fn obey<F: Opens, W: Flush>(
+    alloc: Global,
+    words: &[String],
+    files: &F,
+    w: &mut W,
+) -> Ending<CheckError>
+    ensures { Obeys (F.opens files.now) F.File.left F.File.failed W.held W.failed W.flushed
+        answer_of (map string_bytes words.now) w.old result w.new }
+{
+    if let Some(question) = asked(words) {
+        return Ending::of(say(answer(question), w));
+    }
+    let Some(call) = call_of(words) else {
+        return Ending::NoCommand;
+    };
+    Ending::of(print(alloc, files, &call, w))
+}
+
+/// Does what the words after the program's name ask for, as they were read: opens FILE and what is given beside it, runs the
+/// command on them, and flushes `w`.
+pub fn act<F: Opens, W: Flush>(
+    alloc: Global,
+    words: &Result<Option<Vec<String>>, MemoryError>,
+    files: &F,
+    w: &mut W,
+) -> Ending<CheckError>
+    ensures words { IfOk words.now (λ read. IfSome read (λ given.
+        Obeys (F.opens files.now) F.File.left F.File.failed W.held W.failed W.flushed
+        answer_of (map string_bytes given.items) w.old result w.new)) }
+    // Words that aren't UTF-8 give no command.
+    ensures other { IfOk words.now (λ read. IsNone read
+        → (result ≡ endings.NoCommand) × (w.new ≡ w.old)) }
+    ensures memory { IsErr words.now
+        → (result ≡ endings.Refused CheckError.Memory) × (w.new ≡ w.old) }
+{
+    match words {
+        Ok(Some(words)) => obey(alloc, words.as_slice(), files, w),
+        Ok(None) => Ending::NoCommand,
+        Err(_) => Ending::Refused(CheckError::Memory),
+    }
+}

@@ -1,0 +1,107 @@
+//! What may be the matter with a proof that is refused.
+
+ghost use Rattle.std.specs.Prelude.{◌≡◌};
+ghost use Rattle.aig_check_commands.specs.Advising.{Advises, has_misfit, is_misfit, misfits_answer, misfits_bounded, misfits_certificate, misfits_safety, misfits_steps};
+
+use crate::error::CheckError;
+use aig_answers::{
+    AnswerError, BoundedAnswerError, CertificateError, EqualityError, MiterError, SafetyError,
+    StepsError,
+};
+use aig_command_line::{Ending, Tells};
+use aig_refutation::RefutationError;
+
+/// Whether a proof is refused as one of other clauses is: a step doesn't follow, it names a literal or a clause that isn't theirs, or
+/// it is unfinished.
+fn is_misfit(error: RefutationError) -> bool
+    ensures { result ≡ is_misfit error }
+{
+    match error {
+        RefutationError::Step
+        | RefutationError::Asymmetry
+        | RefutationError::Literal
+        | RefutationError::Unnamed
+        | RefutationError::Unfinished => true,
+        _ => false,
+    }
+}
+
+/// Whether there is no answer about a file as a proof is refused so.
+fn misfits_answer(error: AnswerError) -> bool
+    ensures { result ≡ misfits_answer error }
+{
+    match error {
+        AnswerError::Refutation(error) => is_misfit(error),
+        _ => false,
+    }
+}
+
+/// The same of an answer about the steps up to one.
+fn misfits_bounded(error: BoundedAnswerError) -> bool
+    ensures { result ≡ misfits_bounded error }
+{
+    match error {
+        BoundedAnswerError::Refutation(error) => is_misfit(error),
+        _ => false,
+    }
+}
+
+/// The same of proofs that a machine is safe.
+fn misfits_safety(error: SafetyError) -> bool
+    ensures { result ≡ misfits_safety error }
+{
+    match error {
+        SafetyError::File(error) | SafetyError::Step(error) => misfits_answer(error),
+        SafetyError::Base(error) => misfits_bounded(error),
+    }
+}
+
+/// The same of a proof for each step that a machine is safe.
+fn misfits_steps(error: StepsError) -> bool
+    ensures { result ≡ misfits_steps error }
+{
+    match error {
+        StepsError::File(error) | StepsError::Step(error) => misfits_answer(error),
+        StepsError::At { error, .. } => misfits_answer(error),
+    }
+}
+
+/// The same of proofs about two files.
+fn misfits_certificate(error: CertificateError) -> bool
+    ensures { result ≡ misfits_certificate error }
+{
+    match error {
+        CertificateError::Pair(_) => false,
+        CertificateError::Query(error) | CertificateError::Window(error) => misfits_answer(error),
+    }
+}
+
+/// Whether the program refuses a proof so.
+fn has_misfit(ending: Ending<CheckError>) -> bool
+    ensures { result ≡ has_misfit ending }
+{
+    match ending {
+        Ending::Refused(CheckError::Answer(error)) => misfits_answer(error),
+        Ending::Refused(CheckError::Bounded(error)) => misfits_bounded(error),
+        Ending::Refused(CheckError::Safe(error)) => misfits_safety(error),
+        Ending::Refused(CheckError::Steps(error)) => misfits_steps(error),
+        Ending::Refused(CheckError::Certificate(error)) => misfits_certificate(error),
+        Ending::Refused(CheckError::Equality(EqualityError::Miter(error))) => misfits_safety(error),
+        Ending::Refused(CheckError::Miter(MiterError::Certificate(error))) => {
+            misfits_certificate(error)
+        }
+        _ => false,
+    }
+}
+
+/// Tells in a line what may be the matter where a proof is refused as one of other clauses is: a step doesn't follow, it names a
+/// literal or a clause that isn't theirs, or it is unfinished. Beside each other ending nothing is told.
+pub fn advise<T: Tells>(ending: Ending<CheckError>, errors: &mut T)
+    ensures { Advises T.tells ending errors.old errors.new }
+{
+    if has_misfit(ending) {
+        errors.tell(
+            "aigcheck: it may be a proof of other clauses: of another K, another file, or the other setting (raw)",
+        );
+    }
+}

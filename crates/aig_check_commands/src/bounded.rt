@@ -1,0 +1,181 @@
+//! What the commands of bounded checks do with the bytes of a file, and of a proof or a solver's answer.
+
+ghost use Rattle.std.specs.Prelude.{◌≡◌, ◌<◌, ◌≤◌, ◌^◌, ◌++◌, All, length};
+ghost use Rattle.std.specs.List.{flat_map, zip};
+ghost use Rattle.aig_base.specs.Clauses.{AreBelow};
+ghost use Rattle.aig_base.specs.Formula.{clauses_in};
+ghost use Rattle.aig_command_line.specs.Limits.{IsLimit};
+ghost use Rattle.aig_dimacs.specs.Text.{dimacs_of};
+ghost use Rattle.aig_output.specs.Sinks.{BuffersOrStops, WritesOrStops};
+ghost use Rattle.aig_check_commands.specs.Titles.{title_text};
+ghost use Rattle.aig_check_commands.specs.Bounded.{bounded_comments, letter_of, place_line};
+ghost use Rattle.aig_check_commands.specs.Running.{Runs, nothing_fails, nothing_given};
+
+use crate::command::FileCommand;
+use crate::comments::buffer_literal;
+use crate::error::CheckError;
+use crate::printing::{tell_formula, write_line};
+use crate::titles::{Question, Summed, Title, write_title};
+use aig_answers::{
+    BoundedClauses, Named, bounded, bounded_witness, check_bounded, refuted_questions_are_safe,
+};
+use aig_base::{Sink, Source, StreamFault, Var};
+use aig_command_line::Origin;
+use aig_dimacs::write_dimacs;
+use aig_output::OutputBuffer;
+use aig_witness::write_witness;
+use std::alloc::Global;
+use std::marker::Brand;
+
+/// The letter of an input or of a latch, in a line about it.
+fn letter(named: &Named) -> &'static [u8]
+    ensures { result.now ≡ letter_of named.now.is_latch }
+{
+    if named.is_latch { b"c l" } else { b"c i" }
+}
+
+/// Buffers the lines of a question's inputs.
+fn buffer_places<W: Sink>(
+    buffer: &mut OutputBuffer,
+    w: &mut W,
+    inputs: &[usize],
+    named: &[Named],
+) -> Result<(), StreamFault>
+    requires { All (λ n. n < 2 ^ 31) inputs.now }
+    ensures { let text = flat_map place_line (zip inputs.now named.now) in
+        BuffersOrStops W.held W.failed buffer.old w.old result text buffer.new w.new }
+{
+    for (n, place) in inputs.iter().zip(named) {
+        let lit = Var::new(*n).lit();
+        buffer_literal(buffer, w, letter(place), place.number, place.step, lit)?;
+    }
+    Ok(())
+}
+
+/// Writes a line for each input of a question, in order, that says which input or latch of the file it is, at which step, and
+/// its variable.
+fn write_places<W: Sink>(w: &mut W, made: &BoundedClauses) -> Result<(), StreamFault>
+    requires { All (λ n. n < 2 ^ 31) made.now.question.circuit.inputs.items }
+    ensures { WritesOrStops W.held W.failed w.old result (bounded_comments made.now) w.new }
+{
+    let mut buffer = OutputBuffer::new();
+    let inputs = made.question.circuit.inputs.as_slice();
+    buffer_places(&mut buffer, w, inputs, made.named.as_slice())?;
+    buffer.flush(w)
+}
+
+/// Writes a title, and then the lines of a question's inputs.
+fn write_front<W: Sink>(w: &mut W, title: &Title, made: &BoundedClauses) -> Result<(), StreamFault>
+    requires { All (λ n. n < 2 ^ 31) made.now.question.circuit.inputs.items }
+    ensures { let text = title_text title.now ++ bounded_comments made.now in
+        WritesOrStops W.held W.failed w.old result text w.new }
+{
+    write_title(w, title)?;
+    write_places(w, made)
+}
+
+/// Writes a title, the lines of a question's inputs, and then its clauses.
+fn write_bounded<W: Sink>(
+    w: &mut W,
+    title: &Title,
+    made: &BoundedClauses,
+) -> Result<(), StreamFault>
+    requires few { All (λ n. n < 2 ^ 31) made.now.question.circuit.inputs.items }
+    requires below { AreBelow (length made.now.clauses) made.now.extra }
+    ensures { let clauses = dimacs_of (length made.now.clauses)
+        (clauses_in made.now.clauses ++ made.now.extra) in
+        let text = title_text title.now ++ bounded_comments made.now ++ clauses in
+        WritesOrStops W.held W.failed w.old result text w.new }
+{
+    write_front(w, title, made)?;
+    write_dimacs(w, &made.clauses, &made.extra)
+}
+
+/// Prints the clauses of one question of the file whose bytes are the origin.
+fn print_bounded_of<R: Source + Drop, B: Origin, W: Sink>(
+    alloc: Global,
+    limit: usize,
+    k: usize,
+    optimize: bool,
+    r: R,
+    w: &mut W,
+) -> Result<(), CheckError>
+    requires origin { R.left r ≡ B.bytes }
+    requires limit { IsLimit limit }
+    ensures { let command = FileCommand.Bounded k optimize in
+        (rest : R) × Runs R.left R.failed nothing_given nothing_fails W.held W.failed
+        command limit r tt w.old result rest tt w.new }
+{
+    refuted_questions_are_safe();
+    let mut file = Summed::<R, B>::new(r);
+    let made = bounded(alloc, &mut file, limit, k, optimize)?;
+    tell_formula(&made.clauses, &made.extra);
+    if made.is_settled() {
+        return Err(CheckError::Settled(k));
+    }
+    let title = Title {
+        question: Question::Bounded { k },
+        optimize,
+        sum: file.finish(),
+        beside: None,
+    };
+    Ok(write_bounded(w, &title, &made)?)
+}
+
+/// Prints the clauses of one question: whether a bad state is reached at a step up to `k`. Before them stand their title, and comments
+/// that say which input or latch of the file each input of the question is, at which step, and its variable. Where the question is
+/// settled, no bad state is reached, and nothing is printed: `Settled`.
+pub fn print_bounded<R: Source + Drop, W: Sink>(
+    alloc: Global,
+    limit: usize,
+    k: usize,
+    optimize: bool,
+    r: R,
+    w: &mut W,
+) -> Result<(), CheckError>
+    requires { IsLimit limit }
+    ensures { let command = FileCommand.Bounded k optimize in
+        (rest : R) × Runs R.left R.failed nothing_given nothing_fails W.held W.failed
+        command limit r tt w.old result rest tt w.new }
+{
+    print_bounded_of::<R, Brand, W>(alloc, limit, k, optimize, r, w)
+}
+
+/// Checks a proof that no bad state is reached up to step `k`, and prints so.
+pub fn print_refuted_to<R: Source, P: Source, W: Sink>(
+    alloc: Global,
+    limit: usize,
+    k: usize,
+    optimize: bool,
+    r: &mut R,
+    proof: &mut P,
+    w: &mut W,
+) -> Result<(), CheckError>
+    requires { IsLimit limit }
+    ensures { let command = FileCommand.RefutedTo k optimize in
+        Runs R.left R.failed P.left P.failed W.held W.failed
+        command limit r.old proof.old w.old result r.new proof.new w.new }
+{
+    check_bounded(alloc, r, limit, k, optimize, proof)?;
+    Ok(write_line(w, b"no bad state up to step ", k)?)
+}
+
+/// Reads a solver's answer to the clauses of `print_bounded`, and prints the witness that it says, which was checked: of the first
+/// step with a bad state.
+pub fn print_witness_to<R: Source, P: Source, W: Sink>(
+    alloc: Global,
+    limit: usize,
+    k: usize,
+    optimize: bool,
+    r: &mut R,
+    solution: &mut P,
+    w: &mut W,
+) -> Result<(), CheckError>
+    requires { IsLimit limit }
+    ensures { let command = FileCommand.WitnessTo k optimize in
+        Runs R.left R.failed P.left P.failed W.held W.failed
+        command limit r.old solution.old w.old result r.new solution.new w.new }
+{
+    let witness = bounded_witness(alloc, r, limit, k, optimize, solution)?;
+    Ok(write_witness(w, &witness)?)
+}

@@ -1,0 +1,490 @@
+//! The commands, and the words that give them.
+
+ghost use Rattle.std.specs.Prelude.{◌≡◌, ◌↔◌, ◌<◌, ◌^◌, Bool, IfNone, IfSome, List, Some, ℕ, length, map, string_bytes};
+ghost use Rattle.aig_command_line.specs.Arguments.{Arguments, seen};
+ghost use Rattle.aig_check_commands.specs.Fits.{Fits};
+ghost use Rattle.aig_check_commands.specs.CommandWords.{AreCommand, Give, IsAlone, IsCall, IsWhole, beside_of, command_of, form_of, name_of, on_certificate, on_step, paths_of, raw_alone, raw_word, step_of, window_of};
+ghost use Rattle.aig_check_commands.specs.declared.command.Asked.{Asked};
+ghost use Rattle.aig_check_commands.specs.declared.command.Command.{Command};
+
+use crate::justice::{Justice, is_asked, is_word, justice_first};
+use aig_answers::Window;
+use aig_command_line::{Form, Given, HasForm, Step, find, limited};
+
+/// What the program is asked to do with a file.
+#[derive(Clone, Copy)]
+pub enum FileCommand {
+    /// Print the clauses that ask for a bad state at step `k`, and which literals stand for what.
+    Clauses {
+        /// The step.
+        k: usize,
+        /// Whether exclusive ors and choices have clauses of their own.
+        optimize: bool,
+    },
+    /// Print the clauses that ask for a window of `k + 2` steps with a bad state first at its end.
+    Window {
+        /// How many steps come before the last two.
+        k: usize,
+        /// Which windows are looked at.
+        form: Window,
+        /// Whether exclusive ors and choices have clauses of their own.
+        optimize: bool,
+    },
+    /// Check a proof that no bad state is reached at step `k`.
+    Refuted {
+        /// The step.
+        k: usize,
+        /// Whether exclusive ors and choices have clauses of their own.
+        optimize: bool,
+    },
+    /// Check a proof that no window of `k + 2` steps has a bad state first at its end.
+    Inductive {
+        /// How many steps come before the last two.
+        k: usize,
+        /// Which windows are looked at.
+        form: Window,
+        /// Whether exclusive ors and choices have clauses of their own.
+        optimize: bool,
+    },
+    /// Print the witness of a bad state at step `k` that a solver's answer says.
+    Witness {
+        /// The step.
+        k: usize,
+        /// Whether exclusive ors and choices have clauses of their own.
+        optimize: bool,
+    },
+    /// Check that a witness shows a bad state.
+    Run,
+    /// Print the clauses that ask for a bad state up to step `k`, and which variables stand for what.
+    Bounded {
+        /// The step.
+        k: usize,
+        /// Whether exclusive ors and choices have clauses of their own.
+        optimize: bool,
+    },
+    /// Check a proof that no bad state is reached up to step `k`.
+    RefutedTo {
+        /// The step.
+        k: usize,
+        /// Whether exclusive ors and choices have clauses of their own.
+        optimize: bool,
+    },
+    /// Print the witness of a bad state up to step `k` that a solver's answer says.
+    WitnessTo {
+        /// The step.
+        k: usize,
+        /// Whether exclusive ors and choices have clauses of their own.
+        optimize: bool,
+    },
+}
+
+/// What the program is asked to do with two files.
+#[derive(Clone, Copy)]
+pub enum PairCommand {
+    /// Check proofs that a certificate shows that no bad state is reached at any step.
+    Certified {
+        /// Whether exclusive ors and choices have clauses of their own.
+        optimize: bool,
+    },
+    /// Print the clauses that the proofs of `certified` are of.
+    Obligations {
+        /// Whether exclusive ors and choices have clauses of their own.
+        optimize: bool,
+    },
+    /// Check a proof that the files' machines are equal at step `k`.
+    Equal {
+        /// The step.
+        k: usize,
+        /// Whether exclusive ors and choices have clauses of their own.
+        optimize: bool,
+    },
+    /// Check proofs that the files' machines are equal at every step.
+    AlwaysEqual {
+        /// How many steps come before the last two of a window.
+        k: usize,
+        /// Which windows are looked at.
+        form: Window,
+        /// Whether exclusive ors and choices have clauses of their own in the question of BASE.
+        base_optimize: bool,
+        /// Whether they have in the question of STEP.
+        step_optimize: bool,
+    },
+}
+
+/// What the program is asked to do.
+#[derive(Clone, Copy)]
+pub enum Command {
+    /// A command on FILE.
+    File(FileCommand),
+    /// A command on FILE and on CERT or OTHER.
+    Pair(PairCommand),
+    /// Check proofs that no bad state is reached at any step of FILE.
+    Safe {
+        /// How many steps come before the last two of a window.
+        k: usize,
+        /// Which windows are looked at.
+        form: Window,
+        /// Whether exclusive ors and choices have clauses of their own in the question of BASE.
+        base_optimize: bool,
+        /// Whether they have in the question of STEP.
+        step_optimize: bool,
+    },
+    /// Check proofs that no bad state is reached at any step of FILE, of which one is of each of the steps 0 to `k`.
+    SafeBySteps {
+        /// How many steps come before the last two of a window.
+        k: usize,
+        /// Which windows are looked at.
+        form: Window,
+        /// Whether exclusive ors and choices have clauses of their own in the questions of the steps.
+        base_optimize: bool,
+        /// Whether they have in the question of STEP.
+        step_optimize: bool,
+    },
+    /// Check that a certificate of the miter shows that the machines of FILE and OTHER are equal at every step.
+    EqualBy {
+        /// Whether exclusive ors and choices have clauses of their own.
+        optimize: bool,
+    },
+}
+
+/// What the program is asked to do, and of which property of FILE.
+#[derive(Clone, Copy)]
+pub struct Asked {
+    /// The justice property of FILE that is asked about, or none where it is the bad states. The command is then on the file that is made
+    /// of FILE for it.
+    pub justice: Option<Justice>,
+    /// The command.
+    pub command: Command,
+}
+
+/// A command without K and its settings.
+#[derive(Clone, Copy)]
+pub enum Action {
+    /// `clauses FILE K [raw]`.
+    Clauses,
+    /// `window FILE K [distinct] [raw]`.
+    Window,
+    /// `refuted FILE K PROOF [raw]`.
+    Refuted,
+    /// `inductive FILE K PROOF [distinct] [raw]`.
+    Inductive,
+    /// `witness FILE K SOLUTION [raw]`.
+    Witness,
+    /// `run FILE WITNESS`.
+    Run,
+    /// `certified FILE CERT BASE STEP [raw]`.
+    Certified,
+    /// `equal FILE OTHER K PROOF [raw]`.
+    Equal,
+    /// `obligations FILE CERT [raw]`.
+    Obligations,
+    /// `bounded FILE K [raw]`.
+    Bounded,
+    /// `refuted FILE to K PROOF [raw]`.
+    RefutedTo,
+    /// `witness FILE to K SOLUTION [raw]`.
+    WitnessTo,
+    /// `safe FILE to K BASE STEP [distinct] [raw | raw-base | raw-step]`.
+    Safe,
+    /// `equal FILE OTHER to K BASE STEP [distinct] [raw | raw-base | raw-step]`.
+    AlwaysEqual,
+    /// `equal FILE OTHER by CERT BASE STEP [raw]`.
+    EqualBy,
+    /// `safe FILE each K P0 .. PK STEP [distinct] [raw | raw-base | raw-step]`.
+    SafeBySteps,
+}
+
+/// The form of a command on so many files and a step.
+fn on_step(paths: usize, step: Step, further: usize, distinct: bool) -> Form
+    ensures { result ≡ on_step paths step further distinct }
+{
+    Form {
+        paths,
+        step,
+        further,
+        distinct,
+        raw: true,
+    }
+}
+
+/// The form of a command on FILE, CERT and so many proofs.
+fn on_certificate(further: usize) -> Form
+    ensures { result ≡ on_certificate further }
+{
+    Form {
+        paths: 2,
+        step: Step::Absent,
+        further,
+        distinct: false,
+        raw: true,
+    }
+}
+
+impl HasForm for Action {
+    ghost name = { name_of };
+
+    ghost form = { form_of };
+
+    fn name(&self) -> &'static str {
+        match self {
+            Action::Clauses => "clauses",
+            Action::Window => "window",
+            Action::Refuted => "refuted",
+            Action::Inductive => "inductive",
+            Action::Witness => "witness",
+            Action::Run => "run",
+            Action::Certified => "certified",
+            Action::Equal => "equal",
+            Action::Obligations => "obligations",
+            Action::Bounded => "bounded",
+            Action::RefutedTo => "refuted",
+            Action::WitnessTo => "witness",
+            Action::Safe | Action::SafeBySteps => "safe",
+            Action::AlwaysEqual | Action::EqualBy => "equal",
+        }
+    }
+
+    fn form(&self) -> Form {
+        match self {
+            Action::Clauses | Action::Bounded => on_step(1, Step::At, 0, false),
+            Action::Window => on_step(1, Step::At, 0, true),
+            Action::Refuted | Action::Witness => on_step(1, Step::At, 1, false),
+            Action::RefutedTo | Action::WitnessTo => on_step(1, Step::UpTo, 1, false),
+            Action::Inductive => on_step(1, Step::At, 1, true),
+            Action::Safe => on_step(1, Step::UpTo, 2, true),
+            Action::SafeBySteps => on_step(1, Step::Each, 1, true),
+            Action::Equal => on_step(2, Step::At, 1, false),
+            Action::AlwaysEqual => on_step(2, Step::UpTo, 2, true),
+            Action::EqualBy => on_step(2, Step::By, 3, false),
+            Action::Run => Form {
+                paths: 1,
+                step: Step::Absent,
+                further: 1,
+                distinct: false,
+                raw: false,
+            },
+            Action::Certified => on_certificate(2),
+            Action::Obligations => on_certificate(0),
+        }
+    }
+}
+
+/// The form of windows.
+fn window_of(distinct: bool) -> Window
+    ensures { result ≡ window_of distinct }
+{
+    if distinct {
+        Window::Distinct
+    } else {
+        Window::Plain
+    }
+}
+
+impl Action {
+    /// Each of them.
+    const ALL: [Action; 16] = [
+        Action::Clauses,
+        Action::Window,
+        Action::Refuted,
+        Action::Inductive,
+        Action::Witness,
+        Action::Run,
+        Action::Certified,
+        Action::Equal,
+        Action::Obligations,
+        Action::Bounded,
+        Action::RefutedTo,
+        Action::WitnessTo,
+        Action::Safe,
+        Action::AlwaysEqual,
+        Action::EqualBy,
+        Action::SafeBySteps,
+    ];
+
+    /// The command, with K and the settings that its words give to each of its proofs.
+    fn command(self, k: usize, distinct: bool, optimize: bool) -> Command
+        ensures { result ≡ command_of self k distinct optimize }
+    {
+        let form = window_of(distinct);
+        match self {
+            Action::Clauses => Command::File(FileCommand::Clauses { k, optimize }),
+            Action::Window => Command::File(FileCommand::Window { k, form, optimize }),
+            Action::Refuted => Command::File(FileCommand::Refuted { k, optimize }),
+            Action::Inductive => Command::File(FileCommand::Inductive { k, form, optimize }),
+            Action::Witness => Command::File(FileCommand::Witness { k, optimize }),
+            Action::Run => Command::File(FileCommand::Run),
+            Action::Certified => Command::Pair(PairCommand::Certified { optimize }),
+            Action::Equal => Command::Pair(PairCommand::Equal { k, optimize }),
+            Action::Obligations => Command::Pair(PairCommand::Obligations { optimize }),
+            Action::Bounded => Command::File(FileCommand::Bounded { k, optimize }),
+            Action::RefutedTo => Command::File(FileCommand::RefutedTo { k, optimize }),
+            Action::WitnessTo => Command::File(FileCommand::WitnessTo { k, optimize }),
+            Action::Safe => Command::Safe {
+                k,
+                form,
+                base_optimize: optimize,
+                step_optimize: optimize,
+            },
+            Action::AlwaysEqual => Command::Pair(PairCommand::AlwaysEqual {
+                k,
+                form,
+                base_optimize: optimize,
+                step_optimize: optimize,
+            }),
+            Action::EqualBy => Command::EqualBy { optimize },
+            Action::SafeBySteps => Command::SafeBySteps {
+                k,
+                form,
+                base_optimize: optimize,
+                step_optimize: optimize,
+            },
+        }
+    }
+}
+
+/// What words give.
+#[derive(Clone, Copy)]
+pub struct Call<'a> {
+    /// The limit on the nodes of a circuit.
+    pub limit: usize,
+    /// The command, and the property.
+    pub asked: Asked,
+    /// FILE, and CERT or OTHER, where the command wants one.
+    pub paths: &'a [String],
+    /// PROOF, SOLUTION or WITNESS, or BASE and STEP, behind CERT after the word `by`, or P0 to PK and STEP, where the command wants them.
+    pub further: &'a [String],
+}
+
+/// Which of both proofs' clauses alone are raw, as a word says: whether STEP's are optimised, and so BASE's aren't.
+fn raw_word(word: &String) -> Option<bool>
+    ensures { (step : Bool) → (result ≡ Some step) ↔ (string_bytes word.now ≡ raw_word step) }
+{
+    if is_word(word, "raw-base") {
+        Some(true)
+    } else if is_word(word, "raw-step") {
+        Some(false)
+    } else {
+        None
+    }
+}
+
+/// The command, where the clauses of STEP alone are optimised, or those of BASE alone.
+fn raw_alone(step_optimize: bool, command: Command) -> Option<Command>
+    ensures exact { result ≡ raw_alone step_optimize command }
+    ensures paths { IfSome result (λ c. paths_of c ≡ paths_of command) }
+    ensures beside { IfSome result (λ c. beside_of c ≡ beside_of command) }
+    ensures step { IfSome result (λ c. step_of c ≡ step_of command) }
+{
+    let base_optimize = !step_optimize;
+    match command {
+        Command::Safe { k, form, .. } => Some(Command::Safe {
+            k,
+            form,
+            base_optimize,
+            step_optimize,
+        }),
+        Command::SafeBySteps { k, form, .. } => Some(Command::SafeBySteps {
+            k,
+            form,
+            base_optimize,
+            step_optimize,
+        }),
+        Command::Pair(PairCommand::AlwaysEqual { k, form, .. }) => {
+            Some(Command::Pair(PairCommand::AlwaysEqual {
+                k,
+                form,
+                base_optimize,
+                step_optimize,
+            }))
+        }
+        _ => None,
+    }
+}
+
+/// The command that words fit, with one setting for all its proofs, and what they give it.
+fn whole_command(words: &[String]) -> Option<(Command, Given<'_>)>
+    ensures some { IfSome result (λ p. IsWhole (map string_bytes words.now) p.0 (seen p.1)) }
+    ensures none { IfNone result ((c : Command) (a : Arguments)
+        → ¬ IsWhole (map string_bytes words.now) c a) }
+    ensures paths { IfSome result (λ p. length p.1.paths.now ≡ paths_of p.0) }
+    ensures further { IfSome result (λ p. length p.1.further.now ≡ beside_of p.0) }
+    ensures small { IfSome result (λ p. step_of p.0 < 2 ^ 32) }
+{
+    let (action, given) = find(&Action::ALL, words)?;
+    let command = action.command(given.step, given.distinct, given.optimize);
+    Some((command, given))
+}
+
+/// The command that words fit without their last, which is `raw-base` or `raw-step`, and what they give it.
+fn alone_command(words: &[String]) -> Option<(Command, Given<'_>)>
+    ensures some { IfSome result (λ p. IsAlone (map string_bytes words.now) p.0 (seen p.1)) }
+    ensures none { IfNone result ((c : Command) (a : Arguments)
+        → ¬ IsAlone (map string_bytes words.now) c a) }
+    ensures paths { IfSome result (λ p. length p.1.paths.now ≡ paths_of p.0) }
+    ensures further { IfSome result (λ p. length p.1.further.now ≡ beside_of p.0) }
+    ensures small { IfSome result (λ p. step_of p.0 < 2 ^ 32) }
+{
+    let (last, plain) = words.split_last()?;
+    let step_optimize = raw_word(last)?;
+    let (usual, given) = whole_command(plain)?;
+    if !given.optimize {
+        return None;
+    }
+    let command = raw_alone(step_optimize, usual)?;
+    Some((command, given))
+}
+
+/// The command that words give, and what they give it.
+fn command_first(words: &[String]) -> Option<(Command, Given<'_>)>
+    ensures some { IfSome result (λ p. AreCommand (map string_bytes words.now) p.0 (seen p.1)) }
+    ensures none { IfNone result ((c : Command) (a : Arguments)
+        → ¬ AreCommand (map string_bytes words.now) c a) }
+    ensures paths { IfSome result (λ p. length p.1.paths.now ≡ paths_of p.0) }
+    ensures further { IfSome result (λ p. length p.1.further.now ≡ beside_of p.0) }
+    ensures small { IfSome result (λ p. step_of p.0 < 2 ^ 32) }
+{
+    match whole_command(words) {
+        Some(given) => Some(given),
+        None => alone_command(words),
+    }
+}
+
+/// What the words after the program's name give, or none where they are wrong: N of `--limit N`, or 2^24, then J of `--justice J`, and
+/// N of `--rounds N`, where these come, and then the command and what it takes. Words that fit no command may end with `raw-base` or
+/// `raw-step` behind those of `safe` or of `equal` with `to`, without `raw`. It takes no memory.
+pub fn call_of(words: &[String]) -> Option<Call<'_>>
+    ensures some { IfSome result (λ c. IsCall (map string_bytes words.now) c.limit c.asked
+        (map string_bytes c.paths.now) (map string_bytes c.further.now)) }
+    ensures none { IfNone result ((limit : ℕ) (c : Asked) (paths further : List (List ℕ))
+        → ¬ IsCall (map string_bytes words.now) limit c paths further) }
+    ensures fits { IfSome result Fits }
+{
+    let (limit, rest) = limited(words)?;
+    let (justice, rest) = justice_first(rest)?;
+    let (command, given) = command_first(rest)?;
+    if !is_asked(justice, command) {
+        return None;
+    }
+    Some(Call {
+        limit,
+        asked: Asked { justice, command },
+        paths: given.paths,
+        further: given.further,
+    })
+}
+
+/// What the words after the program's name ask for, or none where they are wrong.
+///
+/// The words `--limit` and N may come first, and then `--justice` and J, and then `--rounds` and N. The word after the command's name is
+/// FILE. The next is WITNESS of `run`, CERT of `certified` and `obligations`, and OTHER of `equal`. Then comes K, where the command has one,
+/// after the word `to` where it is on the steps up to K, and the words after that are PROOF of `refuted`, `inductive` and `equal`, SOLUTION
+/// of `witness`, and BASE and STEP of `certified`, `safe` and `equal` with `to`. Of `equal` with the word `by` it is CERT, BASE and STEP that
+/// come after that, and of `safe` with the words `each` and K it is P0 to PK, one for each of the steps 0 to K, and STEP. The words
+/// `distinct` and `raw` may come last, where the command may have them, and in place of `raw` the word `raw-base` or `raw-step` of `safe` and
+/// of `equal` with `to`: the clauses of BASE alone, or those of all of P0 to PK, are then raw, or those of STEP alone. It takes no memory.
+pub fn parse(words: &[String]) -> Option<Asked>
+    ensures exact { (c : Asked) → (result ≡ Some c) ↔ Give (map string_bytes words.now) c }
+    ensures small { IfSome result (λ c. step_of c.command < 2 ^ 32) }
+{
+    Some(call_of(words)?.asked)
+}

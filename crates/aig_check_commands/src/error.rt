@@ -1,0 +1,175 @@
+//! Why the program doesn't do what was asked.
+
+ghost use Rattle.std.specs.Prelude.{◌≡◌};
+ghost use Rattle.aig_check_commands.specs.Running.{error_of_claim, error_status};
+ghost use Rattle.aig_check_commands.specs.declared.error.CheckError.TheVariants as errors;
+
+use aig_answers::{
+    AnswerError, BoundedAnswerError, CertificateError, EqualityError, MiterError, SafetyError,
+    StepsError,
+};
+use aig_base::{MemoryError, StreamFault};
+use aig_command_line::HasStatus;
+use aig_edits::EditError;
+use aig_witness::{ClaimError, LassoFault, ShowError, SolutionError};
+use thiserror::Error;
+
+/// Why the program doesn't do what was asked.
+#[derive(Clone, Copy, Debug, PartialEq, Eq, Error)]
+pub enum CheckError {
+    /// A path couldn't be opened.
+    #[error("cannot open")]
+    Open,
+    /// Memory ran out outside reading and checking.
+    #[error("out of memory")]
+    Memory,
+    /// There is no answer.
+    #[error("{0}")]
+    Answer(AnswerError),
+    /// The solver's answer gives no witness of a bad state.
+    #[error("{0}")]
+    Solution(SolutionError),
+    /// The witness is refused, or shows no bad state.
+    #[error("{0}")]
+    Show(ShowError),
+    /// There is no answer about two files.
+    #[error("{0}")]
+    Certificate(CertificateError),
+    /// The answer wasn't written.
+    #[error("write failed")]
+    Write,
+    /// There is no answer about the steps up to one.
+    #[error("{0}")]
+    Bounded(BoundedAnswerError),
+    /// No bad state is reached up to this step, so that there are no clauses to solve.
+    #[error("no bad state up to step {0}")]
+    Settled(usize),
+    /// It isn't shown that no bad state is reached at any step.
+    #[error("{0}")]
+    Safe(SafetyError),
+    /// It isn't shown that two files' machines are equal at every step.
+    #[error("{0}")]
+    Equality(EqualityError),
+    /// The witness shows no fair lasso.
+    #[error("{0}")]
+    Lasso(LassoFault),
+    /// A certificate doesn't show that two files' machines are equal at every step.
+    #[error("{0}")]
+    Miter(MiterError),
+    /// The file is refused, or nothing is made of it to ask about a justice property.
+    #[error("{0}")]
+    Unmade(EditError),
+    /// It isn't shown, by a proof for each step, that no bad state is reached at any.
+    #[error("{0}")]
+    Steps(StepsError),
+}
+
+impl HasStatus for CheckError {
+    ghost status = { error_status };
+
+    fn status(&self) -> u8 {
+        match self {
+            CheckError::Settled(_) => 20,
+            _ => 1,
+        }
+    }
+}
+
+impl From<AnswerError> for CheckError {
+    ghost from_gives = { λ e r. r ≡ errors.Answer e };
+
+    fn from(error: AnswerError) -> CheckError {
+        CheckError::Answer(error)
+    }
+}
+
+impl From<MemoryError> for CheckError {
+    ghost from_gives = { λ _ r. r ≡ errors.Memory };
+
+    fn from(_error: MemoryError) -> CheckError {
+        CheckError::Memory
+    }
+}
+
+impl From<SolutionError> for CheckError {
+    ghost from_gives = { λ e r. r ≡ errors.Solution e };
+
+    fn from(error: SolutionError) -> CheckError {
+        CheckError::Solution(error)
+    }
+}
+
+impl From<ClaimError> for CheckError {
+    ghost from_gives = { λ e r. r ≡ error_of_claim e };
+
+    fn from(error: ClaimError) -> CheckError {
+        match error {
+            ClaimError::Show(error) => CheckError::Show(error),
+            ClaimError::Lasso(fault) => CheckError::Lasso(fault),
+        }
+    }
+}
+
+impl From<CertificateError> for CheckError {
+    ghost from_gives = { λ e r. r ≡ errors.Certificate e };
+
+    fn from(error: CertificateError) -> CheckError {
+        CheckError::Certificate(error)
+    }
+}
+
+impl From<BoundedAnswerError> for CheckError {
+    ghost from_gives = { λ e r. r ≡ errors.Bounded e };
+
+    fn from(error: BoundedAnswerError) -> CheckError {
+        CheckError::Bounded(error)
+    }
+}
+
+impl From<SafetyError> for CheckError {
+    ghost from_gives = { λ e r. r ≡ errors.Safe e };
+
+    fn from(error: SafetyError) -> CheckError {
+        CheckError::Safe(error)
+    }
+}
+
+impl From<EqualityError> for CheckError {
+    ghost from_gives = { λ e r. r ≡ errors.Equality e };
+
+    fn from(error: EqualityError) -> CheckError {
+        CheckError::Equality(error)
+    }
+}
+
+impl From<MiterError> for CheckError {
+    ghost from_gives = { λ e r. r ≡ errors.Miter e };
+
+    fn from(error: MiterError) -> CheckError {
+        CheckError::Miter(error)
+    }
+}
+
+impl From<EditError> for CheckError {
+    ghost from_gives = { λ e r. r ≡ errors.Unmade e };
+
+    fn from(error: EditError) -> CheckError {
+        CheckError::Unmade(error)
+    }
+}
+
+impl From<StepsError> for CheckError {
+    ghost from_gives = { λ e r. r ≡ errors.Steps e };
+
+    fn from(error: StepsError) -> CheckError {
+        CheckError::Steps(error)
+    }
+}
+
+impl From<StreamFault> for CheckError {
+    ghost from_gives = { λ _ r. r ≡ errors.Write };
+
+    fn from(_fault: StreamFault) -> CheckError {
+        CheckError::Write
+    }
+}

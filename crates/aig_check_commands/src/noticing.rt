@@ -1,0 +1,80 @@
+//! What an answer isn't about.
+
+ghost use Rattle.std.specs.Prelude.{◌≡◌, ◌↔◌, true, IfOk, IfSome, IsErr, IsNone, map, string_bytes};
+ghost use Rattle.aig_check_commands.specs.Noticing.{IsAnswer, TellsBeside, regard_of};
+
+use crate::command::{Asked, Command, FileCommand, PairCommand, call_of};
+use crate::error::CheckError;
+use aig_base::MemoryError;
+use aig_command_line::{Ending, Headers, Regard, Tells, tell_of_files};
+
+/// What a command does with parts of its files that its answer isn't about: it answers without a look at justice and fairness, but where a
+/// justice property is asked about, and `run`, which names the property that the witness shows.
+fn regard_of(asked: Asked) -> Regard
+    ensures { result ≡ regard_of asked }
+{
+    Regard {
+        leaves_out: match asked.command {
+            Command::File(FileCommand::Run) => false,
+            _ => asked.justice.is_none(),
+        },
+        compares: match asked.command {
+            Command::Pair(PairCommand::Equal { .. } | PairCommand::AlwaysEqual { .. }) => true,
+            Command::EqualBy { .. } => true,
+            _ => false,
+        },
+    }
+}
+
+/// Whether a program that ends so has answered.
+fn is_answer(ending: Ending<CheckError>) -> bool
+    ensures { (result ≡ true) ↔ IsAnswer ending }
+{
+    match ending {
+        Ending::Done | Ending::Refused(CheckError::Settled(_)) => true,
+        _ => false,
+    }
+}
+
+/// Tells beside an answer to these words what it isn't about.
+fn tell_beside<T: Tells>(
+    words: &[String],
+    headers: Headers,
+    ending: Ending<CheckError>,
+    errors: &mut T,
+)
+    ensures { let given = map string_bytes words.now in
+        TellsBeside T.tells given headers ending errors.old errors.new }
+{
+    if !is_answer(ending) {
+        return;
+    }
+    let Some(call) = call_of(words) else {
+        return;
+    };
+    tell_of_files(
+        "aigcheck",
+        call.paths,
+        regard_of(call.asked),
+        headers,
+        errors,
+    );
+}
+
+/// Tells beside an answer what it isn't about, of each file with such a header.
+pub fn notice<T: Tells>(
+    words: &Result<Option<Vec<String>>, MemoryError>,
+    headers: Headers,
+    ending: Ending<CheckError>,
+    errors: &mut T,
+)
+    ensures words { IfOk words.now (λ read. IfSome read (λ given.
+        TellsBeside T.tells (map string_bytes given.items) headers ending errors.old errors.new)) }
+    ensures other { IfOk words.now (λ read. IsNone read → errors.new ≡ errors.old) }
+    ensures memory { IsErr words.now → errors.new ≡ errors.old }
+{
+    match words {
+        Ok(Some(words)) => tell_beside(words.as_slice(), headers, ending, errors),
+        _ => {}
+    }
+}

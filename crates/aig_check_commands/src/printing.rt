@@ -1,0 +1,356 @@
+//! What the commands do with the bytes of a file, and of a proof, a solver's answer or a witness.
+
+ghost use Rattle.std.specs.Prelude.{◌≡◌, ◌<◌, ◌≤◌, ◌^◌, ◌++◌, ◌∷◌, [], IfErr, List, decimal, length};
+ghost use Rattle.aig_base.specs.declared.logic.literal.Lit.{Lit};
+ghost use Rattle.aig_base.specs.Clauses.{AreBelow};
+ghost use Rattle.aig_base.specs.Formula.{clauses_in};
+ghost use Rattle.aig_cnf.specs.Cnf.{AreNeeded, HasClauses};
+ghost use Rattle.aig_command_line.specs.Limits.{IsLimit};
+ghost use Rattle.aig_dimacs.specs.Text.{IsFormula, dimacs_of};
+ghost use Rattle.aig_output.specs.Sinks.{BuffersOrStops, WritesOrStops};
+ghost use Rattle.aig_check_commands.specs.Titles.{title_text};
+ghost use Rattle.aig_unroll.specs.Unroll.{UnrollsTo};
+ghost use Rattle.aig_check_commands.specs.Comments.{comments_of};
+ghost use Rattle.aig_check_commands.specs.Printing.{IsKnownText, IsOfSolution, IsOfText, IsQueryText, Prints, WritesQuery};
+ghost use Rattle.aig_check_commands.specs.Running.{Runs, nothing_fails, nothing_given};
+ghost use Rattle.aig_check_commands.specs.Titling.{is_distinct};
+
+use crate::command::FileCommand;
+use crate::comments::write_comments;
+use crate::error::CheckError;
+use crate::titles::{Question, Summed, Title, write_title};
+use aig_answers::{Window, asked_circuit, asked_query, check_step, check_window, window};
+use aig_base::{DagCnf, LitVvec, Sink, Source, StreamFault};
+use aig_circuit::CircuitView;
+use aig_cnf::{NeededGates, find_needed};
+use aig_command_line::Origin;
+use aig_dimacs::{write_circuit, write_dimacs};
+use aig_encode::Query;
+use aig_output::OutputBuffer;
+use aig_runs::{Unrolled, inductive_windows_are_safe};
+use aig_witness::{Places, checked_witness, known_witnesses_show, write_witness};
+use std::alloc::Global;
+use std::marker::Brand;
+
+/// Buffers a text, a number and a line feed.
+fn buffer_line<W: Sink>(
+    buffer: &mut OutputBuffer,
+    w: &mut W,
+    text: &[u8],
+    k: usize,
+) -> Result<(), StreamFault>
+    ensures { let line = text.now ++ (decimal k ++ 10 ∷ []) in
+        BuffersOrStops W.held W.failed buffer.old w.old result line buffer.new w.new }
+{
+    buffer.write_bytes(w, text)?;
+    buffer.write_number(w, k, b'\n')
+}
+
+/// Writes a text, a number and a line feed.
+pub(crate) fn write_line<W: Sink>(w: &mut W, text: &[u8], k: usize) -> Result<(), StreamFault>
+    ensures { let line = text.now ++ (decimal k ++ 10 ∷ []) in
+        WritesOrStops W.held W.failed w.old result line w.new }
+{
+    let mut buffer = OutputBuffer::new();
+    buffer_line(&mut buffer, w, text, k)?;
+    buffer.flush(w)
+}
+
+/// Whether no state comes twice.
+fn is_distinct(form: Window) -> bool
+    ensures { result ≡ is_distinct form }
+{
+    match form {
+        Window::Plain => false,
+        Window::Distinct => true,
+    }
+}
+
+/// Writes clauses behind their title.
+fn write_titled<W: Sink>(
+    w: &mut W,
+    title: &Title,
+    clauses: &DagCnf,
+    extra: &LitVvec,
+) -> Result<(), StreamFault>
+    requires { AreBelow (length clauses.now) extra.now }
+    ensures writes { let formula = clauses_in clauses.now ++ extra.now in
+        let text = title_text title.now ++ dimacs_of (length clauses.now) formula in
+        WritesOrStops W.held W.failed w.old result text w.new }
+    ensures formula { IsFormula (length clauses.now) (clauses_in clauses.now ++ extra.now) }
+{
+    tell_formula(clauses, extra);
+    write_title(w, title)?;
+    write_dimacs(w, clauses, extra)
+}
+
+/// Prints the clauses of a window of the file whose bytes are the origin.
+fn print_window_of<R: Source + Drop, B: Origin, W: Sink>(
+    alloc: Global,
+    limit: usize,
+    k: usize,
+    form: Window,
+    optimize: bool,
+    r: R,
+    w: &mut W,
+) -> Result<(), CheckError>
+    requires origin { R.left r ≡ B.bytes }
+    requires limit { IsLimit limit }
+    requires small { k < 2 ^ 32 }
+    ensures { let command = FileCommand.Window k form optimize in
+        (rest : R) × Runs R.left R.failed nothing_given nothing_fails W.held W.failed
+        command limit r tt w.old result rest tt w.new }
+{
+    let mut file = Summed::<R, B>::new(r);
+    let asked = window(alloc, &mut file, limit, k, optimize, form)?;
+    let title = Title {
+        question: Question::Window {
+            k,
+            distinct: is_distinct(form),
+        },
+        optimize,
+        sum: file.finish(),
+        beside: None,
+    };
+    Ok(write_titled(w, &title, &asked.clauses, &asked.extra)?)
+}
+
+/// Prints the clauses that ask for a window of a file's machine, behind their title. Requires that `k` is below 2^32.
+pub fn print_window<R: Source + Drop, W: Sink>(
+    alloc: Global,
+    limit: usize,
+    k: usize,
+    form: Window,
+    optimize: bool,
+    r: R,
+    w: &mut W,
+) -> Result<(), CheckError>
+    requires limit { IsLimit limit }
+    requires small { k < 2 ^ 32 }
+    ensures { let command = FileCommand.Window k form optimize in
+        (rest : R) × Runs R.left R.failed nothing_given nothing_fails W.held W.failed
+        command limit r tt w.old result rest tt w.new }
+{
+    print_window_of::<R, Brand, W>(alloc, limit, k, form, optimize, r, w)
+}
+
+/// Checks a proof that no bad state is reached at step `k`, and prints so.
+pub fn print_refuted<R: Source, P: Source, W: Sink>(
+    alloc: Global,
+    limit: usize,
+    k: usize,
+    optimize: bool,
+    r: &mut R,
+    proof: &mut P,
+    w: &mut W,
+) -> Result<(), CheckError>
+    requires { IsLimit limit }
+    ensures { let command = FileCommand.Refuted k optimize in
+        Runs R.left R.failed P.left P.failed W.held W.failed
+        command limit r.old proof.old w.old result r.new proof.new w.new }
+{
+    check_step(alloc, r, limit, k, optimize, proof)?;
+    Ok(write_line(w, b"no bad state at step ", k)?)
+}
+
+/// Checks a proof that no window of `k + 2` steps has a bad state first at its end, and prints what that means. Requires that
+/// `k` is below 2^32.
+pub fn print_inductive<R: Source, P: Source, W: Sink>(
+    alloc: Global,
+    limit: usize,
+    k: usize,
+    form: Window,
+    optimize: bool,
+    r: &mut R,
+    proof: &mut P,
+    w: &mut W,
+) -> Result<(), CheckError>
+    requires limit { IsLimit limit }
+    requires small { k < 2 ^ 32 }
+    ensures { let command = FileCommand.Inductive k form optimize in
+        Runs R.left R.failed P.left P.failed W.held W.failed
+        command limit r.old proof.old w.old result r.new proof.new w.new }
+{
+    inductive_windows_are_safe();
+    check_window(alloc, r, limit, k, optimize, form, proof)?;
+    Ok(write_line(w, b"no bad state at any step, if none up to step ", k)?)
+}
+
+/// Tells that clauses are read again from their text, as the counts of variables and of clauses fit.
+pub(crate) fn tell_formula(clauses: &DagCnf, extra: &LitVvec)
+    requires { AreBelow (length clauses.now) extra.now }
+    ensures formula { IsFormula (length clauses.now) (clauses_in clauses.now ++ extra.now) }
+    ensures few { length clauses.now ≤ 2 ^ 31 }
+{
+    let _counts = (clauses.num_vars(), clauses.num_clauses(), extra.len());
+}
+
+/// Tells that the clauses of a circuit and further ones are read again from their text, as the counts of variables and of clauses
+/// fit.
+pub(crate) fn tell_circuit(
+    circuit: &CircuitView<'_>,
+    optimize: bool,
+    needed: &NeededGates,
+    extra: &LitVvec,
+)
+    requires few { length circuit.now.nodes ≤ 2 ^ 31 }
+    requires needed { AreNeeded circuit.now optimize needed.now.marks.items needed.now.clauses }
+    requires below { AreBelow (length circuit.now.nodes) extra.now }
+    ensures { (lists : List (List (List Lit))) × HasClauses circuit.now optimize lists
+        × IsFormula (length lists) (clauses_in lists ++ extra.now) }
+{
+    let _counts = (circuit.nodes().len(), needed.clauses, optimize, extra.len());
+}
+
+/// Writes the title and the comments of a query.
+fn write_front<'a, W: Sink>(
+    w: &mut W,
+    title: &Title,
+    asked: &'a Unrolled,
+    places: &Places<'_, CircuitView<'a>>,
+) -> Result<(), StreamFault>
+    requires places { places.now ≡ asked.now.circuit }
+    requires few { length asked.now.unrolled.nodes ≤ 2 ^ 31 }
+    requires small { asked.now.steps < 2 ^ 32 }
+    ensures { let text = title_text title.now
+        ++ comments_of asked.now.circuit asked.now.unrolled asked.now.steps in
+        WritesOrStops W.held W.failed w.old result text w.new }
+{
+    write_title(w, title)?;
+    write_comments(w, asked, places)
+}
+
+/// Writes a query: its title, comments that say which literals stand for what, and then its clauses.
+fn write_query<'a, W: Sink>(
+    w: &mut W,
+    title: &Title,
+    asked: &'a Unrolled,
+    places: &Places<'_, CircuitView<'a>>,
+    optimize: bool,
+    needed: &NeededGates,
+    extra: &LitVvec,
+) -> Result<(), StreamFault>
+    requires places { places.now ≡ asked.now.circuit }
+    requires few { length asked.now.unrolled.nodes ≤ 2 ^ 31 }
+    requires small { asked.now.steps < 2 ^ 32 }
+    requires needed { AreNeeded asked.now.unrolled optimize needed.now.marks.items
+        needed.now.clauses }
+    requires below { AreBelow (length asked.now.unrolled.nodes) extra.now }
+    ensures { WritesQuery W.held W.failed title.now asked.now optimize extra.now w.old result
+        w.new }
+{
+    let unrolled = asked.unrolled();
+    tell_circuit(&unrolled, optimize, needed, extra);
+    write_front(w, title, asked, places)?;
+    write_circuit(w, &unrolled, optimize, needed, extra)
+}
+
+/// Prints a query of a circuit. The clauses are written from the circuit, and no list of them is made.
+fn print_query<W: Sink>(
+    alloc: Global,
+    title: &Title,
+    asked: &Unrolled,
+    optimize: bool,
+    w: &mut W,
+) -> Result<(), CheckError>
+    requires few { length asked.now.unrolled.nodes ≤ 2 ^ 31 }
+    requires small { asked.now.steps < 2 ^ 32 }
+    ensures prints { Prints W.held W.failed (IsQueryText title.now asked.now optimize) w.old result
+        w.new }
+    ensures own { IfErr result IsOfText }
+{
+    let circuit = asked.circuit();
+    let places = Places::new(alloc, &circuit)?;
+    let extra = asked.query_clauses(alloc)?;
+    let needed = find_needed(alloc, &asked.unrolled(), optimize)?;
+    Ok(write_query(w, title, asked, &places, optimize, &needed, &extra)?)
+}
+
+/// Prints the query of the file whose bytes are the origin.
+fn print_clauses_of<R: Source + Drop, B: Origin, W: Sink>(
+    alloc: Global,
+    limit: usize,
+    k: usize,
+    optimize: bool,
+    r: R,
+    w: &mut W,
+) -> Result<(), CheckError>
+    requires origin { R.left r ≡ B.bytes }
+    requires limit { IsLimit limit }
+    requires small { k < 2 ^ 32 }
+    ensures { let command = FileCommand.Clauses k optimize in
+        (rest : R) × Runs R.left R.failed nothing_given nothing_fails W.held W.failed
+        command limit r tt w.old result rest tt w.new }
+{
+    let mut file = Summed::<R, B>::new(r);
+    let asked = asked_circuit(alloc, &mut file, limit, k)?;
+    let title = Title {
+        question: Question::Clauses { k },
+        optimize,
+        sum: file.finish(),
+        beside: None,
+    };
+    print_query(alloc, &title, &asked, optimize, w)
+}
+
+/// Prints the clauses of the query of a file for step `k`, as `write_dimacs` does. Before them stand their title, and comments that
+/// say which literals stand for its inputs at each step, its latches at step 0, and its bad state properties at step `k`. Requires
+/// that `k` is below 2^32.
+pub fn print_clauses<R: Source + Drop, W: Sink>(
+    alloc: Global,
+    limit: usize,
+    k: usize,
+    optimize: bool,
+    r: R,
+    w: &mut W,
+) -> Result<(), CheckError>
+    requires limit { IsLimit limit }
+    requires small { k < 2 ^ 32 }
+    ensures { let command = FileCommand.Clauses k optimize in
+        (rest : R) × Runs R.left R.failed nothing_given nothing_fails W.held W.failed
+        command limit r tt w.old result rest tt w.new }
+{
+    print_clauses_of::<R, Brand, W>(alloc, limit, k, optimize, r, w)
+}
+
+/// Reads a solver's answer to a query for step `k`, and prints the witness that it says, which was checked.
+fn print_solution<P: Source, W: Sink>(
+    alloc: Global,
+    asked: &Query,
+    k: usize,
+    solution: &mut P,
+    w: &mut W,
+) -> Result<(), CheckError>
+    requires small { k < 2 ^ 32 }
+    requires steps { UnrollsTo asked.now.encoded.circuit k asked.now.encoded.unrolled }
+    ensures prints { let given = P.left solution.old in
+        Prints W.held W.failed (IsKnownText given asked.now.encoded k) w.old result w.new }
+    // The solver's answer is refused as `checked_witness` refuses it.
+    ensures own { IfErr result
+        (IsOfSolution (P.left solution.old) (P.failed solution.new) asked.now.encoded k) }
+{
+    let witness = checked_witness(alloc, asked, k, solution)?;
+    Ok(write_witness(w, &witness)?)
+}
+
+/// Reads a solver's answer to the query of a file for step `k`, and prints the witness that it says, which was checked. Requires
+/// that `k` is below 2^32.
+pub fn print_witness<R: Source, P: Source, W: Sink>(
+    alloc: Global,
+    limit: usize,
+    k: usize,
+    optimize: bool,
+    r: &mut R,
+    solution: &mut P,
+    w: &mut W,
+) -> Result<(), CheckError>
+    requires limit { IsLimit limit }
+    requires small { k < 2 ^ 32 }
+    ensures { let command = FileCommand.Witness k optimize in
+        Runs R.left R.failed P.left P.failed W.held W.failed
+        command limit r.old solution.old w.old result r.new solution.new w.new }
+{
+    known_witnesses_show();
+    let asked = asked_query(alloc, r, limit, k, optimize)?;
+    print_solution(alloc, &asked, k, solution, w)
+}

@@ -1,0 +1,324 @@
+//! What an error is about.
+
+ghost use Rattle.std.specs.Prelude.{◌≡◌};
+ghost use Rattle.aig_check_commands.specs.Subjects as specs;
+
+use crate::error::CheckError;
+use aig_answers::{
+    AnswerError, BoundedAnswerError, CertificateError, EqualityError, MiterError, SafetyError,
+    StepsError,
+};
+use aig_bounded::BoundedError;
+use aig_command_line::Measure;
+use aig_edits::{EditError, PairError};
+use aig_encode::EncodeError;
+use aig_reader::ReadError;
+use aig_refutation::RefutationError;
+use aig_witness::{LassoFault, ShowError, SolutionError, WitnessError, WitnessFault};
+
+/// What an error is about.
+#[derive(Clone, Copy, PartialEq, Eq)]
+pub(crate) enum Subject {
+    /// No file.
+    Nothing,
+    /// A file that isn't opened.
+    Unopened,
+    /// FILE.
+    File,
+    /// CERT or OTHER.
+    Other,
+    /// PROOF, SOLUTION, WITNESS or BASE, or CERT after the word `by`.
+    Given,
+    /// STEP, or BASE behind CERT.
+    Step,
+    /// STEP behind CERT and BASE.
+    Third,
+    /// The proof of this step, of P0 to PK.
+    Nth(usize),
+    /// STEP behind P0 to PK.
+    Last,
+}
+
+/// How the place is found where reading stopped.
+#[derive(Clone, Copy)]
+pub(crate) enum Search {
+    /// There is none.
+    Nowhere,
+    /// The file is an AIGER file that is refused so.
+    Read(ReadError),
+    /// The command is run again, and the place is told so.
+    Run(Measure),
+}
+
+/// What an error is about, and how the place is found where reading stopped.
+#[derive(Clone, Copy)]
+pub(crate) struct About {
+    pub(crate) subject: Subject,
+    pub(crate) search: Search,
+}
+
+/// About no file.
+const NOTHING: About = About {
+    subject: Subject::Nothing,
+    search: Search::Nowhere,
+};
+
+/// About a file as a whole.
+fn whole(subject: Subject) -> About
+    ensures { result ≡ specs.whole subject }
+{
+    About {
+        subject,
+        search: Search::Nowhere,
+    }
+}
+
+/// About a place that is found by running the command again.
+fn found(subject: Subject, measure: Measure) -> About
+    ensures { result ≡ specs.found subject measure }
+{
+    About {
+        subject,
+        search: Search::Run(measure),
+    }
+}
+
+/// What an error of reading an AIGER file is about.
+fn about_read(subject: Subject, error: ReadError) -> About
+    ensures { result ≡ specs.about_read subject error }
+{
+    match error {
+        ReadError::Memory => NOTHING,
+        ReadError::Open => whole(Subject::Unopened),
+        _ => About {
+            subject,
+            search: Search::Read(error),
+        },
+    }
+}
+
+/// What an error of making clauses is about.
+fn about_encode(error: EncodeError) -> About
+    ensures { result ≡ specs.about_encode error }
+{
+    match error {
+        EncodeError::Read(error) => about_read(Subject::File, error),
+        EncodeError::Memory => NOTHING,
+        EncodeError::TooLarge => whole(Subject::File),
+    }
+}
+
+/// What an error of a proof is about.
+fn about_refutation(subject: Subject, error: RefutationError) -> About
+    ensures { result ≡ specs.about_refutation subject error }
+{
+    match error {
+        RefutationError::Memory | RefutationError::Variable => NOTHING,
+        RefutationError::Stream | RefutationError::Unfinished => whole(subject),
+        RefutationError::Binary => found(subject, Measure::Byte),
+        _ => found(subject, Measure::Proof),
+    }
+}
+
+/// What an error of an answer is about, of which this is the proof.
+fn about_answer(proof: Subject, error: AnswerError) -> About
+    ensures { result ≡ specs.about_answer proof error }
+{
+    match error {
+        AnswerError::Encode(error) => about_encode(error),
+        AnswerError::NoBads | AnswerError::TooLarge => whole(Subject::File),
+        AnswerError::Refutation(error) => about_refutation(proof, error),
+    }
+}
+
+/// What an error of values that show no bad state is about.
+fn about_fault(fault: WitnessFault) -> About
+    ensures { result ≡ specs.about_fault fault }
+{
+    match fault {
+        WitnessFault::Memory => NOTHING,
+        _ => whole(Subject::Given),
+    }
+}
+
+/// What an error of a solver's answer is about.
+fn about_solution(error: SolutionError) -> About
+    ensures { result ≡ specs.about_solution error }
+{
+    match error {
+        SolutionError::Memory => NOTHING,
+        SolutionError::Answer
+        | SolutionError::Line
+        | SolutionError::Literal
+        | SolutionError::Variable
+        | SolutionError::Clash => found(Subject::Given, Measure::Line),
+        SolutionError::Check(fault) => about_fault(fault),
+        _ => whole(Subject::Given),
+    }
+}
+
+/// What an error of a witness's text is about.
+fn about_witness(error: WitnessError) -> About
+    ensures { result ≡ specs.about_witness error }
+{
+    match error {
+        WitnessError::Memory => NOTHING,
+        WitnessError::Stream => whole(Subject::Given),
+        _ => found(Subject::Given, Measure::Line),
+    }
+}
+
+/// What an error of a witness of a file is about.
+fn about_show(error: ShowError) -> About
+    ensures { result ≡ specs.about_show error }
+{
+    match error {
+        ShowError::File(error) => about_read(Subject::File, error),
+        ShowError::Witness(error) => about_witness(error),
+        ShowError::NoWitness => whole(Subject::Given),
+        ShowError::Check(fault) => about_fault(fault),
+    }
+}
+
+/// What an error of values that show no fair lasso is about.
+fn about_lasso(fault: LassoFault) -> About
+    ensures { result ≡ specs.about_lasso fault }
+{
+    match fault {
+        LassoFault::Run(fault) => about_fault(fault),
+        _ => whole(Subject::Given),
+    }
+}
+
+/// What an error of what is made of a file is about.
+fn about_edit(error: EditError) -> About
+    ensures { result ≡ specs.about_edit error }
+{
+    match error {
+        EditError::Read(error) => about_read(Subject::File, error),
+        EditError::Memory | EditError::Write => NOTHING,
+        _ => whole(Subject::File),
+    }
+}
+
+/// What an error of two files is about.
+fn about_pair(error: PairError) -> About
+    ensures { result ≡ specs.about_pair error }
+{
+    match error {
+        PairError::Read(error) => about_read(Subject::File, error),
+        PairError::Other(error) => about_read(Subject::Other, error),
+        PairError::Misfit(_) => whole(Subject::Other),
+        PairError::TooLarge => whole(Subject::File),
+        PairError::Memory | PairError::Write => NOTHING,
+    }
+}
+
+/// What an error of a certificate is about.
+fn about_certificate(error: CertificateError) -> About
+    ensures { result ≡ specs.about_certificate error }
+{
+    match error {
+        CertificateError::Pair(error) => about_pair(error),
+        CertificateError::Query(error) => about_answer(Subject::Given, error),
+        CertificateError::Window(error) => about_answer(Subject::Step, error),
+    }
+}
+
+/// What an error of a bounded check is about.
+fn about_bounded(error: BoundedAnswerError) -> About
+    ensures { result ≡ specs.about_bounded error }
+{
+    match error {
+        BoundedAnswerError::Read(error) => about_read(Subject::File, error),
+        BoundedAnswerError::NoBads | BoundedAnswerError::Question(BoundedError::TooLarge) => {
+            whole(Subject::File)
+        }
+        BoundedAnswerError::Question(BoundedError::Memory) => NOTHING,
+        BoundedAnswerError::Refutation(error) => about_refutation(Subject::Given, error),
+        BoundedAnswerError::Solution(error) => about_solution(error),
+    }
+}
+
+/// What an error of the proofs that a machine is safe is about.
+fn about_safety(error: SafetyError) -> About
+    ensures { result ≡ specs.about_safety error }
+{
+    match error {
+        SafetyError::File(error) => about_answer(Subject::Given, error),
+        SafetyError::Base(error) => about_bounded(error),
+        SafetyError::Step(error) => about_answer(Subject::Step, error),
+    }
+}
+
+/// What an error of a proof for each step that a machine is safe is about.
+fn about_steps(error: StepsError) -> About
+    ensures { result ≡ specs.about_steps error }
+{
+    match error {
+        StepsError::File(error) => about_answer(Subject::Given, error),
+        StepsError::At { step, error } => about_answer(Subject::Nth(step), error),
+        StepsError::Step(error) => about_answer(Subject::Last, error),
+    }
+}
+
+/// What an error of the proofs that two machines are equal is about.
+fn about_equality(error: EqualityError) -> About
+    ensures { result ≡ specs.about_equality error }
+{
+    match error {
+        EqualityError::Pair(error) => about_pair(error),
+        EqualityError::Miter(error) => about_safety(error),
+    }
+}
+
+/// What an error of the certificate of a miter is about, which is read after two files.
+fn about_certificate_of(error: PairError) -> About
+    ensures { result ≡ specs.about_certificate_of error }
+{
+    match error {
+        PairError::Read(error) => about_read(Subject::File, error),
+        PairError::Other(error) => about_read(Subject::Given, error),
+        PairError::Misfit(_) => whole(Subject::Given),
+        PairError::TooLarge => whole(Subject::File),
+        PairError::Memory | PairError::Write => NOTHING,
+    }
+}
+
+/// What an error of two files with a certificate of their miter is about.
+fn about_miter(error: MiterError) -> About
+    ensures { result ≡ specs.about_miter error }
+{
+    match error {
+        MiterError::Pair(error) => about_pair(error),
+        MiterError::Certificate(CertificateError::Pair(error)) => about_certificate_of(error),
+        MiterError::Certificate(CertificateError::Query(error)) => {
+            about_answer(Subject::Step, error)
+        }
+        MiterError::Certificate(CertificateError::Window(error)) => {
+            about_answer(Subject::Third, error)
+        }
+    }
+}
+
+/// What an error of the program is about.
+pub(crate) fn about_error(error: CheckError) -> About
+    ensures { result ≡ specs.about_error error }
+{
+    match error {
+        CheckError::Open => whole(Subject::Unopened),
+        CheckError::Memory | CheckError::Write => NOTHING,
+        CheckError::Answer(error) => about_answer(Subject::Given, error),
+        CheckError::Solution(error) => about_solution(error),
+        CheckError::Show(error) => about_show(error),
+        CheckError::Certificate(error) => about_certificate(error),
+        CheckError::Bounded(error) => about_bounded(error),
+        CheckError::Settled(_) => whole(Subject::File),
+        CheckError::Safe(error) => about_safety(error),
+        CheckError::Equality(error) => about_equality(error),
+        CheckError::Lasso(fault) => about_lasso(fault),
+        CheckError::Miter(error) => about_miter(error),
+        CheckError::Unmade(error) => about_edit(error),
+        CheckError::Steps(error) => about_steps(error),
+    }
+}

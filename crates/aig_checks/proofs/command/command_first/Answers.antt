@@ -1,8 +1,0 @@
-use Rattle.aig_base.proofs.Words.{map, string_bytes}
-use Rattle.aig_checks.proofs.Calling.{neither_if}
-use Rattle.aig_checks.proofs.command.command_first.Goals as goal
-
-pub returns-in-None-clause-none : goal.returns-in-None-clause-none
-returns-in-None-clause-none c =
-    neither_if (map string_bytes c.args.words.now) c.in-None.ensures.none
-    c.alone_command.result c.alone_command.ensures.none

@@ -1,7 +1,0 @@
-use Rattle.aig_base.proofs.Words.{◌+◌, take, flat_map, range_with_len}
-use Rattle.aig_output.specs.Sinks.{Buffers}
-use Rattle.aig_checks.specs.Comments.{input_lines}
-use Rattle.aig_checks.proofs.comments.buffer_steps.Given as goal
-
-abbrev pub invariant-loop-t : goal.invariant-loop-t
-invariant-loop-t g l = Buffers l.fn.buffer (g.W.Sink.held l.fn.w) l.buffer (g.W.Sink.held l.w) (flat_map (input_lines l.asked.circuit l.asked.unrolled) (take l.t (range_with_len 0 (l.asked.steps + 1))))

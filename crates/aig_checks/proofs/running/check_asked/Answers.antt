@@ -1,6 +1,0 @@
-use Rattle.aig_checks.proofs.Made.{prints_not}
-use Rattle.aig_checks.proofs.running.check_asked.Goals as goal
-
-pub returns-in-Some : goal.returns-in-Some
-returns-in-Some g c =
-    rw (c.in-Some.is, prints_not c.args.asked.command c.requires.checks) c.check_made.ensures

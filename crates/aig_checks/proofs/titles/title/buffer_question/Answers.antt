@@ -1,4 +1,0 @@
-use Rattle.aig_checks.proofs.titles.title.buffer_question.Goals as goal
-
-pub returns-in-Obligations : goal.returns-in-Obligations
-returns-in-Obligations g c = rw c.in-Obligations.is c.write_bytes.ensures

@@ -1,9 +1,0 @@
-use Rattle.std.proofs.Common.{rules}
-use Rattle.aig_output.proofs.Putting.{failed_put, written_through}
-use Rattle.aig_checks.proofs.tool.write_line.Goals as goal
-
-pub returns-in_err-buffer_line : goal.returns-in_err-buffer_line
-returns-in_err-buffer_line g c = failed_put (rw c.new-buffer.ensures at c.in_err-buffer_line.ensures.err) (search rules)
-
-pub returns : goal.returns
-returns g c = written_through c.new-buffer.ensures c.in_ok-buffer_line.ensures.ok c.flush.ensures.writes

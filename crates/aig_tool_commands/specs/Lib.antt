@@ -1,0 +1,5 @@
+pub mod Printing
+pub mod CommandWords
+pub mod Acting
+pub mod Running
+pub mod Unrolled
