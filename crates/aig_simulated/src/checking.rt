@@ -48,7 +48,7 @@ fn refute_question<P: Source>(
     let made = unrolled_query(alloc, &asked, optimize)?;
     // The clauses are all that the proof is held against.
     drop(asked);
-    check_refutation(alloc, &made.clauses, &made.further, proof)?;
+    check_refutation(alloc, &made.clauses, &made.extra, proof)?;
     Ok(())
 }
 

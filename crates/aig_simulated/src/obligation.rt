@@ -71,7 +71,7 @@ pub fn obligation_of(
     requires claim { IsClaim claim.now }
     // The clauses are those of the question, or it is said why there are none.
     ensures makes { MakesObligation limit optimize (question_in condition claim.now) result }
-    // They can be written: the gates that need clauses are marked, and the further clauses are of variables that are there.
+    // They can be written: the gates that need clauses are marked, and the extra clauses are of variables that are there.
     ensures written { IfOk result (λ o. AreWrittenFrom o.question.unrolled optimize o.parts) }
 {
     let question = ask(alloc, claim, limit, condition)?;

@@ -18,7 +18,7 @@ returns-clause-holds g c =
     c.in_ok-made.ensures in
     (c.conditions_hold_where_questions_are_safe.ensures condition claim.shared.items
     (lists_circuit claim.model) (lists_circuit claim.witness) q is.asks).1
-    (c.refuted_circuit_queries_have_no_witness.ensures q asked.unrolled 0 made.clauses made.further
+    (c.refuted_circuit_queries_have_no_witness.ensures q asked.unrolled 0 made.clauses made.extra
     query.asks c.in_ok-check_refutation.ensures.refuted)
 
 pub returns-clause-tells : goal.returns-clause-tells
