@@ -338,10 +338,10 @@ module _ {P : Type 0} (left : P → Option (List ℕ)) (failed : P → Bool) (p 
         },
   )
 
-  question_seen : (limit : ℕ) (c : Circuit) (r : Result (Unit {0}) BoundedAnswerError)
+  bounded_seen : (limit : ℕ) (c : Circuit) (r : Result (Unit {0}) BoundedAnswerError)
       → TellsOfQuestion left limit k optimize p used c r
       → TellsOfQuestion bytes_of limit k optimize (seen left failed p) (seen left failed used) c r
-  question_seen limit c r told = record {
+  bounded_seen limit c r told = record {
     said = told.said;
     large = told.large;
     shown = λ taken. base_seen c r (told.shown taken);
@@ -352,10 +352,10 @@ module _ {P : Type 0} (left : P → Option (List ℕ)) (failed : P → Bool) (p 
       → HasNoLassoTo bytes_of limit j k optimize (seen left failed p) (seen left failed used)
       f r
   lassos_seen limit j f (Ok done) told =
-      (told.0, (told.1.0, told.1.1, question_seen limit told.1.0 (Ok tt) told.1.2))
+      (told.0, (told.1.0, told.1.1, bounded_seen limit told.1.0 (Ok tt) told.1.2))
   lassos_seen limit j f (Err (liveness.Live e)) told = told
   lassos_seen limit j f (Err (liveness.Question e)) told =
-      (told.0, told.1, question_seen limit told.0 (Err e) told.2)
+      (told.0, told.1, bounded_seen limit told.0 (Err e) told.2)
   lassos_seen limit j f (Err e) told = told
 
 module _ {P Q : Type 0} (left : P → Option (List ℕ)) (failed : P → Bool)
