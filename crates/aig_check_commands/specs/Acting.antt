@@ -39,8 +39,8 @@ RanOn {F} left failed held write_failed limit c w result made (r ∷ files) =
 RanOn left failed held write_failed limit c w result made [] = ⊥
 
 -- What is done with the files at the paths, which are opened first, in order: FILE, the file beside
--- it, and what the words name beside these. Where one isn't opened, or memory for a list of them runs
--- out, nothing is written.
+-- it, and what the words name beside these. Where one isn't opened, or memory for a list of them
+-- runs out, nothing is written.
 abbrev pub Acts : {F W : Type 0} → (List ℕ → Result F OpenError → Type 0)
     → (F → Option (List ℕ)) → (F → Bool) → (W → Option (List ℕ)) → (W → Bool) → ℕ → Asked
     → List (List ℕ) → List (List ℕ) → W → Result Unit CheckError → W → Type 0

@@ -9,7 +9,7 @@ ghost use Rattle.aig_simulated.specs.declared.error.ConditionError.TheVariants a
 ghost use Rattle.aig_simulated.specs.declared.error.SimulationError.TheVariants as errors;
 ghost use Rattle.aig_simulation.specs.declared.condition.Condition.{Condition};
 
-use crate::claim::{Claim, read_claim};
+use crate::claim::{Claim, read_simulation};
 use crate::error::{ConditionError, SimulationError};
 use crate::obligation::ask;
 use aig_answers::{circuit_clauses_are_one, unrolled_query};
@@ -86,9 +86,11 @@ fn check_claim<P: Source>(
 ) -> Result<(), SimulationError>
     requires few { limit ≤ 2 ^ 31 }
     requires claim { IsClaim claim.now }
-    ensures checks { let given = proofs_of reset.old transition.old property.old base.old step.old in
+    ensures checks {
+        let given = proofs_of reset.old transition.old property.old base.old step.old in
         ChecksClaim P.left limit optimize claim.now given result }
-    ensures unread { let given = proofs_of reset.old transition.old property.old base.old step.old in
+    ensures unread {
+        let given = proofs_of reset.old transition.old property.old base.old step.old in
         let rest = proofs_of reset.new transition.new property.new base.new step.new in
         (condition : Condition) → LeavesProof condition result
         → proof_for rest condition ≡ proof_for given condition }
@@ -123,7 +125,7 @@ fn check_claim<P: Source>(
 ///
 /// # Errors
 ///
-/// - `Read`, `Witness`, `NoBads`, `Sharing`: as `read_claim`. No proof is read.
+/// - `Read`, `Witness`, `NoBads`, `Sharing`: as `read_simulation`. No proof is read.
 /// - `Condition`: the question for the condition has more nodes than the limit, or memory ran out, or the proof for it is refused. The
 ///   proofs for later ones aren't read.
 pub fn check_simulated<R: Source, S: Source, P: Source>(
@@ -146,7 +148,8 @@ pub fn check_simulated<R: Source, S: Source, P: Source>(
         ReadsPair R.left R.failed S.left S.failed limit
         (Certifies limit optimize (λ condition. P.left (proof_for given condition)))
         first_verdict second_verdict IsOwn file.old witness.old result file.new witness.new }
-    ensures unread { let given = proofs_of reset.old transition.old property.old base.old step.old in
+    ensures unread {
+        let given = proofs_of reset.old transition.old property.old base.old step.old in
         let rest = proofs_of reset.new transition.new property.new base.new step.new in
         (condition : Condition) → LeavesProof condition result
         → proof_for rest condition ≡ proof_for given condition }
@@ -159,7 +162,7 @@ pub fn check_simulated<R: Source, S: Source, P: Source>(
     certified_models_are_safe();
     safe_circuits_are_safe_machines();
     safe_steps_are_safe();
-    let claim = read_claim(alloc, file, witness, limit)?;
+    let claim = read_simulation(alloc, file, witness, limit)?;
     check_claim(
         alloc, &claim, limit, optimize, reset, transition, property, base, step,
     )

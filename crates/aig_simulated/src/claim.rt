@@ -64,7 +64,7 @@ fn claim_of(
 /// - `NoBads`: the file has no bad state property.
 /// - `Sharing`: it isn't told which leaves are shared.
 /// - `Condition`: never.
-pub fn read_claim<R: Source, S: Source>(
+pub fn read_simulation<R: Source, S: Source>(
     alloc: Global,
     file: &mut R,
     witness: &mut S,

@@ -12,7 +12,7 @@ mod obligation;
 
 pub use aig_simulation::Condition;
 pub use checking::check_simulated;
-pub use claim::{Claim, read_claim};
+pub use claim::{Claim, read_simulation};
 pub use error::{ConditionError, SimulationError};
 pub use laws::condition_questions_are_one;
 pub use obligation::{Obligation, obligation_of, read_obligation};

@@ -6,7 +6,7 @@ ghost use Rattle.aig_edits.specs.Pairs.{ReadsPair};
 ghost use Rattle.aig_simulated.specs.Parts.{AsksClaim};
 ghost use Rattle.aig_simulated.specs.Simulated.{IsClaim, IsOfObligation, MakesObligation, Obliges, first_verdict, question_in, second_verdict};
 
-use crate::claim::{Claim, read_claim};
+use crate::claim::{Claim, read_simulation};
 use crate::error::{ConditionError, SimulationError};
 use aig_answers::{ClauseParts, query_parts};
 use aig_base::Source;
@@ -84,7 +84,7 @@ pub fn obligation_of(
 ///
 /// # Errors
 ///
-/// - `Read`, `Witness`, `NoBads`, `Sharing`: as `read_claim`.
+/// - `Read`, `Witness`, `NoBads`, `Sharing`: as `read_simulation`.
 /// - `Condition`: the question for the condition has more nodes than the limit, or memory ran out.
 pub fn read_obligation<R: Source, S: Source>(
     alloc: Global,
@@ -102,7 +102,7 @@ pub fn read_obligation<R: Source, S: Source>(
         file.old witness.old result file.new witness.new }
     ensures written { IfOk result (λ o. AreWrittenFrom o.question.unrolled optimize o.parts) }
 {
-    let claim = read_claim(alloc, file, witness, limit)?;
+    let claim = read_simulation(alloc, file, witness, limit)?;
     match obligation_of(alloc, &claim, limit, optimize, condition) {
         Ok(obligation) => Ok(obligation),
         Err(error) => Err(SimulationError::Condition(condition, ConditionError::Question(error))),

@@ -5,7 +5,7 @@ use Rattle.aig_format.proofs.Circuits.{IsCircuit-of_file}
 use Rattle.aig_format_laws.proofs.Writable.{plain_starts}
 use Rattle.aig_simulated.specs.Simulated.{Claims, IsOfClaim, first_verdict, second_verdict}
 use Rattle.aig_simulated.proofs.Claiming.{claim_said, claims_made}
-use Rattle.aig_simulated.proofs.claim.read_claim.Goals as goal
+use Rattle.aig_simulated.proofs.claim.read_simulation.Goals as goal
 
 pub claim_of-requires-clause-model : goal.claim_of-requires-clause-model
 claim_of-requires-clause-model g c =
