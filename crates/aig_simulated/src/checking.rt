@@ -86,11 +86,11 @@ fn check_claim<P: Source>(
 ) -> Result<(), SimulationError>
     requires few { limit ≤ 2 ^ 31 }
     requires claim { IsClaim claim.now }
-    ensures checks {
-        let given = proofs_of reset.old transition.old property.old base.old step.old in
+    ensures checks { let given = proofs_of
+        reset.old transition.old property.old base.old step.old in
         ChecksClaim P.left limit optimize claim.now given result }
-    ensures unread {
-        let given = proofs_of reset.old transition.old property.old base.old step.old in
+    ensures unread { let given = proofs_of
+        reset.old transition.old property.old base.old step.old in
         let rest = proofs_of reset.new transition.new property.new base.new step.new in
         (condition : Condition) → LeavesProof condition result
         → proof_for rest condition ≡ proof_for given condition }
@@ -148,8 +148,8 @@ pub fn check_simulated<R: Source, S: Source, P: Source>(
         ReadsPair R.left R.failed S.left S.failed limit
         (Certifies limit optimize (λ condition. P.left (proof_for given condition)))
         first_verdict second_verdict IsOwn file.old witness.old result file.new witness.new }
-    ensures unread {
-        let given = proofs_of reset.old transition.old property.old base.old step.old in
+    ensures unread { let given = proofs_of
+        reset.old transition.old property.old base.old step.old in
         let rest = proofs_of reset.new transition.new property.new base.new step.new in
         (condition : Condition) → LeavesProof condition result
         → proof_for rest condition ≡ proof_for given condition }

@@ -90,8 +90,8 @@ fn base(
     witness: &CircuitView<'_>,
 ) -> Result<AigEdge, MemoryError>
     requires { AreNodes nodes.old.items }
-    ensures asks {
-        IfOk result (AsksWhether (BaseHolds witness.now) nodes.old.items nodes.new.items) }
+    ensures asks { IfOk result
+        (AsksWhether (BaseHolds witness.now) nodes.old.items nodes.new.items) }
     ensures exact { IfOk result (λ e. made_in nodes.new.items e
         ≡ asked_base nodes.old.items witness.now) }
 {
@@ -106,8 +106,8 @@ fn step(
     witness: &CircuitView<'_>,
 ) -> Result<AigEdge, MemoryError>
     requires { AreNodes nodes.old.items }
-    ensures asks {
-        IfOk result (AsksWhether (StepHolds witness.now) nodes.old.items nodes.new.items) }
+    ensures asks { IfOk result
+        (AsksWhether (StepHolds witness.now) nodes.old.items nodes.new.items) }
     ensures exact { IfOk result (λ e. made_in nodes.new.items e
         ≡ asked_step nodes.old.items witness.now) }
 {
