@@ -12,10 +12,12 @@ import statistics
 import time
 
 from machines import MACHINES
-from measuring import CHECK, DESIGNS, heads, new_folder, numbers, row, run
+from measuring import CHECK, DESIGNS, heads, new_folder, parser, row, run
 
 from aigprove.questions import ASSUMING, in_turn
 
+# The status of `timeout` where a program takes longer.
+LATE = 124
 LEAST, MOST = 0.01, 20
 
 
@@ -53,10 +55,10 @@ def measure(step, files, folder):
     all_to_abc, where_less, own_to_solver, sums = [], [], [], [0, 0]
     for file in files:
         answer, making, solving, checking = asked(file, step, folder)
-        abc = timed(["berkeley-abc", "-q", f"read_aiger {file}; logic; undc; strash; zero; fold; bmc3 -F {step + 1}"])[1]
+        ended, abc = timed(["berkeley-abc", "-q", f"read_aiger {file}; logic; undc; strash; zero; fold; bmc3 -F {step + 1}"])
         total = making + solving + checking
         row(file.stem, step, answer, *(f"{seconds:.2f}" for seconds in [making, solving, checking, total, abc, total / abc]))
-        if answer == "-" or abc >= MOST:
+        if answer == "-" or ended == LATE:
             continue
         all_to_abc.append(total / abc)
         where_less += [total / abc] * (solving <= abc)
@@ -68,12 +70,15 @@ def measure(step, files, folder):
 
 
 def main():
+    words = parser(__doc__)
+    words.add_argument("steps", metavar="STEP", nargs="*", type=int, default=[20, 50])
+    steps = words.parse_args().steps
     heads("file", "step", "answer", "question", "solver", "check", "all", "bmc3", "all / bmc3")
     with new_folder() as folder:
         made = [folder / f"{make.__name__}.aig" for make in MACHINES]
         for file, make in zip(made, MACHINES):
             file.write_bytes(make().binary())
-        for step in numbers() or [20, 50]:
+        for step in steps:
             measure(step, [*sorted(DESIGNS.glob("*.aig")), *made], folder)
 
 

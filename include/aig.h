@@ -58,6 +58,10 @@ enum aig_status {
   AIG_DELTA = 12,    /* A gate of a binary file is cut, or its differences aren't allowed. */
   AIG_NAME = 13,     /* A name line is malformed, or is for no entry or for one that has a name. */
 
+  /* The names of a witness circuit don't say which of its leaves stand for the file's. */
+  AIG_UNKNOWN_LEAF = 14, /* One has the literal of no such leaf. */
+  AIG_TWICE = 15,        /* One has the literal of another. */
+
   /* A line of a section is malformed or cut. */
   AIG_SYNTAX_INPUTS = 16,
   AIG_SYNTAX_LATCHES = 17,
@@ -137,12 +141,17 @@ enum aig_status {
   AIG_QUERY = 512,   /* The query of the circuit of the two, or of the live one, or its proof. */
   AIG_WINDOW = 1024, /* The window of that circuit, or its proof. */
 
-  /* Added to a status of a call with proofs of first steps and of a window. */
-  AIG_BASE = 2048, /* The question of the steps 0 to `k`, or its proof. */
-  AIG_STEP = 4096, /* The proof of the window. */
+  /* Added to a status of a call with proofs of first steps and of a window, or for the conditions of a witness circuit. */
+  AIG_BASE = 2048, /* The question of the steps 0 to `k`, or for the condition `base`, or its proof. */
+  AIG_STEP = 4096, /* The proof of the window, or the question for the condition `step`, or its proof. */
 
   /* Added to a status of `aig_check_equal_by` that `aig_check_certified` has of the miter's text, the certificate and the proofs. */
-  AIG_CERTIFICATE = 8192
+  AIG_CERTIFICATE = 8192,
+
+  /* Added to a status of a call with a witness circuit: the question for this condition, or its proof. */
+  AIG_RESET = 16384,
+  AIG_TRANSITION = 32768,
+  AIG_PROPERTY = 65536
 };
 
 /* What a status says, in the words of the programs. It fits 128 bytes. There is no 0 at its end. */
@@ -258,6 +267,15 @@ uint32_t aig_check_safe(const uint8_t *file, size_t file_len, uint64_t k, bool d
  * `aig_query` for step 0, and `step` of those of `aig_window` for k = 0 without `distinct`, both of the text that `aig_join` gives. */
 uint32_t aig_check_certified(const uint8_t *file, size_t file_len, const uint8_t *certificate, size_t certificate_len,
                              bool optimize, const uint8_t *base, size_t base_len, const uint8_t *step, size_t step_len);
+
+/* AIG_DONE only where no such run ever reaches a bad state, as `witness` shows: a witness circuit of the hardware model checking
+ * competition, with resets that are constants or open. An input or a latch of it that is named `= N` stands for the first file's of
+ * literal N; without any such name the first ones stand for these, in order. For each condition of a certificate there is a proof of the
+ * clauses that `aigcheck obligations FILE WITNESS CONDITION` prints. */
+uint32_t aig_check_simulated(const uint8_t *file, size_t file_len, const uint8_t *witness, size_t witness_len, bool optimize,
+                             const uint8_t *reset, size_t reset_len, const uint8_t *transition, size_t transition_len,
+                             const uint8_t *property, size_t property_len, const uint8_t *base, size_t base_len,
+                             const uint8_t *step, size_t step_len);
 
 /* AIG_DONE only where the machines of two files have the same outputs and bad state properties at step `k`, on all runs of both from
  * initial states, with the same inputs, that meet the constraints of both at each step. Where there are no such runs it says nothing;

@@ -33,7 +33,7 @@ struct bytes {
   size_t len;
 };
 struct words {
-  struct bytes files[5];
+  struct bytes files[7];
   uint64_t numbers[2];
   bool optimize, distinct;
 };

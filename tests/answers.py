@@ -28,6 +28,7 @@ TABLES = {
     "answers/proofs.tsv": "aigcheck {}",
     "answers/solutions.tsv": "aigcheck {}",
     "answers/certificates.tsv": "aigcheck {}",
+    "answers/simulated.tsv": "aigcheck {}",
     "answers/bounded.tsv": "aigcheck {}",
     "answers/safe.tsv": "aigcheck {}",
     "answers/justice.tsv": "aigcheck {}",

@@ -25,8 +25,9 @@ from aiger import AND
 from harness import TESTS, TOP, repeated, spelled
 
 CLIENTS = TESTS / "clients"
-# What a status can't tell: the number of a step, and counts that don't fit.
+# What a status can't tell: the number of a step, counts that don't fit, and what the other file is.
 NUMBERED = [
+    (rb"\bwitness circuit: ", b"other file: "),
     (rb"\bstep \d+ has not a value", b"a step has not a value"),
     (rb"\bhold at step \d+\n", b"hold at a step\n"),
     (rb"\bup to step \d+\n", b"up to the step\n"),
@@ -39,20 +40,20 @@ NUMBERED = [
 CALLS = {name: name for name in "text strash cnf query clauses window witness bounded miter join merge obligations".split()}
 CALLS |= {name: name for name in "refine reencode unroll possible cone reduce question info live rounds".split()}
 CALLS |= {"move": "move_constraints", "compress": "compress_bads", "bads": "outputs_as_bads", "property": "property_alone"}
-CALLS |= {name: f"check_{name}" for name in "refuted inductive run lasso certified equal".split()}
+CALLS |= {name: f"check_{name}" for name in "refuted inductive run lasso certified simulated equal".split()}
 CALLS |= {"refuted to": "check_refuted_to", "witness to": "witness_to", "safe to": "check_safe", "equal to": "check_always_equal"}
 CALLS["equal by"] = "check_equal_by"
 CALLS |= {"no_lasso": "check_no_lasso", "no_lasso to": "check_no_lasso_to", "no_run": "check_no_fair_run"}
 CALLS |= {"numbers": "query_numbers", "binary": "binary"}
 # Those that return nothing, whose line is the program's.
-SILENT = "refuted inductive certified equal safe no_lasso no_run".split()
+SILENT = "refuted inductive certified simulated equal safe no_lasso no_run".split()
 # The settings that they take: of clauses, and of windows.
-SET = "cnf query clauses numbers window bounded refuted inductive witness certified equal obligations no_lasso".split()
+SET = "cnf query clauses numbers window bounded refuted inductive witness certified simulated equal obligations no_lasso".split()
 DISTINCT = ["window", "inductive", "safe to", "equal to", "no_run"]
 # Those with a setting for each of two proofs.
 SET_TWICE = ["safe to", "equal to", "no_run"]
 # The statuses that say what another one is about.
-ADDED = ["OTHER", "QUERY", "WINDOW", "BASE", "STEP", "CERTIFICATE"]
+ADDED = ["OTHER", "QUERY", "WINDOW", "BASE", "STEP", "CERTIFICATE", "RESET", "TRANSITION", "PROPERTY"]
 # The words of a command that name no file.
 WORDS = ["raw", "distinct", "to", "by"]
 # The types of C that parameters have, by those of Rust; a slice is followed by its length, and is a pointer to its caller.
@@ -90,7 +91,10 @@ def table_rows():
 
 
 def name_of(command, words):
-    """The name of a command and of its form, as CALLS has it."""
+    """The name of a command and of its form, as CALLS has it. With a proof for each condition `certified` is of a witness circuit."""
+    files = [word for word in words if word not in (command, *WORDS)]
+    if command == "certified" and len(files) > 4:
+        return "simulated"
     return command + "".join(f" {word}" for word in ("to", "by") if word in words)
 
 

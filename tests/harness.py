@@ -34,7 +34,8 @@ USAGE = {
     b"safe FILE to K BASE STEP [distinct] [raw | raw-base | raw-step], "
     b"safe FILE each K P0 .. PK STEP [distinct] [raw | raw-base | raw-step], "
     b"equal FILE OTHER to K BASE STEP [distinct] [raw | raw-base | raw-step], "
-    b"equal FILE OTHER by CERT BASE STEP [raw]\n",
+    b"equal FILE OTHER by CERT BASE STEP [raw], "
+    b"certified FILE WITNESS RESET TRANSITION PROPERTY BASE STEP [raw], obligations FILE WITNESS CONDITION [raw]\n",
 }
 TOOL, EDIT, CHECK = (str(TOP / "crates" / name / "out" / name) for name in ["aigtool", "aigedit", "aigcheck"])
 PROVE = str(TOP / "bin" / "aigprove")
@@ -43,7 +44,7 @@ SECONDS = 100
 REPEATED = re.compile(r"\{([^{}]*)\}\*(\d+)")
 SPELLED = re.compile(r"\\n|\\x([0-9a-f]{2})")
 # The file that a program names behind its own name in a line, and the place there.
-NAMED = re.compile(rb"^(aigcheck|aigedit): (?!query: |window: |base: |step: )[^ :]+: (?:(?:line|byte) \d+: )?", re.M)
+NAMED = re.compile(rb"^(aigcheck|aigedit): (?!query: |window: |base: |step: |reset: |transition: |property: )[^ :]+: (?:(?:line|byte) \d+: )?", re.M)
 # What a program tells of files beside its answer.
 NOTICES = [b"justice and fairness were not looked at", b"compared only on runs that its constraints allow"]
 BESIDE = re.compile(rb"^aig(?:check|edit): (?:.*: )?(?:%s)\n" % b"|".join(NOTICES), re.M)

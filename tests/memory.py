@@ -28,6 +28,9 @@ TABLES = harness.TESTS / "memory"
 FILES, READ = (harness.files(TABLES / name) for name in ("files.tsv", "read.tsv"))
 PROGRAMS = ["aigtool", "aigedit", "aigcheck"]
 FORMS = ["whole.aag", "whole.aig"]
+# Of what a program may say that memory ran out: which file, question or proof.
+SUBJECTS = ["other file", "witness circuit", "query", "window", "reset", "transition", "property", "base", "step"]
+PARTS = ["", *(f"{subject}: " for subject in SUBJECTS)]
 # The steps that calls.tsv names so.
 CLOSED = "read full 7 1000; keep; swap"
 FILLED = "read full 7 1000; leaf; init 0 3; name 7 gate; name 16 free; keep; swap"
@@ -156,7 +159,7 @@ class Program:
             ended = self.shim.run([self.path, *words], room, refused)
             if ended.requests < refused:
                 break
-            told = [f"{self.name}: {part}out of memory\n".encode() for part in ("", "other file: ", "query: ", "window: ", "base: ", "step: ")]
+            told = [f"{self.name}: {part}out of memory\n".encode() for part in PARTS]
             if ended.status != 1 or ended.err not in told or not out.startswith(ended.out):
                 wrong.append(f"{name}, request {refused}: status {ended.status}, {ended.err}")
             if self.contents(room) != files:

@@ -43,7 +43,7 @@ END = "--\0"
 # Options that name files, folders and programs.
 NAMED = [
     ("equal", "OTHER", "compare FILE with this file"),
-    ("certificate", "CERT", "check an inductive machine in AIGER form that somebody else made, or an invariant that pdr of ABC wrote of FILE"),
+    ("certificate", "CERT", "check a witness circuit or an inductive machine in AIGER form that somebody else made, or an invariant that pdr of ABC wrote of FILE"),
     ("write-certificate", "OUT", "write a certificate of the answer that no bad state is reached to OUT, a witness circuit"),
     ("run", "WITNESS", "check a witness that somebody else made, or what ABC's write_cex wrote"),
     ("keep", "FOLDER", "make FOLDER, with what shows each line, and check.sh, which shows it again"),

@@ -10,7 +10,7 @@ import shutil
 import threading
 import time
 
-from aigprove import aiger, simulation, witness
+from aigprove import aiger, conditions, simulation, witness
 from aigprove.programs import Fault, Folder, Sealed, ending
 from aigprove.questions import Question
 from aigprove.shown import Shown
@@ -240,18 +240,58 @@ class Certificate(Asking):
         self.certificate = certificate
 
     def run(self):
-        """Has the certificate checked, by proofs about the file beside it, and hands it in."""
+        """Has the certificate checked, by proofs about the file and it, and hands it in."""
         if PLA.search(self.certificate.bytes()):
             self.certificate = self.of_invariant()
         self.race.programs.answers()
-        joint = self.judge.made("join", self.source.asked, self.certificate)
-        with concurrent.futures.ThreadPoolExecutor(CHECKS, threading.current_thread().name) as both:
-            base, step = both.map(lambda command: self.solver.ask(Question(command, 0), joint), ["query", "window"])
-        if base[0] or step[0]:
-            raise Fault(self.broken(self.judge.circuit(joint, "the joint file"), base[1] if base[0] else None, step[1]))
-        claim = self.source.certified(self.certificate, base[1], step[1])
+        joint = self.joint()
+        claim = self.source.certified(self.certificate, self.joined(joint) if joint else self.simulated())
         self.judge.check(claim)
         self.race.certificate(claim, self.certificate)
+
+    def joint(self):
+        """The file beside the certificate. None where this doesn't begin with the file's inputs and latches, but may simulate it still."""
+        if self.source.can_be_simulated and conditions.is_named(self.certificate):
+            return None
+        try:
+            return self.judge.made("join", self.source.asked, self.certificate)
+        except Fault as why:
+            if not (self.source.can_be_simulated and str(why).startswith("aigedit: files do not fit: ")):
+                raise
+            return None
+
+    def asked(self, questions, file):
+        """Proofs for questions by their names, which are asked side by side; and the solutions of those that have some."""
+        with concurrent.futures.ThreadPoolExecutor(len(questions), threading.current_thread().name) as pool:
+            given = dict(zip(questions, pool.map(lambda question: self.solver.ask(question, file), questions.values())))
+        proofs, solutions = ({name: it for name, (has, it) in given.items() if has == wanted} for wanted in (False, True))
+        return proofs, solutions
+
+    def joined(self, joint):
+        """Proofs about the file beside the certificate."""
+        proofs, solutions = self.asked(conditions.questions(), joint)
+        for name, solution in solutions.items():
+            # Only of what was given is it told what else it might have been.
+            is_given = self.source.can_be_simulated and self.certificate is self.race.words.certificate
+            unmet = self.asked(conditions.of_both(self.certificate), self.source.asked)[1] if is_given else []
+            raise Fault("; ".join([self.broken(self.judge.circuit(joint, "the joint file"), name, solution), *conditions.told(unmet)]))
+        return proofs
+
+    def simulated(self):
+        """Proofs of the conditions by which the certificate simulates the file."""
+        proofs, solutions = self.asked(conditions.of_both(self.certificate), self.source.asked)
+        if solutions:
+            raise Fault("; ".join([*self.breaking(solutions), *conditions.told(solutions)]))
+        return proofs
+
+    def breaking(self, solutions):
+        """What breaks the first condition of those that are of the certificate's own steps, if one is broken."""
+        for name in [name for name in conditions.questions() if name in solutions][:1]:
+            text = self.judge.text(self.certificate)
+            circuit = self.judge.circuit(text, "the certificate")
+            conditions.name_shared(circuit, self.race.circuit, self.source.circuit())
+            _, solution = self.solver.ask(conditions.questions()[name], text)
+            yield self.broken(circuit, name, solution)
 
     def of_invariant(self):
         """The certificate of an invariant of the file, or of one that isn't about its latches."""
@@ -261,11 +301,11 @@ class Certificate(Asking):
             raise Fault("the invariant names other latches than the file's")
         return Sealed(made)
 
-    def broken(self, joint, base, step):
-        """What breaks a certificate, by a solution of its question about the start, or else of the one about a step."""
-        shown, values = Shown(joint), solved(base or step)
+    def broken(self, joint, name, solution):
+        """What breaks a certificate, by a solution of its question about the start, the base, or of the one about a step."""
+        shown, values = Shown(joint), solved(solution)
         state, inputs = ([values(literal) for literal in literals] for literals in (joint.latches, joint.inputs))
-        if base:
+        if name == "base":
             return f"it doesn't hold at the start: {listed(shown.values('l', state))}, inputs {listed(shown.values('i', inputs))}"
         *_, last = simulation.run(joint, state, [inputs, "x" * len(inputs)])
         after = [last[literal] for literal in joint.latches]

@@ -41,7 +41,7 @@ class Justice(Asked):
     """A justice property of a file, by its number there."""
 
     # What stands before lines of aigcheck, and by which command of aigedit the file is made.
-    prefix, of_step, command, counts = "live: ", "live: ", "live", True
+    prefix, of_step, command, counts, can_be_simulated = "live: ", "live: ", "live", True, False
 
     def __init__(self, whole, number, is_alone=True, folder=""):
         self.given, self.path, self.number, self.circuit, self.is_alone = whole.given, whole.path, number, whole.circuit, is_alone
@@ -65,8 +65,8 @@ class Justice(Asked):
         words = ["to", str(question.k), question.name, window.name, *window.form]
         return self.of_given("safe", words, {question.name: base, window.name: step})
 
-    def certified(self, certificate, base, step, *rounds):
-        files = {"certificate": certificate, "base": base, "step": step}
+    def certified(self, certificate, proofs, *rounds):
+        files = {"certificate": certificate, **proofs}
         return self.of_given("certified", files, files, *rounds)
 
     def is_fair(self):

@@ -13,6 +13,8 @@ COUNTS = [1, 2, 4, 8, 16]
 class Counted:
     """The file in which so many rounds end, and what aigcheck shows by it of the file that was given."""
 
+    can_be_simulated = False
+
     def __init__(self, justice, count):
         self.justice, self.count = justice, count
 
@@ -20,9 +22,9 @@ class Counted:
     def asked(self):
         return self.justice.rounds(self.count)
 
-    def certified(self, certificate, base, step):
+    def certified(self, certificate, proofs):
         """That no run shows the property, by a certificate of this file and proofs about both."""
-        return self.justice.certified(certificate, base, step, "--rounds", str(self.count))
+        return self.justice.certified(certificate, proofs, "--rounds", str(self.count))
 
 
 class Counting:

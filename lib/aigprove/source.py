@@ -101,8 +101,8 @@ class Asked:
     # beginning of one of what was shown so far; what is said of a file about which nothing can be asked; and what stands before a line of
     # one step.
     prefix, safe, so_far, empty, of_step = "", "no bad state at any step", "no bad state", "no bad state property", ""
-    # Whether there are files that count its rounds.
-    counts = False
+    # Whether there are files that count its rounds, and whether a certificate may be a witness circuit that simulates it.
+    counts, can_be_simulated = False, True
 
     def claim(self, line, command, words, files):
         """What aigcheck says of the file."""
@@ -119,9 +119,9 @@ class Asked:
         words = ["to", str(question.k), question.name, window.name, *window.form]
         return self.claim("no bad state at any step", "safe", words, {question.name: base, window.name: step})
 
-    def certified(self, certificate, base, step):
-        """That none is reached at all, by a certificate and proofs about both."""
-        files = {"certificate": certificate, "base": base, "step": step}
+    def certified(self, certificate, proofs):
+        """That none is reached at all, by a certificate and proofs about both, by their names."""
+        files = {"certificate": certificate, **proofs}
         return self.claim("no bad state at any step", "certified", files, files)
 
     def run(self, told, data):
@@ -271,6 +271,7 @@ class Pair(Asked):
     """Two files, whose outputs and bad states are compared: their miter is asked about."""
 
     name, prefix, safe, so_far, empty = "miter.aag", "miter: ", "equal at every step", "equal", "no output and no bad state property"
+    can_be_simulated = False
 
     def __init__(self, words, above, judge):
         self.judge, self.path = judge, f"{words.files[0]} and {words.equal}"
@@ -294,9 +295,9 @@ class Pair(Asked):
         words = ["to", str(question.k), question.name, window.name, *window.form]
         return self.compares(self.safe, words, {question.name: base, window.name: step})
 
-    def certified(self, certificate, base, step):
+    def certified(self, certificate, proofs):
         """That both are equal at every step, by a certificate of the miter and proofs about both."""
-        files = {"certificate": certificate, "base": base, "step": step}
+        files = {"certificate": certificate, **proofs}
         return self.compares(self.safe, ["by", *files], files)
 
     def compares(self, line, words, proofs):

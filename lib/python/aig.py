@@ -194,6 +194,7 @@ _declare({
     "aig_check_inductive": [_TEXT, _size, _step, _bool, _bool, _TEXT, _size],
     "aig_check_safe": [_TEXT, _size, _step, _bool, _bool, _TEXT, _size, _bool, _TEXT, _size],
     "aig_check_certified": [_TEXT, _size, _TEXT, _size, _bool, _TEXT, _size, _TEXT, _size],
+    "aig_check_simulated": [_TEXT, _size, _TEXT, _size, _bool, _TEXT, _size, _TEXT, _size, _TEXT, _size, _TEXT, _size, _TEXT, _size],
     "aig_check_equal": [_TEXT, _size, _TEXT, _size, _step, _bool, _TEXT, _size],
     "aig_check_always_equal": [_TEXT, _size, _TEXT, _size, _step, _bool, _bool, _TEXT, _size, _bool, _TEXT, _size],
     "aig_check_equal_by": [_TEXT, _size, _TEXT, _size, _TEXT, _size, _bool, _TEXT, _size, _TEXT, _size],
@@ -215,7 +216,7 @@ _declare({
 __all__ += """
     text binary strash refine reencode unroll move_constraints compress_bads outputs_as_bads property_alone possible cone reduce
     question info cnf query clauses bounded window check_refuted check_refuted_to check_inductive check_safe check_certified
-    check_equal check_always_equal check_equal_by witness witness_to check_run check_lasso live rounds check_no_lasso
+    check_simulated check_equal check_always_equal check_equal_by witness witness_to check_run check_lasso live rounds check_no_lasso
     check_no_lasso_to check_no_fair_run miter join merge obligations
 """.split()
 
@@ -388,6 +389,35 @@ def check_certified(file: bytes, certificate: bytes, base: bytes, step: bytes, *
     of `query` for step 0, and `step` of those of `window` for k = 0 without `distinct`, both of the text that `join` gives.
     """
     _hold("aig_check_certified", *_given(file), *_given(certificate), optimize, *_given(base), *_given(step))
+
+
+def check_simulated(
+    file: bytes,
+    witness: bytes,
+    reset: bytes,
+    transition: bytes,
+    property: bytes,
+    base: bytes,
+    step: bytes,
+    *,
+    optimize: bool = True,
+) -> None:
+    """Returns only where no such run ever reaches a bad state, as `witness` shows: a witness circuit of the hardware model checking
+    competition, with resets that are constants or open. An input or a latch of it that is named `= N` stands for the first file's of
+    literal N; without any such name the first ones stand for these, in order. For each condition of a certificate there is a proof of
+    the clauses that `aigcheck obligations FILE WITNESS CONDITION` prints.
+    """
+    _hold(
+        "aig_check_simulated",
+        *_given(file),
+        *_given(witness),
+        optimize,
+        *_given(reset),
+        *_given(transition),
+        *_given(property),
+        *_given(base),
+        *_given(step),
+    )
 
 
 def check_equal(file: bytes, other: bytes, k: int, proof: bytes, *, optimize: bool = True) -> None:

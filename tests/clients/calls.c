@@ -142,7 +142,8 @@ int main(int argc, char **argv) {
   program = argv[1];
   const char *command = argv[2];
   struct words w = {.optimize = true};
-  const char *paths[5];
+  enum { MOST = sizeof w.files / sizeof *w.files };
+  const char *paths[MOST];
   int count = 0, numbers = 0;
   for (int i = 3; i < argc; i++) {
     char *end;
@@ -153,7 +154,7 @@ int main(int argc, char **argv) {
       w.distinct = true;
     else if (!*end && i > 3 && numbers < 2)
       w.numbers[numbers++] = number;
-    else if (strcmp(argv[i], "to") && strcmp(argv[i], "by") && count < 5)
+    else if (strcmp(argv[i], "to") && strcmp(argv[i], "by") && count < MOST)
       paths[count++] = argv[i];
   }
   for (int i = 0; i < count; i++) w.files[i] = read_file(paths[i]);

@@ -6,7 +6,7 @@ struct bytes {
   size_t len;
 };
 struct words {
-  struct bytes files[5];
+  struct bytes files[7];
   uint64_t numbers[2];
   bool optimize, distinct;
 };
@@ -88,6 +88,9 @@ static uint32_t check_safe_of(const struct words *w) {
 }
 static uint32_t check_certified_of(const struct words *w) {
   return aig_check_certified(w->files[0].at, w->files[0].len, w->files[1].at, w->files[1].len, w->optimize, w->files[2].at, w->files[2].len, w->files[3].at, w->files[3].len);
+}
+static uint32_t check_simulated_of(const struct words *w) {
+  return aig_check_simulated(w->files[0].at, w->files[0].len, w->files[1].at, w->files[1].len, w->optimize, w->files[2].at, w->files[2].len, w->files[3].at, w->files[3].len, w->files[4].at, w->files[4].len, w->files[5].at, w->files[5].len, w->files[6].at, w->files[6].len);
 }
 static uint32_t check_equal_of(const struct words *w) {
   return aig_check_equal(w->files[0].at, w->files[0].len, w->files[1].at, w->files[1].len, w->numbers[0], w->optimize, w->files[2].at, w->files[2].len);
@@ -181,6 +184,7 @@ static const struct {
   {"check_inductive", check_inductive_of, 2},
   {"check_safe", check_safe_of, 3},
   {"check_certified", check_certified_of, 4},
+  {"check_simulated", check_simulated_of, 7},
   {"check_equal", check_equal_of, 3},
   {"check_always_equal", check_always_equal_of, 4},
   {"check_equal_by", check_equal_by_of, 5},

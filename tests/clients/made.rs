@@ -28,6 +28,7 @@ pub fn answer(call: &str, files: &[&[u8]], numbers: &[u64], distinct: bool, opti
         "check_inductive" => aig::check_inductive(files[0], numbers[0], distinct, optimize, files[1]).map(|()| Vec::new()),
         "check_safe" => aig::check_safe(files[0], numbers[0], distinct, optimize, files[1], optimize, files[2]).map(|()| Vec::new()),
         "check_certified" => aig::check_certified(files[0], files[1], optimize, files[2], files[3]).map(|()| Vec::new()),
+        "check_simulated" => aig::check_simulated(files[0], files[1], optimize, files[2], files[3], files[4], files[5], files[6]).map(|()| Vec::new()),
         "check_equal" => aig::check_equal(files[0], files[1], numbers[0], optimize, files[2]).map(|()| Vec::new()),
         "check_always_equal" => aig::check_always_equal(files[0], files[1], numbers[0], distinct, optimize, files[2], optimize, files[3]).map(|()| Vec::new()),
         "check_equal_by" => aig::check_equal_by(files[0], files[1], files[2], optimize, files[3], files[4]).map(|()| Vec::new()),

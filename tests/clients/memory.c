@@ -44,7 +44,7 @@ static size_t numbers[3];
 /* On which files and numbers a call is made that asks for more memory there than on the first of these. */
 static const struct {
   const char *name;
-  int files[5];
+  int files[7];
   uint64_t numbers[2];
 } ASKED[] = {
   {"", {WHOLE, WHOLE, CONFLICT, CONFLICT}, {2}},
@@ -64,6 +64,7 @@ static const struct {
   {"check_equal", {WAITING, WAITING, CONFLICT}, {0}},
   {"check_always_equal", {WAITING, WAITING, CONFLICT, CONFLICT}, {0}},
   {"check_equal_by", {WAITING, WAITING, COUNTER, CONFLICT, CONFLICT}, {0}},
+  {"check_simulated", {WAITING, WAITING, CONFLICT, CONFLICT, CONFLICT, CONFLICT, CONFLICT}, {0}},
   {"witness", {DELAYED, SOLUTION}, {1}},
   {"witness_to", {DELAYED, SOLVED}, {1}},
   {"check_run", {COUNTER, WITNESS}, {0}},
@@ -75,7 +76,7 @@ static struct words words_of(const char *name) {
   while (--at && strcmp(name, ASKED[at].name)) continue;
   struct words w = {.optimize = true, .distinct = true};
   memcpy(w.numbers, ASKED[at].numbers, sizeof w.numbers);
-  for (int i = 0; i < 5; i++) w.files[i] = (struct bytes){read[ASKED[at].files[i]], lens[ASKED[at].files[i]]};
+  for (int i = 0; i < 7; i++) w.files[i] = (struct bytes){read[ASKED[at].files[i]], lens[ASKED[at].files[i]]};
   return w;
 }
 

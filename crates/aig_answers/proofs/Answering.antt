@@ -24,7 +24,7 @@ use Rattle.aig_answers.specs.Answers.{IsAsked, IsCircuitQuery, IsSaidBy, circuit
 use Rattle.aig_answers.specs.CircuitVerdicts.{circuit_verdict}
 use Rattle.aig_runs.proofs.Asking.{unrolls_to}
 use Rattle.aig_runs.specs.Unrolled.{IsUnrolledOf, UnrolledCircuit, Unrolls}
-use Rattle.aig_answers.proofs.Verdicts.{asked_circuit, bads_of}
+use Rattle.aig_answers.proofs.Verdicts.{read_unrolled, bads_of}
 
 -- that what encodes a file's circuit encodes the file
 abbrev pub EncodesFiles : Type 0
@@ -72,17 +72,17 @@ module _ (limit k : ℕ) (c : Circuit) (old new : Option (List ℕ)) (read : IsR
 
   pub query_answers : EncodesFiles → AsksFiles → (optimize : Bool) (q : CircuitQuery) → IsCircuitQuery c k optimize q → Accepted ≡ circuit_verdict limit k c
       → IsReadAs (IsAsked limit k) (IsQuery k optimize) old new (record { encoded = record { circuit = c; unrolled = q.unrolled; clauses = q.clauses }; extra = q.extra })
-  query_answers encodes asks optimize q made said = asked_file k (IsQuery k optimize) _ (asked_circuit limit k c Accepted said) (query_of_file limit k c optimize q encodes asks made)
+  query_answers encodes asks optimize q made said = asked_file k (IsQuery k optimize) _ (read_unrolled limit k c Accepted said) (query_of_file limit k c optimize q encodes asks made)
 
   pub circuit_answers : (r : Result UnrolledCircuit AnswerError) → IsSaidBy (circuit_verdict limit k c) (verdict_by verdict_of r) → IfOk r (Unrolls c k)
       → IfOk r (IsReadAs (IsAsked limit k) (IsUnrolledOf k limit) old new)
   circuit_answers (Ok u) said made =
-      let asked = asked_circuit limit k c Accepted said in
+      let asked = read_unrolled limit k c Accepted said in
       let few = (unrolls_to c k u made).size in
       asked_file k (IsUnrolledOf k limit) u asked (λ f fits is. record { fits = fits; unrolls = subst (λ d. Unrolls d k u) is made; few = omega (arith, few, asked.0) })
   circuit_answers (Err e) said made = tt
 
   pub window_answers : (form : Window) (optimize : Bool) (r : Result WindowClauses AnswerError) → IsSaidBy (circuit_window_verdict form limit k c) (verdict_by verdict_of r) → IfOk r (λ made. AsksWindow form c k optimize made.clauses made.extra)
       → IfOk r (IsReadAs (IsAsked limit (k + 1)) (λ f made. AsksWindow form (circuit_of f) k optimize made.clauses made.extra) old new)
-  window_answers form optimize (Ok made) said asks = asked_file (k + 1) (λ f x. AsksWindow form (circuit_of f) k optimize x.clauses x.extra) made (asked_circuit limit (k + 1) c _ said) (λ f fits is. subst (λ d. AsksWindow form d k optimize made.clauses made.extra) is asks)
+  window_answers form optimize (Ok made) said asks = asked_file (k + 1) (λ f x. AsksWindow form (circuit_of f) k optimize x.clauses x.extra) made (read_unrolled limit (k + 1) c _ said) (λ f fits is. subst (λ d. AsksWindow form d k optimize made.clauses made.extra) is asks)
   window_answers form optimize (Err e) said asks = tt

@@ -1,7 +1,7 @@
 -- What is told of a file that was read, from what was said of it and of proofs.
 use Rattle.aig_base.proofs.Words.{◌≡◌, ◌≢◌, ℕ, ◌+◌, ◌<◌, ◌≤◌, Bool, true, false, Option, List, length, Result, Ok, Err, refl, sym, ap, subst, ◌==◌, nat_lt, if◌then◌else◌, IfErr, IfOk, IsErrOf, [], on_ok_weaker}
 use Rattle.std.specs.Prelude.{All, OnOk}
-use Rattle.aig_answers.proofs.Verdicts.{asked_circuit, bads_of}
+use Rattle.aig_answers.proofs.Verdicts.{read_unrolled, bads_of}
 use Rattle.aig_answers.specs.Answers as answering
 use Rattle.aig_answers.specs.Answers.{IsAsked, IsCircuitOf, IsOfInduction, IsSaidBy, circuit_window_verdict, window_size, without_names}
 use Rattle.aig_answers.specs.declared.error.AnswerError.{AnswerError}
@@ -63,7 +63,7 @@ room_said form limit k c v is =
 -- a circuit that has room has a bad edge
 pub some_bads : (form : Window) (limit k : ℕ) (c : Circuit)
     → circuit_window_verdict form limit k c ≡ Accepted → c.properties.bads ≢ []
-some_bads form limit k c room = (asked_circuit limit (k + 1) c _ (sym room)).1
+some_bads form limit k c room = (read_unrolled limit (k + 1) c _ (sym room)).1
 
 -- what is said of a circuit that has one
 pub said_taken : (bads : List AigEdge) (v : Verdict) → bads ≢ [] → IsSaidOfBads bads v
@@ -161,7 +161,7 @@ module _ (form : Window) (limit k : ℕ) (lists : CircuitLists) (old new : Optio
   pub asked_read : circuit_window_verdict form limit k (lists_circuit lists) ≡ Accepted
       → IsReadAs (IsAsked limit (k + 1)) AreListsOf old new lists
   asked_read taken =
-      let asked = asked_circuit limit (k + 1) (lists_circuit lists) _ (sym taken) in
+      let asked = read_unrolled limit (k + 1) (lists_circuit lists) _ (sym taken) in
       record {
         file = read.file;
         bytes = read.bytes;

@@ -53,10 +53,10 @@ module _ (limit k : ℕ) (c : Circuit) where
   window_of_file form = of_file_by (if nat_lt limit (window_size form c k) then Crowded else Accepted) (nat_lt limit (unrolled_size c (k + 1))) (length c.properties.bads == 0) (room_of_file (nat_lt limit (window_size form c k)))
 
   -- what is asked has room for its further steps, and a bad edge
-  pub asked_circuit : (extra : Verdict)
+  pub read_unrolled : (extra : Verdict)
       → Accepted ≡ said_if (nat_lt limit (unrolled_size c k)) (length c.properties.bads == 0) extra
       → (unrolled_size c k ≤ limit) × (c.properties.bads ≢ [])
-  asked_circuit extra is =
+  read_unrolled extra is =
       let tests = asked_by extra (nat_lt limit (unrolled_size c k)) (length c.properties.bads == 0) is in
       (ltb-false limit (unrolled_size c k) tests.0, λ none. eqb-false (length c.properties.bads) 0 tests.1 (ap length none))
 

@@ -39,6 +39,6 @@ pub use refuting::refute;
 pub use safety::{
     SafetyError, StepsError, check_safe, check_safe_by_steps, check_safe_by_steps_of, check_safe_of,
 };
-pub use step::{asked_circuit, asked_query, check_step};
+pub use step::{check_step, read_query, read_unrolled};
 pub use unrolled::{plain_window, unrolled_query};
 pub use windows::{WindowClauses, check_window, check_window_of, check_window_room, window};

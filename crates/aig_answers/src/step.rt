@@ -49,7 +49,7 @@ fn ask_query(
 ///
 /// A file without bad state properties is refused, as nothing is asked of it, and that before its further steps are made.
 /// Requires `1 <= limit <= 2^31`.
-pub fn asked_query<R: Source>(
+pub fn read_query<R: Source>(
     alloc: Global,
     r: &mut R,
     limit: usize,
@@ -99,9 +99,9 @@ fn ask_steps(circuit: CircuitLists, limit: usize, k: usize) -> Result<Unrolled, 
     Ok(Unrolled::new(circuit, k)?)
 }
 
-/// Reads a circuit from the bytes of an AIGER file, and gives it `k` steps more, as `asked_query` does, but makes no clauses. Requires
+/// Reads a circuit from the bytes of an AIGER file, and gives it `k` steps more, as `read_query` does, but makes no clauses. Requires
 /// `1 <= limit <= 2^31`.
-pub fn asked_circuit<R: Source>(
+pub fn read_unrolled<R: Source>(
     alloc: Global,
     r: &mut R,
     limit: usize,
@@ -155,7 +155,7 @@ pub fn check_step<R: Source, P: Source>(
 {
     refuted_queries_have_no_witness();
     encodings_are_one();
-    let Query { encoded, extra } = asked_query(alloc, r, limit, k, optimize)?;
+    let Query { encoded, extra } = read_query(alloc, r, limit, k, optimize)?;
     let Encoded {
         circuit,
         unrolled,

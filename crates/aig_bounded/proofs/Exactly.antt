@@ -17,7 +17,7 @@ use Rattle.aig_bounded.specs.Exact.{Checks, Frame, Steps, false_net, frame_to, i
 use Rattle.aig_bounded.proofs.Stepped.{fanin_before, latch_of, no_latch}
 use Rattle.aig_bounded.specs.Frames.{Opens, net_of}
 use Rattle.aig_bounded.specs.Shared.{Made, Netlist, made_in, shared_and, shared_ands, shared_or, shared_ors}
-use Rattle.aig_bounded.specs.Steps.{IsFrame, IsStep, SetsStates, checks_of, is_read}
+use Rattle.aig_bounded.specs.Steps.{IsFrame, MakesFrame, SetsStates, checks_of, is_read}
 
 abbrev no_edge : AigEdge
 no_edge = edge_to 0 false
@@ -372,7 +372,7 @@ pub step_made : (c : Circuit) (left last t : ℕ) (depths : List ℕ) (state : �
     → AreDepths c last depths
     → IsFrame (is_read depths left) (frame_to c t (is_read depths left) state net (length c.nodes)) f images
     → after ≡ with_checks c images (checks_of f sums)
-    → IsStep (is_read depths left) (frame_to c t (is_read depths left) state net (length c.nodes)) c sums images after
+    → MakesFrame (is_read depths left) (frame_to c t (is_read depths left) state net (length c.nodes)) c sums images after
 step_made c left last t depths state net f images sums after circuit are is exact =
     let frame = frame_to c t (is_read depths left) state net (length c.nodes) in
     let count = frame-count c t (is_read depths left) state net (length c.nodes) in
@@ -395,7 +395,7 @@ pub record MadeSoFar (c : Circuit) (last t : ℕ) (depths : List ℕ) (f : Frame
 module _ (c : Circuit) (left last t : ℕ) (depths : List ℕ) (is_left : left ≡ last - t) (f0 : Frames)
     (sums : Sums) (states : List (Option AigEdge)) (so_far : MadeSoFar c last t depths f0 sums states)
     (images : List AigEdge) (after : Checks)
-    (step : IsStep (is_read depths left) (frame_to c t (is_read depths left) (λ n. slice_index_or states n None) (net_of f0) (length c.nodes)) c sums images after) where
+    (step : MakesFrame (is_read depths left) (frame_to c t (is_read depths left) (λ n. slice_index_or states n None) (net_of f0) (length c.nodes)) c sums images after) where
   abbrev done : Steps
   done = steps_to (is_read depths) c last t
 

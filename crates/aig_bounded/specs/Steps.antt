@@ -30,7 +30,7 @@ abbrev pub checks_of : Frames → Sums → Checks
 checks_of f sums = record { net = net_of f; within = sums.within; reached = sums.reached }
 
 -- with the frame the step is made, and the checks are those with one step more
-pub record IsStep (read : ℕ → Bool) (frame : Frame) (c : Circuit) (sums : Sums)
+pub record MakesFrame (read : ℕ → Bool) (frame : Frame) (c : Circuit) (sums : Sums)
     (images : List AigEdge) (checks : Checks) : Type 0 where
   pub exact : checks ≡ with_checks c frame.images
       (record { net = frame.net; within = sums.within; reached = sums.reached })

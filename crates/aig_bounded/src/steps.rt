@@ -15,7 +15,7 @@ ghost use Rattle.aig_bounded.specs.Shared.{made_in, shared_ands, shared_ors};
 ghost use Rattle.aig_circuit.specs.Node.{kind_at};
 ghost use Rattle.aig_bounded.specs.Frames.{AddsUpTo, AreFrames, AreShared, Extends, Gives, Shows, net_of};
 ghost use Rattle.aig_unroll.specs.Frame.{image_in};
-ghost use Rattle.aig_bounded.specs.Steps.{HasImages, HasStates, IsFrame, IsStep, MakesImage, SetsStates, ShowsNode, Sum, checks_of, is_read, reached_to};
+ghost use Rattle.aig_bounded.specs.Steps.{HasImages, HasStates, IsFrame, MakesFrame, MakesImage, SetsStates, ShowsNode, Sum, checks_of, is_read, reached_to};
 
 use crate::depths::depths;
 use crate::error::BoundedError;
@@ -226,7 +226,7 @@ impl Frames {
         ensures sums { IfOk result (Sum circuit.now step (step + 1) self.new) }
         ensures shows { OnOk result (HasImages circuit.now step depths.now left
             (length circuit.now.nodes) self.new images.new) }
-        ensures exact { IfOk result (λ after. let read = is_read depths.now left in IsStep read
+        ensures exact { IfOk result (λ after. let read = is_read depths.now left in MakesFrame read
             (frame_to circuit.now step read (λ n. slice_index_or states.now n None)
             (net_of self.old) (length circuit.now.nodes)) circuit.now sums images.new
             (checks_of self.new after)) }

@@ -21,7 +21,7 @@ use Rattle.aig_check_commands.specs.Inputs.{Ran}
 use Rattle.aig_check_commands.specs.Opening.{OnOpening, OpensAll}
 use Rattle.aig_check_commands.specs.Running.{Runs, step_line}
 use Rattle.aig_check_commands.specs.CommandWords.{IsCall}
-use Rattle.aig_edits.specs.declared.edit.Edit.TheVariants as edits
+use Rattle.aig_edits.specs.declared.editing.Edit.TheVariants as edits
 use Rattle.aig_edits.specs.declared.edit_error.EditError.{EditError}
 use Rattle.aig_edit_commands.specs.declared.acting.CommandError.{CommandError}
 use Rattle.aig_edit_commands.specs.declared.acting.CommandError.TheVariants as refusals

@@ -15,7 +15,7 @@ use Rattle.aig_refutation.specs.Forms.{is_binary}
 use Rattle.aig_refutation.specs.Proofs.{allowed}
 use Rattle.aig_refutation.specs.Rat.{is_rat_refutation}
 use Rattle.aig_refutation.specs.Steps.{PlainStep, Refute, Step}
-use Rattle.aig_refutation.specs.Written.{AreInOrder, AreWithin, IsNumber, IsPlainStep, IsStep, binary_text, plain_text, proof_text}
+use Rattle.aig_refutation.specs.Written.{AreInOrder, AreWithin, IsNumber, IsPlainStep, IsWrittenStep, binary_text, plain_text, proof_text}
 use Rattle.aig_refutation.specs.declared.error.RefutationError.{RefutationError}
 use Rattle.aig_refutation.specs.declared.error.RefutationError.TheVariants as refutation
 use Rattle.aig_answers.specs.Answers as answering
@@ -40,7 +40,7 @@ pub record Laws : Type 0 where
       → AreInOrder (all_live clauses) steps → IsTrue (is_rat_refutation clauses steps)
       → outcome (all_live clauses) steps fault ≡ Ok tt
   pub numbered : (variables last : ℕ) (clauses : List (List Lit)) (steps : List Step)
-      (e : RefutationError) → IsNumber last → AreWithin IsStep (allowed variables) steps
+      (e : RefutationError) → IsNumber last → AreWithin IsWrittenStep (allowed variables) steps
       → are_all_in variables clauses ≡ true
       → outcome (all_live clauses) steps refutation.Unfinished ≡ Ok tt
       → Shows variables clauses (Some (proof_text last steps)) (Err e) → IsOutside e

@@ -10,7 +10,7 @@ use Rattle.aig_refutation.specs.Forms.{is_binary}
 use Rattle.aig_refutation.specs.Proofs.{allowed}
 use Rattle.aig_refutation.specs.Rat.{is_rat_refutation}
 use Rattle.aig_refutation.specs.Steps.{PlainStep, Refute, Step}
-use Rattle.aig_refutation.specs.Written.{AreInOrder, AreWithin, IsNumber, IsPlainStep, IsStep, binary_text, plain_text, proof_text}
+use Rattle.aig_refutation.specs.Written.{AreInOrder, AreWithin, IsNumber, IsPlainStep, IsWrittenStep, binary_text, plain_text, proof_text}
 use Rattle.aig_refutation.specs.declared.error.RefutationError.{RefutationError}
 use Rattle.aig_refutation.specs.declared.error.RefutationError.TheVariants as refutation
 use Rattle.aig_answers.specs.Answers as answering
@@ -31,7 +31,7 @@ pub record IsLrat (variables : ℕ) (clauses : List (List Lit)) (bytes : List �
   pub steps : List Step
   pub text : bytes ≡ proof_text last steps
   pub number : IsNumber last
-  pub spelled : AreWithin IsStep (allowed variables) steps
+  pub spelled : AreWithin IsWrittenStep (allowed variables) steps
   pub order : AreInOrder (all_live clauses) steps
   pub refutes : IsTrue (is_rat_refutation clauses steps)
 

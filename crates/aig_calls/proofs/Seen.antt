@@ -1,6 +1,6 @@
 -- What a call told of readers and writers it told of the bytes that they have left or hold.
 use Rattle.std.proofs.Common.{Bor}
-use Rattle.aig_base.proofs.Words.{◌≡◌, ◌≢◌, ℕ, Bool, false, List, [], Option, None, Some, Result, Ok, Err, Vec, Global, refl, sym, ap, ◌∙◌, IfErr}
+use Rattle.aig_base.proofs.Words.{◌≡◌, ◌≢◌, ℕ, Bool, true, false, List, [], Option, None, Some, Result, Ok, Err, Vec, Global, refl, sym, ap, subst, fun_ext, ◌∙◌, IfErr}
 use Rattle.aig_base.specs.declared.std_stream.FromRead.{FromRead}
 use Rattle.aig_base.specs.declared.std_stream.ToWrite.{ToWrite}
 use Rattle.aig_answers.specs.Asking.{AnswersCircuit}
@@ -14,6 +14,11 @@ use Rattle.aig_check_commands.specs.Comparing.{RunsComparing, TellsOfComparing}
 use Rattle.aig_check_commands.specs.Pairs as pairs
 use Rattle.aig_check_commands.specs.Pairs.{RunsPair, TellsOfPair}
 use Rattle.aig_check_commands.specs.Running.{IsOfFileAlone, Runs, nothing_fails, nothing_given}
+use Rattle.aig_check_commands.specs.Simulating as simulating
+use Rattle.aig_check_commands.specs.Simulating.{RunsSimulated, TellsOfSimulated}
+use Rattle.aig_simulated.specs.Simulated.{Proofs, proof_for, proofs_of}
+use Rattle.aig_simulation.specs.declared.condition.Condition.{Condition}
+use Rattle.aig_simulation.specs.declared.condition.Condition.TheVariants as conditions
 use Rattle.aig_check_commands.specs.Safe as safes
 use Rattle.aig_check_commands.specs.Safe.{RunsSafe, TellsWhy}
 use Rattle.aig_check_commands.specs.declared.command.FileCommand.{FileCommand}
@@ -34,7 +39,7 @@ use Rattle.aig_edits.specs.Pairs.{ReadsPair}
 use Rattle.aig_edits.specs.Questions.{PrintsQuestion}
 use Rattle.aig_edits.specs.Reductions.{PrintsReduction}
 use Rattle.aig_edits.specs.Rounds.{PrintsRounds}
-use Rattle.aig_edits.specs.declared.edit.Edit.{Edit}
+use Rattle.aig_edits.specs.declared.editing.Edit.{Edit}
 use Rattle.aig_edits.specs.declared.edit_error.EditError.{EditError}
 use Rattle.aig_edits.specs.declared.edit_error.EditError.TheVariants as edit
 use Rattle.aig_edits.specs.declared.pair_error.PairError.{PairError}
@@ -519,4 +524,83 @@ comparing_seen {given = given} {given_failed = given_failed} {base_left = base_l
           runs.step_unread;
       base_stream = runs.base_stream;
       step_stream = runs.step_stream;
+    }
+
+-- ---- a witness circuit
+
+module _ {P : Type 0} (left : P → Option (List ℕ)) (failed : P → Bool) where
+  -- proofs as they are seen
+  abbrev all_seen : Proofs P → Proofs Memory
+  all_seen p =
+      proofs_of (seen left failed p.reset) (seen left failed p.transition)
+      (seen left failed p.property) (seen left failed p.base) (seen left failed p.step)
+
+  for_seen : (p : Proofs P) (condition : Condition)
+      → seen left failed (proof_for p condition) ≡ proof_for (all_seen p) condition
+  for_seen p conditions.Reset = refl
+  for_seen p conditions.Transition = refl
+  for_seen p conditions.Property = refl
+  for_seen p conditions.Base = refl
+  for_seen p conditions.Step = refl
+
+  proofs_left : (p used : Proofs P) (result : Result (Unit {0}) CheckError)
+      → IfErr result (λ e. (condition : Condition) → simulating.LeavesProof condition e
+      → proof_for used condition ≡ proof_for p condition)
+      → IfErr result (λ e. (condition : Condition) → simulating.LeavesProof condition e
+      → proof_for (all_seen used) condition ≡ proof_for (all_seen p) condition)
+  proofs_left p used (Ok done) same = tt
+  proofs_left p used (Err e) same =
+      λ condition is. sym (for_seen used condition)
+      ∙ ap (seen left failed) (same condition is) ∙ for_seen p condition
+
+  module _ {W : Type 0} (held : W → Option (List ℕ)) (write_failed : W → Bool) (w made : W)
+      (optimize : Bool) (limit : ℕ) (p : Proofs P) where
+    -- the texts of proofs, and of those that are seen
+    abbrev texts : Condition → Option (List ℕ)
+    texts condition = left (proof_for p condition)
+
+    abbrev seen_texts : Condition → Option (List ℕ)
+    seen_texts condition = bytes_of (proof_for (all_seen p) condition)
+
+    same_texts : texts ≡ seen_texts
+    same_texts = fun_ext (λ condition. ap bytes_of (for_seen p condition))
+
+    simulated_of : (f g : File) (r : Result (Unit {0}) CheckError)
+        → TellsOfSimulated held write_failed optimize limit texts w made f g r
+        → TellsOfSimulated bytes_of has_failed optimize limit seen_texts
+        (seen held write_failed w) (seen held write_failed made) f g r
+    simulated_of f g r told = of_writer r (subst (λ (t : Condition → Option (List ℕ)).
+        TellsOfSimulated held write_failed optimize limit t w made f g r) same_texts told)
+      where
+        of_writer : (r : Result (Unit {0}) CheckError)
+            → TellsOfSimulated held write_failed optimize limit seen_texts w made f g r
+            → TellsOfSimulated bytes_of has_failed optimize limit seen_texts
+            (seen held write_failed w) (seen held write_failed made) f g r
+        of_writer (Ok done) told = told
+        of_writer (Err checks.Write) told = told
+        of_writer (Err e) told = told
+
+pub simulated_seen : {R S P W : Type 0} {left : R → Option (List ℕ)} {failed : R → Bool}
+    {left_of : S → Option (List ℕ)} {failed_of : S → Bool} {given : P → Option (List ℕ)}
+    {given_failed : P → Bool} {held : W → Option (List ℕ)} {write_failed : W → Bool} {limit : ℕ}
+    {optimize : Bool} {r rest : R} {s other : S} (p used : Proofs P) {w made : W}
+    {result : Result (Unit {0}) CheckError}
+    → RunsSimulated left failed left_of failed_of given given_failed held write_failed optimize
+    limit r s p w result rest other used made
+    → RunsSimulated bytes_of has_failed bytes_of has_failed bytes_of has_failed bytes_of has_failed
+    optimize limit (seen left failed r) (seen left_of failed_of s) (all_seen given given_failed p)
+    (seen held write_failed w) result (seen left failed rest) (seen left_of failed_of other)
+    (all_seen given given_failed used) (seen held write_failed made)
+simulated_seen {given = given} {given_failed = given_failed} {held = held}
+    {write_failed = write_failed} {limit = limit} {optimize = optimize} p used {w = w} {made = made}
+    {result = result} runs =
+    record {
+      reads = both_seen
+          (λ f g. simulated_of given given_failed held write_failed w made optimize limit p f g
+          result)
+          runs.reads;
+      kept = same_seen held write_failed w made (λ e. e ≢ checks.Write) result runs.kept;
+      unread = proofs_left given given_failed p used result runs.unread;
+      stream = λ condition is. subst (λ (m : Memory). has_failed m ≡ true)
+          (for_seen given given_failed used condition) (runs.stream condition is);
     }

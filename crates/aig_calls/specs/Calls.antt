@@ -11,6 +11,8 @@ use Rattle.aig_check_commands.specs.Comparing.{RunsComparing}
 use Rattle.aig_check_commands.specs.Pairs.{RunsPair}
 use Rattle.aig_check_commands.specs.Running.{Runs}
 use Rattle.aig_check_commands.specs.Safe.{RunsSafe}
+use Rattle.aig_check_commands.specs.Simulating.{RunsSimulated}
+use Rattle.aig_simulated.specs.Simulated.{Proofs, proofs_of}
 use Rattle.aig_check_commands.specs.declared.command.FileCommand.{FileCommand}
 use Rattle.aig_check_commands.specs.declared.command.PairCommand.{PairCommand}
 use Rattle.aig_check_commands.specs.declared.error.CheckError.{CheckError}
@@ -25,7 +27,7 @@ use Rattle.aig_edits.specs.Pairs.{ReadsPair}
 use Rattle.aig_edits.specs.Questions.{PrintsQuestion}
 use Rattle.aig_edits.specs.Reductions.{PrintsReduction}
 use Rattle.aig_edits.specs.Rounds.{PrintsRounds}
-use Rattle.aig_edits.specs.declared.edit.Edit.{Edit}
+use Rattle.aig_edits.specs.declared.editing.Edit.{Edit}
 use Rattle.aig_edits.specs.declared.edit_error.EditError.{EditError}
 use Rattle.aig_edits.specs.declared.pair_error.PairError.{PairError}
 use Rattle.aig_edits.specs.declared.pairing.Pairing.{Pairing}
@@ -98,6 +100,17 @@ RunsOnMiter limit optimize file other certificate base step result w made =
     RunsComparing bytes_of has_failed bytes_of has_failed bytes_of has_failed bytes_of has_failed
     bytes_of has_failed bytes_of has_failed optimize limit r s c p q w result rest left tried used
     spent made)))))
+
+-- `certified` was run on those of a file, a witness circuit and a proof for each condition
+abbrev pub RunsOnWitness : ℕ → Bool → List ℕ → List ℕ → Proofs (List ℕ) → Result Unit CheckError
+    → Memory → Memory → Type 0
+RunsOnWitness limit optimize file witness proofs result w made =
+    On (Some file) (λ r rest. On (Some witness) (λ s left. On (Some proofs.reset) (λ a a_rest.
+    On (Some proofs.transition) (λ b b_rest. On (Some proofs.property) (λ c c_rest.
+    On (Some proofs.base) (λ d d_rest. On (Some proofs.step) (λ e e_rest.
+    RunsSimulated bytes_of has_failed bytes_of has_failed bytes_of has_failed bytes_of has_failed
+    optimize limit r s (proofs_of a b c d e) w result rest left
+    (proofs_of a_rest b_rest c_rest d_rest e_rest) made)))))))
 
 -- a call was made that reads these bytes as a file
 abbrev pub Reads : {T E : Type 0} → ℕ → (File → Result T E → Type 0) → (E → Verdict)

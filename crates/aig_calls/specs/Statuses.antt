@@ -11,6 +11,15 @@ use Rattle.aig_answers.specs.declared.certificates.compare_error.MiterError.{Mit
 use Rattle.aig_answers.specs.declared.certificates.compare_error.MiterError.TheVariants as miter
 use Rattle.aig_answers.specs.declared.certificates.error.CertificateError.{CertificateError}
 use Rattle.aig_answers.specs.declared.certificates.error.CertificateError.TheVariants as certificate
+use Rattle.aig_simulated.specs.declared.error.ConditionError.{ConditionError}
+use Rattle.aig_simulated.specs.declared.error.ConditionError.TheVariants as conditions
+use Rattle.aig_simulated.specs.declared.error.SimulationError.{SimulationError}
+use Rattle.aig_simulated.specs.declared.error.SimulationError.TheVariants as simulation
+use Rattle.aig_simulation.specs.declared.condition.Condition.{Condition}
+use Rattle.aig_simulation.specs.declared.condition.Condition.TheVariants.{Reset, Transition, Property, Base, Step}
+use Rattle.aig_simulation.specs.declared.error.QuestionError.TheVariants as asking
+use Rattle.aig_simulation.specs.declared.sharing.error.SharingError.{SharingError}
+use Rattle.aig_simulation.specs.declared.sharing.error.SharingError.TheVariants as sharing
 use Rattle.aig_check_commands.specs.declared.error.CheckError.{CheckError}
 use Rattle.aig_check_commands.specs.declared.error.CheckError.TheVariants as checks
 use Rattle.aig_tool_commands.specs.declared.tool.ToolError.{ToolError}
@@ -287,6 +296,37 @@ abbrev pub miter_status : MiterError → ℕ
 miter_status (miter.Pair e) = pair_status e
 miter_status (miter.Certificate e) = flagged 8192 (certificate_status e)
 
+-- ---- a witness circuit
+
+-- the names of its leaves don't say which ones are shared
+abbrev pub sharing_status : SharingError → ℕ
+sharing_status sharing.Memory = memory
+sharing_status (sharing.Unknown n) = 14
+sharing_status (sharing.Twice n) = 15
+
+-- a condition isn't shown
+abbrev pub condition_status : ConditionError → ℕ
+condition_status (conditions.Question asking.Memory) = memory
+condition_status (conditions.Question asking.TooLarge) = 35
+condition_status (conditions.Refutation e) = refutation_status e
+
+-- its flag
+abbrev pub condition_flag : Condition → ℕ
+condition_flag Reset = 16384
+condition_flag Transition = 32768
+condition_flag Property = 65536
+condition_flag Base = 2048
+condition_flag Step = 4096
+
+-- a file's machine isn't shown to be safe by one
+abbrev pub simulation_status : SimulationError → ℕ
+simulation_status (simulation.Read e) = read_status e
+simulation_status (simulation.Witness e) = flagged 256 (read_status e)
+simulation_status simulation.NoBads = 6
+simulation_status (simulation.Sharing e) = sharing_status e
+simulation_status (simulation.Condition condition e) =
+    flagged (condition_flag condition) (condition_status e)
+
 -- ---- commands of `aigcheck`
 
 -- a command has no answer
@@ -306,3 +346,4 @@ check_status (checks.Certificate e) = certificate_status e
 check_status (checks.Equality e) = equality_status e
 check_status (checks.Miter e) = miter_status e
 check_status (checks.Unmade e) = edit_status e
+check_status (checks.Simulation e) = simulation_status e

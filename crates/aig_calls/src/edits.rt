@@ -1,6 +1,6 @@
 //! Calls that give what is made of one file.
 
-ghost use Rattle.aig_edits.specs.declared.edit.Edit.TheVariants as edits;
+ghost use Rattle.aig_edits.specs.declared.editing.Edit.TheVariants as edits;
 ghost use Rattle.aig_calls.specs.Calls.{Gives, GivesAt, MakesEdit, MakesInfo, MakesQuestion, MakesReduction, Prints, items_in};
 ghost use Rattle.aig_calls.specs.Statuses.{edit_status};
 

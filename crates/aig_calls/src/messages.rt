@@ -4,7 +4,9 @@ ghost use Rattle.std.specs.Prelude.{◌≡◌, ◌<◌, ◌≤◌, List, ℕ};
 ghost use Rattle.aig_calls.specs.Calls.{IsGiven};
 
 use crate::buffer::put;
-use crate::status::{BASE, CERTIFICATE, OTHER, PROOF, QUERY, STEP, WINDOW};
+use crate::status::{
+    BASE, CERTIFICATE, OTHER, PROOF, PROPERTY, QUERY, RESET, STEP, TRANSITION, WINDOW,
+};
 use aig_base::MemoryError;
 use std::alloc::Global;
 
@@ -25,9 +27,15 @@ fn prefix_of(status: u32) -> &'static [u8] {
     }
 }
 
-/// What is said before that of a status about a certificate of a miter.
+/// What is said before that of a status about a certificate of a miter, or about one of the first conditions of a witness circuit.
 fn lead_of(status: u32) -> &'static [u8] {
-    if status >= CERTIFICATE {
+    if status >= PROPERTY {
+        b"property: "
+    } else if status >= TRANSITION {
+        b"transition: "
+    } else if status >= RESET {
+        b"reset: "
+    } else if status >= CERTIFICATE {
         b"certificate: "
     } else {
         b""
@@ -51,6 +59,8 @@ fn words_of_file(status: u32) -> &'static [u8] {
         11 => b"too many variables",
         12 => b"bad difference",
         13 => b"bad name line",
+        14 => b"a leaf's name has no literal of such a leaf of the model",
+        15 => b"a leaf's name has the literal of another",
         16 => b"bad line in inputs",
         17 => b"bad line in latches",
         18 => b"bad line in outputs",

@@ -14,7 +14,7 @@ use crate::buffer::give;
 use crate::mapping::push_map;
 use crate::status::HasNumber;
 use crate::steps::step_of;
-use aig_answers::{AnswerError, asked_query};
+use aig_answers::{AnswerError, read_query};
 use aig_base::{DagCnf, FromRead, Lit, LitVvec, MemoryError, Var};
 use aig_encode::Query;
 use aig_tool_commands::LIMIT;
@@ -102,7 +102,7 @@ fn ask(alloc: Global, file: &[u8], k: usize, optimize: bool) -> Result<Listed, A
     ensures { On (Some file.now) (λ r rest. Lists LIMIT k optimize r rest (listing_in result)) }
 {
     let mut source = FromRead::new(file);
-    let asked = asked_query(alloc, &mut source, LIMIT, k, optimize)?;
+    let asked = read_query(alloc, &mut source, LIMIT, k, optimize)?;
     Ok(list(alloc, &asked, k)?)
 }
 

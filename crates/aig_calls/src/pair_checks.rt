@@ -2,7 +2,8 @@
 
 ghost use Rattle.std.specs.Prelude.{◌<◌, ◌^◌, None, Some};
 ghost use Rattle.aig_check_commands.specs.declared.command.PairCommand.TheVariants as commands;
-ghost use Rattle.aig_calls.specs.Calls.{Checks, ChecksAt, RunsOnMiter, RunsOnPair, form_of};
+ghost use Rattle.aig_simulated.specs.Simulated.{proofs_of};
+ghost use Rattle.aig_calls.specs.Calls.{Checks, ChecksAt, RunsOnMiter, RunsOnPair, RunsOnWitness, form_of};
 ghost use Rattle.aig_calls.specs.Memory.{Unseen};
 ghost use Rattle.aig_calls.specs.Statuses.{check_status};
 
@@ -11,7 +12,7 @@ use crate::steps::{step_of, window_form};
 use aig_answers::Window;
 use aig_base::FromRead;
 use aig_check_commands::{
-    CheckError, print_always_equal, print_certified, print_equal, print_equal_by,
+    CheckError, print_always_equal, print_certified, print_equal, print_equal_by, print_simulated,
 };
 use aig_command_line::Discarded;
 use aig_tool_commands::LIMIT;
@@ -138,6 +139,43 @@ fn equate_by(
     )
 }
 
+/// Checks that a witness circuit shows by a proof for each condition that no bad state of a file's machine is ever reached.
+fn simulate<'a>(
+    alloc: Global,
+    file: &[u8],
+    witness: &[u8],
+    optimize: bool,
+    reset: &'a [u8],
+    transition: &'a [u8],
+    property: &'a [u8],
+    base: &'a [u8],
+    step: &'a [u8],
+) -> Result<(), CheckError>
+    ensures { let given = proofs_of reset.now transition.now property.now base.now step.now in
+        Unseen (RunsOnWitness LIMIT optimize file.now witness.now given result) }
+{
+    let mut first = FromRead::new(file);
+    let mut second = FromRead::new(witness);
+    let mut reset_lines = FromRead::new(reset);
+    let mut transition_lines = FromRead::new(transition);
+    let mut property_lines = FromRead::new(property);
+    let mut base_lines = FromRead::new(base);
+    let mut step_lines = FromRead::new(step);
+    print_simulated(
+        alloc,
+        LIMIT,
+        optimize,
+        &mut first,
+        &mut second,
+        &mut reset_lines,
+        &mut transition_lines,
+        &mut property_lines,
+        &mut base_lines,
+        &mut step_lines,
+        &mut Discarded,
+    )
+}
+
 /// Checks that a certificate, a witness circuit, shows that no bad state of a file's machine is ever reached: by proofs, in LRAT or
 /// DRAT, of the joint circuit's query for step 0 and of its plain window of two steps.
 #[unsafe(no_mangle)]
@@ -153,6 +191,29 @@ pub extern "C" fn aig_check_certified(
         file.now certificate.now (Some base.now) (Some step.now) done)) result }
 {
     status_of(certify(alloc, file, certificate, optimize, base, step))
+}
+
+/// Checks that a witness circuit of the hardware model checking competition shows that no bad state of a file's machine is ever reached: by a
+/// proof, in LRAT or DRAT, for each of its conditions, of the clauses that `aigcheck obligations` prints for it.
+#[unsafe(no_mangle)]
+pub extern "C" fn aig_check_simulated(
+    alloc: Global,
+    file: &[u8],
+    witness: &[u8],
+    optimize: bool,
+    reset: &[u8],
+    transition: &[u8],
+    property: &[u8],
+    base: &[u8],
+    step: &[u8],
+) -> u32
+    ensures { let given = proofs_of reset.now transition.now property.now base.now step.now in
+        Checks check_status (λ done. Unseen (RunsOnWitness LIMIT optimize file.now witness.now given
+        done)) result }
+{
+    status_of(simulate(
+        alloc, file, witness, optimize, reset, transition, property, base, step,
+    ))
 }
 
 /// Checks a proof, in LRAT or DRAT, that the query of two files' miter for step `k` can't be satisfied: then their machines are

@@ -1,7 +1,7 @@
 //! The numbers by which calls say how they ended.
 
 ghost use Rattle.std.specs.Prelude.{◌≡◌, ◌<◌, ◌≤◌, ℕ};
-ghost use Rattle.aig_calls.specs.Statuses.{answer_status, base_status, bounded_status, certificate_status, check_status, claim_status, edit_status, encode_status, equality_status, fault_status, flagged, lasso_status, live_status, made_status, memory, miter_status, pair_status, read_status, refutation_status, safety_status, section_number, show_status, solution_status, status_by, step_status, steps_status, tool_status, witness_status};
+ghost use Rattle.aig_calls.specs.Statuses.{answer_status, base_status, bounded_status, certificate_status, check_status, claim_status, condition_flag, condition_status, edit_status, encode_status, equality_status, fault_status, flagged, lasso_status, live_status, made_status, memory, miter_status, pair_status, read_status, refutation_status, safety_status, section_number, sharing_status, show_status, simulation_status, solution_status, status_by, step_status, steps_status, tool_status, witness_status};
 
 use aig::ReadError;
 use aig_answers::{
@@ -15,6 +15,8 @@ use aig_edits::{EditError, PairError};
 use aig_encode::EncodeError;
 use aig_reader::Section;
 use aig_refutation::RefutationError;
+use aig_simulated::{Condition, ConditionError, SimulationError};
+use aig_simulation::{QuestionError, SharingError};
 use aig_tool_commands::ToolError;
 use aig_witness::{ClaimError, LassoFault, ShowError, SolutionError, WitnessError, WitnessFault};
 
@@ -44,6 +46,10 @@ const TOO_MANY: u32 = 11;
 const DELTA: u32 = 12;
 /// A name line is wrong.
 const NAME: u32 = 13;
+/// The name of a leaf of a witness circuit has no literal of such a leaf of the model.
+const UNKNOWN_LEAF: u32 = 14;
+/// The name of a leaf of a witness circuit has the literal of another.
+const TWICE: u32 = 15;
 /// A line of a section is wrong. The section's number is added.
 const SYNTAX: u32 = 16;
 /// A number of a section is no literal that may stand there. The section's number is added.
@@ -81,12 +87,18 @@ pub(crate) const OTHER: u32 = 256;
 pub(crate) const QUERY: u32 = 512;
 /// It is the window of the circuit of two files, or its proof, that is refused so.
 pub(crate) const WINDOW: u32 = 1024;
-/// It is the question of the first steps, or its proof, that is refused so.
+/// It is the question of the first steps, or for the condition `base`, or its proof, that is refused so.
 pub(crate) const BASE: u32 = 2048;
-/// It is the proof of the window after the first steps that is refused so.
+/// It is the proof of the window after the first steps, or the question for the condition `step`, or its proof, that is refused so.
 pub(crate) const STEP: u32 = 4096;
 /// It is the certificate of two files' miter, or what is made of both, that is refused so.
 pub(crate) const CERTIFICATE: u32 = 8192;
+/// It is the question for the condition `reset` of a witness circuit, or its proof, that is refused so.
+pub(crate) const RESET: u32 = 16384;
+/// It is that for `transition`.
+pub(crate) const TRANSITION: u32 = 32768;
+/// It is that for `property`.
+pub(crate) const PROPERTY: u32 = 65536;
 
 /// The number of a section, in the order of the header's counts from 1.9 on, and of the gates at last.
 fn section_number(section: Section) -> u32
@@ -271,7 +283,7 @@ fn of_bounded(error: BoundedAnswerError) -> u32
 
 /// The status with a flag, which one that says nothing hasn't.
 fn flagged(flag: u32, status: u32) -> u32
-    requires flag { flag ≤ 8192 }
+    requires flag { flag ≤ 65536 }
     requires few { status < 2048 }
     ensures { result ≡ flagged flag status }
 {
@@ -389,6 +401,58 @@ fn of_miter(error: MiterError) -> u32
     }
 }
 
+/// The status of a witness circuit whose names don't say which leaves it shares. Which leaf it is isn't told.
+fn of_sharing(error: SharingError) -> u32
+    ensures { result ≡ sharing_status error }
+{
+    match error {
+        SharingError::Memory => MEMORY,
+        SharingError::Unknown(_) => UNKNOWN_LEAF,
+        SharingError::Twice(_) => TWICE,
+    }
+}
+
+/// The status of a condition that isn't shown.
+fn of_condition(error: ConditionError) -> u32
+    ensures exact { result ≡ condition_status error }
+    ensures few { result < 60 }
+{
+    match error {
+        ConditionError::Question(QuestionError::Memory) => MEMORY,
+        ConditionError::Question(QuestionError::TooLarge) => LARGE_QUESTION,
+        ConditionError::Refutation(error) => of_refutation(error),
+    }
+}
+
+/// The flag of a condition.
+fn flag_of(condition: Condition) -> u32
+    ensures exact { result ≡ condition_flag condition }
+    ensures few { result ≤ 65536 }
+{
+    match condition {
+        Condition::Reset => RESET,
+        Condition::Transition => TRANSITION,
+        Condition::Property => PROPERTY,
+        Condition::Base => BASE,
+        Condition::Step => STEP,
+    }
+}
+
+/// The status of a file whose machine isn't shown to be safe by a witness circuit.
+fn of_simulation(error: SimulationError) -> u32
+    ensures { result ≡ simulation_status error }
+{
+    match error {
+        SimulationError::Read(error) => of_read(error),
+        SimulationError::Witness(error) => flagged(OTHER, of_read(error)),
+        SimulationError::NoBads => NO_BADS,
+        SimulationError::Sharing(error) => of_sharing(error),
+        SimulationError::Condition(condition, error) => {
+            flagged(flag_of(condition), of_condition(error))
+        }
+    }
+}
+
 /// The status of a file of whose justice property something isn't shown.
 fn of_liveness(error: LivenessError) -> u32
     ensures { result ≡ live_status error }
@@ -445,6 +509,7 @@ fn of_check(error: CheckError) -> u32
         CheckError::Equality(error) => of_equality(error),
         CheckError::Miter(error) => of_miter(error),
         CheckError::Unmade(error) => of_edit(error),
+        CheckError::Simulation(error) => of_simulation(error),
     }
 }
 

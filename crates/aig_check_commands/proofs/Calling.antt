@@ -1,5 +1,5 @@
 -- Words give one command.
-use Rattle.aig_base.proofs.Words.{Bool, true, false, length, length-append, map, map-append, inl, inr, ◌++◌, Global, ◌≡◌, ◌↔◌, ℕ, List, ◌∷◌, [], Some, refl, sym, ap, ◌∙◌, arith, same_Some, true≢false}
+use Rattle.aig_base.proofs.Words.{◌⊎◌, Bool, true, false, length, length-append, map, map-append, inl, inr, ◌++◌, Global, ◌≡◌, ◌↔◌, ℕ, List, ◌∷◌, [], Some, refl, sym, ap, ◌∙◌, arith, same_Some, true≢false}
 use Rattle.std.specs.Prelude.{All, Contains, Err, IfNone, None, Ok, Option, Result, String, codes, slice_index, slice_index_or, string_bytes}
 use Rattle.aig_format.specs.Text.{IsNumber, value_of}
 use Rattle.aig_command_line.specs.declared.help.Help.{Help}
@@ -16,10 +16,17 @@ use Rattle.aig_check_commands.specs.declared.command.Action.{Action}
 use Rattle.aig_check_commands.specs.declared.command.Action.TheVariants as actions
 use Rattle.aig_check_commands.specs.declared.command.Asked.{Asked}
 use Rattle.aig_check_commands.specs.declared.command.Command.{Command}
+use Rattle.aig_check_commands.specs.declared.command.Command.TheVariants as commands
 use Rattle.aig_check_commands.specs.declared.command.TheConstants.Action.{ALL}
+use Rattle.aig_check_commands.specs.declared.command.TheConstants.WitnessAction as on_witness
+use Rattle.aig_check_commands.specs.declared.command.WitnessAction.{WitnessAction}
+use Rattle.aig_check_commands.specs.declared.command.WitnessAction.TheVariants as witness
+use Rattle.aig_simulation.specs.Names.{condition_name}
+use Rattle.aig_simulation.specs.declared.condition.Condition.{Condition}
+use Rattle.aig_simulation.specs.declared.condition.Condition.TheVariants as conditions
 use Rattle.aig_check_commands.specs.declared.justice.Justice.{Justice}
 use Rattle.aig_check_commands.specs.Justice.{AreJustice, IsNumbered, is_asked}
-use Rattle.aig_check_commands.specs.CommandWords.{AreCommand, Give, IsAlone, IsCall, IsWhole, beside_of, command_of, form_of, name_of, paths_of, raw_alone, raw_word}
+use Rattle.aig_check_commands.specs.CommandWords.{AreCommand, FitNone, Give, IsAlone, IsCall, IsOf, IsOnWitness, IsWhole, beside_of, command_of, form_of, name_of, paths_of, raw_alone, raw_word, witness_form, witness_name}
 
 -- each command is in the list
 pub among : (a : Action) → Contains ALL a
@@ -167,13 +174,91 @@ one_alone words c d x y g h =
     ∙ h.command in
     (same_Some _ _ same, usual.1)
 
+-- ---- commands on a witness circuit
+
+-- each is in the list
+witness_among : (a : WitnessAction) → Contains on_witness.ALL a
+witness_among witness.Certified = (0, omega arith, refl)
+witness_among witness.Obligations = (1, omega arith, refl)
+
+-- words give one of them, and one list of what it takes
+one_witness : (words : List (List ℕ)) (a b : WitnessAction) (x y : Arguments)
+    → Gives (witness_name a) (witness_form a) words x
+    → Gives (witness_name b) (witness_form b) words y → (a ≡ b) × (x ≡ y)
+one_witness words a b x y g h =
+    apart.one_fits witness_name witness_form on_witness.ALL refl witness_among words a b x y g h
+
+-- a word names one condition
+one_condition : (a b : Condition) → condition_name a ≡ condition_name b → a ≡ b
+one_condition conditions.Reset conditions.Reset is = refl
+one_condition conditions.Transition conditions.Transition is = refl
+one_condition conditions.Property conditions.Property is = refl
+one_condition conditions.Base conditions.Base is = refl
+one_condition conditions.Step conditions.Step is = refl
+one_condition a b is =
+    let letter = ap (λ (word : List ℕ). slice_index word 0) is in
+    absurd (omega (arith, letter))
+
+-- what they give is one command, on the same files
+one_of : (a : WitnessAction) (u : Arguments) (c d : Command) (r s : List (List ℕ))
+    → IsOf a u c r → IsOf a u d s → (c ≡ d) × (r ≡ s)
+one_of witness.Certified u c d r s g h = (g.0 ∙ sym h.0, g.1 ∙ sym h.1)
+one_of witness.Obligations u c d r s g h =
+    let words : condition_name g.0 ∷ r ≡ condition_name h.0 ∷ s = sym g.2 ∙ h.2 in
+    let name : condition_name g.0 ≡ condition_name h.0 = cc in
+    let rest : r ≡ s = cc in
+    let same = one_condition g.0 h.0 name in
+    (g.1 ∙ ap (λ a. commands.Obligation a u.optimize) same ∙ sym h.1, rest)
+
+one_on_witness : (words : List (List ℕ)) (c d : Command) (x y : Arguments)
+    → IsOnWitness words c x → IsOnWitness words d y → (c ≡ d) × (x ≡ y)
+one_on_witness words c d x y g h =
+    let same = one_witness words g.action h.action g.given h.given g.gives h.gives in
+    let of = one_of h.action h.given c d x.further y.further (rw (same.0, same.1) at g.command)
+    h.command in (
+      of.0,
+      g.rest ∙ ap (λ (z : Arguments). record z { further = x.further }) same.1
+          ∙ ap (λ (r : List (List ℕ)). record h.given { further = r }) of.1 ∙ sym h.rest,
+    )
+
+-- words that fit no form are none of them
+pub witness_none : (words : List (List ℕ))
+    → All (λ a. (g : Arguments) → ¬ Gives (witness_name a) (witness_form a) words g) on_witness.ALL
+    → FitNone (IsOnWitness words)
+witness_none words none c x g =
+    apart.each witness_name witness_form on_witness.ALL refl witness_among
+    (λ b. (x : Arguments) → ¬ Gives (witness_name b) (witness_form b) words x) none g.action g.given
+    g.gives
+
+-- nor are those where a word should name a condition, and names none
+pub unnamed_none : (words : List (List ℕ)) (u : Arguments)
+    → Gives (witness_name witness.Obligations) (witness_form witness.Obligations) words u
+    → ((condition : Condition) (rest : List (List ℕ))
+    → ¬ (u.further ≡ condition_name condition ∷ rest))
+    → FitNone (IsOnWitness words)
+unnamed_none words u gives none c x g =
+    let same = one_witness words g.action witness.Obligations g.given u g.gives gives in
+    let of : IsOf witness.Obligations u c x.further = rw (same.0, same.1) at g.command in
+    none of.0 x.further of.2
+
+-- ---- each command
+
+one_else : (words : List (List ℕ)) (c d : Command) (x y : Arguments)
+    → IsAlone words c x ⊎ (FitNone (IsAlone words) × IsOnWitness words c x)
+    → IsAlone words d y ⊎ (FitNone (IsAlone words) × IsOnWitness words d y)
+    → (c ≡ d) × (x ≡ y)
+one_else words c d x y (inl g) (inl h) = one_alone words c d x y g h
+one_else words c d x y (inl g) (inr h) = absurd (h.0 c x g)
+one_else words c d x y (inr g) (inl h) = absurd (g.0 d y h)
+one_else words c d x y (inr g) (inr h) = one_on_witness words c d x y g.1 h.1
+
 -- words are one command, and what it takes
 pub one_command : (words : List (List ℕ)) (c d : Command) (x y : Arguments) → AreCommand words c x
     → AreCommand words d y → (c ≡ d) × (x ≡ y)
 one_command words c d x y (inl g) (inl h) = one_whole words c d x y g h
 one_command words c d x y (inl g) (inr h) = absurd (h.0 c x g)
 one_command words c d x y (inr g) (inl h) = absurd (g.0 d y h)
-one_command words c d x y (inr g) (inr h) = one_alone words c d x y g.1 h.1
+one_command words c d x y (inr g) (inr h) = one_else words c d x y g.1 h.1
 
 -- words that fit no form are no command with one setting
 pub whole_none : (words : List (List ℕ))
@@ -226,20 +311,23 @@ proofless_none words plain step u y are whole none c x g =
     let not : Some c ≡ None = sym is ∙ none in
     cc
 
--- words that are no command whole, and none without their last
-neither : (words : List (List ℕ)) → ((c : Command) (x : Arguments) → ¬ IsWhole words c x)
-    → ((c : Command) (x : Arguments) → ¬ IsAlone words c x)
-    → (c : Command) (x : Arguments) → ¬ AreCommand words c x
-neither words whole alone c x (inl g) = whole c x g
-neither words whole alone c x (inr g) = alone c x g.1
+-- words that are no command whole, none without their last, and none on a witness circuit
+neither : (words : List (List ℕ)) → FitNone (IsWhole words) → FitNone (IsAlone words)
+    → FitNone (IsOnWitness words) → FitNone (AreCommand words)
+neither words whole alone on c x (inl g) = whole c x g
+neither words whole alone on c x (inr g) = other g.1
+  where
+    other : ¬ (IsAlone words c x ⊎ (FitNone (IsAlone words) × IsOnWitness words c x))
+    other (inl h) = alone c x h
+    other (inr h) = on c x h.1
 
 -- the same of a result
-pub neither_if : (words : List (List ℕ)) → ((c : Command) (x : Arguments) → ¬ IsWhole words c x)
+pub neither_if : (words : List (List ℕ)) → FitNone (IsWhole words)
     → (o : Option (Command × Given))
-    → IfNone o ((c : Command) (x : Arguments) → ¬ IsAlone words c x)
-    → IfNone o ((c : Command) (x : Arguments) → ¬ AreCommand words c x)
-neither_if words whole (Some g) alone = tt
-neither_if words whole None alone = neither words whole alone
+    → IfNone o (FitNone (IsAlone words) × FitNone (IsOnWitness words))
+    → IfNone o (FitNone (AreCommand words))
+neither_if words whole (Some g) none = tt
+neither_if words whole None none = neither words whole none.0 none.1
 
 -- what is asked is its justice property and its command
 same_asked : (c d : Asked) → c.justice ≡ d.justice → c.command ≡ d.command → c ≡ d
@@ -353,10 +441,25 @@ no_command words q limit c paths further are g =
         let letter = ap (λ (word : List ℕ). slice_index word 0) is in
         omega (arith, letter)
 
+    no_witness : (q : Help) (a : WitnessAction) (x : Arguments)
+        → ¬ Gives (witness_name a) (witness_form a) (word_of q ∷ []) x
+    no_witness Usage a x =
+        apart.no_name witness_name witness_form on_witness.ALL refl witness_among (codes "--help") []
+        refl a x
+    no_witness Version a x =
+        apart.no_name witness_name witness_form on_witness.ALL refl witness_among
+        (codes "--version") [] refl a x
+
+    no_other : (q : Help) (c : Command) (x : Arguments)
+        → ¬ (IsAlone (word_of q ∷ []) c x
+        ⊎ (FitNone (IsAlone (word_of q ∷ [])) × IsOnWitness (word_of q ∷ []) c x))
+    no_other q c x (inl g) =
+        no_raw_none (word_of q ∷ []) [] (word_of q) refl (no_last q) c x g
+    no_other q c x (inr g) = no_witness q g.1.action g.1.given g.1.gives
+
     no_question : (q : Help) (c : Command) (x : Arguments) → ¬ AreCommand (word_of q ∷ []) c x
     no_question q c x (inl g) = no_form q g.action x g.gives
-    no_question q c x (inr g) =
-        no_raw_none (word_of q ∷ []) [] (word_of q) refl (no_last q) c x g.1
+    no_question q c x (inr g) = no_other q c x g.1
 
 -- a command that was run ends the program otherwise than words that give none
 pub never_none : {E : Type 0} (done : Result (Unit {0}) E) → ended done ≡ endings.NoCommand → ⊥

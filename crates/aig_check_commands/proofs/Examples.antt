@@ -1,6 +1,6 @@
 -- The comments of a small query, computed; and wrong words and lines, of which the definitions are
 -- false.
-use Rattle.aig_base.proofs.Words.{◌≡◌, ◌≢◌, ℕ, Bool, true, false, None, Option, List, [], ◌∷◌, ◌++◌, length, refl, ap, subst, sym, arith, length-append, ◌∙◌, inl, inr, Some}
+use Rattle.aig_base.proofs.Words.{◌≡◌, ◌≢◌, ◌⊎◌, ℕ, Bool, true, false, None, Option, List, [], ◌∷◌, ◌++◌, length, refl, ap, subst, sym, arith, length-append, ◌∙◌, inl, inr, Some}
 use Rattle.std.specs.Prelude.{IsTrue, codes, not, slice_get, slice_index, slice_index_or}
 use Rattle.std.specs.Fmt.{digits}
 use Rattle.aig_base.specs.Clauses.{lit_to}
@@ -32,7 +32,9 @@ use Rattle.aig_check_commands.specs.Pairs.{IsObligationsText, PairAnswers, Refus
 use Rattle.aig_answers.specs.declared.certificates.error.CertificateError.TheVariants as certificate
 use Rattle.aig_check_commands.specs.declared.command.FileCommand.TheVariants as commands
 use Rattle.aig_check_commands.specs.Comments.{comments_of, input_lines, literal_line}
-use Rattle.aig_check_commands.specs.CommandWords.{AreCommand, Give, IsWhole, command_of, form_of, name_of, raw_alone}
+use Rattle.aig_check_commands.specs.CommandWords.{AreCommand, FitNone, Give, IsAlone, IsOf, IsOnWitness, IsWhole, command_of, form_of, name_of, raw_alone}
+use Rattle.aig_check_commands.specs.declared.command.WitnessAction.{WitnessAction}
+use Rattle.aig_check_commands.specs.declared.command.WitnessAction.TheVariants as on_witness
 
 -- ---- words
 
@@ -50,17 +52,27 @@ is_witness a k m d o p is = cc
 abbrev of_property : Option Justice → Command → Asked
 of_property a c = record { justice = a; command = c }
 
--- no command on a file has raw clauses of one proof alone
+-- no command on a file has raw clauses of one proof alone, or is on a witness circuit
 whole_of : (words : List (List ℕ)) (c : Command) (d : FileCommand) (x : Arguments)
     → asked.File d ≡ c → AreCommand words c x → IsWhole words c x
 whole_of words c d x is (inl whole) = whole
-whole_of words c d x is (inr alone) =
-    absurd (never alone.1.step alone.1.usual (alone.1.command ∙ ap Some (sym is)))
+whole_of words c d x is (inr other) = absurd (none other.1)
   where
     never : (step : Bool) (c : Command) → ¬ (raw_alone step c ≡ Some (asked.File d))
     never step (asked.Safe k form o p) is = cc
     never step (asked.Pair (on_pair.AlwaysEqual k form o p)) is = cc
     never step c is = cc
+
+    no_file : (a : WitnessAction) (given : Arguments) (further : List (List ℕ))
+        → ¬ IsOf a given (asked.File d) further
+    no_file on_witness.Certified given further of = let no = of.0 in cc
+    no_file on_witness.Obligations given further of = let no = of.1 in cc
+
+    none : ¬ (IsAlone words c x ⊎ (FitNone (IsAlone words) × IsOnWitness words c x))
+    none (inl alone) = never alone.step alone.usual (alone.command ∙ ap Some (sym is))
+    none (inr on) =
+        no_file on.1.action on.1.given x.further
+        (subst (λ e. IsOf on.1.action on.1.given e x.further) (sym is) on.1.command)
 
 -- words that do not begin with `--limit` stand alone
 no_limit : (words : List (List ℕ)) (limit : ℕ) (rest : List (List ℕ))

@@ -1,5 +1,5 @@
 -- What a command printed on files that were opened, and was flushed.
-use Rattle.aig_base.proofs.Words.{◌≡◌, Bool, true, false, List, [], ◌∷◌, ◌++◌, ℕ, Option, None, Some, Ok, Err, inl, inr, refl, Appends, Keeps}
+use Rattle.aig_base.proofs.Words.{◌≡◌, ◌≢◌, Bool, true, false, List, [], ◌∷◌, ◌++◌, ℕ, Option, None, Some, Ok, Err, inl, inr, refl, Appends, Keeps}
 use Rattle.std.specs.Prelude.{IfErr, IsTrue, Result}
 use Rattle.aig_command_line.proofs.Kept.{appends_kept, stops_unflushed}
 use Rattle.aig_command_line.specs.declared.files.OpenError.{OpenError}
@@ -26,7 +26,10 @@ use Rattle.aig_check_commands.specs.Pairs.{IsErrorOfPair, RunsPair, TellsOfPair,
 use Rattle.aig_check_commands.specs.Running.{Runs, nothing_fails, nothing_given, verdict_of}
 use Rattle.aig_check_commands.specs.Safe.{RunsSafe}
 use Rattle.aig_check_commands.specs.SafeBySteps.{RunsSafeBySteps}
+use Rattle.aig_check_commands.specs.Simulating.{IsErrorOfObligation, IsErrorOfSimulated, RunsObligation, RunsSimulated, TellsOfObligation, TellsOfSimulated}
 use Rattle.aig_check_commands.specs.CommandWords.{prints}
+use Rattle.aig_simulated.specs.Simulated.{Proofs, proof_for, proofs_of}
+use Rattle.aig_simulation.specs.declared.condition.Condition.{Condition}
 use Rattle.aig_check_commands.proofs.Opened.{opens_on}
 
 -- ---- the flush after an answer
@@ -62,7 +65,9 @@ module _ {W : Type 0} (held : W → Option (List ℕ)) (write_failed : W → Boo
   stops text grows lost = stops_unflushed (held w) (held made) (held flat) (write_failed flat) text grows keeps lost
 
   module _ (u : Unit {0}) where
-    runs_ended : {R P : Type 0} (left : R → Option (List ℕ)) (failed : R → Bool) (given : P → Option (List ℕ)) (given_failed : P → Bool) (limit : ℕ) (c : FileCommand) (r rest : R) (p used : P) (done : Result Unit CheckError)
+    runs_ended : {R P : Type 0} (left : R → Option (List ℕ)) (failed : R → Bool)
+        (given : P → Option (List ℕ)) (given_failed : P → Bool) (limit : ℕ) (c : FileCommand)
+        (r rest : R) (p used : P) (done : Result Unit CheckError)
         → Runs left failed given given_failed held write_failed c limit r p w (Ok u) rest used made
         → EndsBy (write_failed flat) done → Runs left failed given given_failed held write_failed c limit r p w done rest used flat
     runs_ended left failed given given_failed limit c r rest p used (Ok v) runs sound =
@@ -98,7 +103,11 @@ module _ {W : Type 0} (held : W → Option (List ℕ)) (write_failed : W → Boo
     told_ended limit c base step bytes others f g (Err errors.Write) told lost = (told.0, told.1, stops told.0 told.2 lost)
     told_ended limit c base step bytes others f g (Err e) told never = absurd never
 
-    pair_ended : {R S P Q : Type 0} (left : R → Option (List ℕ)) (failed : R → Bool) (left_of : S → Option (List ℕ)) (failed_of : S → Bool) (base_left : P → Option (List ℕ)) (base_failed : P → Bool) (step_left : Q → Option (List ℕ)) (step_failed : Q → Bool) (limit : ℕ) (c : PairCommand) (r rest : R) (s other : S) (p used : P) (q spent : Q) (done : Result Unit CheckError)
+    pair_ended : {R S P Q : Type 0} (left : R → Option (List ℕ)) (failed : R → Bool)
+        (left_of : S → Option (List ℕ)) (failed_of : S → Bool) (base_left : P → Option (List ℕ))
+        (base_failed : P → Bool) (step_left : Q → Option (List ℕ)) (step_failed : Q → Bool)
+        (limit : ℕ) (c : PairCommand) (r rest : R) (s other : S) (p used : P) (q spent : Q)
+        (done : Result Unit CheckError)
         → RunsPair left failed left_of failed_of base_left base_failed step_left step_failed held write_failed c limit r s p q w (Ok u) rest other used spent made
         → EndsBy (write_failed flat) done → RunsPair left failed left_of failed_of base_left base_failed step_left step_failed held write_failed c limit r s p q w done rest other used spent flat
     pair_ended left failed left_of failed_of base_left base_failed step_left step_failed limit c r rest s other p used q spent done runs ends =
@@ -261,6 +270,99 @@ module _ {W : Type 0} (held : W → Option (List ℕ)) (write_failed : W → Boo
           }
           end (Err e) never reads = absurd never
 
+    module _ {R S P : Type 0} (left : R → Option (List ℕ)) (failed : R → Bool)
+        (left_of : S → Option (List ℕ)) (failed_of : S → Bool) (given : P → Option (List ℕ))
+        (given_failed : P → Bool) (optimize : Bool) (limit : ℕ) (r rest : R) (s other : S)
+        (ps used : Proofs P) where
+      -- what is told of a file and a witness circuit, once more is written
+      abbrev Simulates : W → File → File → Result Unit CheckError → Type 0
+      Simulates x =
+          TellsOfSimulated held write_failed optimize limit
+          (λ condition. given (proof_for ps condition)) w x
+
+      simulates_ended : (f g : File) (done : Result Unit CheckError) → Simulates made f g (Ok u)
+          → EndsBy (write_failed flat) done → Simulates flat f g done
+      simulates_ended f g (Ok v) told sound =
+          (told.0, appends_kept (held w) (held made) (held flat) safe_line told.1 keeps, sound)
+      simulates_ended f g (Err errors.Write) told lost = (told.0, stops safe_line told.1 lost)
+      simulates_ended f g (Err e) told never = absurd never
+
+      simulated_own : (done : Result Unit CheckError) → EndsBy (write_failed flat) done
+          → IfErr done IsErrorOfSimulated
+      simulated_own (Ok v) ends = tt
+      simulated_own (Err errors.Write) ends = tt
+      simulated_own (Err e) ends = absurd ends
+
+      abbrev Simulated_to : W → Result Unit CheckError → Type 0
+      Simulated_to x done =
+          RunsSimulated left failed left_of failed_of given given_failed held write_failed optimize
+          limit r s ps w done rest other used x
+
+      simulated_ended : (done : Result Unit CheckError) → Simulated_to made (Ok u)
+          → EndsBy (write_failed flat) done → Simulated_to flat done
+      simulated_ended done runs ends =
+          let reads =
+          reads_on left failed left_of failed_of limit r s rest other (Simulates flat) verdict_of
+          other_verdict_of IsErrorOfSimulated done runs.reads (accepted_by _ done ends)
+          (other_accepted_by _ done ends) (simulated_own done ends)
+          (λ f g bytes others fits also told. simulates_ended f g done told ends) in
+          end done ends reads
+        where
+          end : (x : Result Unit CheckError) → EndsBy (write_failed flat) x
+              → ReadsPair left failed left_of failed_of limit (Simulates flat) verdict_of
+              other_verdict_of IsErrorOfSimulated r s x rest other
+              → Simulated_to flat x
+          end (Ok v) sound reads =
+              record { reads = reads; kept = tt; unread = tt; stream = λ condition is. cc }
+          end (Err errors.Write) lost reads = record {
+            reads = reads;
+            kept = λ not. absurd (not refl);
+            unread = λ condition no. absurd no;
+            stream = λ condition is. cc;
+          }
+          end (Err e) never reads = absurd never
+
+    module _ {R S : Type 0} (left : R → Option (List ℕ)) (failed : R → Bool)
+        (left_of : S → Option (List ℕ)) (failed_of : S → Bool) (condition : Condition)
+        (optimize : Bool) (limit : ℕ) (r rest : R) (s other : S) where
+      -- so of the clauses of a condition
+      abbrev Obliges : W → File → File → Result Unit CheckError → Type 0
+      Obliges x =
+          TellsOfObligation held write_failed condition optimize limit (left r) (left_of s) w x
+
+      obliges_ended : (f g : File) (done : Result Unit CheckError) → Obliges made f g (Ok u)
+          → EndsBy (write_failed flat) done → Obliges flat f g done
+      obliges_ended f g (Ok v) told sound =
+          (told.0, told.1, appends_kept (held w) (held made) (held flat) told.0 told.2 keeps, sound)
+      obliges_ended f g (Err errors.Write) told lost = (told.0, told.1, stops told.0 told.2 lost)
+      obliges_ended f g (Err e) told never = absurd never
+
+      obligation_own : (done : Result Unit CheckError) → EndsBy (write_failed flat) done
+          → IfErr done (IsErrorOfObligation condition)
+      obligation_own (Ok v) ends = tt
+      obligation_own (Err errors.Write) ends = tt
+      obligation_own (Err e) ends = absurd ends
+
+      obligation_kept : (done : Result Unit CheckError) → EndsBy (write_failed flat) done
+          → IfErr done (λ e. e ≢ errors.Write → flat ≡ w)
+      obligation_kept (Ok v) ends = tt
+      obligation_kept (Err errors.Write) ends = λ not. absurd (not refl)
+      obligation_kept (Err e) ends = absurd ends
+
+      obligation_ended : (done : Result Unit CheckError)
+          → RunsObligation left failed left_of failed_of held write_failed condition optimize limit
+          r s w (Ok u) rest other made
+          → EndsBy (write_failed flat) done
+          → RunsObligation left failed left_of failed_of held write_failed condition optimize limit
+          r s w done rest other flat
+      obligation_ended done runs ends = record {
+        reads = reads_on left failed left_of failed_of limit r s rest other (Obliges flat) verdict_of
+            other_verdict_of (IsErrorOfObligation condition) done runs.reads
+            (accepted_by _ done ends) (other_accepted_by _ done ends) (obligation_own done ends)
+            (λ f g bytes others fits also told. obliges_ended f g done told ends);
+        kept = obligation_kept done ends;
+      }
+
 -- ---- what is made of a file
 
 module _ {R : Type 0} (left : R → Option (List ℕ)) (failed : R → Bool) (limit : ℕ) (a : Justice)
@@ -360,6 +462,16 @@ module _ {W : Type 0} (held : W → Option (List ℕ)) (write_failed : W → Boo
       compare_ended held write_failed w made flat keeps u left failed left_of failed_of left_of
       failed_of left_of failed_of left_of failed_of optimize limit r rest s other c tried p used q
       spent done ran ends
+  ran_ended left failed left_of failed_of (commands.Simulated optimize) r rest
+      (s ∷ a ∷ b ∷ c ∷ d ∷ e ∷ [])
+      (other ∷ a_rest ∷ b_rest ∷ c_rest ∷ d_rest ∷ e_rest ∷ []) ran =
+      simulated_ended held write_failed w made flat keeps u left failed left_of failed_of left_of
+      failed_of optimize limit r rest s other (proofs_of a b c d e)
+      (proofs_of a_rest b_rest c_rest d_rest e_rest) done ran ends
+  ran_ended left failed left_of failed_of (commands.Obligation condition optimize) r rest (s ∷ [])
+      (other ∷ []) ran =
+      obligation_ended held write_failed w made flat keeps u left failed left_of failed_of condition
+      optimize limit r rest s other done ran ends
   ran_ended left failed left_of failed_of c r rest files others ran = absurd ran
 
   module _ {R S : Type 0} (left : R → Option (List ℕ)) (failed : R → Bool)

@@ -12,6 +12,7 @@ mod Proving
 mod ProvingSteps
 mod Refusing
 mod Shown
+mod Simulating
 mod Viewed
 mod Examples
 pub mod Passing

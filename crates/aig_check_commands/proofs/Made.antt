@@ -42,6 +42,9 @@ use Rattle.aig_check_commands.specs.Pairs.{IsErrorOfPair, RunsPair}
 use Rattle.aig_check_commands.specs.Running.{IsErrorOf, Runs}
 use Rattle.aig_check_commands.specs.Safe.{IsErrorOfSafe, RunsSafe}
 use Rattle.aig_check_commands.specs.SafeBySteps.{IsErrorOfSteps, RunsSafeBySteps}
+use Rattle.aig_check_commands.specs.Simulating.{IsErrorOfObligation, IsErrorOfSimulated, RunsObligation, RunsSimulated}
+use Rattle.aig_simulated.specs.Simulated.{Proofs, proofs_of}
+use Rattle.aig_simulation.specs.declared.condition.Condition.{Condition}
 use Rattle.aig_check_commands.specs.CommandWords.{beside_of, prints}
 use Rattle.aig_check_commands.proofs.Outcomes.{err_of}
 use Rattle.aig_check_commands.proofs.Viewed.{ran_seen}
@@ -198,6 +201,14 @@ module _ (runs_are : AreLassos) (limit : ℕ) (a : Justice) (f : File) (m : Circ
       absurd (true≢false (sym asked))
   ran_shows left_of failed_of (commands.EqualBy optimize) files others some asked ran =
       absurd (true≢false (sym asked))
+  ran_shows left_of failed_of (commands.Simulated optimize) (s ∷ p ∷ q ∷ x ∷ y ∷ z ∷ [])
+      (other ∷ p_rest ∷ q_rest ∷ x_rest ∷ y_rest ∷ z_rest ∷ []) some asked runs =
+      let both = runs.reads in
+      no_run runs_are a f m made
+      (read_back limit m (λ bytes g is. is) (made_again a f m made) (both.verdict.whole tt).1
+      (both.answer refl refl)).means.0.1
+  ran_shows left_of failed_of (commands.Obligation condition optimize) files others some asked ran =
+      absurd (omega (arith, some))
   ran_shows left_of failed_of c files others some asked ran = absurd ran
 
 pub shows_fair : {S : Type 0} (left_of : S → Option (List ℕ)) (failed_of : S → Bool)
@@ -343,6 +354,15 @@ compare_never_unmade : (e : CheckError) → IsErrorOfComparing e → ¬ IsOfMaki
 compare_never_unmade (errors.Unmade e) own is = own
 compare_never_unmade e own is = is
 
+simulated_never_unmade : (e : CheckError) → IsErrorOfSimulated e → ¬ IsOfMaking e
+simulated_never_unmade (errors.Unmade e) own is = own
+simulated_never_unmade e own is = is
+
+obligation_never_unmade : (condition : Condition) (e : CheckError)
+    → IsErrorOfObligation condition e → ¬ IsOfMaking e
+obligation_never_unmade condition (errors.Unmade e) own is = own
+obligation_never_unmade condition e own is = is
+
 safe_never_unmade : (e : CheckError) → IsErrorOfSafe e → ¬ IsOfMaking e
 safe_never_unmade (errors.Unmade e) own is = own
 safe_never_unmade e own is = is
@@ -416,6 +436,25 @@ comparing_no_write : {R S : Type 0} {left : R → Option (List ℕ)} {failed : R
 comparing_no_write errors.Write runs is = stops_never (runs.reads.answer refl refl).means.means.1
 comparing_no_write e runs is = cc
 
+simulated_no_write : {R S P : Type 0} {left : R → Option (List ℕ)} {failed : R → Bool}
+    {left_of : S → Option (List ℕ)} {failed_of : S → Bool} {given : P → Option (List ℕ)}
+    {given_failed : P → Bool} {optimize : Bool} {limit : ℕ} {r rest : R} {s other : S}
+    {ps used : Proofs P} {w made : Discarded} (e : CheckError)
+    → RunsSimulated left failed left_of failed_of given given_failed keeps_nothing never_fails
+    optimize limit r s ps w (Err e) rest other used made
+    → e ≢ errors.Write
+simulated_no_write errors.Write runs is = stops_never (runs.reads.answer refl refl).means.means.1
+simulated_no_write e runs is = cc
+
+obligation_no_write : {R S : Type 0} {left : R → Option (List ℕ)} {failed : R → Bool}
+    {left_of : S → Option (List ℕ)} {failed_of : S → Bool} {condition : Condition}
+    {optimize : Bool} {limit : ℕ} {r rest : R} {s other : S} {w made : Discarded} (e : CheckError)
+    → RunsObligation left failed left_of failed_of keeps_nothing never_fails condition optimize
+    limit r s w (Err e) rest other made
+    → e ≢ errors.Write
+obligation_no_write errors.Write runs is = stops_never (runs.reads.answer refl refl).means.means.2
+obligation_no_write e runs is = cc
+
 module _ {R S : Type 0} (left : R → Option (List ℕ)) (failed : R → Bool)
     (left_of : S → Option (List ℕ)) (failed_of : S → Bool) (limit : ℕ) (r rest : R) where
   pub ran_no_write : (w made : Discarded) (c : Command) (files others : List S) (e : CheckError)
@@ -434,6 +473,12 @@ module _ {R S : Type 0} (left : R → Option (List ℕ)) (failed : R → Bool)
       steps_no_write e ran.runs
   ran_no_write w made (commands.EqualBy o) (s ∷ c ∷ p ∷ q ∷ []) (other ∷ tried ∷ used ∷ spent ∷ []) e ran =
       comparing_no_write e ran
+  ran_no_write w made (commands.Simulated o) (s ∷ a ∷ b ∷ c ∷ d ∷ f ∷ [])
+      (other ∷ a_rest ∷ b_rest ∷ c_rest ∷ d_rest ∷ f_rest ∷ []) e ran =
+      simulated_no_write {ps = proofs_of a b c d f}
+      {used = proofs_of a_rest b_rest c_rest d_rest f_rest} e ran
+  ran_no_write w made (commands.Obligation condition o) (s ∷ []) (other ∷ []) e ran =
+      obligation_no_write e ran
   ran_no_write w made c files others e ran = absurd ran
 
   module _ {W : Type 0} (held : W → Option (List ℕ)) (write_failed : W → Bool) (w made : W)
@@ -457,6 +502,11 @@ module _ {R S : Type 0} (left : R → Option (List ℕ)) (failed : R → Bool)
         each_error _ _ (steps_never_unmade k) result ran.runs.own
     ran_no_making (commands.EqualBy o) (s ∷ c ∷ p ∷ q ∷ []) (other ∷ tried ∷ used ∷ spent ∷ []) ran =
         each_error _ _ compare_never_unmade result ran.reads.own
+    ran_no_making (commands.Simulated o) (s ∷ a ∷ b ∷ c ∷ d ∷ e ∷ [])
+        (other ∷ a_rest ∷ b_rest ∷ c_rest ∷ d_rest ∷ e_rest ∷ []) ran =
+        each_error _ _ simulated_never_unmade result ran.reads.own
+    ran_no_making (commands.Obligation condition o) (s ∷ []) (other ∷ []) ran =
+        each_error _ _ (obligation_never_unmade condition) result ran.reads.own
     ran_no_making c files others ran = absurd ran
 
     -- a command that was run on a text

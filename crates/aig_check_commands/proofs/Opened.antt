@@ -192,9 +192,11 @@ some_paths (commands.Pair c) = omega arith
 some_paths (commands.Safe k form o p) = omega arith
 some_paths (commands.EqualBy o) = omega arith
 some_paths (commands.SafeBySteps k form o p) = omega arith
+some_paths (commands.Simulated o) = omega arith
+some_paths (commands.Obligation condition o) = omega arith
 
--- without a list they are at most five
-few_files : (c : Command) → has_list c ≡ false → paths_of c + beside_of c ≤ 5
+-- without a list they are at most seven
+few_files : (c : Command) → has_list c ≡ false → paths_of c + beside_of c ≤ 7
 few_files (commands.File (on_file.Clauses k o)) few = omega arith
 few_files (commands.File (on_file.Window k form o)) few = omega arith
 few_files (commands.File (on_file.Refuted k o)) few = omega arith
@@ -211,13 +213,17 @@ few_files (commands.Pair (on_pair.AlwaysEqual k form o p)) few = omega arith
 few_files (commands.Safe k form o p) few = omega arith
 few_files (commands.EqualBy o) few = omega arith
 few_files (commands.SafeBySteps k form o p) few = absurd (true≢false few)
+few_files (commands.Simulated o) few = omega arith
+few_files (commands.Obligation condition o) few = omega arith
 
-few_room : {F : Type 0} (i : Inputs F) → is_list i ≡ false → room_of i ≡ 4
+few_room : {F : Type 0} (i : Inputs F) → is_list i ≡ false → room_of i ≡ 6
 few_room inputs.Empty few = refl
 few_room (inputs.One a) few = refl
 few_room (inputs.Two a b) few = refl
 few_room (inputs.Three a b d) few = refl
 few_room (inputs.Four a b d e) few = refl
+few_room (inputs.Five a b d e f) few = refl
+few_room (inputs.Six a b d e f g) few = refl
 few_room (inputs.Each all) few = absurd (true≢false few)
 
 -- there is room for those behind FILE
@@ -225,6 +231,8 @@ pub has_room : {F : Type 0} (c : Command) (i : Inputs F) → is_list i ≡ has_l
     → (IsTrue (has_list c) → beside_of c ≤ room_of i)
     → paths_of c + beside_of c ≤ room_of i + 1
 has_room (commands.SafeBySteps k form o p) i same room = omega (arith, room refl)
+has_room (commands.Simulated o) i same room =
+    omega (arith, few_files (commands.Simulated o) refl, few_room i same)
 has_room (commands.File c) i same room =
     omega (arith, few_files (commands.File c) refl, few_room i same)
 has_room (commands.Pair c) i same room =
@@ -233,3 +241,5 @@ has_room (commands.Safe k form o p) i same room =
     omega (arith, few_files (commands.Safe k form o p) refl, few_room i same)
 has_room (commands.EqualBy o) i same room =
     omega (arith, few_files (commands.EqualBy o) refl, few_room i same)
+has_room (commands.Obligation condition o) i same room =
+    omega (arith, few_files (commands.Obligation condition o) refl, few_room i same)

@@ -5,8 +5,11 @@ use Rattle.hex.specs.Hex.{encode_lower, encode_with, lower_digits}
 use Rattle.aig_dimacs.specs.Reading.{after_comments}
 use Rattle.aig_dimacs.proofs.Comments.{ArePassed, StaysInside, decimal_inside, ends-append, ends-line_feed, inside-append, inside-cons, line_passed}
 use Rattle.aig_check_commands.specs.declared.titles.title.Question.{Question}
-use Rattle.aig_check_commands.specs.declared.titles.title.Question.TheVariants.{Bounded, Clauses, Obligations, Window}
+use Rattle.aig_check_commands.specs.declared.titles.title.Question.TheVariants.{Bounded, Clauses, Obligation, Obligations, Window}
 use Rattle.aig_check_commands.specs.declared.titles.title.Title.{Title}
+use Rattle.aig_simulation.specs.Names.{condition_name}
+use Rattle.aig_simulation.specs.declared.condition.Condition.{Condition}
+use Rattle.aig_simulation.specs.declared.condition.Condition.TheVariants as conditions
 use Rattle.aig_check_commands.specs.Titles.{beside_text, distinct_text, numbered_text, question_text, raw_text, title_text}
 
 -- ---- sums
@@ -98,12 +101,24 @@ numbered_inside name k distinct inside =
     inside-append (name ++ (decimal k ++ 32 ∷ [])) (distinct_text distinct)
     (inside-append name (decimal k ++ 32 ∷ []) inside number) (distinct_inside distinct)
 
+condition_inside : (condition : Condition) → StaysInside (condition_name condition)
+unfolding after_comments
+condition_inside conditions.Reset rest = refl
+condition_inside conditions.Transition rest = refl
+condition_inside conditions.Property rest = refl
+condition_inside conditions.Base rest = refl
+condition_inside conditions.Step rest = refl
+
 question_inside : (question : Question) → StaysInside (question_text question)
 unfolding after_comments
 question_inside (Clauses k) = numbered_inside (codes "clauses ") k false (λ rest. refl)
 question_inside (Window k distinct) = numbered_inside (codes "window ") k distinct (λ rest. refl)
 question_inside (Bounded k) = numbered_inside (codes "bounded ") k false (λ rest. refl)
 question_inside Obligations = λ rest. refl
+question_inside (Obligation condition) =
+    inside-append (codes "obligations " ++ condition_name condition) (32 ∷ [])
+    (inside-append (codes "obligations ") (condition_name condition) (λ rest. refl)
+    (condition_inside condition)) (λ rest. refl)
 
 -- ---- titles
 

@@ -1,5 +1,5 @@
 -- What a command does is so of what is seen of its files: of their bytes alone.
-use Rattle.aig_base.proofs.Words.{◌≡◌, ℕ, ◌+◌, Bool, true, false, List, [], ◌∷◌, Option, None, Some, Ok, Err, ap, map, map-append, sym, ◌∙◌}
+use Rattle.aig_base.proofs.Words.{◌≡◌, ℕ, ◌+◌, Bool, true, false, List, [], ◌∷◌, Option, None, Some, Ok, Err, ap, fun_ext, map, map-append, refl, subst, sym, ◌∙◌}
 use Rattle.std.specs.Prelude.{IfErr, IsTrue, Result, option_map, slice_get}
 use Rattle.std.proofs.lemmas.Option.{slice_get-map}
 use Rattle.aig_answers.specs.Answers.{TellsOfStep, TellsOfWindow}
@@ -34,6 +34,10 @@ use Rattle.aig_check_commands.specs.CommandWords.{prints}
 use Rattle.aig_check_commands.specs.Pairs.{RunsPair}
 use Rattle.aig_check_commands.specs.Running.{Runs, nothing_fails, nothing_given}
 use Rattle.aig_check_commands.specs.Safe.{RunsSafe, TellsWhy}
+use Rattle.aig_check_commands.specs.Simulating.{LeavesProof, RunsObligation, RunsSimulated, TellsOfSimulated}
+use Rattle.aig_simulated.specs.Simulated.{Proofs, proof_for, proofs_of}
+use Rattle.aig_simulation.specs.declared.condition.Condition.{Condition}
+use Rattle.aig_simulation.specs.declared.condition.Condition.TheVariants as conditions
 use Rattle.aig_check_commands.specs.SafeBySteps as by_steps
 use Rattle.aig_check_commands.specs.SafeBySteps.{RunsOnProofs, RunsSafeBySteps}
 
@@ -180,6 +184,44 @@ module _ {S B : Type 0} (on : S → B) (left_of : B → Option (List ℕ)) (fail
   told_seen held write_failed w made f g (Err (errors.Miter e)) told = equals_seen f g (Err e) told
   told_seen held write_failed w made f g (Err e) told = absurd told
 
+-- proofs as they are seen
+abbrev proofs_seen_as : {S B : Type 0} → (S → B) → Proofs S → Proofs B
+proofs_seen_as on p =
+    proofs_of (on p.reset) (on p.transition) (on p.property) (on p.base) (on p.step)
+
+module _ {S B : Type 0} (on : S → B) (p : Proofs S) where
+  for_seen : (condition : Condition)
+      → on (proof_for p condition) ≡ proof_for (proofs_seen_as on p) condition
+  for_seen conditions.Reset = refl
+  for_seen conditions.Transition = refl
+  for_seen conditions.Property = refl
+  for_seen conditions.Base = refl
+  for_seen conditions.Step = refl
+
+  -- so are their texts
+  simulates_seen : {W : Type 0} (left_of : B → Option (List ℕ)) (held : W → Option (List ℕ))
+      (write_failed : W → Bool) (optimize : Bool) (limit : ℕ) (w made : W) (f g : File)
+      (x : Result (Unit {0}) CheckError)
+      → TellsOfSimulated held write_failed optimize limit
+      (λ condition. left_of (on (proof_for p condition))) w made f g x
+      → TellsOfSimulated held write_failed optimize limit
+      (λ condition. left_of (proof_for (proofs_seen_as on p) condition)) w made f g x
+  simulates_seen left_of held write_failed optimize limit w made f g x told =
+      subst (λ (texts : Condition → Option (List ℕ)).
+      TellsOfSimulated held write_failed optimize limit texts w made f g x)
+      (fun_ext (λ condition. ap left_of (for_seen condition))) told
+
+-- those that aren't read
+proofs_left : {S B : Type 0} (on : S → B) (p used : Proofs S) (x : Result (Unit {0}) CheckError)
+    → IfErr x (λ e. (condition : Condition) → LeavesProof condition e
+    → proof_for used condition ≡ proof_for p condition)
+    → IfErr x (λ e. (condition : Condition) → LeavesProof condition e
+    → proof_for (proofs_seen_as on used) condition ≡ proof_for (proofs_seen_as on p) condition)
+proofs_left on p used (Ok u) unread = tt
+proofs_left on p used (Err e) unread =
+    λ condition is. sym (for_seen on used condition) ∙ ap on (unread condition is)
+    ∙ for_seen on p condition
+
 module _ {R A : Type 0} (to : R → A) (left : A → Option (List ℕ)) (failed : A → Bool) {W : Type 0}
     (held : W → Option (List ℕ)) (write_failed : W → Bool) (limit : ℕ) (r rest : R) (w made : W)
     (result : Result (Unit {0}) CheckError) where
@@ -325,6 +367,47 @@ module _ {R A : Type 0} (to : R → A) (left : A → Option (List ℕ)) (failed 
       step_stream = runs.step_stream;
     }
 
+  module _ {S B : Type 0} (on : S → B) (left_of : B → Option (List ℕ)) (failed_of : B → Bool)
+      (optimize : Bool) (s other : S) where
+    simulated_seen : (p used : Proofs S)
+        → RunsSimulated (λ x. left (to x)) (λ x. failed (to x)) (λ x. left_of (on x))
+        (λ x. failed_of (on x)) (λ x. left_of (on x)) (λ x. failed_of (on x)) held write_failed
+        optimize limit r s p w result rest other used made
+        → RunsSimulated left failed left_of failed_of left_of failed_of held write_failed optimize
+        limit (to r) (on s) (proofs_seen_as on p) w result (to rest) (on other)
+        (proofs_seen_as on used) made
+    simulated_seen p used runs = record {
+      reads = record {
+        verdict = runs.reads.verdict;
+        other_verdict = runs.reads.other_verdict;
+        unread = λ not. ap on (runs.reads.unread not);
+        answer = λ first second. read_as _ _ (λ f. read_as _ _ (λ g. simulates_seen on p left_of held
+            write_failed optimize limit w made f g result)) (runs.reads.answer first second);
+        own = runs.reads.own;
+      };
+      kept = runs.kept;
+      unread = proofs_left on p used result runs.unread;
+      stream = λ condition is. subst (λ (q : B). IsTrue (failed_of q)) (for_seen on used condition)
+          (runs.stream condition is);
+    }
+
+    obligation_seen : (condition : Condition)
+        → RunsObligation (λ x. left (to x)) (λ x. failed (to x)) (λ x. left_of (on x))
+        (λ x. failed_of (on x)) held write_failed condition optimize limit r s w result rest other
+        made
+        → RunsObligation left failed left_of failed_of held write_failed condition optimize limit
+        (to r) (on s) w result (to rest) (on other) made
+    obligation_seen condition runs = record {
+      reads = record {
+        verdict = runs.reads.verdict;
+        other_verdict = runs.reads.other_verdict;
+        unread = λ not. ap on (runs.reads.unread not);
+        answer = runs.reads.answer;
+        own = runs.reads.own;
+      };
+      kept = runs.kept;
+    }
+
   same : Unit {0} → Unit {0}
   same x = x
 
@@ -356,6 +439,12 @@ module _ {R A : Type 0} (to : R → A) (left : A → Option (List ℕ)) (failed 
   ran_seen on left_of failed_of (commands.EqualBy optimize) (s ∷ c ∷ p ∷ q ∷ [])
       (other ∷ tried ∷ used ∷ spent ∷ []) ran =
       comparing_seen on left_of failed_of optimize s other c tried p used q spent ran
+  ran_seen on left_of failed_of (commands.Simulated optimize) (s ∷ a ∷ b ∷ c ∷ d ∷ e ∷ [])
+      (other ∷ a_rest ∷ b_rest ∷ c_rest ∷ d_rest ∷ e_rest ∷ []) ran =
+      simulated_seen on left_of failed_of optimize s other (proofs_of a b c d e)
+      (proofs_of a_rest b_rest c_rest d_rest e_rest) ran
+  ran_seen on left_of failed_of (commands.Obligation condition optimize) (s ∷ []) (other ∷ []) ran =
+      obligation_seen on left_of failed_of optimize s other condition ran
   ran_seen on left_of failed_of c files others ran = absurd ran
 
 -- ---- on what is made

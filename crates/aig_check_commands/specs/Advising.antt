@@ -17,6 +17,9 @@ use Rattle.aig_answers.specs.declared.safety.error.SafetyError.{SafetyError}
 use Rattle.aig_answers.specs.declared.safety.error.SafetyError.TheVariants as safety
 use Rattle.aig_answers.specs.declared.safety.error.StepsError.{StepsError}
 use Rattle.aig_answers.specs.declared.safety.error.StepsError.TheVariants as steps
+use Rattle.aig_simulated.specs.declared.error.ConditionError.{ConditionError}
+use Rattle.aig_simulated.specs.declared.error.ConditionError.TheVariants as conditions
+use Rattle.aig_simulated.specs.declared.error.SimulationError.TheVariants as simulation
 use Rattle.aig_check_commands.specs.declared.error.CheckError.{CheckError}
 use Rattle.aig_check_commands.specs.declared.error.CheckError.TheVariants as errors
 
@@ -58,6 +61,11 @@ misfits_certificate (certificate.Pair e) = false
 misfits_certificate (certificate.Query e) = misfits_answer e
 misfits_certificate (certificate.Window e) = misfits_answer e
 
+-- and of one for a condition of a witness circuit
+abbrev pub misfits_condition : ConditionError → Bool
+misfits_condition (conditions.Question e) = false
+misfits_condition (conditions.Refutation e) = is_misfit e
+
 -- the program refuses a proof that doesn't fit the clauses
 abbrev pub has_misfit : Ending CheckError → Bool
 has_misfit (endings.Refused (errors.Answer e)) = misfits_answer e
@@ -67,6 +75,8 @@ has_misfit (endings.Refused (errors.Steps e)) = misfits_steps e
 has_misfit (endings.Refused (errors.Certificate e)) = misfits_certificate e
 has_misfit (endings.Refused (errors.Equality (equality.Miter e))) = misfits_safety e
 has_misfit (endings.Refused (errors.Miter (miter.Certificate e))) = misfits_certificate e
+has_misfit (endings.Refused (errors.Simulation (simulation.Condition condition e))) =
+    misfits_condition e
 has_misfit ending = false
 
 -- the line that says what may be the matter

@@ -3,19 +3,23 @@
 use Rattle.std.specs.Prelude.{◌≡◌, ◌⊎◌, ◌==◌, ◌+◌, ◌++◌, ◌∷◌, [], ℕ, Bool, true, false, not, IsTrue, List, None, Option, Some, codes}
 use Rattle.aig_runs.specs.declared.window.Window.{Window}
 use Rattle.aig_runs.specs.declared.window.Window.TheVariants.{Plain, Distinct}
-use Rattle.aig_command_line.specs.declared.arguments.Form.{Form}
+use Rattle.aig_command_line.specs.declared.arguments.ArgumentForm.{ArgumentForm}
 use Rattle.aig_command_line.specs.declared.arguments.Step.{Step}
 use Rattle.aig_command_line.specs.declared.arguments.Step.TheVariants.{Absent, At, UpTo, By, Each}
 use Rattle.aig_command_line.specs.Arguments.{Arguments, Gives}
 use Rattle.aig_command_line.specs.Limits.{IsLimited}
 use Rattle.aig_check_commands.specs.declared.command.Action.{Action}
 use Rattle.aig_check_commands.specs.declared.command.Action.TheVariants as actions
+use Rattle.aig_check_commands.specs.declared.command.WitnessAction.{WitnessAction}
+use Rattle.aig_check_commands.specs.declared.command.WitnessAction.TheVariants as witness
 use Rattle.aig_check_commands.specs.declared.command.Asked.{Asked}
 use Rattle.aig_check_commands.specs.declared.command.Command.{Command}
 use Rattle.aig_check_commands.specs.declared.command.Command.TheVariants as commands
 use Rattle.aig_check_commands.specs.declared.command.FileCommand.TheVariants as on_file
 use Rattle.aig_check_commands.specs.declared.command.PairCommand.TheVariants as on_pair
 use Rattle.aig_check_commands.specs.Justice.{AreJustice, is_asked}
+use Rattle.aig_simulation.specs.Names.{condition_name}
+use Rattle.aig_simulation.specs.declared.condition.Condition.{Condition}
 
 -- the word that names a command
 abbrev pub name_of : Action → List ℕ
@@ -38,18 +42,18 @@ name_of actions.SafeBySteps = codes "safe"
 
 -- so many paths and a step, so many further paths, `distinct` or nothing where it may be there, and
 -- `raw` or nothing
-abbrev pub on_step : ℕ → Step → ℕ → Bool → Form
+abbrev pub on_step : ℕ → Step → ℕ → Bool → ArgumentForm
 on_step paths step further distinct =
     record { paths = paths; step = step; further = further; distinct = distinct; raw = true }
 
 -- FILE, CERT and so many proofs, and `raw` or nothing
-abbrev pub on_certificate : ℕ → Form
+abbrev pub on_certificate : ℕ → ArgumentForm
 on_certificate further =
     record { paths = 2; step = Absent; further = further; distinct = false; raw = true }
 
 -- What comes after it: the paths are FILE, and CERT or OTHER; the further ones are PROOF, SOLUTION
 -- or WITNESS, or BASE and STEP, behind CERT where that comes after OTHER; or P0 to PK and STEP.
-abbrev pub form_of : Action → Form
+abbrev pub form_of : Action → ArgumentForm
 form_of actions.Clauses = on_step 1 At 0 false
 form_of actions.Window = on_step 1 At 0 true
 form_of actions.Refuted = on_step 1 At 1 false
@@ -129,11 +133,43 @@ pub record IsAlone (words : List (List ℕ)) (c : Command) (a : Arguments) : Typ
   pub optimized : IsTrue a.optimize
   pub command : raw_alone step usual ≡ Some c
 
--- the words fit a command; or they fit none, and fit one without such a last word
+-- the word that names a command on FILE and a witness circuit
+abbrev pub witness_name : WitnessAction → List ℕ
+witness_name witness.Certified = codes "certified"
+witness_name witness.Obligations = codes "obligations"
+
+-- what comes after it: FILE, WITNESS, and a proof for each condition, or the name of one
+abbrev pub witness_form : WitnessAction → ArgumentForm
+witness_form witness.Certified = on_certificate 5
+witness_form witness.Obligations = on_certificate 1
+
+-- the command by what its words give, and the files that these name beside FILE and WITNESS
+abbrev pub IsOf : WitnessAction → Arguments → Command → List (List ℕ) → Type 0
+IsOf witness.Certified given c further =
+    (c ≡ commands.Simulated given.optimize) × (further ≡ given.further)
+IsOf witness.Obligations given c further =
+    (condition : Condition) × (c ≡ commands.Obligation condition given.optimize)
+    × (given.further ≡ condition_name condition ∷ further)
+
+-- the words fit a command on FILE and a witness circuit
+pub record IsOnWitness (words : List (List ℕ)) (c : Command) (a : Arguments) : Type 0 where
+  pub action : WitnessAction
+  pub given : Arguments
+  pub gives : Gives (witness_name action) (witness_form action) words given
+  pub command : IsOf action given c a.further
+  pub rest : a ≡ record given { further = a.further }
+
+-- the words fit none
+abbrev pub FitNone : (Command → Arguments → Type 0) → Type 0
+FitNone Fits = (c : Command) (a : Arguments) → ¬ Fits c a
+
+-- the words fit a command; or they fit none, and fit one without such a last word; or they fit none
+-- of these either, and fit one on FILE and a witness circuit
 abbrev pub AreCommand : List (List ℕ) → Command → Arguments → Type 0
 AreCommand words c a =
     IsWhole words c a
-    ⊎ (((d : Command) (b : Arguments) → ¬ IsWhole words d b) × IsAlone words c a)
+    ⊎ (FitNone (IsWhole words)
+    × (IsAlone words c a ⊎ (FitNone (IsAlone words) × IsOnWitness words c a)))
 
 -- the words give the limit, then the justice property that is asked about, if there is one, and
 -- then the command, with its files and what is given beside them
@@ -179,6 +215,8 @@ paths_of (commands.Pair c) = 2
 paths_of (commands.Safe k form base_optimize step_optimize) = 1
 paths_of (commands.SafeBySteps k form base_optimize step_optimize) = 1
 paths_of (commands.EqualBy optimize) = 2
+paths_of (commands.Simulated optimize) = 2
+paths_of (commands.Obligation condition optimize) = 2
 
 -- how many are given beside these
 abbrev pub beside_of : Command → ℕ
@@ -191,6 +229,8 @@ beside_of (commands.Pair (on_pair.AlwaysEqual k form base_optimize step_optimize
 beside_of (commands.Safe k form base_optimize step_optimize) = 2
 beside_of (commands.SafeBySteps k form base_optimize step_optimize) = k + 2
 beside_of (commands.EqualBy optimize) = 3
+beside_of (commands.Simulated optimize) = 5
+beside_of (commands.Obligation condition optimize) = 0
 beside_of c = 1
 
 -- its proofs are a list, as long as its words say

@@ -28,7 +28,7 @@ is_list few = false
 -- so many fit in without further memory
 abbrev pub room_of : {S : Type 0} → Inputs S → ℕ
 room_of (inputs.Each all) = vec_capacity all
-room_of few = 4
+room_of few = 6
 
 -- they are those of the command: as many as it reads, in a list where it has one
 pub record AreFor {S : Type 0} (c : Command) (i : Inputs S) : Type 0 where

@@ -1,6 +1,6 @@
 -- Part of what is promised.
--- What a command does with the list of the files that it reads: FILE, CERT or OTHER, and what is
--- given beside these.
+-- What a command does with the list of the files that it reads: FILE, CERT, OTHER or a witness
+-- circuit, and what is given beside these.
 use Rattle.std.specs.Prelude.{ℕ, Bool, List, [], ◌∷◌, Option, Result}
 use Rattle.aig_check_commands.specs.declared.command.Command.{Command}
 use Rattle.aig_check_commands.specs.declared.command.Command.TheVariants as commands
@@ -12,6 +12,8 @@ use Rattle.aig_check_commands.specs.Pairs.{RunsPair}
 use Rattle.aig_check_commands.specs.Running.{Runs, nothing_fails, nothing_given}
 use Rattle.aig_check_commands.specs.Safe.{RunsSafe}
 use Rattle.aig_check_commands.specs.SafeBySteps.{RunsOnProofs}
+use Rattle.aig_check_commands.specs.Simulating.{RunsObligation, RunsSimulated}
+use Rattle.aig_simulated.specs.Simulated.{proofs_of}
 
 -- the files, in order
 abbrev pub listed : {S : Type 0} → Inputs S → List S
@@ -20,6 +22,8 @@ listed (inputs.One a) = a ∷ []
 listed (inputs.Two a b) = a ∷ b ∷ []
 listed (inputs.Three a b c) = a ∷ b ∷ c ∷ []
 listed (inputs.Four a b c d) = a ∷ b ∷ c ∷ d ∷ []
+listed (inputs.Five a b c d e) = a ∷ b ∷ c ∷ d ∷ e ∷ []
+listed (inputs.Six a b c d e f) = a ∷ b ∷ c ∷ d ∷ e ∷ f ∷ []
 listed (inputs.Each all) = all.items
 
 -- The command was run on FILE and on the files behind it: r, inputs and w are these and the writer
@@ -59,6 +63,16 @@ Ran left failed left_of failed_of held write_failed limit (commands.EqualBy opti
     (s ∷ c ∷ p ∷ q ∷ []) w result rest (other ∷ tried ∷ used ∷ spent ∷ []) made =
     RunsComparing left failed left_of failed_of left_of failed_of left_of failed_of left_of
     failed_of held write_failed optimize limit r s c p q w result rest other tried used spent made
+Ran left failed left_of failed_of held write_failed limit (commands.Simulated optimize) r
+    (s ∷ reset ∷ transition ∷ property ∷ base ∷ step ∷ []) w result rest
+    (other ∷ reset_rest ∷ transition_rest ∷ property_rest ∷ base_rest ∷ step_rest ∷ []) made =
+    RunsSimulated left failed left_of failed_of left_of failed_of held write_failed optimize limit
+    r s (proofs_of reset transition property base step) w result rest other
+    (proofs_of reset_rest transition_rest property_rest base_rest step_rest) made
+Ran left failed left_of failed_of held write_failed limit (commands.Obligation condition optimize) r
+    (s ∷ []) w result rest (other ∷ []) made =
+    RunsObligation left failed left_of failed_of held write_failed condition optimize limit r s w
+    result rest other made
 Ran left failed left_of failed_of held write_failed limit c r files w result rest others made = ⊥
 
 -- ---- bytes alone

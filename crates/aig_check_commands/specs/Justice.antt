@@ -40,4 +40,6 @@ is_asked (Some a) (commands.File (on_file.Inductive k form optimize)) = is_none 
 is_asked (Some a) (commands.Pair (on_pair.Certified optimize)) = true
 is_asked (Some a) (commands.Pair (on_pair.Obligations optimize)) = true
 is_asked (Some a) (commands.Safe k form base_optimize step_optimize) = true
+is_asked (Some a) (commands.Simulated optimize) = true
+is_asked (Some a) (commands.Obligation condition optimize) = true
 is_asked (Some a) c = false

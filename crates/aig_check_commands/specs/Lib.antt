@@ -15,6 +15,7 @@ pub mod Opening
 pub mod Living
 pub mod LivingParts
 pub mod SafeBySteps
+pub mod Simulating
 pub mod Acting
 pub mod Subjects
 pub mod Explaining

@@ -110,6 +110,7 @@ ShowsFair (commands.File (on_file.Inductive k form optimize)) property f =
     HasNoLassoTo f property k → ¬ HasFairRun f property
 ShowsFair (commands.Pair (on_pair.Certified optimize)) property f = ¬ HasFairRun f property
 ShowsFair (commands.Safe k form base_optimize step_optimize) property f = ¬ HasFairRun f property
+ShowsFair (commands.Simulated optimize) property f = ¬ HasFairRun f property
 ShowsFair c property f = ⊥
 
 -- The check was passed, this is shown, and the line was written, and the writer has not failed; or

@@ -65,6 +65,16 @@ pub record WritesPart {W T E : Type 0} (held : W → Option (List ℕ)) (failed 
   pub writes : WritesOrStops held failed old result (part_text name (clauses_with lists extra))
       new
 
+-- so is that text behind a title
+pub record WritesTitled {W T E : Type 0} (held : W → Option (List ℕ)) (failed : W → Bool)
+    (title : Title) (c : Circuit) (optimize : Bool) (extra : List (List Lit)) (old : W)
+    (result : Result T E) (new : W) : Type 0 where
+  pub lists : List (List (List Lit))
+  pub has : HasClauses c optimize lists
+  pub formula : IsFormula (length lists) (clauses_in lists ++ extra)
+  pub writes : WritesOrStops held failed old result
+      (title_text title ++ dimacs_of (length lists) (clauses_in lists ++ extra)) new
+
 -- so is that of the clauses of which BASE is a proof, behind a title
 pub record WritesBase {W T E : Type 0} (held : W → Option (List ℕ)) (failed : W → Bool)
     (title : Title) (c : Circuit) (optimize : Bool) (extra : List (List Lit)) (old : W)

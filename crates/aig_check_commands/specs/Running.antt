@@ -46,6 +46,7 @@ use Rattle.aig_edits.specs.Edits.{edit_verdict}
 use Rattle.aig_answers.specs.Equality as equality
 use Rattle.aig_answers.specs.Safety as safety
 use Rattle.aig_answers.specs.Steps as stepping
+use Rattle.aig_simulated.specs.Simulated as simulating
 use Rattle.aig_witness.specs.declared.solutions.error.SolutionError.{SolutionError}
 use Rattle.aig_witness.specs.Checked.{RefusesSolution, SaysWitness}
 use Rattle.aig_check_commands.specs.Sums.{IsSum}
@@ -198,6 +199,7 @@ verdict_of (errors.Lasso e) = showing.verdict_of (claims.Lasso e)
 verdict_of (errors.Miter e) = comparing.first_verdict e
 verdict_of (errors.Unmade e) = edit_verdict e
 verdict_of (errors.Steps e) = stepping.verdict_of e
+verdict_of (errors.Simulation e) = simulating.first_verdict e
 
 -- the error of a witness that is refused
 abbrev pub error_of_claim : ClaimError → CheckError

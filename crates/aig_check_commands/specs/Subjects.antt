@@ -37,6 +37,15 @@ use Rattle.aig_witness.specs.declared.fault.WitnessFault.{WitnessFault}
 use Rattle.aig_witness.specs.declared.fault.WitnessFault.TheVariants as faults
 use Rattle.aig_witness.specs.declared.file.ShowError.{ShowError}
 use Rattle.aig_witness.specs.declared.file.ShowError.TheVariants as shows
+use Rattle.aig_simulated.specs.Simulated.{turn_of}
+use Rattle.aig_simulated.specs.declared.error.ConditionError.{ConditionError}
+use Rattle.aig_simulated.specs.declared.error.ConditionError.TheVariants as conditions
+use Rattle.aig_simulated.specs.declared.error.SimulationError.{SimulationError}
+use Rattle.aig_simulated.specs.declared.error.SimulationError.TheVariants as simulation
+use Rattle.aig_simulation.specs.declared.condition.Condition.{Condition}
+use Rattle.aig_simulation.specs.declared.error.QuestionError.TheVariants as asking
+use Rattle.aig_simulation.specs.declared.sharing.error.SharingError.{SharingError}
+use Rattle.aig_simulation.specs.declared.sharing.error.SharingError.TheVariants as sharing
 use Rattle.aig_check_commands.specs.declared.subjects.About.{About}
 use Rattle.aig_check_commands.specs.declared.subjects.Search.TheVariants as searches
 use Rattle.aig_check_commands.specs.declared.subjects.Subject.{Subject}
@@ -186,6 +195,26 @@ about_miter (miter.Certificate (certificate.Pair e)) = about_certificate_of e
 about_miter (miter.Certificate (certificate.Query e)) = about_answer subjects.Step e
 about_miter (miter.Certificate (certificate.Window e)) = about_answer subjects.Third e
 
+-- a witness circuit whose names don't say which leaves it shares
+abbrev pub about_sharing : SharingError → About
+about_sharing sharing.Memory = nothing
+about_sharing e = whole subjects.Other
+
+-- FILE, which is too large with its witness circuit, or the proof for a condition
+abbrev pub about_condition : Condition → ConditionError → About
+about_condition condition (conditions.Question asking.TooLarge) = whole subjects.File
+about_condition condition (conditions.Question asking.Memory) = nothing
+about_condition condition (conditions.Refutation e) =
+    about_refutation (subjects.Nth (turn_of condition)) e
+
+-- FILE, its witness circuit, or one of the proofs
+abbrev pub about_simulation : SimulationError → About
+about_simulation (simulation.Read e) = about_read subjects.File e
+about_simulation (simulation.Witness e) = about_read subjects.Other e
+about_simulation simulation.NoBads = whole subjects.File
+about_simulation (simulation.Sharing e) = about_sharing e
+about_simulation (simulation.Condition condition e) = about_condition condition e
+
 -- what an error of the program is about
 abbrev pub about_error : CheckError → About
 about_error errors.Open = whole subjects.Unopened
@@ -203,3 +232,4 @@ about_error (errors.Lasso fault) = about_lasso fault
 about_error (errors.Miter e) = about_miter e
 about_error (errors.Unmade e) = about_edit e
 about_error (errors.Steps e) = about_steps e
+about_error (errors.Simulation e) = about_simulation e

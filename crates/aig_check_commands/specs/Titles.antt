@@ -4,8 +4,9 @@
 use Rattle.std.specs.Prelude.{ℕ, Bool, false, if◌then◌else◌, List, [], ◌∷◌, ◌++◌, codes, decimal, Option, Some, None}
 use Rattle.hex.specs.Hex.{encode_lower}
 use Rattle.aig_check_commands.specs.declared.titles.title.Question.{Question}
-use Rattle.aig_check_commands.specs.declared.titles.title.Question.TheVariants.{Bounded, Clauses, Obligations, Window}
+use Rattle.aig_check_commands.specs.declared.titles.title.Question.TheVariants.{Bounded, Clauses, Obligation, Obligations, Window}
 use Rattle.aig_check_commands.specs.declared.titles.title.Title.{Title}
+use Rattle.aig_simulation.specs.Names.{condition_name}
 
 -- the word of windows on which no state comes twice
 abbrev pub distinct_text : Bool → List ℕ
@@ -25,6 +26,8 @@ question_text (Clauses k) = numbered_text (codes "clauses ") k false
 question_text (Window k distinct) = numbered_text (codes "window ") k distinct
 question_text (Bounded k) = numbered_text (codes "bounded ") k false
 question_text Obligations = codes "obligations "
+question_text (Obligation condition) =
+    codes "obligations " ++ condition_name condition ++ 32 ∷ []
 
 -- the sum of a file beside another
 abbrev pub beside_text : Option (List ℕ) → List ℕ

@@ -25,7 +25,8 @@ pub const USAGE: &str =
     safe FILE to K BASE STEP [distinct] [raw | raw-base | raw-step], \
     safe FILE each K P0 .. PK STEP [distinct] [raw | raw-base | raw-step], \
     equal FILE OTHER to K BASE STEP [distinct] [raw | raw-base | raw-step], \
-    equal FILE OTHER by CERT BASE STEP [raw]";
+    equal FILE OTHER by CERT BASE STEP [raw], \
+    certified FILE WITNESS RESET TRANSITION PROPERTY BASE STEP [raw], obligations FILE WITNESS CONDITION [raw]";
 
 /// Its version.
 pub const VERSION: &str = "aigcheck 0.1.0";

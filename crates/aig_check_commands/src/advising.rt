@@ -1,7 +1,7 @@
 //! What may be the matter with a proof that is refused.
 
 ghost use Rattle.std.specs.Prelude.{◌≡◌};
-ghost use Rattle.aig_check_commands.specs.Advising.{Advises, has_misfit, is_misfit, misfits_answer, misfits_bounded, misfits_certificate, misfits_safety, misfits_steps};
+ghost use Rattle.aig_check_commands.specs.Advising.{Advises, has_misfit, is_misfit, misfits_answer, misfits_bounded, misfits_certificate, misfits_condition, misfits_safety, misfits_steps};
 
 use crate::error::CheckError;
 use aig_answers::{
@@ -10,6 +10,7 @@ use aig_answers::{
 };
 use aig_command_line::{Ending, Tells};
 use aig_refutation::RefutationError;
+use aig_simulated::{ConditionError, SimulationError};
 
 /// Whether a proof is refused as one of other clauses is: a step doesn't follow, it names a literal or a clause that isn't theirs, or
 /// it is unfinished.
@@ -76,6 +77,16 @@ fn misfits_certificate(error: CertificateError) -> bool
     }
 }
 
+/// The same of a proof for a condition of a witness circuit.
+fn misfits_condition(error: ConditionError) -> bool
+    ensures { result ≡ misfits_condition error }
+{
+    match error {
+        ConditionError::Question(_) => false,
+        ConditionError::Refutation(error) => is_misfit(error),
+    }
+}
+
 /// Whether the program refuses a proof so.
 fn has_misfit(ending: Ending<CheckError>) -> bool
     ensures { result ≡ has_misfit ending }
@@ -89,6 +100,9 @@ fn has_misfit(ending: Ending<CheckError>) -> bool
         Ending::Refused(CheckError::Equality(EqualityError::Miter(error))) => misfits_safety(error),
         Ending::Refused(CheckError::Miter(MiterError::Certificate(error))) => {
             misfits_certificate(error)
+        }
+        Ending::Refused(CheckError::Simulation(SimulationError::Condition(_, error))) => {
+            misfits_condition(error)
         }
         _ => false,
     }

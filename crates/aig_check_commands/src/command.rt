@@ -1,15 +1,18 @@
 //! The commands, and the words that give them.
 
-ghost use Rattle.std.specs.Prelude.{◌≡◌, ◌↔◌, ◌<◌, ◌^◌, Bool, IfNone, IfSome, List, Some, ℕ, length, map, string_bytes};
-ghost use Rattle.aig_command_line.specs.Arguments.{Arguments, seen};
+ghost use Rattle.std.specs.Prelude.{◌≡◌, ◌↔◌, ◌<◌, ◌^◌, ◌⊎◌, ◌∷◌, Bool, IfNone, IfSome, List, Some, ℕ, length, map, string_bytes};
+ghost use Rattle.aig_command_line.specs.Arguments.{seen};
 ghost use Rattle.aig_check_commands.specs.Fits.{Fits};
-ghost use Rattle.aig_check_commands.specs.CommandWords.{AreCommand, Give, IsAlone, IsCall, IsWhole, beside_of, command_of, form_of, name_of, on_certificate, on_step, paths_of, raw_alone, raw_word, step_of, window_of};
+ghost use Rattle.aig_check_commands.specs.CommandWords.{AreCommand, FitNone, Give, IsAlone, IsCall, IsOnWitness, IsWhole, beside_of, command_of, form_of, name_of, on_certificate, on_step, paths_of, raw_alone, raw_word, step_of, window_of, witness_form, witness_name};
 ghost use Rattle.aig_check_commands.specs.declared.command.Asked.{Asked};
 ghost use Rattle.aig_check_commands.specs.declared.command.Command.{Command};
+ghost use Rattle.aig_simulation.specs.Names.{condition_name};
+ghost use Rattle.aig_simulation.specs.declared.condition.Condition.{Condition};
 
 use crate::justice::{Justice, is_asked, is_word, justice_first};
 use aig_answers::Window;
-use aig_command_line::{Form, Given, HasForm, Step, find, limited};
+use aig_command_line::{ArgumentForm, Given, HasArguments, Step, find, limited};
+use aig_simulated::Condition;
 
 /// What the program is asked to do with a file.
 #[derive(Clone, Copy)]
@@ -145,6 +148,18 @@ pub enum Command {
         /// Whether exclusive ors and choices have clauses of their own.
         optimize: bool,
     },
+    /// Check proofs that a witness circuit, which simulates FILE's machine, shows that no bad state is reached at any step.
+    Simulated {
+        /// Whether exclusive ors and choices have clauses of their own.
+        optimize: bool,
+    },
+    /// Print the clauses that one of these proofs is of.
+    Obligation {
+        /// The condition that it is for.
+        condition: Condition,
+        /// Whether exclusive ors and choices have clauses of their own.
+        optimize: bool,
+    },
 }
 
 /// What the program is asked to do, and of which property of FILE.
@@ -194,11 +209,20 @@ pub enum Action {
     SafeBySteps,
 }
 
+/// A command on FILE and a witness circuit without its settings.
+#[derive(Clone, Copy)]
+pub enum WitnessAction {
+    /// `certified FILE WITNESS RESET TRANSITION PROPERTY BASE STEP [raw]`.
+    Certified,
+    /// `obligations FILE WITNESS CONDITION [raw]`.
+    Obligations,
+}
+
 /// The form of a command on so many files and a step.
-fn on_step(paths: usize, step: Step, further: usize, distinct: bool) -> Form
+fn on_step(paths: usize, step: Step, further: usize, distinct: bool) -> ArgumentForm
     ensures { result ≡ on_step paths step further distinct }
 {
-    Form {
+    ArgumentForm {
         paths,
         step,
         further,
@@ -207,11 +231,11 @@ fn on_step(paths: usize, step: Step, further: usize, distinct: bool) -> Form
     }
 }
 
-/// The form of a command on FILE, CERT and so many proofs.
-fn on_certificate(further: usize) -> Form
+/// The form of a command on FILE, CERT or WITNESS, and so many words behind these.
+fn on_certificate(further: usize) -> ArgumentForm
     ensures { result ≡ on_certificate further }
 {
-    Form {
+    ArgumentForm {
         paths: 2,
         step: Step::Absent,
         further,
@@ -220,7 +244,7 @@ fn on_certificate(further: usize) -> Form
     }
 }
 
-impl HasForm for Action {
+impl HasArguments for Action {
     ghost name = { name_of };
 
     ghost form = { form_of };
@@ -244,7 +268,7 @@ impl HasForm for Action {
         }
     }
 
-    fn form(&self) -> Form {
+    fn form(&self) -> ArgumentForm {
         match self {
             Action::Clauses | Action::Bounded => on_step(1, Step::At, 0, false),
             Action::Window => on_step(1, Step::At, 0, true),
@@ -256,7 +280,7 @@ impl HasForm for Action {
             Action::Equal => on_step(2, Step::At, 1, false),
             Action::AlwaysEqual => on_step(2, Step::UpTo, 2, true),
             Action::EqualBy => on_step(2, Step::By, 3, false),
-            Action::Run => Form {
+            Action::Run => ArgumentForm {
                 paths: 1,
                 step: Step::Absent,
                 further: 1,
@@ -267,6 +291,31 @@ impl HasForm for Action {
             Action::Obligations => on_certificate(0),
         }
     }
+}
+
+impl HasArguments for WitnessAction {
+    ghost name = { witness_name };
+
+    ghost form = { witness_form };
+
+    fn name(&self) -> &'static str {
+        match self {
+            WitnessAction::Certified => "certified",
+            WitnessAction::Obligations => "obligations",
+        }
+    }
+
+    fn form(&self) -> ArgumentForm {
+        match self {
+            WitnessAction::Certified => on_certificate(5),
+            WitnessAction::Obligations => on_certificate(1),
+        }
+    }
+}
+
+impl WitnessAction {
+    /// Each of them.
+    const ALL: [WitnessAction; 2] = [WitnessAction::Certified, WitnessAction::Obligations];
 }
 
 /// The form of windows.
@@ -349,9 +398,10 @@ pub struct Call<'a> {
     pub limit: usize,
     /// The command, and the property.
     pub asked: Asked,
-    /// FILE, and CERT or OTHER, where the command wants one.
+    /// FILE, and CERT, OTHER or a witness circuit, where the command wants one.
     pub paths: &'a [String],
-    /// PROOF, SOLUTION or WITNESS, or BASE and STEP, behind CERT after the word `by`, or P0 to PK and STEP, where the command wants them.
+    /// PROOF, SOLUTION or WITNESS, or BASE and STEP, behind CERT after the word `by`, or P0 to PK and STEP, or a proof for each condition,
+    /// where the command wants them.
     pub further: &'a [String],
 }
 
@@ -404,8 +454,7 @@ fn raw_alone(step_optimize: bool, command: Command) -> Option<Command>
 /// The command that words fit, with one setting for all its proofs, and what they give it.
 fn whole_command(words: &[String]) -> Option<(Command, Given<'_>)>
     ensures some { IfSome result (λ p. IsWhole (map string_bytes words.now) p.0 (seen p.1)) }
-    ensures none { IfNone result ((c : Command) (a : Arguments)
-        → ¬ IsWhole (map string_bytes words.now) c a) }
+    ensures none { IfNone result (FitNone (IsWhole (map string_bytes words.now))) }
     ensures paths { IfSome result (λ p. length p.1.paths.now ≡ paths_of p.0) }
     ensures further { IfSome result (λ p. length p.1.further.now ≡ beside_of p.0) }
     ensures small { IfSome result (λ p. step_of p.0 < 2 ^ 32) }
@@ -418,8 +467,7 @@ fn whole_command(words: &[String]) -> Option<(Command, Given<'_>)>
 /// The command that words fit without their last, which is `raw-base` or `raw-step`, and what they give it.
 fn alone_command(words: &[String]) -> Option<(Command, Given<'_>)>
     ensures some { IfSome result (λ p. IsAlone (map string_bytes words.now) p.0 (seen p.1)) }
-    ensures none { IfNone result ((c : Command) (a : Arguments)
-        → ¬ IsAlone (map string_bytes words.now) c a) }
+    ensures none { IfNone result (FitNone (IsAlone (map string_bytes words.now))) }
     ensures paths { IfSome result (λ p. length p.1.paths.now ≡ paths_of p.0) }
     ensures further { IfSome result (λ p. length p.1.further.now ≡ beside_of p.0) }
     ensures small { IfSome result (λ p. step_of p.0 < 2 ^ 32) }
@@ -434,18 +482,88 @@ fn alone_command(words: &[String]) -> Option<(Command, Given<'_>)>
     Some((command, given))
 }
 
+/// The condition that a word names.
+fn condition_of(word: &String) -> Option<Condition>
+    ensures { (condition : Condition) → (result ≡ Some condition)
+        ↔ (string_bytes word.now ≡ condition_name condition) }
+{
+    if is_word(word, "reset") {
+        Some(Condition::Reset)
+    } else if is_word(word, "transition") {
+        Some(Condition::Transition)
+    } else if is_word(word, "property") {
+        Some(Condition::Property)
+    } else if is_word(word, "base") {
+        Some(Condition::Base)
+    } else if is_word(word, "step") {
+        Some(Condition::Step)
+    } else {
+        None
+    }
+}
+
+/// The condition that the first word names, and the words after it.
+fn condition_first(words: &[String]) -> Option<(Condition, &[String])>
+    ensures some { IfSome result
+        (λ p. map string_bytes words.now ≡ condition_name p.0 ∷ map string_bytes p.1.now) }
+    ensures none { IfNone result ((condition : Condition) (rest : List (List ℕ))
+        → ¬ (map string_bytes words.now ≡ condition_name condition ∷ rest)) }
+{
+    let (first, rest) = words.split_first()?;
+    Some((condition_of(first)?, rest))
+}
+
+/// The command on FILE and a witness circuit that words fit, and what they give it.
+fn witness_command(words: &[String]) -> Option<(Command, Given<'_>)>
+    ensures some { IfSome result (λ p. IsOnWitness (map string_bytes words.now) p.0 (seen p.1)) }
+    ensures none { IfNone result (FitNone (IsOnWitness (map string_bytes words.now))) }
+    ensures paths { IfSome result (λ p. length p.1.paths.now ≡ paths_of p.0) }
+    ensures further { IfSome result (λ p. length p.1.further.now ≡ beside_of p.0) }
+    ensures small { IfSome result (λ p. step_of p.0 < 2 ^ 32) }
+{
+    let (action, given) = find(&WitnessAction::ALL, words)?;
+    let optimize = given.optimize;
+    match action {
+        WitnessAction::Certified => Some((Command::Simulated { optimize }, given)),
+        WitnessAction::Obligations => {
+            let (condition, further) = condition_first(given.further)?;
+            let command = Command::Obligation {
+                condition,
+                optimize,
+            };
+            Some((command, Given { further, ..given }))
+        }
+    }
+}
+
+/// The command that words fit that fit none whole, and what they give it.
+fn command_else(words: &[String]) -> Option<(Command, Given<'_>)>
+    ensures some { IfSome result (λ p. IsAlone (map string_bytes words.now) p.0 (seen p.1)
+        ⊎ (FitNone (IsAlone (map string_bytes words.now))
+        × IsOnWitness (map string_bytes words.now) p.0 (seen p.1))) }
+    ensures none { IfNone result (FitNone (IsAlone (map string_bytes words.now))
+        × FitNone (IsOnWitness (map string_bytes words.now))) }
+    ensures paths { IfSome result (λ p. length p.1.paths.now ≡ paths_of p.0) }
+    ensures further { IfSome result (λ p. length p.1.further.now ≡ beside_of p.0) }
+    ensures small { IfSome result (λ p. step_of p.0 < 2 ^ 32) }
+{
+    match alone_command(words) {
+        Some(given) => Some(given),
+        None => witness_command(words),
+    }
+}
+
 /// The command that words give, and what they give it.
 fn command_first(words: &[String]) -> Option<(Command, Given<'_>)>
     ensures some { IfSome result (λ p. AreCommand (map string_bytes words.now) p.0 (seen p.1)) }
-    ensures none { IfNone result ((c : Command) (a : Arguments)
-        → ¬ AreCommand (map string_bytes words.now) c a) }
+    ensures none { IfNone result (FitNone (AreCommand (map string_bytes words.now))) }
     ensures paths { IfSome result (λ p. length p.1.paths.now ≡ paths_of p.0) }
     ensures further { IfSome result (λ p. length p.1.further.now ≡ beside_of p.0) }
     ensures small { IfSome result (λ p. step_of p.0 < 2 ^ 32) }
 {
     match whole_command(words) {
         Some(given) => Some(given),
-        None => alone_command(words),
+        None => command_else(words),
     }
 }
 
@@ -481,7 +599,9 @@ pub fn call_of(words: &[String]) -> Option<Call<'_>>
 /// of `witness`, and BASE and STEP of `certified`, `safe` and `equal` with `to`. Of `equal` with the word `by` it is CERT, BASE and STEP that
 /// come after that, and of `safe` with the words `each` and K it is P0 to PK, one for each of the steps 0 to K, and STEP. The words
 /// `distinct` and `raw` may come last, where the command may have them, and in place of `raw` the word `raw-base` or `raw-step` of `safe` and
-/// of `equal` with `to`: the clauses of BASE alone, or those of all of P0 to PK, are then raw, or those of STEP alone. It takes no memory.
+/// of `equal` with `to`: the clauses of BASE alone, or those of all of P0 to PK, are then raw, or those of STEP alone. With a witness circuit
+/// in the place of CERT the words after it are five proofs of `certified`, one for each condition, and the name of a condition of
+/// `obligations`. It takes no memory.
 pub fn parse(words: &[String]) -> Option<Asked>
     ensures exact { (c : Asked) → (result ≡ Some c) ↔ Give (map string_bytes words.now) c }
     ensures small { IfSome result (λ c. step_of c.command < 2 ^ 32) }

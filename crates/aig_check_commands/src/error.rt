@@ -11,6 +11,7 @@ use aig_answers::{
 use aig_base::{MemoryError, StreamFault};
 use aig_command_line::HasStatus;
 use aig_edits::EditError;
+use aig_simulated::SimulationError;
 use aig_witness::{ClaimError, LassoFault, ShowError, SolutionError};
 use thiserror::Error;
 
@@ -62,6 +63,9 @@ pub enum CheckError {
     /// It isn't shown, by a proof for each step, that no bad state is reached at any.
     #[error("{0}")]
     Steps(StepsError),
+    /// A witness circuit doesn't show that no bad state is reached at any step.
+    #[error("{0}")]
+    Simulation(SimulationError),
 }
 
 impl HasStatus for CheckError {
@@ -163,6 +167,14 @@ impl From<StepsError> for CheckError {
 
     fn from(error: StepsError) -> CheckError {
         CheckError::Steps(error)
+    }
+}
+
+impl From<SimulationError> for CheckError {
+    ghost from_gives = { λ e r. r ≡ errors.Simulation e };
+
+    fn from(error: SimulationError) -> CheckError {
+        CheckError::Simulation(error)
     }
 }
 

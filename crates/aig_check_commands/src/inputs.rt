@@ -13,8 +13,8 @@ use aig_base::{MemoryError, Source};
 use aig_command_line::{OpenError, Opens, Reopens};
 use std::alloc::Global;
 
-/// The files behind FILE: CERT or OTHER, and what is given beside these. They are at most four, and take no memory, but for a proof of
-/// each step.
+/// The files behind FILE: CERT, OTHER or a witness circuit, and what is given beside these. They are at most six, and take no memory, but for a
+/// proof of each step.
 #[derive(Drop)]
 pub(crate) enum Inputs<S> {
     /// There is none.
@@ -27,6 +27,10 @@ pub(crate) enum Inputs<S> {
     Three(S, S, S),
     /// There are four.
     Four(S, S, S, S),
+    /// There are five.
+    Five(S, S, S, S, S),
+    /// There are six.
+    Six(S, S, S, S, S, S),
     /// There are P0 to PK, and STEP.
     Each(Vec<S>),
 }
@@ -57,7 +61,13 @@ impl<S: Drop> Inputs<S> {
             Inputs::One(first) => Inputs::Two(first, source),
             Inputs::Two(first, second) => Inputs::Three(first, second, source),
             Inputs::Three(first, second, third) => Inputs::Four(first, second, third, source),
-            Inputs::Four(..) => unreachable!(),
+            Inputs::Four(first, second, third, fourth) => {
+                Inputs::Five(first, second, third, fourth, source)
+            }
+            Inputs::Five(first, second, third, fourth, fifth) => {
+                Inputs::Six(first, second, third, fourth, fifth, source)
+            }
+            Inputs::Six(..) => unreachable!(),
             Inputs::Each(mut all) => {
                 all.push_reserved(source);
                 Inputs::Each(all)

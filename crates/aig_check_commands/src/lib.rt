@@ -22,6 +22,7 @@ mod run;
 mod running;
 mod safe;
 mod safe_by_steps;
+mod simulated;
 mod subjects;
 mod titles;
 
@@ -40,3 +41,4 @@ pub use printing::{print_clauses, print_inductive, print_refuted, print_window, 
 pub use run::print_run;
 pub use safe::print_safe;
 pub use safe_by_steps::print_safe_by_steps;
+pub use simulated::{print_obligation, print_simulated};

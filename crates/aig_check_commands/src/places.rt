@@ -19,6 +19,7 @@ use aig_answers::{
 use aig_base::{MemoryError, Source, StreamFault};
 use aig_command_line::{Counted, Discarded, Measure, Origin, Place, Reopens};
 use aig_refutation::RefutationError;
+use aig_simulated::{Condition, ConditionError, SimulationError};
 use aig_witness::{ShowError, SolutionError, WitnessError};
 use std::alloc::Global;
 use std::marker::Brand;
@@ -113,6 +114,27 @@ fn is_same_steps(first: StepsError, second: StepsError) -> bool
     }
 }
 
+/// Whether two conditions are the same.
+fn is_same_condition(first: Condition, second: Condition) -> bool
+    ensures { result ≡ true → first ≡ second }
+{
+    first == second
+}
+
+/// Whether two errors of a file and a witness circuit are the same, and of a proof.
+fn is_same_simulation(first: SimulationError, second: SimulationError) -> bool
+    ensures { result ≡ true → first ≡ second }
+{
+    match (first, second) {
+        (
+            SimulationError::Condition(first_condition, ConditionError::Refutation(first)),
+            SimulationError::Condition(second_condition, ConditionError::Refutation(second)),
+        ) => is_same_condition(first_condition, second_condition)
+            && is_same_refutation(first, second),
+        _ => false,
+    }
+}
+
 /// Whether two errors are the same, and of what is given beside a file.
 fn is_same(first: CheckError, second: CheckError) -> bool
     ensures { result ≡ true → first ≡ second }
@@ -137,6 +159,9 @@ fn is_same(first: CheckError, second: CheckError) -> bool
         }
         (CheckError::Safe(first), CheckError::Safe(second)) => is_same_safety(first, second),
         (CheckError::Steps(first), CheckError::Steps(second)) => is_same_steps(first, second),
+        (CheckError::Simulation(first), CheckError::Simulation(second)) => {
+            is_same_simulation(first, second)
+        }
         (
             CheckError::Equality(EqualityError::Miter(first)),
             CheckError::Equality(EqualityError::Miter(second)),
@@ -267,6 +292,21 @@ fn trace<R: Source + Drop, B: Origin>(
             counted_if(alloc, third, which == 2)?,
             counted_if(alloc, fourth, which == 3)?,
         ),
+        Inputs::Five(first, second, third, fourth, fifth) => Inputs::Five(
+            counted_if(alloc, first, which == 0)?,
+            counted_if(alloc, second, which == 1)?,
+            counted_if(alloc, third, which == 2)?,
+            counted_if(alloc, fourth, which == 3)?,
+            counted_if(alloc, fifth, which == 4)?,
+        ),
+        Inputs::Six(first, second, third, fourth, fifth, sixth) => Inputs::Six(
+            counted_if(alloc, first, which == 0)?,
+            counted_if(alloc, second, which == 1)?,
+            counted_if(alloc, third, which == 2)?,
+            counted_if(alloc, fourth, which == 3)?,
+            counted_if(alloc, fifth, which == 4)?,
+            counted_if(alloc, sixth, which == 5)?,
+        ),
         Inputs::Each(all) => Inputs::Each(trace_each(alloc, all, which)?),
     })
 }
@@ -297,7 +337,18 @@ fn place_among<R: Source, B: Origin>(inputs: &Inputs<Trace<R, B>>, measure: Meas
         | Inputs::Four(Traced::Counted(counted), _, _, _)
         | Inputs::Four(_, Traced::Counted(counted), _, _)
         | Inputs::Four(_, _, Traced::Counted(counted), _)
-        | Inputs::Four(_, _, _, Traced::Counted(counted)) => place_told(&**counted, measure),
+        | Inputs::Four(_, _, _, Traced::Counted(counted))
+        | Inputs::Five(Traced::Counted(counted), _, _, _, _)
+        | Inputs::Five(_, Traced::Counted(counted), _, _, _)
+        | Inputs::Five(_, _, Traced::Counted(counted), _, _)
+        | Inputs::Five(_, _, _, Traced::Counted(counted), _)
+        | Inputs::Five(_, _, _, _, Traced::Counted(counted))
+        | Inputs::Six(Traced::Counted(counted), _, _, _, _, _)
+        | Inputs::Six(_, Traced::Counted(counted), _, _, _, _)
+        | Inputs::Six(_, _, Traced::Counted(counted), _, _, _)
+        | Inputs::Six(_, _, _, Traced::Counted(counted), _, _)
+        | Inputs::Six(_, _, _, _, Traced::Counted(counted), _)
+        | Inputs::Six(_, _, _, _, _, Traced::Counted(counted)) => place_told(&**counted, measure),
         Inputs::Each(all) => place_in_list(all.as_slice(), measure),
         _ => Place::Whole,
     }

@@ -19,7 +19,7 @@ use crate::command::FileCommand;
 use crate::comments::write_comments;
 use crate::error::CheckError;
 use crate::titles::{Question, Summed, Title, write_title};
-use aig_answers::{Window, asked_circuit, asked_query, check_step, check_window, window};
+use aig_answers::{Window, check_step, check_window, read_query, read_unrolled, window};
 use aig_base::{DagCnf, LitVvec, Sink, Source, StreamFault};
 use aig_circuit::CircuitView;
 use aig_cnf::{NeededGates, find_needed};
@@ -283,7 +283,7 @@ fn print_clauses_of<R: Source + Drop, B: Origin, W: Sink>(
         command limit r tt w.old result rest tt w.new }
 {
     let mut file = Summed::<R, B>::new(r);
-    let asked = asked_circuit(alloc, &mut file, limit, k)?;
+    let asked = read_unrolled(alloc, &mut file, limit, k)?;
     let title = Title {
         question: Question::Clauses { k },
         optimize,
@@ -351,6 +351,6 @@ pub fn print_witness<R: Source, P: Source, W: Sink>(
         command limit r.old solution.old w.old result r.new solution.new w.new }
 {
     known_witnesses_show();
-    let asked = asked_query(alloc, r, limit, k, optimize)?;
+    let asked = read_query(alloc, r, limit, k, optimize)?;
     print_solution(alloc, &asked, k, solution, w)
 }

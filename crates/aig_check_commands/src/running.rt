@@ -25,6 +25,7 @@ use crate::printing::{print_clauses, print_inductive, print_refuted, print_windo
 use crate::run::print_run;
 use crate::safe::print_safe;
 use crate::safe_by_steps::print_safe_by_steps;
+use crate::simulated::{print_obligation, print_simulated};
 use aig_answers::Window;
 use aig_base::{FromRead, Sink, Source};
 use aig_command_line::Discarded;
@@ -121,7 +122,7 @@ fn prints(command: Command) -> bool
         Command::File(
             FileCommand::Clauses { .. } | FileCommand::Window { .. } | FileCommand::Bounded { .. },
         ) => true,
-        Command::Pair(PairCommand::Obligations { .. }) => true,
+        Command::Pair(PairCommand::Obligations { .. }) | Command::Obligation { .. } => true,
         _ => false,
     }
 }
@@ -226,6 +227,12 @@ fn check<R: Source, S: Source, W: Sink>(
             proofs.as_mut_slice(),
             w,
         ),
+        (
+            Command::Simulated { optimize },
+            Inputs::Six(witness, reset, transition, property, base, step),
+        ) => print_simulated(
+            alloc, limit, optimize, file, witness, reset, transition, property, base, step, w,
+        ),
         (Command::EqualBy { optimize }, Inputs::Four(other, certificate, base, step)) => {
             print_equal_by(
                 alloc,
@@ -288,6 +295,13 @@ fn print<R: Source + Drop, S: Source + Drop, W: Sink>(
         (Command::Pair(PairCommand::Obligations { optimize }), Inputs::One(certificate)) => {
             print_obligations(alloc, limit, optimize, file, certificate, w)
         }
+        (
+            Command::Obligation {
+                condition,
+                optimize,
+            },
+            Inputs::One(witness),
+        ) => { print_obligation(alloc, limit, condition, optimize, file, witness, w) }
         _ => unreachable!(),
     }
 }

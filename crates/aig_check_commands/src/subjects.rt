@@ -1,6 +1,7 @@
 //! What an error is about.
 
 ghost use Rattle.std.specs.Prelude.{◌≡◌};
+ghost use Rattle.aig_simulated.specs.Simulated.{turn_of};
 ghost use Rattle.aig_check_commands.specs.Subjects as specs;
 
 use crate::error::CheckError;
@@ -14,6 +15,8 @@ use aig_edits::{EditError, PairError};
 use aig_encode::EncodeError;
 use aig_reader::ReadError;
 use aig_refutation::RefutationError;
+use aig_simulated::{Condition, ConditionError, SimulationError};
+use aig_simulation::{QuestionError, SharingError};
 use aig_witness::{LassoFault, ShowError, SolutionError, WitnessError, WitnessFault};
 
 /// What an error is about.
@@ -25,7 +28,7 @@ pub(crate) enum Subject {
     Unopened,
     /// FILE.
     File,
-    /// CERT or OTHER.
+    /// CERT, OTHER or a witness circuit.
     Other,
     /// PROOF, SOLUTION, WITNESS or BASE, or CERT after the word `by`.
     Given,
@@ -33,7 +36,7 @@ pub(crate) enum Subject {
     Step,
     /// STEP behind CERT and BASE.
     Third,
-    /// The proof of this step, of P0 to PK.
+    /// The proof of this step, of P0 to PK, or for the condition whose turn this is.
     Nth(usize),
     /// STEP behind P0 to PK.
     Last,
@@ -301,6 +304,55 @@ fn about_miter(error: MiterError) -> About
     }
 }
 
+/// What an error of a witness circuit is about whose names don't say which leaves it shares.
+fn about_sharing(error: SharingError) -> About
+    ensures { result ≡ specs.about_sharing error }
+{
+    match error {
+        SharingError::Memory => NOTHING,
+        _ => whole(Subject::Other),
+    }
+}
+
+/// A condition's turn.
+fn turn_of(condition: Condition) -> usize
+    ensures { result ≡ turn_of condition }
+{
+    match condition {
+        Condition::Reset => 0,
+        Condition::Transition => 1,
+        Condition::Property => 2,
+        Condition::Base => 3,
+        Condition::Step => 4,
+    }
+}
+
+/// What an error of a condition of a witness circuit is about.
+fn about_condition(condition: Condition, error: ConditionError) -> About
+    ensures { result ≡ specs.about_condition condition error }
+{
+    match error {
+        ConditionError::Question(QuestionError::TooLarge) => whole(Subject::File),
+        ConditionError::Question(QuestionError::Memory) => NOTHING,
+        ConditionError::Refutation(error) => {
+            about_refutation(Subject::Nth(turn_of(condition)), error)
+        }
+    }
+}
+
+/// What an error of a file and a witness circuit is about.
+fn about_simulation(error: SimulationError) -> About
+    ensures { result ≡ specs.about_simulation error }
+{
+    match error {
+        SimulationError::Read(error) => about_read(Subject::File, error),
+        SimulationError::Witness(error) => about_read(Subject::Other, error),
+        SimulationError::NoBads => whole(Subject::File),
+        SimulationError::Sharing(error) => about_sharing(error),
+        SimulationError::Condition(condition, error) => about_condition(condition, error),
+    }
+}
+
 /// What an error of the program is about.
 pub(crate) fn about_error(error: CheckError) -> About
     ensures { result ≡ specs.about_error error }
@@ -320,5 +372,6 @@ pub(crate) fn about_error(error: CheckError) -> About
         CheckError::Miter(error) => about_miter(error),
         CheckError::Unmade(error) => about_edit(error),
         CheckError::Steps(error) => about_steps(error),
+        CheckError::Simulation(error) => about_simulation(error),
     }
 }

@@ -4,7 +4,7 @@ use Rattle.std.specs.Prelude.{All, Contains, IsTrue, codes, nat_eq}
 use Rattle.std.specs.Cmp.Lexicographic.{other_text, pointwise}
 use Rattle.aig_base.proofs.Words.{get_or_read}
 use Rattle.aig_format.specs.Text.{IsNumber}
-use Rattle.aig_command_line.specs.declared.arguments.Form.{Form}
+use Rattle.aig_command_line.specs.declared.arguments.ArgumentForm.{ArgumentForm}
 use Rattle.aig_command_line.specs.declared.arguments.Step.{Step}
 use Rattle.aig_command_line.specs.declared.arguments.Step.TheVariants.{At, By, Each, UpTo}
 use Rattle.aig_command_line.specs.Arguments.{AreStep, Arguments, Gives}
@@ -66,17 +66,17 @@ steps_differ Each By = true
 steps_differ s t = false
 
 -- their names differ, or what names a step after as many paths, by a test that computes
-abbrev pub exclude : {A : Type 0} → (A → List ℕ) → (A → Form) → A → A → Bool
+abbrev pub exclude : {A : Type 0} → (A → List ℕ) → (A → ArgumentForm) → A → A → Bool
 exclude name form x y =
     cond (pointwise nat_eq (name x) (name y))
     (cond (nat_eq (form y).paths (form x).paths) (steps_differ (form x).step (form y).step) false) true
 
-abbrev pub exclude_all : {A : Type 0} → (A → List ℕ) → (A → Form) → A → List A → Bool
+abbrev pub exclude_all : {A : Type 0} → (A → List ℕ) → (A → ArgumentForm) → A → List A → Bool
 exclude_all name form x [] = true
 exclude_all name form x (y ∷ ys) = cond (exclude name form x y) (exclude_all name form x ys) false
 
 -- no two of them are given by one list of words
-abbrev pub are_apart : {A : Type 0} → (A → List ℕ) → (A → Form) → List A → Bool
+abbrev pub are_apart : {A : Type 0} → (A → List ℕ) → (A → ArgumentForm) → List A → Bool
 are_apart name form [] = true
 are_apart name form (x ∷ xs) = cond (exclude_all name form x xs) (are_apart name form xs) false
 
@@ -140,7 +140,7 @@ steps_apart Each By k m a b rest more differ h i same =
     (same_first (codes "each") (codes "by") (h.0 ∷ rest) more words)
 steps_apart s t k m a b rest more differ h i same = cc
 
-module _ {A : Type 0} (name : A → List ℕ) (form : A → Form) (words : List (List ℕ)) where
+module _ {A : Type 0} (name : A → List ℕ) (form : A → ArgumentForm) (words : List (List ℕ)) where
   -- commands that exclude each other aren't both given
   excluded : (x y : A) (u v : Arguments) → IsTrue (exclude name form x y)
       → Gives (name x) (form x) words u
@@ -192,7 +192,7 @@ module _ {A : Type 0} (name : A → List ℕ) (form : A → Form) (words : List 
 
 -- ---- the commands of a program
 
-module _ {A : Type 0} (name : A → List ℕ) (form : A → Form) (all : List A) (apart : IsTrue (are_apart name form all)) (among : (a : A) → Contains all a) where
+module _ {A : Type 0} (name : A → List ℕ) (form : A → ArgumentForm) (all : List A) (apart : IsTrue (are_apart name form all)) (among : (a : A) → Contains all a) where
   -- what holds of each in the list holds of each
   pub each : (P : A → Type 0) → All P all → (a : A) → P a
   each P holds a = let at = among a in subst P at.2 (holds at.0 a at.1)

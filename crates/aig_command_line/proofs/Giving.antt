@@ -4,7 +4,7 @@ use Rattle.std.specs.Prelude.{String, codes, not, string_bytes}
 use Rattle.std.specs.List.{IsSplitAt}
 use Rattle.std.proofs.lemmas.List.{length-map, map-append, take-append-drop}
 use Rattle.aig_format.specs.Text.{IsNumber, value_of}
-use Rattle.aig_command_line.specs.declared.arguments.Form.{Form}
+use Rattle.aig_command_line.specs.declared.arguments.ArgumentForm.{ArgumentForm}
 use Rattle.aig_command_line.specs.declared.arguments.Step.{Step}
 use Rattle.aig_command_line.specs.declared.arguments.Step.TheVariants.{Absent, At, UpTo, By, Each}
 use Rattle.aig_command_line.specs.Arguments.{AreStep, Arguments, Gives, further_of, setting_words}
@@ -146,7 +146,7 @@ each_no_number k number = omega (arith, number.each.0.1)
 
 -- ---- parts of words that give arguments
 
-module _ (name : List ℕ) (form : Form) (words : List (List ℕ)) (a : Arguments) (g : Gives name form words a) (first : List ℕ) where
+module _ (name : List ℕ) (form : ArgumentForm) (words : List (List ℕ)) (a : Arguments) (g : Gives name form words a) (first : List ℕ) where
   pub after_name : (rest : List (List ℕ)) → words ≡ first ∷ rest → (first ≡ name)
       × (rest ≡ a.paths ++ (g.steps ++ (a.further ++ setting_words a.distinct a.optimize)))
   after_name rest are =
@@ -183,7 +183,7 @@ same_arguments : (p q : List (List ℕ)) (k m : ℕ) (r s : List (List ℕ)) (d 
 same_arguments p q k m r s d e o u a b c f g = rw (a, b, c, f, g) refl
 
 -- words give arguments of one form alone
-pub one_given : (name : List ℕ) (form : Form) (words : List (List ℕ)) (a b : Arguments)
+pub one_given : (name : List ℕ) (form : ArgumentForm) (words : List (List ℕ)) (a b : Arguments)
     → Gives name form words a → Gives name form words b → b ≡ a
 one_given name form words a b g h =
     let paths = (after_paths name form words a g name b.paths h.paths _ h.spelled).0 in
@@ -195,7 +195,7 @@ one_given name form words a b g h =
 
 -- ---- parts that were found, or not
 
-module _ (name : List ℕ) (form : Form) (words : List (String Global)) (first : String Global) (after : List (String Global)) (are : words ≡ first ∷ after) (paths rest : List (String Global)) (split : IsSplitAt after form.paths paths rest) where
+module _ (name : List ℕ) (form : ArgumentForm) (words : List (String Global)) (first : String Global) (after : List (String Global)) (are : words ≡ first ∷ after) (paths rest : List (String Global)) (split : IsSplitAt after form.paths paths rest) where
   paths_are : map string_bytes words
       ≡ string_bytes first ∷ (map string_bytes paths ++ map string_bytes rest)
   paths_are =

@@ -2,7 +2,7 @@
 -- Which words of a command line give a command's arguments.
 use Rattle.std.specs.Prelude.{◌≡◌, ℕ, ◌+◌, Bool, true, false, not, IsTrue, List, [], ◌∷◌, ◌++◌, length, codes, map, string_bytes}
 use Rattle.aig_format.specs.Text.{IsNumber}
-use Rattle.aig_command_line.specs.declared.arguments.Form.{Form}
+use Rattle.aig_command_line.specs.declared.arguments.ArgumentForm.{ArgumentForm}
 use Rattle.aig_command_line.specs.declared.arguments.Given.{Given}
 use Rattle.aig_command_line.specs.declared.arguments.Step.{Step}
 use Rattle.aig_command_line.specs.declared.arguments.Step.TheVariants.{Absent, At, UpTo, By, Each}
@@ -16,7 +16,7 @@ pub record Arguments : Type 0 where
   pub optimize : Bool
 
 -- the form of a command that takes so many paths alone
-abbrev pub of_paths : ℕ → Form
+abbrev pub of_paths : ℕ → ArgumentForm
 of_paths n = record { paths = n; step = Absent; further = 0; distinct = false; raw = false }
 
 -- the word, where it is there
@@ -39,7 +39,7 @@ abbrev pub further_by : Step → ℕ → ℕ → ℕ
 further_by Each k further = further + (k + 1)
 further_by step k further = further
 
-abbrev pub further_of : Form → ℕ → ℕ
+abbrev pub further_of : ArgumentForm → ℕ → ℕ
 further_of form k = further_by form.step k form.further
 
 -- the words of the settings
@@ -49,7 +49,7 @@ setting_words distinct optimize =
 
 -- the words are a command's name, its paths, those of its step, further paths, and settings that it
 -- may have
-pub record Gives (name : List ℕ) (form : Form) (words : List (List ℕ)) (a : Arguments)
+pub record Gives (name : List ℕ) (form : ArgumentForm) (words : List (List ℕ)) (a : Arguments)
     : Type 0 where
   pub steps : List (List ℕ)
   pub spelled : words

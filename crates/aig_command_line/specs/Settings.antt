@@ -1,7 +1,7 @@
 -- Serves private clauses alone.
 -- The last words of a command line.
 use Rattle.std.specs.Prelude.{◌≡◌, ℕ, Bool, not, IsTrue, List, codes}
-use Rattle.aig_command_line.specs.declared.arguments.Form.{Form}
+use Rattle.aig_command_line.specs.declared.arguments.ArgumentForm.{ArgumentForm}
 use Rattle.aig_command_line.specs.Arguments.{setting_words, word_if}
 
 -- the word `raw`, where it is allowed, or nothing
@@ -10,7 +10,7 @@ IsRawSetting allowed optimize words =
     (words ≡ word_if (not optimize) (codes "raw")) × (IsTrue (not optimize) → IsTrue allowed)
 
 -- the settings, each where it is allowed
-abbrev pub AreSettings : Form → Bool → Bool → List (List ℕ) → Type 0
+abbrev pub AreSettings : ArgumentForm → Bool → Bool → List (List ℕ) → Type 0
 AreSettings form distinct optimize words =
     (words ≡ setting_words distinct optimize) × (IsTrue distinct → IsTrue form.distinct)
     × (IsTrue (not optimize) → IsTrue form.raw)

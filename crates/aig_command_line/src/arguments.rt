@@ -25,7 +25,7 @@ pub enum Step {
 
 /// What a command takes after its name, in this order.
 #[derive(Clone, Copy)]
-pub struct Form {
+pub struct ArgumentForm {
     /// How many paths.
     pub paths: usize,
     /// Which words come after them and name a step.
@@ -38,12 +38,12 @@ pub struct Form {
     pub raw: bool,
 }
 
-impl Form {
+impl ArgumentForm {
     /// The form of a command that takes so many paths alone.
-    pub fn of_paths(paths: usize) -> Form
+    pub fn of_paths(paths: usize) -> ArgumentForm
         ensures { result ≡ of_paths paths }
     {
-        Form {
+        ArgumentForm {
             paths,
             step: Step::Absent,
             further: 0,
@@ -107,7 +107,7 @@ fn raw_setting(allowed: bool, words: &[String]) -> Option<bool>
 }
 
 /// The settings that the last words give: `distinct` or nothing, and then `raw` or nothing, each where it is allowed.
-fn settings(form: Form, words: &[String]) -> Option<(bool, bool)>
+fn settings(form: ArgumentForm, words: &[String]) -> Option<(bool, bool)>
     ensures { (distinct optimize : Bool) → (result ≡ Some (distinct, optimize))
         ↔ AreSettings form distinct optimize (map string_bytes words.now) }
 {
@@ -178,7 +178,7 @@ fn further_first(
 }
 
 /// What the words of a command line give a command of this name and form, or none where they don't fit it. It takes no memory.
-pub fn arguments_of<'a>(name: &str, form: Form, words: &'a [String]) -> Option<Given<'a>>
+pub fn arguments_of<'a>(name: &str, form: ArgumentForm, words: &'a [String]) -> Option<Given<'a>>
     ensures some { IfSome result
         (λ g. Gives name.now form (map string_bytes words.now) (seen g)) }
     ensures none { IfNone result

@@ -1,30 +1,30 @@
 //! The commands of a program.
 
 ghost use Rattle.std.specs.Prelude.{◌≡◌, ◌<◌, ◌^◌, All, Contains, IfNone, IfSome, List, ℕ, length, map, string_bytes};
-ghost use Rattle.aig_command_line.specs.declared.arguments.Form.{Form};
+ghost use Rattle.aig_command_line.specs.declared.arguments.ArgumentForm.{ArgumentForm};
 ghost use Rattle.aig_command_line.specs.Arguments.{Arguments, Gives, further_of, seen};
 
-use crate::arguments::{Form, Given, arguments_of};
+use crate::arguments::{ArgumentForm, Given, arguments_of};
 
 /// What a program may be asked to do.
-pub trait HasForm: Copy {
+pub trait HasArguments: Copy {
     /// The word that names it.
     ghost name: { Self → List ℕ };
 
     /// What it takes.
-    ghost form: { Self → Form };
+    ghost form: { Self → ArgumentForm };
 
     /// The word that names it.
     fn name(&self) -> &'static str
         ensures { result.now ≡ name self.now };
 
     /// What it takes.
-    fn form(&self) -> Form
+    fn form(&self) -> ArgumentForm
         ensures { result ≡ form self.now };
 }
 
 /// The first of a program's commands that the words of a command line fit, and what they give it. It takes no memory.
-pub fn find<'a, A: HasForm>(all: &[A], words: &'a [String]) -> Option<(A, Given<'a>)>
+pub fn find<'a, A: HasArguments>(all: &[A], words: &'a [String]) -> Option<(A, Given<'a>)>
     ensures among { IfSome result (λ p. Contains all.now p.0) }
     ensures some { IfSome result
         (λ p. Gives (A.name p.0) (A.form p.0) (map string_bytes words.now) (seen p.1)) }

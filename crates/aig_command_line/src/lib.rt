@@ -25,9 +25,9 @@ mod status;
 mod tally;
 mod watched;
 
-pub use arguments::{Form, Given, Step, path_at};
+pub use arguments::{ArgumentForm, Given, Step, path_at};
 pub use beginning::Beginning;
-pub use command::{HasForm, find};
+pub use command::{HasArguments, find};
 pub use counted::{Counted, Origin};
 pub use discarded::Discarded;
 pub use environment::words;

@@ -1,6 +1,8 @@
 -- Words give one command.
 use Rattle.aig_base.proofs.Words.{◌≡◌, ◌↔◌, ℕ, ◌<◌, ◌≤◌, Option, Some, None, List, [], ◌∷◌, length, get_or, refl, sym, ap, subst, ◌∙◌, arith}
-use Rattle.std.specs.Prelude.{All, Contains, Err, IfNone, IfSome, Ok, Result, codes}
+use Rattle.std.specs.List.{position_or_len}
+use Rattle.std.specs.Prelude.{All, Contains, Err, IfNone, IfSome, Ok, Result, codes, not}
+use Rattle.std.proofs.Common.{lit<}
 use Rattle.aig_command_line.specs.declared.help.Help.{Help}
 use Rattle.aig_command_line.specs.declared.help.Help.TheVariants.{Usage, Version}
 use Rattle.aig_command_line.specs.Help.{word_of}
@@ -20,25 +22,11 @@ use Rattle.aig_edit_commands.specs.declared.command.Command.TheVariants as comma
 use Rattle.aig_edit_commands.specs.declared.command.FileCommand.TheVariants as files
 use Rattle.aig_edit_commands.specs.CommandWords.{IsCall, IsCommandOf, form_of, name_of}
 
--- each command is in the list
+-- each command is in the list, at the place of the first that doesn't exclude it
 among : (a : Action) → Contains ALL a
 among actions.Refine = (0, omega arith, refl)
-among actions.Reencode = (1, omega arith, refl)
-among actions.Unroll = (2, omega arith, refl)
-among actions.Move = (3, omega arith, refl)
-among actions.Compress = (4, omega arith, refl)
-among actions.Bads = (5, omega arith, refl)
-among actions.Property = (6, omega arith, refl)
-among actions.Possible = (7, omega arith, refl)
-among actions.Reduce = (8, omega arith, refl)
-among actions.Cone = (9, omega arith, refl)
-among actions.Question = (10, omega arith, refl)
-among actions.Live = (11, omega arith, refl)
-among actions.Rounds = (12, omega arith, refl)
-among actions.Info = (13, omega arith, refl)
-among actions.Miter = (14, omega arith, refl)
-among actions.Join = (15, omega arith, refl)
-among actions.Merge = (16, omega arith, refl)
+among a =
+    (position_or_len (λ b. not (apart.exclude name_of form_of a b)) ALL, lit< tt, refl)
 
 -- what holds of each in the list holds of each
 pub each : (P : Action → Type 0) → All P ALL → (a : Action) → P a

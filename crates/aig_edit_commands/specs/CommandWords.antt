@@ -1,12 +1,12 @@
 -- Part of what is promised.
 -- Which words give which command.
 use Rattle.std.specs.Prelude.{◌≡◌, ℕ, List, codes}
-use Rattle.aig_command_line.specs.declared.arguments.Form.{Form}
+use Rattle.aig_command_line.specs.declared.arguments.ArgumentForm.{ArgumentForm}
 use Rattle.aig_command_line.specs.declared.arguments.Step.TheVariants.{At}
 use Rattle.aig_command_line.specs.Arguments.{AreStep, Arguments, Gives, of_paths}
 use Rattle.aig_command_line.specs.Limits.{IsLimited}
-use Rattle.aig_edits.specs.declared.edit.Edit.{Edit}
-use Rattle.aig_edits.specs.declared.edit.Edit.TheVariants as edits
+use Rattle.aig_edits.specs.declared.editing.Edit.{Edit}
+use Rattle.aig_edits.specs.declared.editing.Edit.TheVariants as edits
 use Rattle.aig_edits.specs.declared.pairing.Pairing.TheVariants as pairings
 use Rattle.aig_edit_commands.specs.declared.command.Action.{Action}
 use Rattle.aig_edit_commands.specs.declared.command.Action.TheVariants as actions
@@ -35,7 +35,7 @@ name_of actions.Join = codes "join"
 name_of actions.Merge = codes "merge"
 
 -- what comes after it: FILE; FILE and a number; FILE and two; two paths
-abbrev pub form_of : Action → Form
+abbrev pub form_of : Action → ArgumentForm
 form_of actions.Unroll = record (of_paths 1) { step = At }
 form_of actions.Property = record (of_paths 1) { step = At }
 form_of actions.Cone = record (of_paths 1) { step = At }

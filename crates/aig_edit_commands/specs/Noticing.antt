@@ -8,7 +8,7 @@ use Rattle.aig_command_line.specs.declared.notice.Regard.{Regard}
 use Rattle.aig_command_line.specs.declared.placed.Placed.{Placed}
 use Rattle.aig_command_line.specs.declared.status.Ending.{Ending}
 use Rattle.aig_command_line.specs.declared.status.Ending.TheVariants.{Done}
-use Rattle.aig_edits.specs.declared.edit.Edit.TheVariants as edits
+use Rattle.aig_edits.specs.declared.editing.Edit.TheVariants as edits
 use Rattle.aig_edits.specs.declared.pairing.Pairing.TheVariants as pairings
 use Rattle.aig_edit_commands.specs.declared.acting.CommandError.{CommandError}
 use Rattle.aig_edit_commands.specs.declared.command.Command.{Command}

@@ -22,7 +22,7 @@ ghost use Rattle.aig_edit_commands.specs.Help.{answer_of};
 ghost use Rattle.aig_edits.specs.Edits.{IsEditUnwritten, edit_verdict};
 ghost use Rattle.aig_edit_commands.specs.CommandWords.{paths_of};
 
-use crate::command::{Command, FileCommand, call_of};
+use crate::command::{Command, FileCommand, USAGE, call_of};
 use aig_base::{MemoryError, Sink, Source, StreamFault};
 use aig_circuit::{CircuitLists, CircuitView};
 use aig_command_line::{
@@ -36,12 +36,6 @@ use aig_format_laws::files_are_circuits;
 use aig_reader::ReadError;
 use std::alloc::Global;
 use thiserror::Error;
-
-/// How the program is used.
-pub const USAGE: &str =
-    "usage: aigedit [--limit N] refine FILE, reencode FILE, unroll FILE K, move FILE, compress FILE, bads FILE, \
-    property FILE N, possible FILE, reduce FILE, cone FILE N, question FILE K, live FILE J, rounds FILE J N, info FILE, \
-    miter FILE OTHER, join FILE CERT, merge FILE OTHER";
 
 /// Its version.
 pub const VERSION: &str = "aigedit 0.1.0";

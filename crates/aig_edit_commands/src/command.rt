@@ -7,8 +7,14 @@ ghost use Rattle.aig_command_line.specs.declared.arguments.Step.TheVariants.{At}
 ghost use Rattle.aig_edit_commands.specs.CommandWords.{IsCall, IsCommandOf, command_of, edit_by, form_of, name_of, paths_of};
 ghost use Rattle.aig_edit_commands.specs.declared.command.Command.{Command};
 
-use aig_command_line::{Form, HasForm, Step, find, limited, steps};
+use aig_command_line::{ArgumentForm, HasArguments, Step, find, limited, steps};
 use aig_edits::{Edit, Pairing};
+
+/// How the program is used.
+pub const USAGE: &str =
+    "usage: aigedit [--limit N] refine FILE, reencode FILE, unroll FILE K, move FILE, compress FILE, bads FILE, \
+    property FILE N, possible FILE, reduce FILE, cone FILE N, question FILE K, live FILE J, rounds FILE J N, info FILE, \
+    miter FILE OTHER, join FILE CERT, merge FILE OTHER";
 
 /// What the program is asked to do with one file.
 #[derive(Drop)]
@@ -76,7 +82,7 @@ pub enum Action {
 }
 
 /// The form of a command on FILE and a number.
-const NUMBERED: Form = Form {
+const NUMBERED: ArgumentForm = ArgumentForm {
     paths: 1,
     step: Step::At,
     further: 0,
@@ -85,7 +91,7 @@ const NUMBERED: Form = Form {
 };
 
 /// The form of a command on FILE and two numbers, of which the second is a further word.
-const COUNTED: Form = Form {
+const COUNTED: ArgumentForm = ArgumentForm {
     paths: 1,
     step: Step::At,
     further: 1,
@@ -93,7 +99,7 @@ const COUNTED: Form = Form {
     raw: false,
 };
 
-impl HasForm for Action {
+impl HasArguments for Action {
     ghost name = { name_of };
 
     ghost form = { form_of };
@@ -120,13 +126,13 @@ impl HasForm for Action {
         }
     }
 
-    fn form(&self) -> Form {
+    fn form(&self) -> ArgumentForm {
         match self {
             Action::Unroll | Action::Property | Action::Cone | Action::Question | Action::Live =>
                 NUMBERED,
             Action::Rounds => COUNTED,
-            Action::Miter | Action::Join | Action::Merge => Form::of_paths(2),
-            _ => Form::of_paths(1),
+            Action::Miter | Action::Join | Action::Merge => ArgumentForm::of_paths(2),
+            _ => ArgumentForm::of_paths(1),
         }
     }
 }

@@ -7,7 +7,7 @@ mod explaining;
 mod noticing;
 mod subjects;
 
-pub use acting::{CommandError, USAGE, VERSION, act};
-pub use command::{Action, Call, Command, FileCommand, call_of};
+pub use acting::{CommandError, VERSION, act};
+pub use command::{Action, Call, Command, FileCommand, USAGE, call_of};
 pub use explaining::explain;
 pub use noticing::notice;

@@ -8,7 +8,7 @@ use Rattle.aig_circuit.proofs.Words.{Circuit, IsCircuit, IsInRange, Properties, 
 use Rattle.aig_edit_laws.specs.Plain.{IsPlain}
 use Rattle.aig_edit_laws.specs.Shown.{bad_alone, output_alone, outputs_as_bads}
 use Rattle.aig_format.proofs.Words.{IsWritable}
-use Rattle.aig_edits.specs.declared.edit.Edit.{Edit}
+use Rattle.aig_edits.specs.declared.editing.Edit.{Edit}
 use Rattle.aig_edits.specs.declared.edit_error.EditError.{EditError}
 use Rattle.aig_edits.specs.declared.edit_error.EditError.TheVariants as errors
 use Rattle.aig_edits.specs.Edits.{AreStepsWithin, IsEdited}

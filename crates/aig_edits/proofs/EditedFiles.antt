@@ -4,8 +4,8 @@ use Rattle.aig_circuit.proofs.Words.{Circuit, lists_circuit}
 use Rattle.aig_format.proofs.Words.{IsReadAgain, circuit_of, edge_of, file_of, File}
 use Rattle.aig_format.specs.declared.FileKind.TheVariants.{Text}
 use Rattle.aig_reader.specs.Verdicts.{Accepted, verdict_by}
-use Rattle.aig_edits.specs.declared.edit.Edit.{Edit}
-use Rattle.aig_edits.specs.declared.edit.Edit.TheVariants as edits
+use Rattle.aig_edits.specs.declared.editing.Edit.{Edit}
+use Rattle.aig_edits.specs.declared.editing.Edit.TheVariants as edits
 use Rattle.aig_edits.specs.declared.edit_error.EditError.{EditError}
 use Rattle.aig_edits.specs.declared.edit_error.EditError.TheVariants as errors
 use Rattle.aig_edits.specs.Edits.{CanEdit, EditShows, IsEditUnwritten, IsEdited, PrintsEdit, edit_verdict}

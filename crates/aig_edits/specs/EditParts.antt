@@ -10,8 +10,8 @@ use Rattle.aig_format.specs.Circuit.{IsReadAgain, file_of, text_of}
 use Rattle.aig_format.specs.declared.FileKind.TheVariants.{Text}
 use Rattle.aig_format.specs.Writable.{FitsFormat}
 use Rattle.aig_output.specs.Sinks.{Stops}
-use Rattle.aig_edits.specs.declared.edit.Edit.{Edit}
-use Rattle.aig_edits.specs.declared.edit.Edit.TheVariants as edits
+use Rattle.aig_edits.specs.declared.editing.Edit.{Edit}
+use Rattle.aig_edits.specs.declared.editing.Edit.TheVariants as edits
 use Rattle.aig_edits.specs.declared.edit_error.EditError.{EditError}
 use Rattle.aig_edits.specs.declared.edit_error.EditError.TheVariants as errors
 use Rattle.aig_edits.specs.Edits.{AreStepsWithin, IsEdited}

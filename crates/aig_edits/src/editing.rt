@@ -1,4 +1,4 @@
-//! Editing the circuit of a file.
+//! What is made of one file.
 
 ghost use Rattle.std.specs.Prelude.{◌≡◌, ◌≤◌, ◌↔◌, ◌∷◌, [], IfErr, IfOk, IsTrue, OnOk, Some, slice_get};
 ghost use Rattle.aig_circuit.specs.Circuit.{IsCircuit, IsInRange};
@@ -8,10 +8,9 @@ ghost use Rattle.aig_edit_laws.specs.Shown.{bad_alone, output_alone};
 ghost use Rattle.aig_format.specs.Writable.{IsWritable};
 ghost use Rattle.aig_unroll.specs.Places.{unrolled_size};
 ghost use Rattle.aig_edits.specs.EditParts.{CanEditCircuit, Edits, Yields};
-ghost use Rattle.aig_edits.specs.declared.edit.Edit.TheVariants as edits;
+ghost use Rattle.aig_edits.specs.declared.editing.Edit.TheVariants as edits;
 ghost use Rattle.aig_edits.specs.declared.edit_error.EditError.TheVariants as errors;
 
-use crate::edit::Edit;
 use crate::edit_error::EditError;
 use aig_base::MemoryError;
 use aig_change::{aig_move, compress_property};
@@ -22,6 +21,31 @@ use aig_format_laws::binary_is_read;
 use aig_renumber::{reencode, reencoding_is_circuit};
 use aig_unroll::unroll_to;
 use std::mem;
+
+/// What is made of a file's circuit.
+#[derive(Debug, PartialEq, Eq, Drop)]
+pub enum Edit {
+    /// The circuit cut to its cone of influence (`Aig::coi_refine`).
+    Refine,
+    /// The circuit in the numbering of the binary form (`Aig::reencode`).
+    Reencode,
+    /// The circuit with so many further steps (`Aig::unroll_to`).
+    Unroll(usize),
+    /// The circuit with its constraints joined to its bad edge and the first output (`Aig::aig_move`). Further outputs stay
+    /// without them.
+    Move,
+    /// The circuit with its bad edges as one (`Aig::compress_property`).
+    Compress,
+    /// The circuit with its outputs as its bad edges, and no outputs: files from before AIGER 1.9 have no others.
+    Bads,
+    /// The circuit with the bad edge of this number, from 0 on, as the only one.
+    Property(usize),
+    /// The circuit with true as its only bad edge: bad wherever a run that meets the constraints has come.
+    Possible,
+    /// The circuit of what the output of this number, from 0 on, the constraints, the latches and the initial edges that aren't
+    /// constant reach, with that output and the constraints as the only properties.
+    Cone(usize),
+}
 
 /// Cuts a circuit to its cone of influence.
 fn refined(circuit: &CircuitView<'_>) -> Result<CircuitLists, EditError>

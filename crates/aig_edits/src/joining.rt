@@ -13,7 +13,7 @@ use crate::format::fits_format;
 use crate::misfit::{certificate_misfit, miter_misfit};
 use crate::pair_error::PairError;
 use crate::pairing::Pairing;
-use crate::pairs::read_pair;
+use crate::reading_pairs::read_pair;
 use aig_base::Source;
 use aig_change::{merge, merging_is_circuit, merging_pairs_runs};
 use aig_circuit::{CircuitLists, CircuitView};

@@ -1,8 +1,6 @@
 //! What is made of AIGER files and printed as AIGER text again: from the bytes of the files to those of the text.
 #![tactic(auto)]
 
-mod beside;
-mod edit;
 mod edit_error;
 mod editing;
 mod format;
@@ -12,17 +10,17 @@ mod living;
 mod misfit;
 mod pair_error;
 mod pairing;
-mod pairs;
 mod printing_edits;
 mod printing_joints;
-mod question;
+mod printing_question;
+mod printing_reduction;
+mod reading_beside;
+mod reading_pairs;
 mod reducing;
-mod reduction;
 mod rounding;
 
-pub use beside::read_beside;
-pub use edit::Edit;
 pub use edit_error::EditError;
+pub use editing::Edit;
 pub use info::{Counts, print_info, write_info};
 pub use joining::read_joint;
 pub use living::{print_live, read_live, write_live};
@@ -31,6 +29,7 @@ pub use pair_error::PairError;
 pub use pairing::Pairing;
 pub use printing_edits::{print_edit, write_edit};
 pub use printing_joints::{print_joint, write_joint};
-pub use question::{print_question, write_question};
-pub use reduction::{print_reduction, write_reduction};
+pub use printing_question::{print_question, write_question};
+pub use printing_reduction::{print_reduction, write_reduction};
+pub use reading_beside::read_beside;
 pub use rounding::{print_rounds, write_rounds};

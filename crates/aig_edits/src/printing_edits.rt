@@ -11,14 +11,13 @@ ghost use Rattle.aig_format.specs.Fits.{Fits};
 ghost use Rattle.aig_format.specs.Writable.{AreTexts, IsWritable};
 ghost use Rattle.aig_reader.specs.Reading.{AreListsOf};
 ghost use Rattle.aig_reader.specs.Verdicts.{Accepted, verdict_by};
-ghost use Rattle.aig_edits.specs.declared.edit.Edit.{Edit};
+ghost use Rattle.aig_edits.specs.declared.editing.Edit.{Edit};
 ghost use Rattle.aig_edit_laws.specs.Reduction.{HaveSameWitnesses};
 ghost use Rattle.aig_edits.specs.Edits.{AreAsSafe, CanEdit, EditShows, IsEditOwn, IsEditUnwritten, IsEdited, PrintsEdit, ReadsFile, edit_verdict};
 ghost use Rattle.aig_edits.specs.EditParts.{PrintsCircuit, WritesText};
 
-use crate::edit::Edit;
 use crate::edit_error::EditError;
-use crate::editing::edited;
+use crate::editing::{Edit, edited};
 use crate::format::fits_format;
 use aig_base::{Sink, Source};
 use aig_circuit::{CircuitLists, CircuitView};

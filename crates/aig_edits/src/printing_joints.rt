@@ -10,7 +10,7 @@ ghost use Rattle.aig_edits.specs.Joints.{IsOwn, IsUnwritten, PrintsJoint, first_
 use crate::joining::join_of;
 use crate::pair_error::PairError;
 use crate::pairing::Pairing;
-use crate::pairs::read_pair;
+use crate::reading_pairs::read_pair;
 use aig_base::{Sink, Source};
 use aig_circuit::{CircuitLists, CircuitView};
 use aig_writer::write_text;

@@ -4,7 +4,7 @@ use Rattle.aig_base.specs.declared.logic.literal.Lit.{Lit}
 use Rattle.aig_refutation.specs.declared.error.RefutationError.{RefutationError}
 use Rattle.aig_refutation.specs.declared.error.RefutationError.TheVariants as errors
 use Rattle.aig_refutation.specs.Checking.{Live, added, are_named, deleted, is_named, numbered_clause, stands, why_not, without_clause}
-use Rattle.aig_refutation.specs.Tables.{Holds, Moves, OnlyMemory, Table}
+use Rattle.aig_refutation.specs.Tables.{Holds, HoldsNext, OnlyMemory, Table}
 use Rattle.aig_refutation.proofs.Known.{tells_on}
 
 module _ (live : Live) (number : ℕ) (clause : List Lit) (hints : List ℕ)
@@ -61,7 +61,7 @@ module _ (live : Live) (n : ℕ) where
 -- memory is freed, or ran out
 pub moves_freed : {X : Type 0} (new : Table) (r : Result X RefutationError) (said : Result Live
     RefutationError) (next : Live) → said ≡ Ok next → OnlyMemory r → OnOk r (Holds new next) →
-    Moves new r said
+    HoldsNext new r said
 moves_freed new (Ok x) said next is memory holds = (next, is, holds)
 moves_freed new (Err e) said next is memory holds = tells_on e ⊥ (said ≡ Err e) (λ none. absurd
     none) memory

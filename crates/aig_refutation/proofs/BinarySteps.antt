@@ -7,7 +7,7 @@ use Rattle.aig_refutation.specs.declared.error.RefutationError.{RefutationError}
 use Rattle.aig_refutation.specs.declared.error.RefutationError.TheVariants as errors
 use Rattle.aig_refutation.specs.declared.step.Step as held
 use Rattle.aig_refutation.specs.Ahead.{IsAhead, TakesPlain}
-use Rattle.aig_refutation.specs.Binary.{after_letter, after_literal, binary_script, binary_steps_in, code_of, groups_in, item_said, literal_by, literal_said, no_step, step_before, widened_after, with_byte, with_literal}
+use Rattle.aig_refutation.specs.Binary.{after_letter, after_literal, binary_script, binary_steps_in, code_of, groups_in, literal_by, literal_said, no_step, step_before, widened_after, with_byte, with_literal}
 use Rattle.aig_refutation.specs.Checking.{IsRefusal}
 use Rattle.aig_refutation.specs.Concluding.{ConcludesPlain}
 use Rattle.aig_refutation.specs.Proofs.{Plain, Script, widened}

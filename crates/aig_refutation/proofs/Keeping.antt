@@ -9,7 +9,7 @@ use Rattle.aig_refutation.specs.Ahead.{AddsAhead, IsAhead, LearnsAhead, StaysAhe
 use Rattle.aig_refutation.specs.Checking.{Live, all_live, clause_at, deleted, numbered_clause, with_clause, with_next, without_clause}
 use Rattle.aig_refutation.specs.Reading.{plain_by}
 use Rattle.aig_refutation.specs.Steps.{Drops, Follows, Learns, are_same, dropped, is_empty, is_unit, without_one}
-use Rattle.aig_refutation.specs.Tables.{Holds, HoldsFormula, Moves, SaysSame, Table, clause_in, entry_at}
+use Rattle.aig_refutation.specs.Tables.{Holds, HoldsFormula, HoldsNext, SaysSame, Table, clause_in, entry_at}
 use Rattle.aig_refutation.specs.Tokens.{Tells}
 use Rattle.aig_refutation.proofs.Adding.{deleted_one}
 use Rattle.aig_refutation.proofs.Amounts.{copies_without, enough_all, enough_next, enough_without, row_all, row_next, row_without}
@@ -52,7 +52,7 @@ module _ (old new : Table) (clauses : List (List Lit)) (ahead : IsAhead clauses 
   }
 
   pub put_ahead : {X : Type 0} (r : Result X RefutationError)
-      → ((live : Live) → Holds old live → Moves new r (numbered_clause live number clause))
+      → ((live : Live) → Holds old live → HoldsNext new r (numbered_clause live number clause))
       → StaysAhead (clause ∷ clauses) new r
   put_ahead (Ok x) moves =
       let then = moves ahead.live ahead.holds in
@@ -100,7 +100,7 @@ module _ (old new : Table) (clauses : List (List Lit)) (ahead : IsAhead clauses 
   gone = let is = found in deleted_one ahead.live number (ap is_some is.1)
 
   pub delete_ahead : {X : Type 0} (r : Result X RefutationError)
-      → ((live : Live) → Holds old live → Moves new r (deleted live (number ∷ [])))
+      → ((live : Live) → Holds old live → HoldsNext new r (deleted live (number ∷ [])))
       → StaysAhead (without_one dropped clauses) new r
   delete_ahead (Ok x) moves =
       let is = found in

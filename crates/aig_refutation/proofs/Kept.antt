@@ -10,7 +10,7 @@ use Rattle.aig_refutation.specs.Kept.{IsKept, Keeps, KeepsMore, KeepsOrEnds}
 use Rattle.aig_refutation.specs.Propagation.{has, is_rup, is_tautology}
 use Rattle.aig_refutation.specs.Rat.{is_rat}
 use Rattle.aig_refutation.specs.Steps.{is_empty}
-use Rattle.aig_refutation.specs.Tables.{Holds, Moves, SaysSame, Table, place_in, places_of}
+use Rattle.aig_refutation.specs.Tables.{Holds, HoldsNext, SaysSame, Table, place_in, places_of}
 use Rattle.aig_refutation.specs.Taken.{CanHold, KeepsLive}
 use Rattle.aig_refutation.proofs.Apart.{any_among, any_at}
 use Rattle.aig_refutation.proofs.HintedRup.{rup_same}
@@ -95,7 +95,7 @@ pub kept_on : (live now : Live) (new : Table) → KeepsLive live now → IsKept 
 kept_on live now new before after = (after.0, after.1, λ can. after.2 (before can))
 
 pub moved_kept : {X : Type 0} (live : Live) (numbers : List ℕ) (new : Table)
-    (r : Result X RefutationError) → Moves new r (deleted live numbers) → Keeps live new r
+    (r : Result X RefutationError) → HoldsNext new r (deleted live numbers) → Keeps live new r
 moved_kept live numbers new (Ok x) moves =
     (moves.0, moves.2, deleted_keeps numbers live moves.0 moves.1)
 moved_kept live numbers new (Err e) moves = tt

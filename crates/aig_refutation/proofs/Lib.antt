@@ -17,6 +17,7 @@ mod ReadersInTurn
 mod LineParts
 mod ReadWords
 mod NearWords
+mod NearNumbers
 mod Lines
 mod LineForms
 mod NextSteps

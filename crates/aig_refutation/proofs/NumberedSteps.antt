@@ -1,23 +1,23 @@
 -- Steps of a binary proof that have numbers, word by word.
-use Rattle.aig_base.proofs.Words.{◌≡◌, ℕ, Bool, true, false, cond, List, [], ◌∷◌, ◌++◌, Option, Some, None, Result, Ok, Err, refl, sym, ap, subst, ◌∙◌, eqb, ne_eqb}
+use Rattle.aig_base.proofs.Words.{◌≡◌, ℕ, Bool, true, false, cond, List, [], ◌∷◌, ◌++◌, Option, Some, None, Result, Ok, Err, refl, sym, ap, ◌∙◌, eqb, ne_eqb}
 use Rattle.aig_base.specs.declared.logic.literal.Lit.{Lit}
 use Rattle.aig_format.specs.Parse.{parse_delta}
 use Rattle.aig_lexer.specs.Takes.{Feed}
 use Rattle.aig_refutation.specs.declared.error.RefutationError.{RefutationError}
 use Rattle.aig_refutation.specs.declared.error.RefutationError.TheVariants as errors
 use Rattle.aig_refutation.specs.Binary.{after_letter, code_of, groups_in, item_said, literal_by, no_step, step_before}
-use Rattle.aig_refutation.specs.BinaryNumbered.{Adding, Begun, Deleting, Ends, Goes, Hinting, Listing, Said, after_said, deleted_by, deleting, hint_by, hinted, listed, number_by, numbered_begun, numbered_script, numbered_steps_in, said_in}
+use Rattle.aig_refutation.specs.BinaryNumbered.{Adding, Begun, Deleting, Ends, Goes, Hinting, Listing, Said, after_said, deleted_by, deleting, hint_by, hinted, listed, number_by, numbered_script, numbered_steps_in, said_in}
 use Rattle.aig_refutation.specs.Checking.{Live, is_last_step, taken}
 use Rattle.aig_refutation.specs.Concluding.{Concludes, MovesStep, shown_of}
-use Rattle.aig_refutation.specs.Proofs.{Script, adds, groups_at, hints_at, widened}
+use Rattle.aig_refutation.specs.Proofs.{Script, adds, widened}
 use Rattle.aig_refutation.specs.ReadingBinary.{EndsStep, GivesCode, GivesHints, GivesItems, GivesLetter, GivesNext, GivesNumber, IsNoCode, IsNoLetter, IsSaid, Passes, begun_by, items_after, items_from, items_left, letter_of, numbered_left}
 use Rattle.aig_refutation.specs.Steps.{Step, Adds, Deletes}
 use Rattle.aig_refutation.specs.Tables.{Holds, Table}
 use Rattle.aig_refutation.specs.Taken.{CanHold, KeepsLive}
 use Rattle.aig_refutation.specs.Text.{◌>>=◌}
-use Rattle.aig_refutation.specs.Tokens.{Leaves, Says, Tells}
+use Rattle.aig_refutation.specs.Tokens.{Says, Tells}
 use Rattle.aig_refutation.proofs.BinarySteps.{first_word, passes_as, passes_on, said_now, said_on}
-use Rattle.aig_refutation.proofs.Known.{leaves_same, says_now, tells, tells_on}
+use Rattle.aig_refutation.proofs.Known.{leaves_same, says_now, tells_on}
 use Rattle.aig_refutation.proofs.Outcomes.{outcome_last, outcome_more, outcome_none, outcome_wrong}
 use Rattle.aig_refutation.proofs.Taken.{last_fails, taken_keeps}
 

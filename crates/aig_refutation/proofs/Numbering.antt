@@ -11,7 +11,7 @@ use Rattle.std.proofs.lemmas.List.Sums.{fold-append}
 use Rattle.aig_refutation.specs.declared.error.RefutationError.TheVariants as errors
 use Rattle.aig_refutation.specs.Propagation.{reading_of}
 use Rattle.aig_refutation.specs.Steps.{without}
-use Rattle.aig_refutation.specs.Tables.{Holds, HoldsFormula, IsEntry, IsInRow, IsMoved, IsMovedUpTo, Moves, RefusesClause, IsNumbering, SaysSame, Table, clause_by, clause_in, entry_at, place_by, place_in}
+use Rattle.aig_refutation.specs.Tables.{Holds, HoldsFormula, IsEntry, IsInRow, IsMoved, IsMovedUpTo, HoldsNext, RefusesClause, IsNumbering, SaysSame, Table, clause_by, clause_in, entry_at, place_by, place_in}
 
 -- ---- clauses by entries
 
@@ -635,7 +635,7 @@ module _ (old : Table) (before : HoldsFormula old) (number : ℕ) (is : number �
       (λ (n : ℕ). n + 1) (sym used_count)) ∙ sym (all_live_more old.clauses clause)
 
   pub assumed : {X : Type 0} (new : Table) (clause : List Lit) (r : Result X RefutationError) →
-      Moves new r (numbered_clause (all_live old.clauses) number clause) → OnOk r (new.clauses ≡
+      HoldsNext new r (numbered_clause (all_live old.clauses) number clause) → OnOk r (new.clauses ≡
       old.clauses ++ clause ∷ []) → OnOk r (IsInRow new)
       → OnOk r (HoldsFormula new)
   assumed new clause (Ok x) moves clauses row = record {
@@ -651,7 +651,7 @@ module _ (old : Table) (before : HoldsFormula old) (number : ℕ) (is : number �
   assumed new clause (Err e) moves clauses row = tt
 
   pub not_refused : (new : Table) (variables : ℕ) (clause : List Lit) (r : Result (Unit {0})
-      RefutationError) → are_in variables clause ≡ true → Moves new r (numbered_clause (all_live
+      RefutationError) → are_in variables clause ≡ true → HoldsNext new r (numbered_clause (all_live
       old.clauses) number clause) → RefusesClause variables clause r
   not_refused new variables clause (Ok x) inside moves = inside
   not_refused new variables clause (Err e) inside moves =

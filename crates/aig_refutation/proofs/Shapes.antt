@@ -1,5 +1,5 @@
 -- The shape of binary steps, byte by byte.
-use Rattle.aig_base.proofs.Words.{◌≡◌, ℕ, ◌+◌, ◌<◌, ◌≤◌, Bool, true, false, cond, List, [], ◌∷◌, ◌++◌, Option, Some, None, refl, sym, ap, ◌∙◌, drop, nat_lt, nat_le, length, slice_index_or, drop_all, drop_more, option_map, arith, take, zero, suc, ◌&&◌, ◌==◌, ◌||◌, subst, ne_eqb, eq-eqb, false≢true, list_any}
+use Rattle.aig_base.proofs.Words.{◌≡◌, ℕ, ◌+◌, ◌<◌, ◌≤◌, Bool, true, false, cond, List, [], ◌∷◌, Option, Some, None, refl, sym, ap, ◌∙◌, drop, nat_lt, nat_le, length, slice_index_or, drop_all, drop_more, arith, take, zero, suc, ◌&&◌, ◌==◌, ◌||◌, subst, ne_eqb, eq-eqb, false≢true, list_any}
 use Rattle.aig_refutation.specs.Binary.{groups_in, with_byte}
 use Rattle.aig_refutation.specs.Text.{begins}
 use Rattle.aig_refutation.specs.Forms.{Last, Letter, Literals, Number, Part, are_steps, goes_on, has_word, is_binary, part_after}

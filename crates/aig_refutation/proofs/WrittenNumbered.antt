@@ -1,7 +1,6 @@
 -- Binary LRAT proofs as they are written, and the steps that are read of them.
-use Rattle.aig_base.proofs.Words.{◌≡◌, ◌⊎◌, ℕ, ◌+◌, ◌*◌, ◌/◌, ◌%◌, ◌^◌, ◌<◌, ◌==◌, nat_lt, Bool, true, false, List, [], ◌∷◌, ◌++◌, map, drop, Option, Some, None, Result, Ok, Err, refl, sym, ap, ◌∙◌, append_assoc, append-nil, arith, codes, flat_map, nat_tests, if◌then◌else◌, AllByRecursion, All, recursion_from_All, option_map}
+use Rattle.aig_base.proofs.Words.{◌≡◌, ◌⊎◌, ℕ, ◌+◌, ◌*◌, ◌/◌, ◌%◌, ◌^◌, ◌<◌, ◌==◌, nat_lt, Bool, true, false, List, [], ◌∷◌, ◌++◌, map, Some, None, Result, Ok, Err, refl, sym, ap, ◌∙◌, append_assoc, append-nil, arith, flat_map, nat_tests, if◌then◌else◌, AllByRecursion, All, recursion_from_All, option_map}
 use Rattle.aig_base.specs.declared.logic.literal.Lit.{Lit}
-use Rattle.aig_base.specs.Clauses.{variable_of}
 use Rattle.aig_format.specs.Parse.{parse_delta, parse_groups}
 use Rattle.aig_format.specs.Text.{Groups}
 use Rattle.aig_format.specs.Written.{delta_of}
@@ -11,12 +10,12 @@ use Rattle.aig_refutation.specs.declared.error.RefutationError.{RefutationError}
 use Rattle.aig_refutation.specs.declared.error.RefutationError.TheVariants as errors
 use Rattle.aig_refutation.specs.Binary.{groups_in, item_said, literal_by, step_before}
 use Rattle.aig_refutation.specs.BinaryNumbered.{Adding, Deleting, Hinting, Listing, deleted_by, hint_by, numbered_script, numbered_steps_in}
-use Rattle.aig_refutation.specs.Checking.{Shows, all_live, are_all_in, outcome, shown_by}
-use Rattle.aig_refutation.specs.Forms.{has_word, steps_in}
-use Rattle.aig_refutation.specs.Proofs.{adds, allowed, groups_at, hints_at, widened}
-use Rattle.aig_refutation.specs.ReadingBinary.{items_after, items_from, numbered_left}
+use Rattle.aig_refutation.specs.Checking.{Shows, all_live, are_all_in, outcome}
+use Rattle.aig_refutation.specs.Forms.{steps_in}
+use Rattle.aig_refutation.specs.Proofs.{adds, allowed, groups_at, widened}
+use Rattle.aig_refutation.specs.ReadingBinary.{items_from, numbered_left}
 use Rattle.aig_refutation.specs.Steps.{Step, Adds, Deletes}
-use Rattle.aig_refutation.specs.Written.{AreGroups, AreWithin, IsBinaryStep, IsClause, IsNumber, IsStep, hint_bytes, literal_bytes, number_bytes, numbered_bytes, numbered_text, worded_text}
+use Rattle.aig_refutation.specs.Written.{AreWithin, IsBinaryStep, IsNumber, IsWrittenStep, hint_bytes, literal_bytes, number_bytes, numbered_bytes, numbered_text, worded_text}
 use Rattle.aig_refutation.proofs.Formulas.{word_form}
 use Rattle.aig_refutation.proofs.NumberedSteps.{after_list, deleted_said, hints_said, literals_said, number_word}
 use Rattle.aig_refutation.proofs.WrittenBinary.{Fits, all_fit, groups_in-clause, groups_in-number, literal_said-written}
@@ -217,7 +216,7 @@ module _ (variables : ℕ) where
   groups_of groups are small =
       recursion_from_All IsHint groups (λ k d there. ((are k d there).0, small k d there))
 
-  step_written : (step : Step) (rest : List ℕ) → IsStep variables step → IsBinaryStep step
+  step_written : (step : Step) (rest : List ℕ) → IsWrittenStep variables step → IsBinaryStep step
       → numbered_steps_in variables (numbered_bytes step ++ rest)
       ≡ step_before step (numbered_steps_in (widened variables) rest)
   step_written (Adds number clause hints groups) rest is small =
@@ -247,7 +246,7 @@ module _ (variables : ℕ) where
       ∙ letter_deletes (flat_map number_bytes numbers ++ 0 ∷ rest)
       ∙ deletion_written numbers rest (hints_of numbers is small)
 
-steps_written : (variables : ℕ) (steps : List Step) → AreWithin IsStep variables steps
+steps_written : (variables : ℕ) (steps : List Step) → AreWithin IsWrittenStep variables steps
     → AllByRecursion IsBinaryStep steps
     → numbered_steps_in variables (numbered_text steps)
     ≡ record { steps = steps; fault = errors.Unfinished }
@@ -258,7 +257,7 @@ steps_written variables (step ∷ steps) are small =
     ∙ ap (step_before step) (steps_written (widened variables) steps are.1 small.1)
 
 -- behind the word
-pub worded_read : (variables : ℕ) (steps : List Step) → AreWithin IsStep (allowed variables) steps
+pub worded_read : (variables : ℕ) (steps : List Step) → AreWithin IsWrittenStep (allowed variables) steps
     → All IsBinaryStep steps
     → steps_in variables (worded_text steps)
     ≡ Some (record { steps = steps; fault = errors.Unfinished })
@@ -268,7 +267,7 @@ worded_read variables steps are small =
     (recursion_from_All IsBinaryStep steps small))
 
 pub worded_taken : (variables : ℕ) (clauses : List (List Lit)) (steps : List Step)
-    (e : RefutationError) → AreWithin IsStep (allowed variables) steps → All IsBinaryStep steps
+    (e : RefutationError) → AreWithin IsWrittenStep (allowed variables) steps → All IsBinaryStep steps
     → are_all_in variables clauses ≡ true
     → outcome (all_live clauses) steps errors.Unfinished ≡ Ok tt
     → Shows variables clauses (Some (worded_text steps)) (Err e)

@@ -1,7 +1,6 @@
 -- Serves private clauses alone.
 -- How a binary proof is read: what is still to come, and what was taken.
 use Rattle.std.specs.Prelude.{◌≡◌, ℕ, ◌==◌, Bool, true, false, if◌then◌else◌, List, [], ◌∷◌, ◌++◌, Option, Some, None, Result, Ok, Err}
-use Rattle.aig_base.specs.declared.logic.literal.Lit.{Lit}
 use Rattle.aig_format.specs.Parse.{parse_delta}
 use Rattle.aig_lexer.specs.Takes.{Feed}
 use Rattle.aig_refutation.specs.declared.error.RefutationError.{RefutationError}

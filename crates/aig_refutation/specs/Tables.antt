@@ -95,10 +95,10 @@ pub record Holds (t : Table) (live : Live) : Type 0 where
   pub added : t.added ≡ min (length live.used) (2 ^ 64 - 1)
 
 -- the table has the clauses that are said to be there, or this is why there are none
-abbrev pub Moves : {X : Type 0} → Table → Result X RefutationError → Result Live RefutationError →
-    Type 0
-Moves new (Ok x) said = (next : Live) × (said ≡ Ok next) × Holds new next
-Moves new (Err e) said = Tells e (said ≡ Err e)
+abbrev pub HoldsNext : {X : Type 0} → Table → Result X RefutationError
+    → Result Live RefutationError → Type 0
+HoldsNext new (Ok x) said = (next : Live) × (said ≡ Ok next) × Holds new next
+HoldsNext new (Err e) said = Tells e (said ≡ Err e)
 
 -- no error but that memory ran out
 abbrev pub OnlyMemory : {X : Type 0} → Result X RefutationError → Type 0

@@ -25,10 +25,10 @@ abbrev pub AreGroups : List (Bool × ℕ) → Type 0
 AreGroups groups = All (λ hint. IsNumber hint.1) groups × (hints_at groups ≡ [])
 
 -- a step over so many variables that a text can say
-abbrev pub IsStep : ℕ → Step → Type 0
-IsStep variables (Adds number clause hints groups) =
+abbrev pub IsWrittenStep : ℕ → Step → Type 0
+IsWrittenStep variables (Adds number clause hints groups) =
     IsNumber number × IsClause variables clause × All IsNumber hints × AreGroups groups
-IsStep variables (Deletes numbers) = All IsNumber numbers
+IsWrittenStep variables (Deletes numbers) = All IsNumber numbers
 
 -- a step without a number
 abbrev pub IsPlainStep : ℕ → PlainStep → Type 0

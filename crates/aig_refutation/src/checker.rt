@@ -9,7 +9,7 @@ ghost use Rattle.aig_refutation.specs.Checking.{Live, added, are_in, deleted, nu
 ghost use Rattle.aig_refutation.specs.Kept.{Keeps, KeepsMore};
 ghost use Rattle.aig_refutation.specs.Propagation.{FitsMarks, is_lit, reading_of};
 ghost use Rattle.aig_refutation.specs.Steps.{Follows, without_one};
-ghost use Rattle.aig_refutation.specs.Tables.{Holds, HoldsFormula, Moves, RefusesClause};
+ghost use Rattle.aig_refutation.specs.Tables.{Holds, HoldsFormula, HoldsNext, RefusesClause};
 ghost use Rattle.aig_refutation.specs.Taken.{KeepsLive};
 ghost use Rattle.aig_refutation.specs.Tokens.{said_numbers};
 
@@ -135,7 +135,7 @@ fn remove_all(numbered: &mut Numbered, numbers: &[u32]) -> Result<(), Refutation
     ensures same { numbered.new.clauses ≡ numbered.old.clauses }
     ensures no_stream { IsErrOf result RefutationError.Stream → ⊥ }
     ensures moves { (live : Live) → Holds numbered.old live
-        → Moves numbered.new result (deleted live numbers.now) }
+        → HoldsNext numbered.new result (deleted live numbers.now) }
 {
     for number in numbers {
         numbered.remove(*number)?;
@@ -223,7 +223,7 @@ impl Checker {
     /// Adds a clause, under a number. Each of its literals is kept once.
     fn put(&mut self, number: u32, clause: &[Lit]) -> Result<(), RefutationError>
         requires inside { All (λ lit. variable_of lit < self.old.variables) clause.now }
-        ensures moves { (live : Live) → Holds self.old.table live → Moves self.new.table result
+        ensures moves { (live : Live) → Holds self.old.table live → HoldsNext self.new.table result
             (numbered_clause live number clause.now) }
         ensures no_stream { IsErrOf result RefutationError.Stream → ⊥ }
     {
@@ -242,7 +242,7 @@ impl Checker {
         hints: &[u32],
         groups: &[Number],
     ) -> Result<(), RefutationError>
-        ensures moves { (live : Live) → Holds self.old.table live → Moves self.new.table result
+        ensures moves { (live : Live) → Holds self.old.table live → HoldsNext self.new.table result
             (added live number clause.now hints.now (said_numbers groups.now)) }
         ensures no_stream { IsErrOf result RefutationError.Stream → ⊥ }
     {
@@ -413,7 +413,7 @@ impl Checker {
         ensures keeps { (live : Live) → Holds self.old.table live
             → Keeps live self.new.table result }
         ensures moves { (live : Live) → Holds self.old.table live
-            → Moves self.new.table result (deleted live numbers.now) }
+            → HoldsNext self.new.table result (deleted live numbers.now) }
         ensures no_stream { IsErrOf result RefutationError.Stream → ⊥ }
     {
         remove_all(&mut self.numbered, numbers)?;

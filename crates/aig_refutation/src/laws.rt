@@ -12,7 +12,7 @@ ghost use Rattle.aig_refutation.specs.Propagation.{is_rup};
 ghost use Rattle.aig_refutation.specs.Rat.{is_rat_refutation};
 ghost use Rattle.aig_refutation.specs.Steps.{Drops, Learns, PlainStep, Refute, Stand, StandWithout, Step, is_refutation};
 ghost use Rattle.aig_refutation.specs.Taken.{KeepsLive};
-ghost use Rattle.aig_refutation.specs.Written.{AreInOrder, AreWithin, IsBinaryStep, IsNumber, IsPlainStep, IsStep, as_read, binary_text, plain_text, proof_text, step_bytes, worded_text};
+ghost use Rattle.aig_refutation.specs.Written.{AreInOrder, AreWithin, IsBinaryStep, IsNumber, IsPlainStep, IsWrittenStep, as_read, binary_text, plain_text, proof_text, step_bytes, worded_text};
 
 /// Law: a clause that follows by reverse unit propagation is true wherever the clauses are among
 /// which its hints are looked up.
@@ -72,7 +72,7 @@ pub fn obeyed_deletions_stand()
 /// more than the clauses have, and one more for each step before.
 pub fn proofs_are_read()
     ensures { (variables last : ℕ) (step : Step) (steps : List Step)
-        → IsNumber last → AreWithin IsStep (allowed variables) (step ∷ steps)
+        → IsNumber last → AreWithin IsWrittenStep (allowed variables) (step ∷ steps)
         → steps_in variables (proof_text last (step ∷ steps))
         ≡ Some (record { steps = step ∷ steps; fault = RefutationError.Unfinished }) }
 {}
@@ -106,7 +106,7 @@ pub fn binary_proofs_are_read()
 /// Law: the steps of a binary LRAT proof are read from the bytes that are written of them behind the word `lrat`.
 pub fn numbered_proofs_are_read()
     ensures { (variables : ℕ) (steps : List Step)
-        → AreWithin IsStep (allowed variables) steps → All IsBinaryStep steps
+        → AreWithin IsWrittenStep (allowed variables) steps → All IsBinaryStep steps
         → steps_in variables (worded_text steps)
         ≡ Some (record { steps = steps; fault = RefutationError.Unfinished }) }
 {}
@@ -115,7 +115,7 @@ pub fn numbered_proofs_are_read()
 /// the stream alone.
 pub fn written_proofs_are_taken()
     ensures { (variables last : ℕ) (clauses : List (List Lit)) (steps : List Step)
-        (e : RefutationError) → IsNumber last → AreWithin IsStep (allowed variables) steps
+        (e : RefutationError) → IsNumber last → AreWithin IsWrittenStep (allowed variables) steps
         → are_all_in variables clauses ≡ true
         → outcome (all_live clauses) steps RefutationError.Unfinished ≡ Ok tt
         → Shows variables clauses (Some (proof_text last steps)) (Err e)
@@ -125,7 +125,7 @@ pub fn written_proofs_are_taken()
 /// Law: so are the bytes of such steps behind the word `lrat`.
 pub fn written_numbered_proofs_are_taken()
     ensures { (variables : ℕ) (clauses : List (List Lit)) (steps : List Step)
-        (e : RefutationError) → AreWithin IsStep (allowed variables) steps
+        (e : RefutationError) → AreWithin IsWrittenStep (allowed variables) steps
         → All IsBinaryStep steps → are_all_in variables clauses ≡ true
         → outcome (all_live clauses) steps RefutationError.Unfinished ≡ Ok tt
         → Shows variables clauses (Some (worded_text steps)) (Err e)

@@ -4,7 +4,7 @@ ghost use Rattle.std.specs.Prelude.{◌≡◌, ◌+◌, ◌-◌, ◌*◌, ◌/�
 ghost use Rattle.std.specs.List.{Contains};
 ghost use Rattle.aig_base.specs.declared.logic.literal.Lit.{Lit};
 ghost use Rattle.aig_refutation.specs.Checking.{Live, deleted, numbered_clause};
-ghost use Rattle.aig_refutation.specs.Tables.{Holds, IsInRow, IsMoved, IsNumbering, IsTable, Moves, OnlyMemory, SaysSame, entry_at, name_in, place_in};
+ghost use Rattle.aig_refutation.specs.Tables.{Holds, IsInRow, IsMoved, IsNumbering, IsTable, HoldsNext, OnlyMemory, SaysSame, entry_at, name_in, place_in};
 
 use crate::error::RefutationError;
 use crate::list::push;
@@ -172,7 +172,7 @@ impl Numbered {
         ensures no_stream { IsErrOf result RefutationError.Stream → ⊥ }
         ensures moves { (live : Live) (said : List Lit) → Holds self.old live
             → SaysSame (Some clause.now) (Some said)
-            → Moves self.new result (numbered_clause live number said) }
+            → HoldsNext self.new result (numbered_clause live number said) }
         ensures in_row { IsInRow self.old → IsTable self.old → number ≡ self.old.added + 1
             → OnOk result (IsInRow self.new) }
     {
@@ -224,7 +224,7 @@ impl Numbered {
         ensures same { self.new.clauses ≡ self.old.clauses }
         ensures no_stream { IsErrOf result RefutationError.Stream → ⊥ }
         ensures moves { (live : Live) → Holds self.old live
-            → Moves self.new result (deleted live (number ∷ [])) }
+            → HoldsNext self.new result (deleted live (number ∷ [])) }
     {
         let Some(place) = self.place(number) else {
             return Err(RefutationError::Unnamed);

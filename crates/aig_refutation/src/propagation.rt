@@ -17,8 +17,9 @@ pub enum Reading {
     Open,
 }
 
-/// What a clause says where the marked literals are true.
-pub(crate) fn read_clause(marks: &Marks, clause: &[Lit]) -> Reading
+/// What a clause says where the marked literals are true, whatever it is.
+#[cold]
+fn read_any(marks: &Marks, clause: &[Lit]) -> Reading
     requires { FitsMarks marks.now clause.now }
     ensures { result ≡ reading_of (marked marks.now) clause.now }
 {
@@ -38,6 +39,28 @@ pub(crate) fn read_clause(marks: &Marks, clause: &[Lit]) -> Reading
     match found {
         None => Reading::Conflict,
         Some(lit) => Reading::Implied(lit),
+    }
+}
+
+/// What a clause says where the marked literals are true.
+// Which literal isn't false can't be foreseen: so none of them has a branch of its own.
+#[inline(always)]
+pub(crate) fn read_clause(marks: &Marks, clause: &[Lit]) -> Reading
+    requires { FitsMarks marks.now clause.now }
+    ensures { result ≡ reading_of (marked marks.now) clause.now }
+{
+    let mut found = Lit::from(0);
+    let mut count = 0usize;
+    for lit in clause {
+        if !marks.holds(!*lit) {
+            found = *lit;
+            count += 1;
+        }
+    }
+    match count {
+        0 => Reading::Conflict,
+        1 => Reading::Implied(found),
+        _ => read_any(marks, clause),
     }
 }
 

@@ -5,6 +5,7 @@ ghost use Rattle.aig_base.specs.Clauses.{variable_of};
 ghost use Rattle.aig_refutation.specs.Checking.{are_in};
 ghost use Rattle.aig_refutation.specs.Proofs.{after_clause, clause_number, groups_at, hints_at, literal_of};
 ghost use Rattle.aig_refutation.specs.Reading.{GivesStep, reads_added, reads_after, reads_clause, reads_deleted, reads_dropped, reads_hints, reads_numbers, said_by};
+ghost use Rattle.aig_refutation.specs.Skipping.{TakesHints, TakesNumbers};
 ghost use Rattle.aig_refutation.specs.Tokens.{Answers, Gives, IsClosed, Tries, is_last, place, rest, said_number, said_numbers};
 
 use crate::error::RefutationError;
@@ -141,6 +142,28 @@ pub(crate) fn push_number(
     }
 }
 
+/// Appends a number of a line, as `push_number` does, and where only hints were read so far those that
+/// come next and lie near.
+fn push_near(
+    words: &mut Words,
+    number: Number,
+    hints: &mut Vec<u32>,
+    groups: &mut Vec<Number>,
+) -> Result<(), MemoryError>
+    ensures taken { OnOk result ((taken : List ℕ) × TakesNumbers words.old words.new taken) }
+    ensures hints { (numbers : List (Bool × ℕ)) → hints_at numbers ≡ hints.old.items
+        → groups_at numbers ≡ said_numbers groups.old.items → OnOk result
+        (TakesHints words.old words.new (numbers ++ said_number number ∷ []) hints.new.items
+        (said_numbers groups.new.items)) }
+{
+    push_number(number, hints, groups)?;
+    let is_first = groups.as_slice().is_empty();
+    if !is_first {
+        return Ok(());
+    }
+    words.near_numbers(hints)
+}
+
 /// Reads hints, and groups of hints, up to a 0, which ends the line. The first number is this one.
 fn read_hints<R: Source>(
     words: &mut Words,
@@ -160,7 +183,7 @@ fn read_hints<R: Source>(
 {
     let mut number = first;
     while number.value != 0 {
-        push_number(number, hints, groups)?;
+        push_near(words, number, hints, groups)?;
         number = words.number(r)?;
     }
     words.finish(r)

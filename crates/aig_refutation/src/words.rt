@@ -4,14 +4,15 @@
 //! returns. It ends with a line feed, and the last one may end with the stream. Lines that are
 //! blank, or begin with `c` or `p`, are passed over.
 
-ghost use Rattle.std.specs.Prelude.{◌≡◌, ◌+◌, ◌<◌, ◌≤◌, ◌^◌, ◌∷◌, [], None, Some, IfOk, IfSome, IsErrOf, IsTrue, OnOk, true};
+ghost use Rattle.std.specs.Prelude.{◌≡◌, ◌+◌, ◌<◌, ◌≤◌, ◌^◌, ◌++◌, ◌∷◌, [], ℕ, List, None, Some, IfOk, IfSome, IsErrOf, IsTrue, OnOk, drop, length, true};
 ghost use Rattle.aig_lexer.specs.Takes.{feed};
-ghost use Rattle.aig_refutation.specs.Skipping.{EndsLine, IsNear, SkipsBlanks, end_line};
+ghost use Rattle.aig_refutation.specs.Skipping.{AreNext, EndsLine, IsNear, SkipsBlanks, TakesNumbers, end_line};
 ghost use Rattle.aig_refutation.specs.Text.{fault, number_in, signed, word_in};
 ghost use Rattle.aig_refutation.specs.Tokens.{Answers, ClosesAt, Gives, GivesFirst, GivesWord, IsAfter, IsClosed, IsWord, end_after, fault_of, is_last, next_in, next_number, place, rest, said_number};
 
 use crate::error::RefutationError;
-use aig_base::Source;
+use crate::list::push;
+use aig_base::{MemoryError, Source};
 use aig_lexer::{InputBuffer, LexError, Signed, digits_from, signed_in};
 use std::marker::Model;
 
@@ -102,6 +103,26 @@ fn skip_line<R: Source>(buffer: &mut InputBuffer, r: &mut R) -> Result<bool, Ref
         }
     }
     Ok(false)
+}
+
+/// Appends the numbers at the front of `bytes`, each of which has no minus, isn't 0 and ends with a space
+/// that lies near, and returns how many bytes they take.
+#[inline(never)]
+fn push_numbers(bytes: &[u8], numbers: &mut Vec<u32>) -> Result<usize, MemoryError>
+    ensures within { IfOk result (λ n. n ≤ length bytes.now) }
+    ensures numbers { IfOk result (λ n. (taken : List ℕ)
+        × (numbers.new.items ≡ numbers.old.items ++ taken)
+        × AreNext bytes.now taken (drop n bytes.now)) }
+{
+    let mut at = 0;
+    while let Some(found) = signed_in(&bytes[at..]) {
+        if !found.positive || found.value == 0 || found.end != b' ' {
+            break;
+        }
+        push(numbers, found.value)?;
+        at += found.count;
+    }
+    Ok(at)
 }
 
 /// The text of a proof, from which words are taken.
@@ -269,8 +290,8 @@ impl Words {
         }))
     }
 
-    /// The next word of the line, which is a number.
-    pub(crate) fn number<R: Source>(&mut self, r: &mut R) -> Result<Number, RefutationError>
+    /// The next word of the line, which is a number, wherever it lies.
+    fn far_number<R: Source>(&mut self, r: &mut R) -> Result<Number, RefutationError>
         ensures stream { IsErrOf result RefutationError.Stream → R.failed r.new ≡ true }
         ensures fewer { OnOk result (rest R.pulls self.new r.new < rest R.pulls self.old r.old) }
         ensures number { Gives said_number next_number
@@ -282,6 +303,43 @@ impl Words {
             Word::Deletes => Err(RefutationError::Line),
             Word::End(end) => Err(end.fault()),
         }
+    }
+
+    /// The next word of the line, which is a number.
+    #[inline(always)]
+    pub(crate) fn number<R: Source>(&mut self, r: &mut R) -> Result<Number, RefutationError>
+        ensures stream { IsErrOf result RefutationError.Stream → R.failed r.new ≡ true }
+        ensures fewer { OnOk result (rest R.pulls self.new r.new < rest R.pulls self.old r.old) }
+        ensures number { Gives said_number next_number
+            (place R.left R.failed R.pulls self.old r.old)
+            (place R.left R.failed R.pulls self.new r.new) result }
+    {
+        if let Some(found) = self.near_number()
+            && found.end == b' '
+        {
+            self.buffer.consume(found.count);
+            return Ok(Number {
+                value: found.value,
+                positive: found.positive,
+            });
+        }
+        // Not its last call: a value that comes out of either of two ways would lie in memory.
+        let number = self.far_number(r)?;
+        Ok(number)
+    }
+
+    /// Appends the numbers that come next in the line, each of which has no minus, isn't 0 and lies, with
+    /// a space behind it, among the bytes that are held. It stops before any other word.
+    pub(crate) fn near_numbers(&mut self, numbers: &mut Vec<u32>) -> Result<(), MemoryError>
+        ensures { OnOk result ((taken : List ℕ)
+            × (numbers.new.items ≡ numbers.old.items ++ taken)
+            × TakesNumbers self.old self.new taken) }
+    {
+        if self.end.is_none() {
+            let count = push_numbers(self.buffer.window(), numbers)?;
+            self.buffer.consume(count);
+        }
+        Ok(())
     }
 
     /// The end of the line.

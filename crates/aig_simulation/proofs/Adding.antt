@@ -5,7 +5,7 @@ use Rattle.aig_renumber.proofs.Kept.{is_in-back, is_in-there}
 use Rattle.aig_renumber.proofs.Places.{Contains-map, Contains-map_back}
 use Rattle.aig_simulation.specs.Simulation.{Sharing}
 use Rattle.aig_simulation.specs.Marked.{AddsNamed, IsRefused}
-use Rattle.aig_simulation.specs.Named.{HasForm, IsFor, IsNamed, Names}
+use Rattle.aig_simulation.specs.Named.{IsMapping, IsFor, IsNamed, Names}
 use Rattle.aig_simulation.specs.declared.sharing.error.SharingError.TheVariants as errors
 
 -- the model's leaves of pairs, and those that stand for them
@@ -19,7 +19,7 @@ abbrev AreApart : List ℕ → Type 0
 AreApart ns = AllPairs (λ m n. m ≢ n) ns
 
 -- a name for a leaf has the form
-pub form_of : (names : Names) (m n : ℕ) → IsNamed (IsFor m) names n → IsNamed HasForm names n
+pub form_of : (names : Names) (m n : ℕ) → IsNamed (IsFor m) names n → IsNamed IsMapping names n
 form_of names m n is = (is.0, is.1, (is.2.0, is.2.1))
 
 -- the first leaves are among the first and one more
@@ -66,7 +66,7 @@ module _ (names : Names) (leaves : List ℕ) (P : ℕ → Type 0) (before : Shar
         (p.0, p.1, more_has leaves i d (get_or so_far.added k e).1 within p.2)
 
     -- a leaf whose name hasn't the form
-    pub adds_skip : ¬ IsNamed HasForm names leaf
+    pub adds_skip : ¬ IsNamed IsMapping names leaf
         → AddsNamed names (take (i + 1) leaves) P before after marks
     adds_skip none = record {
       added = so_far.added;
@@ -75,7 +75,7 @@ module _ (names : Names) (leaves : List ℕ) (P : ℕ → Type 0) (before : Shar
         each = old_each;
         all = λ n has form. elim (more_cases leaves i d n within has) [
           | inl old ↦ so_far.named.all n old form
-          | inr same ↦ absurd (none (subst (IsNamed HasForm names) (sym same) form))
+          | inr same ↦ absurd (none (subst (IsNamed IsMapping names) (sym same) form))
         ];
       };
       taken = so_far.taken;

@@ -4,7 +4,7 @@ use Rattle.aig_circuit.proofs.Circuits.{AllPairs-append, latch_leaves-leaves}
 use Rattle.aig_circuit.proofs.Words.{Circuit, IsCircuit, IsLeaf, latch_leaves}
 use Rattle.aig_simulation.specs.Questions.{CanShareLeaves}
 use Rattle.aig_simulation.specs.Simulation.{Sharing}
-use Rattle.aig_simulation.specs.Named.{AreNamed, HasForm, HasNoForm, IsFor, IsNamed, Names, SharesByName, in_order}
+use Rattle.aig_simulation.specs.Named.{AreNamed, IsMapping, HasNoMapping, IsFor, IsNamed, Names, SharesByName, in_order}
 use Rattle.aig_simulation.proofs.Adding.{form_of}
 
 -- ---- by names
@@ -64,7 +64,7 @@ module _ (model witness : Circuit) (is_model : IsCircuit model)
 
   -- a leaf with the form is in a pair
   in_pair : (shared : Sharing) → SharesByName model witness shared → (n : ℕ) → Contains leaves n
-      → IsNamed HasForm witness.names n → Contains (map (λ (p : ℕ × ℕ). p.1) shared) n
+      → IsNamed IsMapping witness.names n → Contains (map (λ (p : ℕ × ℕ). p.1) shared) n
   in_pair shared by_name n has form =
       let both : map (λ (p : ℕ × ℕ). p.1) shared
       ≡ map (λ (p : ℕ × ℕ). p.1) by_name.inputs ++ map (λ (p : ℕ × ℕ). p.1) by_name.latches =
@@ -82,7 +82,7 @@ module _ (model witness : Circuit) (is_model : IsCircuit model)
 
   -- with no pair no leaf has the form
   pub none_named : (shared : Sharing) → SharesByName model witness shared → shared ≡ []
-      → HasNoForm witness
+      → HasNoMapping witness
   none_named shared by_name none k d h form =
       let has = in_pair shared by_name (get_or leaves k d) (Contains-get_or leaves k d h) form in
       let nowhere : Contains [] (get_or leaves k d) =
@@ -91,12 +91,12 @@ module _ (model witness : Circuit) (is_model : IsCircuit model)
 
   -- and with a pair one has
   pub some_named : (shared : Sharing) → SharesByName model witness shared → (shared ≡ [] → ⊥)
-      → ¬ HasNoForm witness
+      → ¬ HasNoMapping witness
   some_named shared by_name some none = by shared refl
     where
       of_list : (names : Names) (ns : List ℕ) (P : ℕ → Type 0) (pairs : Sharing)
           → AreNamed names ns P pairs → (p : ℕ × ℕ) → Contains pairs p
-          → Contains ns p.1 × IsNamed HasForm names p.1
+          → Contains ns p.1 × IsNamed IsMapping names p.1
       of_list names ns P pairs are p has =
           let each = All-contains
           (λ (q : ℕ × ℕ). IsNamed (IsFor q.0) names q.1 × P q.0 × Contains ns q.1) pairs p are.each
@@ -111,14 +111,14 @@ module _ (model witness : Circuit) (is_model : IsCircuit model)
             | inl input ↦ (
                 let named = of_list witness.names witness.inputs (Contains model.inputs)
                 by_name.inputs by_name.named_inputs p input in
-                All-contains (λ n. ¬ IsNamed HasForm witness.names n) leaves p.1 none
+                All-contains (λ n. ¬ IsNamed IsMapping witness.names n) leaves p.1 none
                 (Contains-append_left witness.inputs (latch_leaves witness.latchs) p.1 named.0)
                 named.1)
             | inr latch ↦ (
                 let named = of_list witness.names (latch_leaves witness.latchs)
                 (Contains (latch_leaves model.latchs)) by_name.latches by_name.named_latches p
                 latch in
-                All-contains (λ n. ¬ IsNamed HasForm witness.names n) leaves p.1 none
+                All-contains (λ n. ¬ IsNamed IsMapping witness.names n) leaves p.1 none
                 (Contains-append_right witness.inputs (latch_leaves witness.latchs) p.1 named.0)
                 named.1)
           ]

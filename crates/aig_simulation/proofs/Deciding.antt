@@ -13,7 +13,7 @@ use Rattle.aig_unroll.specs.Frame.{image_at}
 use Rattle.aig_simulation.specs.Asking.{AsksWhether, IsFalseWhere}
 use Rattle.aig_simulation.specs.Frames.{IsCopy, IsFrame, own_among, read}
 use Rattle.aig_simulation.specs.Questions.{CanShareLeaves}
-use Rattle.aig_simulation.specs.Simulation.{Agrees, AllOwn, BaseHolds, IsMove, IsOwn, Moves, PropertyHolds, ResetHolds, Sharing, Starts, StepHolds, TransitionHolds}
+use Rattle.aig_simulation.specs.Simulation.{Agrees, AllOwn, BaseHolds, IsMove, IsOwn, TakesNext, PropertyHolds, ResetHolds, Sharing, Starts, StepHolds, TransitionHolds}
 use Rattle.aig_simulation.proofs.Copied.{same_below}
 use Rattle.aig_simulation.proofs.Giving.{copy_stays}
 use Rattle.aig_simulation.proofs.Reading.{all_start_same, constraints_same, good_same, moves_same, value_same}
@@ -226,7 +226,7 @@ module _ (shared : Sharing) (model witness : Circuit) (is_model : IsCircuit mode
         no_share has = absurd (omega (arith, has.1))
 
     own_moves : (w : ℕ → Bool)
-        → AllOwn shared (Moves witness (read last second w) (read last fourth w)) witness.latchs
+        → AllOwn shared (TakesNext witness (read last second w) (read last fourth w)) witness.latchs
     own_moves w k d h own =
         ap (edge_value last w) (frame_z.moves k d h own)
         ∙ copy_second.value w (get_or witness.latchs k d).next (is_witness.latchs k d h).next
@@ -240,7 +240,7 @@ module _ (shared : Sharing) (model witness : Circuit) (is_model : IsCircuit mode
       of_z : (n : ℕ) → IsLeaf witness.nodes n → z n ≡ read last fourth at n
 
     met_next : (x next y z : ℕ → Bool) → Agrees shared x y → Agrees shared next z
-        → IsMove model x next → AllOwn shared (Moves witness y z) witness.latchs
+        → IsMove model x next → AllOwn shared (TakesNext witness y z) witness.latchs
         → MetNext x next y z
     met_next x next y z same same_next moves own =
         let m = met x y same in

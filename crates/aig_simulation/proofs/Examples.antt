@@ -5,7 +5,7 @@ use Rattle.aig_circuit.specs.declared.node.AigLatch.{AigLatch}
 use Rattle.aig_circuit.specs.declared.node.AigNodeType.TheVariants.{False, Leaf}
 use Rattle.aig_circuit.proofs.Words.{Circuit, IsInitial, edge_to, edge_value, no_properties, only_false}
 use Rattle.aig_circuit.specs.Tree.{node_value, tree_of}
-use Rattle.aig_simulation.specs.Simulation.{Agrees, AllOwn, BaseHolds, CanStart, IsMove, IsOwn, IsSharing, Moves, PropertyHolds, ResetHolds, Sharing, Starts, StepHolds, TransitionHolds}
+use Rattle.aig_simulation.specs.Simulation.{Agrees, AllOwn, BaseHolds, CanStart, IsMove, IsOwn, IsSharing, TakesNext, PropertyHolds, ResetHolds, Sharing, Starts, StepHolds, TransitionHolds}
 use Rattle.aig_simulation.specs.Stratified.{IsInOrder}
 
 -- a latch whose leaf is node 1
@@ -44,9 +44,9 @@ agrees : (x : ℕ → Bool) → Agrees shared x x
 agrees x = All-cons (λ p. x p.0 ≡ x p.1) (1, 1) [] refl (All-nil _)
 
 moves : (next : AigEdge) (bads : List AigEdge) (y z : ℕ → Bool)
-    → Moves (one_latch next None bads) y z (latch next None) → IsMove (one_latch next None bads) y z
+    → TakesNext (one_latch next None bads) y z (latch next None) → IsMove (one_latch next None bads) y z
 moves next bads y z e =
-    All-cons (Moves (one_latch next None bads) y z) (latch next None) [] e (All-nil _)
+    All-cons (TakesNext (one_latch next None bads) y z) (latch next None) [] e (All-nil _)
 
 starts : (next : AigEdge) (bads : List AigEdge) (y : ℕ → Bool)
     → IsInitial (one_latch next None bads) y
@@ -80,7 +80,7 @@ unfolding node_value tree_of
 no_transition holds =
     let moved = holds low high low high (agrees low) (agrees high) (moves turned [] low high refl)
     (All-nil _) (All-nil _) (All-nil _)
-    (none_own (Moves (one_latch leaf None []) low high) leaf None) in
+    (none_own (TakesNext (one_latch leaf None []) low high) leaf None) in
     let same : true ≡ false = moved.0 0 (latch leaf None) (omega arith) in
     false≢true (sym same)
 

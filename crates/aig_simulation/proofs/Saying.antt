@@ -3,7 +3,7 @@ use Rattle.aig_base.proofs.Words.{◌≡◌, ◌≢◌, ℕ, zero, suc, ◌+◌,
 use Rattle.std.proofs.Common.{Bor}
 use Rattle.std.specs.FinMap.{get}
 use Rattle.aig_simulation.specs.Marked.{IsAt}
-use Rattle.aig_simulation.specs.Named.{HasForm, IsFor, IsNamed, Names, sharing_prefix}
+use Rattle.aig_simulation.specs.Named.{IsMapping, IsFor, IsNamed, Names, sharing_prefix}
 
 -- what follows both bytes of the prefix
 pub both_bytes : (name rest : List ℕ) (r : Option (Bor (List ℕ))) → name ≡ 61 ∷ rest
@@ -19,10 +19,10 @@ both_bytes name rest None first none = λ more is. none more (same_rest (sym fir
 -- what is said of a text is said of the node whose name it is
 pub said : (names : Names) (n : ℕ) (text : List ℕ) (marks : List Bool) (node : Option ℕ)
     → get names n ≡ Some text
-    → MatchOption node (¬ HasForm text) (λ m. IsAt marks m × IsFor m text)
-    → MatchOption node (¬ IsNamed HasForm names n) (λ m. IsAt marks m × IsNamed (IsFor m) names n)
+    → MatchOption node (¬ IsMapping text) (λ m. IsAt marks m × IsFor m text)
+    → MatchOption node (¬ IsNamed IsMapping names n) (λ m. IsAt marks m × IsNamed (IsFor m) names n)
 said names n text marks None known none = λ named.
-    none (subst HasForm (same_Some _ _ (sym named.1 ∙ known)) named.2)
+    none (subst IsMapping (same_Some _ _ (sym named.1 ∙ known)) named.2)
 said names n text marks (Some m) known is = (is.0, (text, known, is.1))
 
 -- ---- pairs by order

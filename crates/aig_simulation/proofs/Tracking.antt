@@ -6,7 +6,7 @@ use Rattle.aig_circuit.proofs.Words.{Circuit, IsCircuit, IsInitial, IsRun, edge_
 use Rattle.aig_change.specs.Runs.{IsAllowedRun}
 use Rattle.aig_join.specs.Pairs.{IsGoodState, MeetsConstraints}
 use Rattle.aig_runs.specs.Safety.{IsCircuitSafeAt}
-use Rattle.aig_simulation.specs.Simulation.{Agrees, AllOwn, IsCertificate, IsMove, Moves, Sharing, Starts}
+use Rattle.aig_simulation.specs.Simulation.{Agrees, AllOwn, IsCertificate, IsMove, TakesNext, Sharing, Starts}
 use Rattle.aig_simulation.proofs.Putting.{puts, puts_each, puts_other}
 
 module _ (shared : Sharing) (model witness : Circuit) (is : IsCircuit witness)
@@ -27,7 +27,7 @@ module _ (shared : Sharing) (model witness : Circuit) (is : IsCircuit witness)
   abbrev next : (ℕ → Bool) → (ℕ → Bool) → ℕ → Bool
   next x y = with_shared x (next_values y)
 
-  moves : (x y : ℕ → Bool) → AllOwn shared (Moves witness y (next x y)) witness.latchs
+  moves : (x y : ℕ → Bool) → AllOwn shared (TakesNext witness y (next x y)) witness.latchs
   moves x y k d h own =
       let l = get_or witness.latchs k d in
       puts_other (λ (p : ℕ × ℕ). p.1) (λ p. x p.0) (next_values y) shared l.input own

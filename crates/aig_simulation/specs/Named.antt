@@ -23,8 +23,8 @@ abbrev pub sharing_prefix : List ℕ
 sharing_prefix = codes "= "
 
 -- the text begins so
-abbrev pub HasForm : List ℕ → Type 0
-HasForm text = (rest : List ℕ) × (text ≡ sharing_prefix ++ rest)
+abbrev pub IsMapping : List ℕ → Type 0
+IsMapping text = (rest : List ℕ) × (text ≡ sharing_prefix ++ rest)
 
 -- it is so, and then the literal of node m: twice its number
 abbrev pub IsFor : ℕ → List ℕ → Type 0
@@ -41,7 +41,7 @@ IsNamed P names n = (text : List ℕ) × (get names n ≡ Some text) × P text
 pub record AreNamed (names : Names) (leaves : List ℕ) (P : ℕ → Type 0) (pairs : Sharing) : Type 0
   where
     pub each : All (λ p. IsNamed (IsFor p.0) names p.1 × P p.0 × Contains leaves p.1) pairs
-    pub all : (n : ℕ) → Contains leaves n → IsNamed HasForm names n
+    pub all : (n : ℕ) → Contains leaves n → IsNamed IsMapping names n
         → Contains (map (λ p. p.1) pairs) n
 
 -- by their names: inputs stand for inputs, latches for latches, none stands for two, and no two for
@@ -57,9 +57,9 @@ pub record SharesByName (model witness : Circuit) (shared : Sharing) : Type 0 wh
   pub sharing : IsSharing shared
 
 -- no name of an input or a latch has the form
-abbrev pub HasNoForm : Circuit → Type 0
-HasNoForm c =
-    All (λ n. ¬ IsNamed HasForm c.names n) (c.inputs ++ latch_leaves c.latchs)
+abbrev pub HasNoMapping : Circuit → Type 0
+HasNoMapping c =
+    All (λ n. ¬ IsNamed IsMapping c.names n) (c.inputs ++ latch_leaves c.latchs)
 
 -- by order: the first inputs, and the first latches, as many as both have
 abbrev pub in_order : Circuit → Circuit → Sharing
@@ -70,14 +70,14 @@ in_order model witness =
 -- which leaves are shared: by their names, and where none has the form, by order
 abbrev pub Shares : Circuit → Circuit → Sharing → Type 0
 Shares model witness shared =
-    ((¬ HasNoForm witness) × SharesByName model witness shared)
-    ⊎ (HasNoForm witness × (shared ≡ in_order model witness))
+    ((¬ HasNoMapping witness) × SharesByName model witness shared)
+    ⊎ (HasNoMapping witness × (shared ≡ in_order model witness))
 
 -- ---- why none are
 
 -- the leaf's name has the form, but the literal of no leaf for which P holds
 abbrev pub IsUnknown : Names → (ℕ → Type 0) → ℕ → Type 0
-IsUnknown names P n = IsNamed HasForm names n × ((m : ℕ) → P m → ¬ IsNamed (IsFor m) names n)
+IsUnknown names P n = IsNamed IsMapping names n × ((m : ℕ) → P m → ¬ IsNamed (IsFor m) names n)
 
 -- another of these leaves has the literal of one that leaf n has
 abbrev pub IsTwice : Names → List ℕ → ℕ → Type 0

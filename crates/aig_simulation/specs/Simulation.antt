@@ -41,12 +41,12 @@ abbrev pub Starts : Circuit → (ℕ → Bool) → AigLatch → Type 0
 Starts c y latch = IfSome latch.init (λ e. edge_value c.nodes y e ≡ y latch.input)
 
 -- the latch's leaf has in z the value of its next edge in y
-abbrev pub Moves : Circuit → (ℕ → Bool) → (ℕ → Bool) → AigLatch → Type 0
-Moves c y z latch = z latch.input ≡ edge_value c.nodes y latch.next
+abbrev pub TakesNext : Circuit → (ℕ → Bool) → (ℕ → Bool) → AigLatch → Type 0
+TakesNext c y z latch = z latch.input ≡ edge_value c.nodes y latch.next
 
 -- a step of the circuit
 abbrev pub IsMove : Circuit → (ℕ → Bool) → (ℕ → Bool) → Type 0
-IsMove c y z = All (Moves c y z) c.latchs
+IsMove c y z = All (TakesNext c y z) c.latchs
 
 -- whatever values its shared leaves have, the own latches can start
 abbrev pub CanStart : Sharing → Circuit → Type 0
@@ -68,7 +68,7 @@ abbrev pub TransitionHolds : Sharing → Circuit → Circuit → Type 0
 TransitionHolds shared model witness =
     (x next y z : ℕ → Bool) → Agrees shared x y → Agrees shared next z → IsMove model x next
     → MeetsConstraints model x → MeetsConstraints model next → MeetsConstraints witness y
-    → AllOwn shared (Moves witness y z) witness.latchs
+    → AllOwn shared (TakesNext witness y z) witness.latchs
     → IsMove witness y z × MeetsConstraints witness z
 
 -- where the witness circuit's state is good, the model's is

@@ -1,6 +1,8 @@
 -- Words give one command.
 use Rattle.aig_base.proofs.Words.{◌≡◌, ◌↔◌, ℕ, List, Some, refl, sym, ap, subst, ◌∙◌, arith, same_Some}
-use Rattle.std.specs.Prelude.{All, Contains, Err, Ok, Result}
+use Rattle.std.specs.List.{position_or_len}
+use Rattle.std.specs.Prelude.{All, Contains, Err, Ok, Result, not}
+use Rattle.std.proofs.Common.{lit<}
 use Rattle.aig_command_line.specs.declared.status.Ending.TheVariants as endings
 use Rattle.aig_command_line.specs.Arguments.{Arguments}
 use Rattle.aig_command_line.specs.Ending.{ended}
@@ -11,13 +13,11 @@ use Rattle.aig_tool_commands.specs.declared.command.Command.{Command}
 use Rattle.aig_tool_commands.specs.declared.command.TheConstants.Action.{ALL}
 use Rattle.aig_tool_commands.specs.CommandWords.{Give, IsCall, command_of, form_of, name_of}
 
--- each command is in the list
+-- each command is in the list, at the place of the first that doesn't exclude it
 pub among : (a : Action) → Contains ALL a
 among actions.Text = (0, omega arith, refl)
-among actions.Binary = (1, omega arith, refl)
-among actions.Strash = (2, omega arith, refl)
-among actions.Cnf = (3, omega arith, refl)
-among actions.Query = (4, omega arith, refl)
+among a =
+    (position_or_len (λ b. not (apart.exclude name_of form_of a b)) ALL, lit< tt, refl)
 
 -- what holds of each in the list holds of each
 pub each : (P : Action → Type 0) → All P ALL → (a : Action) → P a

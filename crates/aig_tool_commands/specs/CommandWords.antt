@@ -1,7 +1,7 @@
 -- Part of what is promised.
 -- Which words give which command.
 use Rattle.std.specs.Prelude.{◌≡◌, ℕ, Bool, true, List, codes}
-use Rattle.aig_command_line.specs.declared.arguments.Form.{Form}
+use Rattle.aig_command_line.specs.declared.arguments.ArgumentForm.{ArgumentForm}
 use Rattle.aig_command_line.specs.declared.arguments.Step.TheVariants.{At}
 use Rattle.aig_command_line.specs.Arguments.{Arguments, Gives, of_paths}
 use Rattle.aig_tool_commands.specs.declared.command.Action.{Action}
@@ -18,7 +18,7 @@ name_of actions.Cnf = codes "cnf"
 name_of actions.Query = codes "query"
 
 -- what comes after it: FILE; FILE and OUT; FILE, K and `raw` or nothing
-abbrev pub form_of : Action → Form
+abbrev pub form_of : Action → ArgumentForm
 form_of actions.Text = of_paths 1
 form_of actions.Binary = of_paths 2
 form_of actions.Strash = of_paths 1

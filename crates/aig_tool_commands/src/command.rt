@@ -4,7 +4,7 @@ ghost use Rattle.std.specs.Prelude.{◌≡◌, ◌≤◌, ◌↔◌, List, ℕ, 
 ghost use Rattle.aig_tool_commands.specs.CommandWords.{Give, IsCall, command_of, form_of, name_of};
 ghost use Rattle.aig_tool_commands.specs.declared.command.Command.{Command};
 
-use aig_command_line::{Form, HasForm, Step, find};
+use aig_command_line::{ArgumentForm, HasArguments, Step, find};
 
 /// What the program is asked to do.
 #[derive(Clone, Copy)]
@@ -47,7 +47,7 @@ pub enum Action {
 }
 
 /// The form of a command on FILE, K and `raw` or nothing.
-const CLAUSES: Form = Form {
+const CLAUSES: ArgumentForm = ArgumentForm {
     paths: 1,
     step: Step::At,
     further: 0,
@@ -55,7 +55,7 @@ const CLAUSES: Form = Form {
     raw: true,
 };
 
-impl HasForm for Action {
+impl HasArguments for Action {
     ghost name = { name_of };
 
     ghost form = { form_of };
@@ -70,10 +70,10 @@ impl HasForm for Action {
         }
     }
 
-    fn form(&self) -> Form {
+    fn form(&self) -> ArgumentForm {
         match self {
-            Action::Text | Action::Strash => Form::of_paths(1),
-            Action::Binary => Form::of_paths(2),
+            Action::Text | Action::Strash => ArgumentForm::of_paths(1),
+            Action::Binary => ArgumentForm::of_paths(2),
             Action::Cnf | Action::Query => CLAUSES,
         }
     }

@@ -76,6 +76,23 @@ unsafe extern "C" {
         step: *const u8,
         step_len: usize,
     ) -> u32;
+    pub fn aig_check_simulated(
+        file: *const u8,
+        file_len: usize,
+        witness: *const u8,
+        witness_len: usize,
+        optimize: bool,
+        reset: *const u8,
+        reset_len: usize,
+        transition: *const u8,
+        transition_len: usize,
+        property: *const u8,
+        property_len: usize,
+        base: *const u8,
+        base_len: usize,
+        step: *const u8,
+        step_len: usize,
+    ) -> u32;
     pub fn aig_check_equal(
         file: *const u8,
         file_len: usize,

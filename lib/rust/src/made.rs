@@ -152,6 +152,16 @@ pub fn check_certified(file: &[u8], certificate: &[u8], optimize: bool, base: &[
     })
 }
 
+/// Done only where no such run ever reaches a bad state, as `witness` shows: a witness circuit of the hardware model checking
+/// competition, with resets that are constants or open. An input or a latch of it that is named `= N` stands for the first file's of
+/// literal N; without any such name the first ones stand for these, in order. For each condition of a certificate there is a proof of the
+/// clauses that `aigcheck obligations FILE WITNESS CONDITION` prints.
+pub fn check_simulated(file: &[u8], witness: &[u8], optimize: bool, reset: &[u8], transition: &[u8], property: &[u8], base: &[u8], step: &[u8]) -> Result<()> {
+    held(unsafe {
+        calls::aig_check_simulated(file.as_ptr(), file.len(), witness.as_ptr(), witness.len(), optimize, reset.as_ptr(), reset.len(), transition.as_ptr(), transition.len(), property.as_ptr(), property.len(), base.as_ptr(), base.len(), step.as_ptr(), step.len())
+    })
+}
+
 /// Done only where the machines of two files have the same outputs and bad state properties at step `k`, on all runs of both from initial
 /// states, with the same inputs, that meet the constraints of both at each step. Where there are no such runs it says nothing;
 /// constraints, justice and fairness aren't compared. `proof` is of the clauses of `query` of the text that `miter` gives.

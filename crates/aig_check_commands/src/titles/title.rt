@@ -1,12 +1,14 @@
 //! Titles, and how they are written.
 
-ghost use Rattle.std.specs.Prelude.{◌≡◌, ◌++◌, ◌∷◌, [], decimal};
+ghost use Rattle.std.specs.Prelude.{◌≡◌, ◌++◌, ◌∷◌, [], codes, decimal};
 ghost use Rattle.hex.specs.Hex.{encode_lower};
 ghost use Rattle.aig_output.specs.Sinks.{BuffersOrStops, WritesOrStops};
+ghost use Rattle.aig_simulation.specs.Names.{condition_name};
 ghost use Rattle.aig_check_commands.specs.Titles.{beside_text, distinct_text, question_text, raw_text, title_text};
 
 use aig_base::{Sink, StreamFault};
 use aig_output::OutputBuffer;
+use aig_simulated::Condition;
 
 /// What clauses ask.
 #[derive(Clone, Copy)]
@@ -30,6 +32,11 @@ pub enum Question {
     },
     /// For what the proofs of a certificate exclude.
     Obligations,
+    /// For what breaks a condition of a witness circuit.
+    Obligation {
+        /// The condition.
+        condition: Condition,
+    },
 }
 
 /// The title of clauses.
@@ -84,6 +91,20 @@ fn buffer_numbered<W: Sink>(
     buffer.write_bytes(w, distinct_word(distinct))
 }
 
+/// Buffers the words of a question for what breaks a condition.
+fn buffer_condition<W: Sink>(
+    buffer: &mut OutputBuffer,
+    w: &mut W,
+    condition: Condition,
+) -> Result<(), StreamFault>
+    ensures { let text = codes "obligations " ++ condition_name condition ++ 32 ∷ [] in
+        BuffersOrStops W.held W.failed buffer.old w.old result text buffer.new w.new }
+{
+    buffer.write_bytes(w, b"obligations ")?;
+    buffer.write_bytes(w, condition.name().as_bytes())?;
+    buffer.write_bytes(w, b" ")
+}
+
 /// Buffers the words of a question.
 fn buffer_question<W: Sink>(
     buffer: &mut OutputBuffer,
@@ -98,6 +119,7 @@ fn buffer_question<W: Sink>(
         Question::Window { k, distinct } => buffer_numbered(buffer, w, b"window ", k, distinct),
         Question::Bounded { k } => buffer_numbered(buffer, w, b"bounded ", k, false),
         Question::Obligations => buffer.write_bytes(w, b"obligations "),
+        Question::Obligation { condition } => buffer_condition(buffer, w, condition),
     }
 }
 

@@ -1,8 +1,8 @@
 //! Clauses of two and three literals.
 
 use crate::hints::clauses::Clauses;
-use crate::hints::trail::Trail;
-use crate::hints::watches::{Watch, Watches};
+use crate::hints::trail::{Pair, Trail};
+use crate::hints::watches::Watches;
 use aig_base::{Lit, MemoryError};
 
 /// Clauses of two or three literals, all of which are watched, beside the other two. Where there are
@@ -10,24 +10,6 @@ use aig_base::{Lit, MemoryError};
 ///
 /// A clause knows where its watches stand, so that they are dropped at no more cost.
 pub(crate) type Shorts = Watches<[Lit; 2]>;
-
-impl Watch<[Lit; 2]> {
-    /// Makes the literal of the clause true that isn't false, and says whether there is one.
-    #[inline(always)]
-    fn force(&self, trail: &mut Trail) -> bool {
-        let first = self.others[0];
-        let lit = if trail.is_false(first) {
-            self.others[1]
-        } else {
-            first
-        };
-        if trail.is_false(lit) {
-            return false;
-        }
-        trail.assign(lit, self.place);
-        true
-    }
-}
 
 impl Watches<[Lit; 2]> {
     /// Lets a clause watch this one of its literals, beside these others.
@@ -88,8 +70,10 @@ impl Watches<[Lit; 2]> {
     /// in the list.
     pub(crate) fn visit_all(&self, lit: Lit, trail: &mut Trail) -> Option<u32> {
         for watch in self.list(lit)? {
-            if trail.is_forced(watch.others) && !watch.force(trail) {
-                return Some(watch.place);
+            match trail.pair(watch.others) {
+                Pair::Open => {}
+                Pair::Last(lit) => trail.assign(lit, watch.place),
+                Pair::False => return Some(watch.place),
             }
         }
         None

@@ -16,10 +16,36 @@ const TRUE: u8 = 2;
 fn put(weights: &mut [u8], lit: Lit, weight: u8, of_inverse: u8) {
     let i = u32::from(lit) as usize;
     let inverse = i ^ 1;
-    if i < weights.len() && inverse < weights.len() {
+    if i.max(inverse) < weights.len() {
         weights[i] = weight;
         weights[inverse] = of_inverse;
     }
+}
+
+/// A true literal, and the place of the clause that gave its value, or 0.
+#[derive(Clone, Copy)]
+struct Given {
+    lit: Lit,
+    reason: u32,
+}
+
+/// Room for a true literal.
+fn no_literal() -> Given {
+    Given {
+        lit: Lit::from(0),
+        reason: 0,
+    }
+}
+
+/// What a clause says by two of its literals, where its others are false.
+#[derive(Clone, Copy)]
+pub(crate) enum Pair {
+    /// Nothing: one is true, or both have no value.
+    Open,
+    /// This one is true, since the other is false.
+    Last(Lit),
+    /// Both are false.
+    False,
 }
 
 /// Truth values of literals, in the order in which they came.
@@ -29,9 +55,7 @@ pub(crate) struct Trail {
     /// For each variable where its literal stands in the order, if it has a value.
     orders: Vec<u32>,
     /// The true literals, and room for the others.
-    lits: Vec<Lit>,
-    /// For each of them the place of the clause that gave its value, or 0.
-    reasons: Vec<u32>,
+    given: Vec<Given>,
     /// How many literals are true.
     len: usize,
 }
@@ -41,8 +65,7 @@ impl Drop for Trail {
         let Trail {
             weights: _,
             orders: _,
-            lits: _,
-            reasons: _,
+            given: _,
             len: _,
         } = self;
     }
@@ -54,8 +77,7 @@ impl Trail {
         Ok(Trail {
             weights: vec![in alloc; OPEN; variables.saturating_mul(2)]?,
             orders: vec![in alloc; 0; variables]?,
-            lits: vec![in alloc; Lit::from(0); variables]?,
-            reasons: vec![in alloc; 0; variables]?,
+            given: vec![in alloc; no_literal(); variables]?,
             len: 0,
         })
     }
@@ -64,8 +86,7 @@ impl Trail {
     pub(crate) fn grow(&mut self, variables: usize) -> Result<(), MemoryError> {
         self.weights.resize(variables.saturating_mul(2), OPEN)?;
         self.orders.resize(variables, 0)?;
-        self.lits.resize(variables, Lit::from(0))?;
-        self.reasons.resize(variables, 0)?;
+        self.given.resize(variables, no_literal())?;
         Ok(())
     }
 
@@ -76,8 +97,8 @@ impl Trail {
 
     /// The true literal that stands here in the order, if there are so many.
     pub(crate) fn get(&self, i: usize) -> Option<Lit> {
-        if i < self.len && i < self.lits.len() {
-            Some(self.lits[i])
+        if i < self.len && i < self.given.len() {
+            Some(self.given[i].lit)
         } else {
             None
         }
@@ -103,22 +124,30 @@ impl Trail {
         self.weight(lit) == FALSE
     }
 
-    /// Whether of two literals that are there one is false and the other isn't true.
+    /// What a clause says by these two of its literals, if they are there, where its others are false.
     #[inline(always)]
-    pub(crate) fn is_forced(&self, lits: [Lit; 2]) -> bool {
+    pub(crate) fn pair(&self, lits: [Lit; 2]) -> Pair {
         let first = u32::from(lits[0]) as usize;
         let second = u32::from(lits[1]) as usize;
-        if first >= self.weights.len() || second >= self.weights.len() {
-            return false;
+        if first.max(second) >= self.weights.len() {
+            return Pair::Open;
         }
-        self.weights[first] as u32 + self.weights[second] as u32 <= OPEN as u32
+        let weight = self.weights[first];
+        let both = weight as u32 + self.weights[second] as u32;
+        if both > OPEN as u32 {
+            return Pair::Open;
+        }
+        if both == FALSE as u32 {
+            return Pair::False;
+        }
+        Pair::Last(if weight == FALSE { lits[1] } else { lits[0] })
     }
 
     /// The place of the clause that gave its value to the literal that stands here in the order, or
     /// 0.
     pub(crate) fn reason(&self, i: usize) -> u32 {
-        if i < self.reasons.len() {
-            self.reasons[i]
+        if i < self.given.len() {
+            self.given[i].reason
         } else {
             0
         }
@@ -139,9 +168,8 @@ impl Trail {
     pub(crate) fn assign(&mut self, lit: Lit, reason: u32) {
         let i = self.len;
         let variable = usize::from(lit.var());
-        if i < self.lits.len() && i < self.reasons.len() && variable < self.orders.len() {
-            self.lits[i] = lit;
-            self.reasons[i] = reason;
+        if i < self.given.len() && variable < self.orders.len() {
+            self.given[i] = Given { lit, reason };
             self.orders[variable] = u32::try_from(i).unwrap_or(0);
             self.len = i + 1;
         }
@@ -150,9 +178,9 @@ impl Trail {
 
     /// Keeps the first `len` literals alone.
     pub(crate) fn undo(&mut self, len: usize) {
-        let end = self.len.min(self.lits.len());
-        for lit in &self.lits[len.min(end)..end] {
-            put(&mut self.weights, *lit, OPEN, OPEN);
+        let end = self.len.min(self.given.len());
+        for given in &self.given[len.min(end)..end] {
+            put(&mut self.weights, given.lit, OPEN, OPEN);
         }
         self.len = self.len.min(len);
     }

@@ -4,7 +4,7 @@ ghost use Rattle.std.specs.Prelude.{◌≡◌, ◌≢◌, ◌*◌, ◌++◌, ℕ
 ghost use Rattle.aig_circuit.specs.View.{names_of};
 ghost use Rattle.aig_format.specs.Text.{IsNumber};
 ghost use Rattle.aig_simulation.specs.Marked.{IsAt};
-ghost use Rattle.aig_simulation.specs.Named.{HasForm, IsFor, IsNamed, sharing_prefix};
+ghost use Rattle.aig_simulation.specs.Named.{IsMapping, IsFor, IsNamed, sharing_prefix};
 ghost use Rattle.aig_simulation.specs.declared.sharing.error.SharingError.TheVariants as errors;
 
 use crate::sharing::error::SharingError;
@@ -42,8 +42,8 @@ fn marked_node(marks: &[bool], text: &str) -> Option<usize>
 /// The marked node whose literal the name has behind the prefix.
 fn node_by_name(marks: &[bool], name: &str) -> Result<Option<usize>, ()>
     ensures { MatchResult result
-        (λ node. MatchOption node (¬ HasForm name.now) (λ m. IsAt marks.now m × IsFor m name.now))
-        (λ _. HasForm name.now × ((m : ℕ) → IsAt marks.now m → ¬ IsFor m name.now)) }
+        (λ node. MatchOption node (¬ IsMapping name.now) (λ m. IsAt marks.now m × IsFor m name.now))
+        (λ _. IsMapping name.now × ((m : ℕ) → IsAt marks.now m → ¬ IsFor m name.now)) }
 {
     let Some(text) = behind_prefix(name) else {
         return Ok(None);
@@ -62,9 +62,9 @@ pub(crate) fn node_for(
     leaf: usize,
 ) -> Result<Option<usize>, SharingError>
     ensures { let known = names_of names.now.entries in MatchResult result
-        (λ node. MatchOption node (¬ IsNamed HasForm known leaf)
+        (λ node. MatchOption node (¬ IsNamed IsMapping known leaf)
         (λ m. IsAt marks.now m × IsNamed (IsFor m) known leaf))
-        (λ e. (e ≡ errors.Unknown leaf) × IsNamed HasForm known leaf
+        (λ e. (e ≡ errors.Unknown leaf) × IsNamed IsMapping known leaf
         × ((m : ℕ) → IsAt marks.now m → ¬ IsNamed (IsFor m) known leaf)) }
 {
     let Some(name) = names.get(&leaf) else {

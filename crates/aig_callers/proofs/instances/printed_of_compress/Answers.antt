@@ -1,5 +1,5 @@
 use Rattle.aig_base.proofs.Words.{[], ◌∷◌, Some, ap, sym, ◌∙◌, codes}
-use Rattle.aig_edits.specs.declared.edit.Edit.TheVariants as edits
+use Rattle.aig_edits.specs.declared.editing.Edit.TheVariants as edits
 use Rattle.aig_edit_commands.specs.declared.command.Command.TheVariants as commands
 use Rattle.aig_edit_commands.specs.declared.command.FileCommand.TheVariants as files
 use Rattle.aig_callers.proofs.Known.{compress_call, compressed_done}

@@ -5,7 +5,7 @@ use Rattle.aig_calls.proofs.numbers.ask.Goals as goal
 pub returns-in_err-asked : goal.returns-in_err-asked
 returns-in_err-asked c =
     let p = err_from_is_err_and c.from_residual.result c.from_residual.ensures.1 in
-    rw (p.1, p.2) (on c.new-source.result c.asked_query.new.r c.new-source.ensures.reader (record {
+    rw (p.1, p.2) (on c.new-source.result c.read_query.new.r c.new-source.ensures.reader (record {
       answer = tt;
       verdict = c.in_err-asked.ensures.verdict;
       own = c.in_err-asked.ensures.own;
@@ -15,7 +15,7 @@ pub returns-in_err-list : goal.returns-in_err-list
 returns-in_err-list c =
     let p = err_from_is_err_and c.from_residual-in_err-list.result
     c.from_residual-in_err-list.ensures.1 in
-    rw (p.1, p.2) (on c.new-source.result c.asked_query.new.r c.new-source.ensures.reader (record {
+    rw (p.1, p.2) (on c.new-source.result c.read_query.new.r c.new-source.ensures.reader (record {
       answer = tt;
       verdict = short c.in_ok-asked.ensures.verdict;
       own = λ is. cc;
@@ -24,7 +24,7 @@ returns-in_err-list c =
 pub returns : goal.returns
 returns c =
     let asked = c.in_ok-asked.ensures in
-    on c.new-source.result c.asked_query.new.r c.new-source.ensures.reader (record {
+    on c.new-source.result c.read_query.new.r c.new-source.ensures.reader (record {
       answer = record {
         file = asked.answer.file;
         bytes = asked.answer.bytes;

@@ -16,7 +16,7 @@ returns-in_err-asked g c =
     let told = c.in_err-asked.ensures in
     let e = c.in_err-asked.field-0.0 in
     rw (sym c.new-file.ensures, p.1, p.2)
-    (c.asked_circuit.new.r.source, query_refused e told.verdict told.own told.own refl refl)
+    (c.read_unrolled.new.r.source, query_refused e told.verdict told.own told.own refl refl)
 
 pub returns : goal.returns
 returns g c =
@@ -26,7 +26,7 @@ returns g c =
     let start = ap g.R.Source.left c.new-file.ensures ∙ c.requires.origin in
     let sums = summed g.B.Origin.bytes c.finish.result read.verdict start c.finish.ensures in
     rw (sym c.new-file.ensures) (
-      c.asked_circuit.new.r.source,
+      c.read_unrolled.new.r.source,
       text_ends c.print_query.result _ tt read.verdict
           (λ text is. read_again read.answer (λ bytes f holds of.
           clauses_text (g.R.Source.left c.new-file.result.source) c.finish.result sums f c.args.limit c.args.k c.args.optimize u text of is))

@@ -5,7 +5,7 @@ use Rattle.aig_command_line.proofs.command.find.Goals as goal
 
 pub loop-action-preserved : goal.loop-action-preserved
 loop-action-preserved g c =
-    holds_more (λ action. (a : Arguments) → ¬ Gives (g.A.HasForm.name action) (g.A.HasForm.form action) (map string_bytes c.args.words.now) a)
+    holds_more (λ action. (a : Arguments) → ¬ Gives (g.A.HasArguments.name action) (g.A.HasArguments.form action) (map string_bytes c.args.words.now) a)
     c.args.all.now c.loop-action.action-index c.action-item.result c.loop-action-test.true c.action-item.is c.loop-action.invariant
     (rw (c.name.ensures, c.form.ensures) at c.in_default.ensures.none)
 

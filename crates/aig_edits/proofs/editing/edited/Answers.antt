@@ -2,7 +2,7 @@ use Rattle.aig_base.proofs.Words.{◌≡◌, ◌<◌, ◌∙◌, [], ap, arith, 
 use Rattle.std.specs.Prelude.{Some, vec_len}
 use Rattle.std.proofs.lemmas.List.{nil_from_length}
 use Rattle.aig_circuit.specs.View.{lists_circuit}
-use Rattle.aig_edits.specs.declared.edit.Edit.TheVariants.{Bads, Cone, Property, Reencode}
+use Rattle.aig_edits.specs.declared.editing.Edit.TheVariants.{Bads, Cone, Property, Reencode}
 use Rattle.aig_edits.proofs.Edited.{edits}
 use Rattle.aig_edits.proofs.editing.edited.Goals as goal
 

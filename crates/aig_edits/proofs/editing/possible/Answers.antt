@@ -3,7 +3,7 @@ use Rattle.aig_circuit.specs.declared.node.AigNodeType.TheVariants.{False}
 use Rattle.aig_circuit.proofs.Trees.{kind_at-within}
 use Rattle.aig_circuit.proofs.Words.{IsInRange, lists_circuit}
 use Rattle.aig_edit_laws.specs.Shown.{bad_alone}
-use Rattle.aig_edits.specs.declared.edit.Edit.TheVariants.{Possible}
+use Rattle.aig_edits.specs.declared.editing.Edit.TheVariants.{Possible}
 use Rattle.aig_edits.proofs.Edited.{yields}
 use Rattle.aig_edits.proofs.editing.possible.Goals as goal
 

@@ -1,7 +1,7 @@
 use Rattle.std.proofs.Common.{refl}
 use Rattle.aig_circuit.specs.View.{lists_circuit}
 use Rattle.aig_edit_laws.specs.Shown.{bad_alone}
-use Rattle.aig_edits.specs.declared.edit.Edit.TheVariants.{Property}
+use Rattle.aig_edits.specs.declared.editing.Edit.TheVariants.{Property}
 use Rattle.aig_edits.proofs.Edited.{in_range_at, yields}
 use Rattle.aig_edits.proofs.editing.property.Goals as goal
 

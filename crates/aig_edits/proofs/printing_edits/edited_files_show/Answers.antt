@@ -6,7 +6,7 @@ use Rattle.aig_format.specs.Circuit.{circuit_of, file_of}
 use Rattle.aig_format.specs.declared.FileKind.TheVariants.{Text}
 use Rattle.aig_edit_laws.specs.Reduction.{HaveSameWitnesses}
 use Rattle.aig_runs.specs.CircuitQueries.{HasCircuitWitness}
-use Rattle.aig_edits.specs.declared.edit.Edit.TheVariants.{Bads, Compress, Cone, Move, Possible, Property, Reencode, Refine, Unroll}
+use Rattle.aig_edits.specs.declared.editing.Edit.TheVariants.{Bads, Compress, Cone, Move, Possible, Property, Reencode, Refine, Unroll}
 use Rattle.aig_edits.specs.Edits.{AreAsSafe, CanEdit, EditShows, IsEdited}
 use Rattle.aig_edits.proofs.EditedFiles.{can_forth}
 use Rattle.aig_edits.proofs.printing_edits.edited_files_show.Goals as goal

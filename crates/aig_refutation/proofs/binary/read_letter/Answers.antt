@@ -1,4 +1,4 @@
-use Rattle.aig_base.proofs.Words.{true, false, Some, ap, ◌∙◌, ℕ, ne_eqb}
+use Rattle.aig_base.proofs.Words.{true, false, ne_eqb}
 use Rattle.aig_lexer.specs.Takes.{feed}
 use Rattle.aig_refutation.proofs.BinarySteps.{letter_came, letter_refused, letter_missing}
 use Rattle.aig_refutation.proofs.binary.read_letter.Goals as goal

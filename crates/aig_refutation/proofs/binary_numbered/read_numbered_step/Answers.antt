@@ -1,4 +1,4 @@
-use Rattle.aig_base.proofs.Words.{◌≡◌, Bool, true, false, [], Ok, Err, ap, subst, ◌∙◌, err_from_is_err_and}
+use Rattle.aig_base.proofs.Words.{Bool, true, false, Ok, ap, subst, ◌∙◌, err_from_is_err_and}
 use Rattle.aig_lexer.specs.Takes.{feed}
 use Rattle.aig_refutation.specs.Reading.{step_by}
 use Rattle.aig_refutation.specs.ReadingBinary.{GivesLetter}

@@ -1,4 +1,4 @@
-use Rattle.aig_base.proofs.Words.{ℕ, Bool, true, false, Ok, Err, sym, subst, err_from_is_err_and}
+use Rattle.aig_base.proofs.Words.{ℕ, Bool, true, false, Ok, sym, subst, err_from_is_err_and}
 use Rattle.aig_lexer.specs.Takes.{feed}
 use Rattle.aig_refutation.specs.BinaryNumbered.{numbered_steps_in}
 use Rattle.aig_refutation.specs.Checking.{is_last_step, taken}

@@ -1,14 +1,11 @@
-use Rattle.aig_base.proofs.Words.{◌≡◌, ℕ, Bool, true, false, List, [], ◌∷◌, ◌++◌, length, refl, sym, ap, ◌∙◌, arith, map-append, on_ok_weaker, eq-eqb, eqb-true, false≢true, ◌==◌}
+use Rattle.aig_base.proofs.Words.{◌≡◌, ℕ, Bool, true, false, List, [], ◌∷◌, ◌++◌, length, refl, sym, ap, ◌∙◌, map-append, on_ok_weaker, eq-eqb, eqb-true, false≢true, ◌==◌}
 use Rattle.aig_refutation.specs.Proofs.{groups_at}
 use Rattle.aig_refutation.specs.Tokens.{said_number, said_numbers}
 use Rattle.aig_refutation.specs.declared.words.Number.{Number}
 use Rattle.aig_refutation.proofs.LineParts.{group_pushed, hint_pushed}
+use Rattle.aig_refutation.proofs.NearNumbers.{no_length}
 use Rattle.aig_refutation.proofs.step.push_number.Goals as goal
 use Rattle.aig_refutation.proofs.step.push_number.Goals.{else-number-via-then-number+else-is_first, else-number-via-else-number}
-
-no_length : (numbers : List Number) → length numbers ≡ 0 → said_numbers numbers ≡ []
-no_length [] is = refl
-no_length (number ∷ numbers) is = absurd (omega (arith, is))
 
 some_length : (numbers : List Number) → (length numbers ≡ 0 → ⊥) → said_numbers numbers ≡ [] → ⊥
 some_length [] some is = some refl

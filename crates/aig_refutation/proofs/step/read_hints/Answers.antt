@@ -1,9 +1,10 @@
-use Rattle.aig_base.proofs.Words.{◌≡◌, ℕ, Bool, List, [], ◌∷◌, ◌++◌, Err, true, false, refl, sym, ap, arith, ne_eqb, err_from_is_err_and}
+use Rattle.aig_base.proofs.Words.{◌≡◌, ℕ, Bool, List, [], ◌∷◌, ◌++◌, map, Err, true, false, refl, sym, ap, ◌∙◌, arith, ne_eqb, err_from_is_err_and}
 use Rattle.aig_refutation.specs.Proofs.{groups_at, hint_number, hints_at, is_zero}
 use Rattle.aig_refutation.specs.Reading.{reads_hints, reads_numbers}
-use Rattle.aig_refutation.specs.Skipping.{end_line}
+use Rattle.aig_refutation.specs.Skipping.{end_line, unsigned}
 use Rattle.aig_refutation.specs.Tokens.{next_number, place, said_number, said_numbers}
 use Rattle.aig_refutation.proofs.LineParts.{numbers_broken, numbers_done, numbers_more, numbers_not_done, parted_err, parted_ok}
+use Rattle.aig_refutation.proofs.NearNumbers.{pushed_on, rest_fewer}
 use Rattle.aig_refutation.proofs.ReadersInTurn.{gives_after, gives_same, on_on, on_read, on_start, part_wrong}
 use Rattle.aig_refutation.proofs.step.read_hints.Goals as goal
 
@@ -21,60 +22,91 @@ loop-number-init g c = record {
 
 pub returns-in_err-number-clause-hints : goal.returns-in_err-number-clause-hints
 returns-in_err-number-clause-hints g c no_hints no_groups =
-    let at = place g.R.Source.left g.R.Source.failed g.R.Source.pulls in
+    let left = g.R.Source.left in
+    let failed = g.R.Source.failed in
+    let pulls = g.R.Source.pulls in
+    let at = place left failed pulls in
     let before = at c.args.words.now c.args.r.now in
-    let now = at c.loop-number.words c.loop-number.r in
     let so_far = c.loop-number.invariant.goes no_hints no_groups in
     let first = said_number c.args.first in
     let q = reads_numbers hint_number first [] in
     let n = said_number c.loop-number.number in
-    let s = reads_numbers hint_number n so_far.numbers in
-    let view = λ (done : Unit {0}). so_far.numbers in
-    let kept : Unit {0} → List ℕ × List (Bool × ℕ) = λ done. (hints_at so_far.numbers, groups_at so_far.numbers) in
+    let pushed = c.in_ok-push_near.ensures.hints so_far.numbers so_far.hints so_far.groups in
     let more : is_zero n ≡ false = ne_eqb c.loop-number.number.value 0 c.loop-number-test.true in
+    let have = pushed_on left failed pulls c.loop-number.r q before c.loop-number.words
+    c.push_near.new.words n so_far.numbers c.push_near.new.hints.items
+    (said_numbers c.push_near.new.groups.items) more so_far.on pushed in
+    let s = reads_numbers hint_number have.last have.before in
+    let view = λ (done : Unit {0}). have.before in
+    let kept : Unit {0} → List ℕ × List (Bool × ℕ) = λ done. (
+      hints_at have.before,
+      groups_at have.before,
+    ) in
+    let now = at c.push_near.new.words c.loop-number.r in
     let after = at c.number.new.self c.number.new.r in
     let e = c.in_err-number.field-0.0 in
     let p = err_from_is_err_and c.from_residual-in_err-number.result
     c.from_residual-in_err-number.ensures.1 in
-    let wrong = gives_after q s before now after view (Err e) so_far.on
+    let wrong = gives_after q s before now after view (Err e) have.goes
     (part_wrong next_number s now after after said_number view e c.in_err-number.ensures.number (λ
-    last ws. numbers_broken hint_number last n so_far.numbers ws more n refl e)) in
+    last ws. numbers_broken hint_number last have.last have.before ws have.more have.last refl e)) in
     rw (p.1, p.2)
     (part_wrong q (reads_hints first) before after after view kept e wrong (λ last ws. parted_err
     last first ws e))
 
 pub loop-number-preserved : goal.loop-number-preserved
 loop-number-preserved g c =
-    let at = place g.R.Source.left g.R.Source.failed g.R.Source.pulls in
+    let left = g.R.Source.left in
+    let failed = g.R.Source.failed in
+    let pulls = g.R.Source.pulls in
+    let at = place left failed pulls in
     let before = at c.args.words.now c.args.r.now in
-    let now = at c.loop-number.words c.loop-number.r in
     let q = reads_numbers hint_number (said_number c.args.first) [] in
     let n = said_number c.loop-number.number in
-    let more : is_zero n ≡ false = ne_eqb c.loop-number.number.value 0 c.loop-number-test.true in
+    let now = at c.push_near.new.words c.loop-number.r in
     let after = at c.number.new.self c.number.new.r in
     let m = said_number c.in_ok-number.number in
     record {
-      fewer = let less = c.in_ok-number.ensures.fewer in omega (
-        arith,
-        less,
-        c.loop-number.invariant.fewer,
-      );
+      fewer =
+          let near = c.in_ok-push_near.ensures.taken in
+          let few = rest_fewer left failed pulls c.loop-number.r c.loop-number.words
+          c.push_near.new.words near.0 near.1 in
+          let less = c.in_ok-number.ensures.fewer in omega (
+            arith,
+            less,
+            few,
+            c.loop-number.invariant.fewer,
+          );
       goes = λ no_hints no_groups.
           let so_far = c.loop-number.invariant.goes no_hints no_groups in
-          let s = reads_numbers hint_number n so_far.numbers in
-          let t = reads_numbers hint_number m (so_far.numbers ++ n ∷ []) in
-          let pushed = c.in_ok-push_number.ensures so_far.numbers so_far.hints so_far.groups in
+          let pushed = c.in_ok-push_near.ensures.hints so_far.numbers so_far.hints so_far.groups in
+          let more : is_zero n ≡ false = ne_eqb c.loop-number.number.value 0 c.loop-number-test.true in
+          let have = pushed_on left failed pulls c.loop-number.r q before c.loop-number.words
+          c.push_near.new.words n so_far.numbers c.push_near.new.hints.items
+          (said_numbers c.push_near.new.groups.items) more so_far.on pushed in
+          let numbers = (so_far.numbers ++ n ∷ []) ++ map unsigned pushed.taken in
+          let s = reads_numbers hint_number have.last have.before in
+          let t = reads_numbers hint_number m numbers in
           record {
-            numbers = so_far.numbers ++ n ∷ [];
-            hints = pushed.0;
-            groups = pushed.1;
+            numbers = numbers;
+            hints = pushed.hints_are;
+            groups = pushed.groups_are;
             on =
-                on_on q s before now after t so_far.on
+                on_on q s before now after t have.goes
                 (on_read s t now after after next_number m c.in_ok-number.ensures.number
-                (λ last ws rest is. numbers_more hint_number last n so_far.numbers ws more n refl
-                m rest is));
+                (λ last ws rest is. numbers_more hint_number last have.last have.before ws have.more
+                have.last refl m rest is
+                ∙ ap (λ (l : List (Bool × ℕ)). reads_numbers hint_number m l last rest) have.all));
           };
     }
+
+pub loop-number-smaller : goal.loop-number-smaller
+loop-number-smaller g c =
+    let near = c.in_ok-push_near.ensures.taken in
+    let few = rest_fewer g.R.Source.left g.R.Source.failed g.R.Source.pulls c.loop-number.r
+    c.loop-number.words c.push_near.new.words near.0 near.1 in
+    let less = c.in_ok-number.ensures.fewer in
+    omega (arith, less, few)
 
 pub returns-clause-hints : goal.returns-clause-hints
 returns-clause-hints g c no_hints no_groups =

@@ -1,7 +1,7 @@
 use Rattle.aig_base.proofs.Words.{◌≡◌, Err, ◌≤◌, ◌^◌, ℕ, ◌+◌, refl, subst, sym, arith, err_from_is_err_and}
 use Rattle.aig_circuit.specs.View.{lists_circuit}
 use Rattle.aig_circuit.specs.Circuit.{Circuit}
-use Rattle.aig_answers.proofs.Verdicts.{asked_circuit}
+use Rattle.aig_answers.proofs.Verdicts.{read_unrolled}
 use Rattle.aig_answers.specs.Answers as answering
 use Rattle.aig_answers.specs.Answers.{IsSaidBy, TellsOfCircuit, TellsOfCircuitWindow}
 use Rattle.aig_reader.specs.Verdicts.{Accepted}
@@ -16,7 +16,7 @@ pub check_each-requires-clause-room : goal.check_each-requires-clause-room
 check_each-requires-clause-room g c =
     let k = c.args.k in
     let circuit = lists_circuit c.args.circuit in
-    let asked = asked_circuit c.args.limit (k + 1) circuit _ (sym c.requires.room) in
+    let asked = read_unrolled c.args.limit (k + 1) circuit _ (sym c.requires.room) in
     λ n low. subst (λ (d : Circuit). unrolled_size d n ≤ 2 ^ 31) (sym c.new.ensures)
     (room_below circuit n (k + 1) c.args.limit (omega (arith, low, c.requires.each)) asked.0
     c.requires.few)

@@ -3,7 +3,7 @@ use Rattle.aig_base.specs.declared.MemoryError.{MemoryError}
 use Rattle.aig_refutation.specs.declared.error.RefutationError.{RefutationError}
 use Rattle.aig_refutation.specs.declared.words.Number.{Number}
 use Rattle.aig_refutation.specs.Checking.{Live, added, are_named, is_named, stands}
-use Rattle.aig_refutation.specs.Tables.{FindsHints, Holds, Moves, Table, place_in}
+use Rattle.aig_refutation.specs.Tables.{FindsHints, Holds, HoldsNext, Table, place_in}
 use Rattle.aig_refutation.specs.Tokens.{said_numbers}
 use Rattle.aig_refutation.proofs.Adding.{added_not, added_on, added_unnamed}
 use Rattle.aig_refutation.proofs.Apart.{groups_named}
@@ -104,5 +104,5 @@ returns-clause-moves c live h =
     sym (c.in_ok-stands.ensures.stands live before named (c.deref.ensures.value ∙ finds.0))
     ∙ c.if-not-branch-2.false in
     let is = added_on live number clause hints groups named does in
-    (subst (λ said. Moves c.put.new.self.table c.put.result said) (sym is)
+    (subst (λ said. HoldsNext c.put.new.self.table c.put.result said) (sym is)
     (c.put.ensures.moves live before))

@@ -1,0 +1,195 @@
+-- What the commands on a witness circuit do, at each way out of them.
+use Rattle.aig_base.proofs.Words.{◌≡◌, ℕ, Bool, false, Option, Ok, Err, List, ◌++◌, length, refl, Appends}
+use Rattle.std.specs.Prelude.{IsErrOf, IsTrue}
+use Rattle.aig_answers.specs.Answers.{query_with}
+use Rattle.aig_base.specs.Formula.{clauses_in}
+use Rattle.aig_base.specs.declared.logic.literal.Lit.{Lit}
+use Rattle.aig_cnf.specs.Cnf.{HasClauses}
+use Rattle.aig_dimacs.specs.Text.{IsFormula, dimacs_of}
+use Rattle.aig_edits.proofs.Reading.{reads_on}
+use Rattle.aig_edits.specs.Pairs.{ReadsPair}
+use Rattle.aig_format.specs.File.{File}
+use Rattle.aig_output.specs.Sinks.{Stops}
+use Rattle.aig_refutation.specs.declared.error.RefutationError.TheVariants as refutation
+use Rattle.aig_simulated.specs.Simulated as simulated
+use Rattle.aig_simulated.specs.Simulated.{Certifies, IsOfObligation, IsOwn, Obliges, Proofs, first_verdict, proof_for, second_verdict}
+use Rattle.aig_simulated.specs.declared.error.ConditionError.TheVariants as conditions
+use Rattle.aig_simulated.specs.declared.error.SimulationError.{SimulationError}
+use Rattle.aig_simulated.specs.declared.error.SimulationError.TheVariants as simulation
+use Rattle.aig_simulated.specs.declared.obligation.Obligation.{Obligation}
+use Rattle.aig_simulation.specs.declared.condition.Condition.{Condition}
+use Rattle.aig_check_commands.specs.Pairs.{other_verdict_of, safe_line}
+use Rattle.aig_check_commands.specs.Printing.{clauses_with}
+use Rattle.aig_check_commands.specs.Running.{verdict_of}
+use Rattle.aig_check_commands.specs.Simulating.{IsErrorOfObligation, IsErrorOfSimulated, IsObligationText, RunsObligation, RunsSimulated, TellsOfObligation, TellsOfSimulated}
+use Rattle.aig_check_commands.specs.Sums.{IsSum}
+use Rattle.aig_check_commands.specs.Titles.{title_text}
+use Rattle.aig_check_commands.specs.Titling.{condition_title}
+use Rattle.aig_check_commands.specs.declared.error.CheckError.{CheckError}
+use Rattle.aig_check_commands.specs.declared.error.CheckError.TheVariants as errors
+use Rattle.aig_check_commands.proofs.Commenting.{titled_again}
+use Rattle.aig_check_commands.proofs.Outcomes.{err_of, is_error}
+
+same_simulation : (x y : SimulationError) → errors.Simulation x ≡ errors.Simulation y → x ≡ y
+same_simulation x y is = cc
+
+-- the error of a call is the program's, with this in it
+inner : (e x : SimulationError)
+    → IsErrOf {T = Unit {0}} (Err (errors.Simulation e)) (errors.Simulation x)
+    → IsErrOf {T = Unit {0}} (Err e) x
+inner e x is = err_of e x (same_simulation e x (is_error (Unit {0}) CheckError _ _ is))
+
+-- ---- certificates
+
+module _ {R S P W : Type 0} {left : R → Option (List ℕ)} {failed : R → Bool}
+    {left_of : S → Option (List ℕ)} {failed_of : S → Bool} {given : P → Option (List ℕ)}
+    {given_failed : P → Bool} {held : W → Option (List ℕ)} {write_failed : W → Bool}
+    {optimize : Bool} {limit : ℕ} {r rest : R} {s other : S} (ps used : Proofs P) {w made : W} where
+  -- a file is refused, or a proof
+  pub simulated_refused : (e : SimulationError)
+      → ReadsPair left failed left_of failed_of limit
+      (Certifies limit optimize (λ condition. given (proof_for ps condition)))
+      first_verdict second_verdict IsOwn r s (Err e) rest other
+      → made ≡ w
+      → ((condition : Condition) → simulated.LeavesProof condition (Err e)
+      → proof_for used condition ≡ proof_for ps condition)
+      → ((condition : Condition) → IsErrOf {T = Unit {0}} (Err e)
+      (simulation.Condition condition (conditions.Refutation refutation.Stream))
+      → IsTrue (given_failed (proof_for used condition)))
+      → RunsSimulated left failed left_of failed_of given given_failed held write_failed optimize
+      limit r s ps w (Err (errors.Simulation e)) rest other used made
+  simulated_refused e told same unread stream = record {
+    reads = reads_on left failed left_of failed_of limit r s rest other
+        (TellsOfSimulated held write_failed optimize limit
+        (λ condition. given (proof_for ps condition)) w made)
+        verdict_of other_verdict_of IsErrorOfSimulated (Err (errors.Simulation e)) told refl refl told.own
+        (λ f g bytes others fits also means. means);
+    kept = λ not. same;
+    unread = unread;
+    stream = λ condition is. stream condition (inner e _ is);
+  }
+
+  -- the line was written
+  pub simulated_answered : (v : Unit {0})
+      → ReadsPair left failed left_of failed_of limit
+      (Certifies limit optimize (λ condition. given (proof_for ps condition)))
+      first_verdict second_verdict IsOwn r s (Ok tt) rest other
+      → Appends (held w) (held made) safe_line → write_failed made ≡ false
+      → RunsSimulated left failed left_of failed_of given given_failed held write_failed optimize
+      limit r s ps w (Ok v) rest other used made
+  simulated_answered v told written sound = record {
+    reads = reads_on left failed left_of failed_of limit r s rest other
+        (TellsOfSimulated held write_failed optimize limit
+        (λ condition. given (proof_for ps condition)) w made)
+        verdict_of other_verdict_of IsErrorOfSimulated (Ok v) told refl refl tt
+        (λ f g bytes others fits also means. (means, written, sound));
+    kept = tt;
+    unread = tt;
+    stream = λ condition is. absurd cc;
+  }
+
+  -- the writer failed after a beginning of it
+  pub simulated_stopped : ReadsPair left failed left_of failed_of limit
+      (Certifies limit optimize (λ condition. given (proof_for ps condition)))
+      first_verdict second_verdict IsOwn r s (Ok tt) rest other
+      → Stops (held w) (held made) (write_failed made) safe_line
+      → RunsSimulated left failed left_of failed_of given given_failed held write_failed optimize
+      limit r s ps w (Err errors.Write) rest other used made
+  simulated_stopped told stops = record {
+    reads = reads_on left failed left_of failed_of limit r s rest other
+        (TellsOfSimulated held write_failed optimize limit
+        (λ condition. given (proof_for ps condition)) w made)
+        verdict_of other_verdict_of IsErrorOfSimulated (Err errors.Write) told refl refl tt
+        (λ f g bytes others fits also means. (means, stops));
+    kept = λ not. absurd (not refl);
+    unread = λ condition no. absurd no;
+    stream = λ condition is. absurd cc;
+  }
+
+-- ---- clauses
+
+-- the text of the clauses that were made
+abbrev pub obligation_text : Condition → Bool → List ℕ → List ℕ → Obligation
+    → List (List (List Lit)) → List ℕ
+obligation_text condition optimize sum beside o lists =
+    title_text (condition_title condition optimize sum beside)
+    ++ dimacs_of (length lists) (clauses_in lists ++ o.parts.extra)
+
+pub is_obligation_text : (condition : Condition) (optimize : Bool) (limit : ℕ)
+    (bytes others : Option (List ℕ)) (sum beside : List ℕ) → IsSum bytes sum → IsSum others beside
+    → (f g : File) (o : Obligation) (lists : List (List (List Lit)))
+    → HasClauses o.question.unrolled optimize lists
+    → IsFormula (length lists) (clauses_in lists ++ o.parts.extra)
+    → Obliges limit optimize condition f g (Ok o)
+    → IsObligationText condition optimize bytes others f g
+    (obligation_text condition optimize sum beside o lists)
+is_obligation_text condition optimize limit bytes others sum beside sums sums_beside f g o lists has
+    formula asked = record {
+      sum = sum;
+      sums = sums;
+      beside = beside;
+      sums_beside = sums_beside;
+      bads = asked.0;
+      question = asked.1.0;
+      asked = asked.1.1;
+      query = query_with o.question.unrolled (clauses_with lists o.parts.extra);
+      asks = asked.1.2.asks lists has;
+      exact = refl;
+      again = titled_again (condition_title condition optimize sum beside) (length lists)
+          (clauses_in lists ++ o.parts.extra) formula;
+    }
+
+module _ {R S W : Type 0} {left : R → Option (List ℕ)} {failed : R → Bool}
+    {left_of : S → Option (List ℕ)} {failed_of : S → Bool} {held : W → Option (List ℕ)}
+    {write_failed : W → Bool} {condition : Condition} {optimize : Bool} {limit : ℕ} {r rest : R}
+    {s other : S} {w made : W} where
+  -- there are no clauses
+  pub obligation_refused : (e : SimulationError)
+      → ReadsPair left failed left_of failed_of limit (Obliges limit optimize condition)
+      first_verdict second_verdict (IsOfObligation condition) r s (Err e) rest other
+      → made ≡ w
+      → RunsObligation left failed left_of failed_of held write_failed condition optimize limit r s
+      w (Err (errors.Simulation e)) rest other made
+  obligation_refused e told same = record {
+    reads = reads_on left failed left_of failed_of limit r s rest other
+        (TellsOfObligation held write_failed condition optimize limit (left r) (left_of s) w made)
+        verdict_of other_verdict_of (IsErrorOfObligation condition) (Err (errors.Simulation e))
+        told refl refl
+        told.own (λ f g bytes others fits also means. means);
+    kept = λ not. same;
+  }
+
+  -- they were written
+  pub obligation_answered : (o : Obligation) (v : Unit {0}) (text : List ℕ)
+      → ReadsPair left failed left_of failed_of limit (Obliges limit optimize condition)
+      first_verdict second_verdict (IsOfObligation condition) r s (Ok o) rest other
+      → ((f g : File) → Obliges limit optimize condition f g (Ok o)
+      → IsObligationText condition optimize (left r) (left_of s) f g text)
+      → Appends (held w) (held made) text → write_failed made ≡ false
+      → RunsObligation left failed left_of failed_of held write_failed condition optimize limit r s
+      w (Ok v) rest other made
+  obligation_answered o v text told means written sound = record {
+    reads = reads_on left failed left_of failed_of limit r s rest other
+        (TellsOfObligation held write_failed condition optimize limit (left r) (left_of s) w made)
+        verdict_of other_verdict_of (IsErrorOfObligation condition) (Ok v) told refl refl tt
+        (λ f g bytes others fits also asked. (text, means f g asked, written, sound));
+    kept = tt;
+  }
+
+  -- the writer failed after a beginning of them
+  pub obligation_stopped : (o : Obligation) (text : List ℕ)
+      → ReadsPair left failed left_of failed_of limit (Obliges limit optimize condition)
+      first_verdict second_verdict (IsOfObligation condition) r s (Ok o) rest other
+      → ((f g : File) → Obliges limit optimize condition f g (Ok o)
+      → IsObligationText condition optimize (left r) (left_of s) f g text)
+      → Stops (held w) (held made) (write_failed made) text
+      → RunsObligation left failed left_of failed_of held write_failed condition optimize limit r s
+      w (Err errors.Write) rest other made
+  obligation_stopped o text told means stops = record {
+    reads = reads_on left failed left_of failed_of limit r s rest other
+        (TellsOfObligation held write_failed condition optimize limit (left r) (left_of s) w made)
+        verdict_of other_verdict_of (IsErrorOfObligation condition) (Err errors.Write)
+        told refl refl tt
+        (λ f g bytes others fits also asked. (text, means f g asked, stops));
+    kept = λ not. absurd (not refl);
+  }

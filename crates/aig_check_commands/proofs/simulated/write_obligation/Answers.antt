@@ -1,0 +1,29 @@
+use Rattle.std.proofs.Common.{◌++◌, length, rules}
+use Rattle.aig_base.specs.Formula.{clauses_in}
+use Rattle.aig_dimacs.specs.Text.{dimacs_of}
+use Rattle.aig_output.proofs.Putting.{Stops-before, failed_put}
+use Rattle.aig_check_commands.specs.Titles.{title_text}
+use Rattle.aig_check_commands.proofs.Pairing.{then_written}
+use Rattle.aig_check_commands.proofs.simulated.write_obligation.Goals as goal
+
+pub returns-in_err-write_title : goal.returns-in_err-write_title
+returns-in_err-write_title g c =
+    let told = rw c.unrolled-circuit.ensures.value at c.tell_circuit.ensures in
+    let text = dimacs_of (length told.0) (clauses_in told.0 ++ c.args.asked.now.parts.extra) in
+    record {
+      lists = told.0;
+      has = told.1;
+      formula = told.2;
+      writes = failed_put (Stops-before text c.in_err-write_title.ensures.err) (search rules);
+    }
+
+pub returns : goal.returns
+returns g c =
+    let told = rw c.unrolled-circuit.ensures.value at c.write_circuit.ensures in
+    record {
+      lists = told.0;
+      has = told.1;
+      formula = told.2.formula;
+      writes = then_written (title_text c.args.title.now) c.in_ok-write_title.ensures.ok
+          told.2.writes;
+    }

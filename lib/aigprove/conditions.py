@@ -1,0 +1,51 @@
+"""The conditions by which a witness circuit simulates a file, and has an inductive property that implies the file's. Which of its inputs and
+latches stand for the file's its names say, or else their order. What is asked about them is aigcheck's; names are told alone."""
+import re
+
+from aigprove.questions import Question
+
+CONDITIONS = ["reset", "transition", "property", "base", "step"]
+# A line of a name that says for which literal of the file a leaf stands, and such a name.
+LINE, NAME = re.compile(rb"^[il][0-9]+ = ", re.M), re.compile(rb"= ([0-9]+)")
+
+
+class Condition(Question):
+    """Clauses that ask whether a witness circuit, in the place of a step, breaks a condition."""
+
+    @property
+    def name(self):
+        return self.form[0]
+
+
+def of_both(witness):
+    """What is asked of a file and a witness circuit, by the conditions."""
+    return {name: Condition("obligations", witness, (name,)) for name in CONDITIONS}
+
+
+def questions():
+    """What is asked of a machine whose property has to be inductive."""
+    return {"base": Question("query", 0), "step": Question("window", 0)}
+
+
+def is_named(witness):
+    """Whether names say which leaves stand for the file's."""
+    return LINE.search(witness.bytes()) is not None
+
+
+def told(broken):
+    """The line of the conditions that aren't met, if there are such."""
+    return [f"it doesn't meet the conditions: {', '.join(broken)}"] if broken else []
+
+
+def leaves(circuit):
+    """The places of the inputs and latches, by their literals."""
+    lists = [("i", circuit.inputs), ("l", circuit.latches)]
+    return {literal: (letter, i) for letter, literals in lists for i, literal in enumerate(literals)}
+
+
+def name_shared(circuit, file, named):
+    """Gives the leaves of a witness circuit that stand for the file's the names that these have where they are told."""
+    given, found = leaves(file), {place: NAME.fullmatch(name) for place, name in circuit.names.items()}
+    by_name = {place: given.get(int(name[1])) for place, name in found.items() if name}
+    by_order = {place: place for place in leaves(circuit).values() if place in given.values()}
+    circuit.names.update((place, named.name(*of)) for place, of in (by_name or by_order).items() if of)
