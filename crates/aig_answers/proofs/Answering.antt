@@ -15,12 +15,11 @@ use Rattle.aig_runs.specs.CircuitQueries.{AsksOfCircuit}
 use Rattle.aig_runs.specs.Encodes.{Encodes}
 use Rattle.aig_runs.specs.Queries.{IsQueryOf}
 use Rattle.aig_runs.specs.declared.window.Window.{Window}
-use Rattle.aig_runs.specs.WindowClauses.{AsksWindow}
 use Rattle.aig_encode.specs.Encoding.{IsQuery}
 use Rattle.aig_answers.specs.declared.circuits.CircuitQuery.{CircuitQuery}
 use Rattle.aig_answers.specs.declared.error.AnswerError.{AnswerError}
-use Rattle.aig_answers.specs.declared.windows.WindowClauses.{WindowClauses}
-use Rattle.aig_answers.specs.Answers.{IsAsked, IsCircuitQuery, IsSaidBy, circuit_window_verdict, verdict_of}
+use Rattle.aig_answers.specs.declared.windows.UnrolledWindow.{UnrolledWindow}
+use Rattle.aig_answers.specs.Answers.{IsAsked, IsCircuitQuery, IsSaidBy, IsUnrolledWindow, circuit_window_verdict, verdict_of}
 use Rattle.aig_answers.specs.CircuitVerdicts.{circuit_verdict}
 use Rattle.aig_runs.proofs.Asking.{unrolls_to}
 use Rattle.aig_runs.specs.Unrolled.{IsUnrolledOf, UnrolledCircuit, Unrolls}
@@ -82,7 +81,7 @@ module _ (limit k : ℕ) (c : Circuit) (old new : Option (List ℕ)) (read : IsR
       asked_file k (IsUnrolledOf k limit) u asked (λ f fits is. record { fits = fits; unrolls = subst (λ d. Unrolls d k u) is made; few = omega (arith, few, asked.0) })
   circuit_answers (Err e) said made = tt
 
-  pub window_answers : (form : Window) (optimize : Bool) (r : Result WindowClauses AnswerError) → IsSaidBy (circuit_window_verdict form limit k c) (verdict_by verdict_of r) → IfOk r (λ made. AsksWindow form c k optimize made.clauses made.extra)
-      → IfOk r (IsReadAs (IsAsked limit (k + 1)) (λ f made. AsksWindow form (circuit_of f) k optimize made.clauses made.extra) old new)
-  window_answers form optimize (Ok made) said asks = asked_file (k + 1) (λ f x. AsksWindow form (circuit_of f) k optimize x.clauses x.extra) made (read_unrolled limit (k + 1) c _ said) (λ f fits is. subst (λ d. AsksWindow form d k optimize made.clauses made.extra) is asks)
+  pub window_answers : (form : Window) (optimize : Bool) (r : Result UnrolledWindow AnswerError) → IsSaidBy (circuit_window_verdict form limit k c) (verdict_by verdict_of r) → IfOk r (IsUnrolledWindow form c k optimize)
+      → IfOk r (IsReadAs (IsAsked limit (k + 1)) (λ f. IsUnrolledWindow form (circuit_of f) k optimize) old new)
+  window_answers form optimize (Ok made) said asks = asked_file (k + 1) (λ f. IsUnrolledWindow form (circuit_of f) k optimize) made (read_unrolled limit (k + 1) c _ said) (λ f fits is. subst (λ d. IsUnrolledWindow form d k optimize made) is asks)
   window_answers form optimize (Err e) said asks = tt

@@ -1,6 +1,6 @@
 -- The clauses of a window, from their parts.
-use Rattle.aig_base.proofs.Words.{◌≡◌, Result, Ok, Err, ℕ, ◌+◌, ◌-◌, ◌*◌, ◌^◌, ◌<◌, ◌≤◌, Bool, false, List, [], ◌++◌, length, take, drop, refl, sym, subst, ap, ◌∙◌, arith, append-nil, length-drop, add-mul, length-map, length-take-le, slice_get_within, take_all, All-map, All-weaker}
-use Rattle.std.specs.Prelude.{replicate, IfOk}
+use Rattle.aig_base.proofs.Words.{◌≡◌, ℕ, ◌+◌, ◌-◌, ◌*◌, ◌^◌, ◌<◌, ◌≤◌, Bool, false, List, [], ◌++◌, length, take, drop, refl, sym, subst, ap, ◌∙◌, arith, length-drop, add-mul, length-map, length-take-le, slice_get_within, take_all, All-map, All-weaker}
+use Rattle.std.specs.Prelude.{replicate}
 use Rattle.aig_base.specs.declared.logic.literal.Lit.{Lit}
 use Rattle.aig_base.specs.Clauses.{AreBelow, AreRelations}
 use Rattle.aig_circuit.specs.declared.edge.AigEdge.{AigEdge}
@@ -11,13 +11,12 @@ use Rattle.aig_circuit.specs.Circuit.{latch_leaves}
 use Rattle.aig_circuit.specs.declared.node.AigNodeType.TheVariants.{Leaf}
 use Rattle.aig_cnf.specs.Cnf.{AreNeeded, FixesRoots, HasClauses, NodeValuesSatisfy}
 use Rattle.aig_unroll.specs.Unroll.{UnrollsTo}
-use Rattle.aig_answers.specs.declared.error.AnswerError.{AnswerError}
-use Rattle.aig_answers.specs.declared.windows.WindowClauses.{WindowClauses}
 use Rattle.aig_answers.specs.Answers.{window_size}
+use Rattle.aig_answers.proofs.Growing.{free, free_length}
 use Rattle.aig_runs.proofs.Below.{window_below}
 use Rattle.aig_runs.specs.declared.window.Window.{Window}
 use Rattle.aig_runs.specs.declared.window.Window.TheVariants.{Plain, Distinct}
-use Rattle.aig_runs.specs.WindowClauses.{AsksWindow, count_free, induction_clauses, pair_clauses, state_at, state_edges, states_clauses, watched}
+use Rattle.aig_runs.specs.WindowClauses.{AsksWindow, count_free, induction_clauses, pair_clauses, state_at, state_edges, states_clauses, watched, window_clauses}
 
 -- the leaves of latches may be outputs
 pub watched_circuit : (form : Window) (c : Circuit) → IsCircuit c → IsCircuit (watched form c)
@@ -86,14 +85,6 @@ module _ (c : Circuit) (k : ℕ) (optimize : Bool) (u : Circuit) (clauses : List
   asks Distinct steps exact also =
       record { unrolled = u; clauses = clauses; is_circuit = is; steps = steps; has_clauses = has; fixes = fixes; satisfied = satisfied; relations = relations; exact = exact; further_exact = also }
 
--- the window clauses are of variables that are there
-pub below_told : (form : Window) (c : Circuit) (k : ℕ) (optimize : Bool)
-    (r : Result WindowClauses AnswerError)
-    → IfOk r (λ made. AsksWindow form c k optimize made.clauses made.extra)
-    → IfOk r (λ made. AreBelow (length made.clauses) made.extra)
-below_told form c k optimize (Ok made) is = window_below form c k optimize made.clauses made.extra is
-below_told form c k optimize (Err e) is = tt
-
 -- ---- clauses that are written from a circuit
 
 -- the clauses of the gates that need some
@@ -105,19 +96,22 @@ relations_of u optimize marks total few h = record {
   below = h.below;
 }
 
-module _ (c : Circuit) (k : ℕ) (optimize : Bool) (u : Circuit) (marks : List Bool) (total : ℕ) (extra : List (List Lit)) (few : length u.nodes ≤ 2 ^ 31) (needed : AreNeeded u optimize marks total) (is : IsCircuit u)
-    (steps : UnrollsTo c (k + 1) u) (exact : extra ≡ induction_clauses c k u)
+module _ (form : Window) (c : Circuit) (k : ℕ) (optimize : Bool) (u : Circuit) (marks : List Bool) (total : ℕ) (extra : List (List Lit)) (few : length u.nodes ≤ 2 ^ 31) (needed : AreNeeded u optimize marks total) (is : IsCircuit u)
+    (steps : UnrollsTo (watched form c) (k + 1) u) (exact : extra ≡ window_clauses form (length u.nodes) (watched form c) k u)
     (fixes : (lists : List (List (List Lit))) → HasClauses u optimize lists → FixesRoots u lists) (satisfied : (lists : List (List (List Lit))) → HasClauses u optimize lists → NodeValuesSatisfy u lists)
     (one : (lists others : List (List (List Lit))) → HasClauses u optimize lists → HasClauses u optimize others → lists ≡ others) where
   -- whichever list there is of them, it asks for a window with the further ones
   pub asked_of : (lists : List (List (List Lit))) → HasClauses u optimize lists
-      → AsksWindow Plain c k optimize lists extra
+      → AsksWindow form c k optimize (lists ++ free (count_free form (watched form c) k)) extra
   asked_of lists has =
       let relations = subst AreRelations (one needed.lists lists needed.has_clauses has)
       (relations_of u optimize marks total few needed) in
-      asks c k optimize u lists lists extra is has (fixes lists has) (satisfied lists has) relations Plain steps (sym (append-nil lists)) (exact ∙ sym (append-nil (induction_clauses c k u)))
+      asks c k optimize u lists _ extra is has (fixes lists has) (satisfied lists has) relations form steps refl
+      (exact ∙ ap (λ n. window_clauses form n (watched form c) k u) (sym has.count))
 
   -- and the further ones are of variables that are there
-  pub below_of : AreBelow (length u.nodes) extra
+  pub below_of : AreBelow (length u.nodes + count_free form (watched form c) k) extra
   below_of =
-      subst (λ n. AreBelow n extra) needed.has_clauses.count (window_below Plain c k optimize needed.lists extra (asked_of needed.lists needed.has_clauses))
+      let count = count_free form (watched form c) k in
+      subst (λ n. AreBelow n extra) (free_length needed.lists count ∙ ap (λ n. n + count) needed.has_clauses.count)
+      (window_below form c k optimize _ extra (asked_of needed.lists needed.has_clauses))

@@ -1,12 +1,13 @@
 -- Part of what is promised.
 -- What is asked of a circuit, what an answer says of the bytes of a file and of a proof, and which
 -- errors a call has.
-use Rattle.std.specs.Prelude.{◌≡◌, ◌≢◌, ℕ, ◌+◌, ◌≤◌, ◌^◌, ◌==◌, nat_lt, if◌then◌else◌, Bool, List, [], ◌++◌, length, Option, Result, Ok, Err}
+use Rattle.std.specs.Prelude.{◌≡◌, ◌≢◌, ℕ, ◌+◌, ◌≤◌, ◌^◌, ◌==◌, nat_lt, if◌then◌else◌, Bool, List, [], ◌++◌, length, replicate, Option, Result, Ok, Err}
 use Rattle.std.specs.FinMap.{empty}
 use Rattle.aig_base.specs.declared.logic.literal.Lit.{Lit}
 use Rattle.aig_base.specs.Clauses.{AreBelow}
 use Rattle.aig_base.specs.Formula.{clauses_in}
-use Rattle.aig_circuit.specs.Circuit.{Circuit}
+use Rattle.aig_circuit.specs.Circuit.{Circuit, IsCircuit}
+use Rattle.aig_circuit.specs.View.{lists_circuit}
 use Rattle.aig_cnf.specs.Cnf.{AreNeeded, FixesRoots, HasClauses, NodeValuesSatisfy}
 use Rattle.aig_format.specs.Circuit.{circuit_of}
 use Rattle.aig_format.specs.File.{File}
@@ -25,6 +26,7 @@ use Rattle.aig_encode.specs.Encoding as encoding
 use Rattle.aig_encode.specs.Encoding.{IsQuery}
 use Rattle.aig_answers.specs.declared.circuits.CircuitQuery.{CircuitQuery}
 use Rattle.aig_answers.specs.declared.parts.ClauseParts.{ClauseParts}
+use Rattle.aig_answers.specs.declared.windows.UnrolledWindow.{UnrolledWindow}
 use Rattle.aig_answers.specs.declared.windows.WindowClauses.{WindowClauses}
 use Rattle.aig_answers.specs.declared.error.AnswerError.{AnswerError}
 use Rattle.aig_answers.specs.declared.error.AnswerError.TheVariants as errors
@@ -72,6 +74,18 @@ abbrev pub AskWith : Circuit → Bool → (WindowClauses → Type 0) → ClauseP
 AskWith c optimize Asks parts =
     (lists : List (List (List Lit))) → HasClauses c optimize lists
     → Asks (record { clauses = lists; extra = parts.extra })
+
+-- A circuit's window: the circuit with its further steps, its gates that need clauses, and further
+-- clauses, which may be of free variables behind those of the nodes.
+pub record IsUnrolledWindow (form : Window) (c : Circuit) (k : ℕ) (optimize : Bool)
+    (w : UnrolledWindow) : Type 0 where
+  pub circuit : IsCircuit (lists_circuit w.unrolled)
+  pub few : length (lists_circuit w.unrolled).nodes + w.free ≤ 2 ^ 31
+  pub needed : AreNeeded (lists_circuit w.unrolled) optimize w.needed.marks.items w.needed.clauses
+  pub below : AreBelow (length (lists_circuit w.unrolled).nodes + w.free) w.extra
+  -- whichever list there is of the circuit's clauses, it asks for the window with the further ones
+  pub asks : (lists : List (List (List Lit))) → HasClauses (lists_circuit w.unrolled) optimize lists
+      → AsksWindow form c k optimize (lists ++ replicate w.free []) w.extra
 
 -- ---- files
 

@@ -41,4 +41,6 @@ pub use safety::{
 };
 pub use step::{check_step, read_query, read_unrolled};
 pub use unrolled::{plain_window, unrolled_query};
-pub use windows::{WindowClauses, check_window, check_window_of, check_window_room, window};
+pub use windows::{
+    UnrolledWindow, WindowClauses, check_window, check_window_of, check_window_room, read_window,
+};

@@ -2,13 +2,14 @@
 
 ghost use Rattle.std.specs.Prelude.{◌+◌, ◌<◌, ◌≤◌, ◌^◌, IfOk, length};
 ghost use Rattle.aig_answers.specs.Answers.{IsCircuitQuery, query_with};
+ghost use Rattle.aig_base.specs.Clauses.{AreRelations};
 ghost use Rattle.aig_runs.specs.WindowClauses.{AsksWindow};
 ghost use Rattle.aig_runs.specs.declared.window.Window.TheVariants.{Plain};
 ghost use Rattle.aig_unroll.specs.Unroll.{UnrollsTo};
 
 use crate::clauses::induction_between;
-use crate::windows::{WindowClauses, tell_relations};
-use aig_base::MemoryError;
+use crate::windows::WindowClauses;
+use aig_base::{DagCnf, MemoryError};
 use aig_circuit::CircuitView;
 use aig_cnf::encode;
 use aig_runs::{Unrolled, circuit_queries_ask};
@@ -31,7 +32,14 @@ pub fn unrolled_query(
     Ok(WindowClauses { clauses, extra })
 }
 
-/// The clauses of a plain window of a circuit, as `window` makes them, from the circuit with `k + 1` further steps. The one error is
+/// Tells that clauses that are given to variables are of those that are there.
+fn tell_relations(clauses: &DagCnf)
+    ensures { AreRelations clauses.now }
+{
+    let _variables = clauses.num_vars();
+}
+
+/// The clauses of a plain window of a circuit, as `check_window` makes them, from the circuit with `k + 1` further steps. The one error is
 /// refused memory.
 pub fn plain_window(
     alloc: Global,

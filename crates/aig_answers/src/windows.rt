@@ -1,10 +1,9 @@
 //! Windows of steps that keep a machine safe.
 
 ghost use Rattle.std.specs.Prelude.{◌≡◌, ◌≢◌, ◌+◌, ◌*◌, ◌≤◌, ◌<◌, ◌^◌, ◌↔◌, ◌++◌, [], IfErr, IfOk, IsErrOf, IsTrue, OnOk, false, length, map, replicate, ℕ};
-ghost use Rattle.aig_answers.specs.Answers.{IsAsked, IsCircuitOf, IsOfInduction, IsOfWindow, IsSaidBy, TellsOfCircuitWindow, TellsOfWindow, circuit_window_verdict, verdict_of, window_size, window_verdict};
-ghost use Rattle.aig_base.specs.Clauses.{AreBelow, AreRelations};
+ghost use Rattle.aig_answers.specs.Answers.{IsAsked, IsCircuitOf, IsOfInduction, IsOfWindow, IsSaidBy, IsUnrolledWindow, TellsOfCircuitWindow, TellsOfWindow, circuit_window_verdict, verdict_of, window_size, window_verdict};
 ghost use Rattle.aig_runs.specs.Induction.{IsKInductive};
-ghost use Rattle.aig_runs.specs.WindowClauses.{AsksWindow, count_free, states_clauses, watched};
+ghost use Rattle.aig_runs.specs.WindowClauses.{AsksWindow, count_free, states_clauses, watched, window_clauses};
 ghost use Rattle.aig_circuit.specs.Circuit.{Circuit, IsCircuit, latch_leaves};
 ghost use Rattle.aig_circuit.specs.Edge.{edge_to};
 ghost use Rattle.aig_circuit.specs.View.{lists_circuit};
@@ -22,7 +21,7 @@ use crate::error::AnswerError;
 use crate::refuting::refute;
 use aig_base::{DagCnf, LitVvec, MemoryError, Source};
 use aig_circuit::{AigEdge, AigLatch, CircuitLists, CircuitView};
-use aig_cnf::encode;
+use aig_cnf::{NeededGates, clauses_are_one, clauses_fix_roots, encode, find_needed};
 use aig_reader::read;
 use aig_refutation::RefutationError;
 use aig_runs::{Window, refuted_windows_are_inductive, windows_are_one};
@@ -38,11 +37,17 @@ pub struct WindowClauses {
     pub extra: LitVvec,
 }
 
-/// Tells that clauses that are given to variables are of those that are there.
-pub(crate) fn tell_relations(clauses: &DagCnf)
-    ensures { AreRelations clauses.now }
-{
-    let _variables = clauses.num_vars();
+/// A circuit with the further steps of a window, and what the clauses that ask for the window are written from beside it.
+#[derive(Drop)]
+pub struct UnrolledWindow {
+    /// The circuit with its further steps.
+    pub unrolled: CircuitLists,
+    /// How many free variables come behind those of its nodes.
+    pub free: usize,
+    /// Which of its gates need clauses, and how many clauses these have.
+    pub needed: NeededGates,
+    /// The window clauses.
+    pub extra: LitVvec,
 }
 
 /// The edges of the leaves of latches.
@@ -87,87 +92,94 @@ fn has_room(circuit: &CircuitView<'_>, k: usize, form: Window, limit: usize) -> 
     is_size_within(circuit.nodes().len(), latchs, k + 1, limit - pairs * latchs)
 }
 
+/// How many free variables the window clauses of a circuit have.
+fn count_free(circuit: &CircuitView<'_>, k: usize, form: Window) -> usize
+    requires steps { k < 2 ^ 32 }
+    requires room { count_free form circuit.now k ≤ 2 ^ 31 }
+    ensures { result ≡ count_free form circuit.now k }
+{
+    match form {
+        Window::Plain => 0,
+        Window::Distinct => pairs_of(k + 2) * circuit.latchs().len(),
+    }
+}
+
 /// Appends the clauses that tell the states of a window apart, where the form asks for them.
 fn tell_apart(
     alloc: Global,
-    made: &mut WindowClauses,
+    extra: &mut LitVvec,
     circuit: &CircuitView<'_>,
     k: usize,
     unrolled: &CircuitView<'_>,
     form: Window,
 ) -> Result<(), MemoryError>
     requires steps { k < 2 ^ 32 }
-    requires room { length made.old.clauses + count_free form circuit.now k ≤ 2 ^ 31 }
-    requires few_unrolled { length unrolled.now.nodes ≤ 2 ^ 31 }
+    requires room { length unrolled.now.nodes + count_free form circuit.now k ≤ 2 ^ 31 }
     requires states { form ≡ Window.Distinct
         → length unrolled.now.properties.outputs ≡ (k + 1 + 1) * length circuit.now.latchs }
-    ensures clauses { OnOk result (made.new.clauses
-        ≡ made.old.clauses ++ replicate (count_free form circuit.now k) []) }
-    ensures extra { OnOk result (made.new.extra ≡ made.old.extra
-        ++ states_clauses form (length made.old.clauses) circuit.now k unrolled.now) }
+    ensures { OnOk result (extra.new ≡ extra.old
+        ++ states_clauses form (length unrolled.now.nodes) circuit.now k unrolled.now) }
 {
     match form {
         Window::Plain => Ok(()),
         Window::Distinct => {
             let latchs = circuit.latchs().len();
             let mut some = Vec::with_capacity(alloc, latchs)?;
-            let states = unrolled.outputs();
-            let clauses = &mut made.clauses;
-            push_distinct(clauses, &mut made.extra, &mut some, states, latchs, k + 2)
+            let first = unrolled.nodes().len();
+            push_distinct(extra, &mut some, first, unrolled.outputs(), latchs, k + 2)
         }
     }
 }
 
-/// The clauses of a window of a circuit, of which the further steps were made. Where states are to be told apart, they are
-/// outputs of it.
-fn clauses_of(
+/// The window clauses of a circuit, of which the further steps were made. Where states are to be told apart, they are outputs of it.
+fn further_of(
     alloc: Global,
     circuit: &CircuitView<'_>,
     k: usize,
     unrolled: &CircuitView<'_>,
-    optimize: bool,
     form: Window,
-) -> Result<WindowClauses, MemoryError>
+) -> Result<LitVvec, MemoryError>
     requires steps { k < 2 ^ 32 }
     requires unrolls { UnrollsTo circuit.now (k + 1) unrolled.now }
     requires room { length unrolled.now.nodes + count_free form circuit.now k ≤ 2 ^ 31 }
     requires watched { (c : Circuit) × (circuit.now ≡ watched form c) }
-    ensures { IfOk result (λ made. (c : Circuit) → circuit.now ≡ watched form c
-        → AsksWindow form c k optimize made.clauses made.extra) }
+    ensures exact { IfOk result (λ extra. extra
+        ≡ window_clauses form (length unrolled.now.nodes) circuit.now k unrolled.now) }
+    ensures circuit { OnOk result (IsCircuit unrolled.now) }
 {
-    let clauses = encode(alloc, unrolled, optimize)?;
-    tell_relations(&clauses);
-    let extra = induction_between(alloc, circuit, k, unrolled)?;
-    let mut made = WindowClauses { clauses, extra };
-    tell_apart(alloc, &mut made, circuit, k, unrolled, form)?;
-    Ok(made)
+    let mut extra = induction_between(alloc, circuit, k, unrolled)?;
+    tell_apart(alloc, &mut extra, circuit, k, unrolled, form)?;
+    Ok(extra)
 }
 
-/// The clauses of a window of a circuit.
-fn make_window(
+/// A circuit's window.
+fn unroll_window(
     alloc: Global,
     circuit: CircuitLists,
     k: usize,
     optimize: bool,
     form: Window,
-) -> Result<WindowClauses, MemoryError>
+) -> Result<UnrolledWindow, MemoryError>
     requires steps { k < 2 ^ 32 }
     requires circuit { IsCircuit (lists_circuit circuit) }
     requires room { window_size form (lists_circuit circuit) k ≤ 2 ^ 31 }
-    ensures { IfOk result
-        (λ made. AsksWindow form (lists_circuit circuit) k optimize made.clauses made.extra) }
+    ensures { IfOk result (IsUnrolledWindow form (lists_circuit circuit) k optimize) }
 {
+    clauses_fix_roots();
+    clauses_are_one();
     let watched = watch(alloc, circuit, form)?;
     let circuit = CircuitView::new(&watched);
-    let unrolled = unroll_to(&circuit, k + 1)?;
-    clauses_of(
-        alloc,
-        &circuit,
-        k,
-        &CircuitView::new(&unrolled),
-        optimize,
-        form,
-    )
+    let lists = unroll_to(&circuit, k + 1)?;
+    let unrolled = CircuitView::new(&lists);
+    let extra = further_of(alloc, &circuit, k, &unrolled, form)?;
+    let free = count_free(&circuit, k, form);
+    let needed = find_needed(alloc, &unrolled, optimize)?;
+    Ok(UnrolledWindow {
+        unrolled: lists,
+        free,
+        needed,
+        extra,
+    })
 }
 
 /// Refuses a circuit whose window of `k + 2` steps may pass the limit, and one without bad edges, of which nothing is asked.
@@ -200,7 +212,7 @@ pub fn check_window_room(
     Ok(())
 }
 
-/// The clauses of a window of a circuit, unless they may pass the limit.
+/// A circuit's window, unless it may pass the limit.
 fn ask_window(
     alloc: Global,
     circuit: CircuitLists,
@@ -208,23 +220,23 @@ fn ask_window(
     k: usize,
     optimize: bool,
     form: Window,
-) -> Result<WindowClauses, AnswerError>
+) -> Result<UnrolledWindow, AnswerError>
     requires few { limit ≤ 2 ^ 31 }
     requires steps { k < 2 ^ 32 }
     requires circuit { IsCircuit (lists_circuit circuit) }
-    ensures asks { IfOk result
-        (λ made. AsksWindow form (lists_circuit circuit) k optimize made.clauses made.extra) }
+    ensures asks { IfOk result (IsUnrolledWindow form (lists_circuit circuit) k optimize) }
     ensures said { IsSaidBy (circuit_window_verdict form limit k (lists_circuit circuit))
         (verdict_by verdict_of result) }
     ensures own { IfErr result IsOfWindow }
 {
     check_window_room(&CircuitView::new(&circuit), limit, k, form)?;
-    Ok(make_window(alloc, circuit, k, optimize, form)?)
+    Ok(unroll_window(alloc, circuit, k, optimize, form)?)
 }
 
-/// Reads a circuit from the bytes of an AIGER file, and makes the clauses that ask for a run of `k + 2` steps, from any
-/// state, on which every constraint holds at each step, no bad state is reached at the steps 0 to `k`, and one is reached at
-/// step `k + 1`; in the distinct form no two of its steps have the same state.
+/// Reads a circuit from the bytes of an AIGER file, gives it `k + 1` steps more, and makes what the clauses are written from that ask
+/// for a run of `k + 2` steps, from any state, on which every constraint holds at each step, no bad state is reached at the steps 0
+/// to `k`, and one is reached at step `k + 1`; in the distinct form no two of its steps have the same state. No list of the clauses
+/// of gates is made.
 ///
 /// The window clauses are, in order: for each constraint of each step that it holds, for each bad literal of the steps 0 to
 /// `k` that it doesn't, one clause of those of step `k + 1`, and in the distinct form, for each pair of steps, that some
@@ -233,23 +245,20 @@ fn ask_window(
 /// `AnswerError::TooLarge` is answered, before any step, exactly where in the distinct form
 /// `n + (k + 1) * (n - 1 - l) + (k + 1) * (k + 2) / 2 * l` passes the limit, for the `n` nodes and `l` latches of the
 /// circuit, and the bound of its further steps, without the last summand, doesn't. Requires `1 <= limit <= 2^31`.
-pub fn window<R: Source>(
+pub fn read_window<R: Source>(
     alloc: Global,
     r: &mut R,
     limit: usize,
     k: usize,
     optimize: bool,
     form: Window,
-) -> Result<WindowClauses, AnswerError>
+) -> Result<UnrolledWindow, AnswerError>
     requires some { 1 ≤ limit }
     requires few { limit ≤ 2 ^ 31 }
     requires steps { k < 2 ^ 32 }
-    // The bytes that were read are a file within the limit, with a bad literal, of which the clauses ask for a window.
+    // The bytes that were read are a file within the limit, with a bad literal, and it is that file's window.
     ensures answer { IfOk result (IsReadAs (IsAsked limit (k + 1))
-        (λ f made. AsksWindow form (circuit_of f) k optimize made.clauses made.extra)
-        (R.left r.old) (R.left r.new)) }
-    // The window clauses are of variables that are there.
-    ensures below { IfOk result (λ made. AreBelow (length made.clauses) made.extra) }
+        (λ f. IsUnrolledWindow form (circuit_of f) k optimize) (R.left r.old) (R.left r.new)) }
     // Each such file whose window has room is answered, and a refusal says why.
     ensures verdict { Judges (window_verdict form limit k) limit (R.left r.old) (R.left r.new)
         (R.failed r.new) (verdict_by verdict_of result) }
@@ -259,8 +268,42 @@ pub fn window<R: Source>(
     ask_window(alloc, circuit, limit, k, optimize, form)
 }
 
+/// Adds free variables behind those of clauses.
+fn add_free(clauses: &mut DagCnf, count: usize) -> Result<(), MemoryError>
+    requires { length clauses.old + count ≤ 2 ^ 31 }
+    ensures { OnOk result (clauses.new ≡ clauses.old ++ replicate count []) }
+{
+    for _ in 0..count {
+        clauses.new_var()?;
+    }
+    Ok(())
+}
+
+/// The clauses of a window, as lists.
+fn list_window(
+    alloc: Global,
+    window: UnrolledWindow,
+    optimize: bool,
+) -> Result<WindowClauses, MemoryError>
+    requires circuit { IsCircuit (lists_circuit window.unrolled) }
+    requires few { length (lists_circuit window.unrolled).nodes + window.free ≤ 2 ^ 31 }
+    ensures { IfOk result (λ made. (form : Window) (c : Circuit) (k : ℕ)
+        → IsUnrolledWindow form c k optimize window
+        → AsksWindow form c k optimize made.clauses made.extra) }
+{
+    let UnrolledWindow {
+        unrolled,
+        free,
+        needed: _,
+        extra,
+    } = window;
+    let mut clauses = encode(alloc, &CircuitView::new(&unrolled), optimize)?;
+    add_free(&mut clauses, free)?;
+    Ok(WindowClauses { clauses, extra })
+}
+
 /// Reads a circuit from the bytes of an AIGER file, and checks a proof, in the LRAT or the DRAT format, that the clauses of
-/// `window` can't be satisfied: then no window of `k + 2` steps, from any state, reaches a bad state first at its end.
+/// `read_window` can't be satisfied: then no window of `k + 2` steps, from any state, reaches a bad state first at its end.
 ///
 /// With `check_step` for the steps 0 to `k` it follows that no bad state is ever reached (`inductive_windows_are_safe`).
 pub fn check_window<R: Source, P: Source>(
@@ -291,7 +334,8 @@ pub fn check_window<R: Source, P: Source>(
 {
     refuted_windows_are_inductive();
     windows_are_one();
-    let asked = window(alloc, r, limit, k, optimize, form)?;
+    let window = read_window(alloc, r, limit, k, optimize, form)?;
+    let asked = list_window(alloc, window, optimize)?;
     refute(alloc, &asked.clauses, &asked.extra, proof)
 }
 
@@ -326,6 +370,7 @@ pub fn check_window_of<P: Source>(
 {
     refuted_windows_are_inductive();
     windows_are_one();
-    let asked = ask_window(alloc, circuit, limit, k, optimize, form)?;
+    let window = ask_window(alloc, circuit, limit, k, optimize, form)?;
+    let asked = list_window(alloc, window, optimize)?;
     refute(alloc, &asked.clauses, &asked.extra, proof)
 }

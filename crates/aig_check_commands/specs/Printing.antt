@@ -1,7 +1,8 @@
 -- Serves private clauses alone.
 -- What is printed of what was read: a text, or a beginning of it.
-use Rattle.std.specs.Prelude.{◌≡◌, ◌≢◌, ℕ, ◌+◌, Bool, false, List, ◌++◌, length, Option, Result, IfErr, IsErrOf, OnOk, codes}
+use Rattle.std.specs.Prelude.{◌≡◌, ◌≢◌, ℕ, ◌+◌, Bool, false, List, [], ◌++◌, length, replicate, Option, Result, IfErr, IsErrOf, OnOk, codes}
 use Rattle.std.specs.Io.KnownBytes.{Appends}
+use Rattle.aig_answers.specs.declared.windows.UnrolledWindow.{UnrolledWindow}
 use Rattle.aig_answers.specs.declared.windows.WindowClauses.{WindowClauses}
 use Rattle.aig_base.specs.Formula.{clauses_in}
 use Rattle.aig_base.specs.declared.logic.literal.Lit.{Lit}
@@ -98,6 +99,18 @@ pub record WritesBoth {W T E : Type 0} (held : W → Option (List ℕ)) (failed 
   pub writes : WritesOrStops held failed old result
       (title_text title ++ part_text (codes "c base") (clauses_with base o.base.extra)
       ++ part_text (codes "c step") (clauses_with step o.step.extra)) new
+
+-- so is that of the clauses of a window, behind its title
+pub record WritesWindow {W T E : Type 0} (held : W → Option (List ℕ)) (failed : W → Bool)
+    (title : Title) (o : UnrolledWindow) (optimize : Bool) (old : W) (result : Result T E)
+    (new : W) : Type 0 where
+  pub lists : List (List (List Lit))
+  pub has : HasClauses (lists_circuit o.unrolled) optimize lists
+  pub formula : let all = lists ++ replicate o.free [] in
+      IsFormula (length all) (clauses_in all ++ o.extra)
+  pub writes : let all = lists ++ replicate o.free [] in
+      WritesOrStops held failed old result
+      (title_text title ++ dimacs_of (length all) (clauses_in all ++ o.extra)) new
 
 -- the text of a witness of k + 1 steps that a solver's answer says and that was checked in three
 -- values

@@ -1,17 +1,19 @@
 //! What the commands do with the bytes of a file, and of a proof, a solver's answer or a witness.
 
-ghost use Rattle.std.specs.Prelude.{◌≡◌, ◌<◌, ◌≤◌, ◌^◌, ◌++◌, ◌∷◌, [], IfErr, List, decimal, length};
+ghost use Rattle.std.specs.Prelude.{◌≡◌, ◌+◌, ◌<◌, ◌≤◌, ◌^◌, ◌++◌, ◌∷◌, ℕ, [], IfErr, List, decimal, length, replicate};
+ghost use Rattle.aig_answers.specs.Answers.{IsUnrolledWindow};
 ghost use Rattle.aig_base.specs.declared.logic.literal.Lit.{Lit};
 ghost use Rattle.aig_base.specs.Clauses.{AreBelow};
 ghost use Rattle.aig_base.specs.Formula.{clauses_in};
+ghost use Rattle.aig_circuit.specs.Circuit.{Circuit};
 ghost use Rattle.aig_cnf.specs.Cnf.{AreNeeded, HasClauses};
 ghost use Rattle.aig_command_line.specs.Limits.{IsLimit};
-ghost use Rattle.aig_dimacs.specs.Text.{IsFormula, dimacs_of};
+ghost use Rattle.aig_dimacs.specs.Text.{IsFormula};
 ghost use Rattle.aig_output.specs.Sinks.{BuffersOrStops, WritesOrStops};
 ghost use Rattle.aig_check_commands.specs.Titles.{title_text};
 ghost use Rattle.aig_unroll.specs.Unroll.{UnrollsTo};
 ghost use Rattle.aig_check_commands.specs.Comments.{comments_of};
-ghost use Rattle.aig_check_commands.specs.Printing.{IsKnownText, IsOfSolution, IsOfText, IsQueryText, Prints, WritesQuery};
+ghost use Rattle.aig_check_commands.specs.Printing.{IsKnownText, IsOfSolution, IsOfText, IsQueryText, Prints, WritesQuery, WritesWindow};
 ghost use Rattle.aig_check_commands.specs.Running.{Runs, nothing_fails, nothing_given};
 ghost use Rattle.aig_check_commands.specs.Titling.{is_distinct};
 
@@ -19,12 +21,14 @@ use crate::command::FileCommand;
 use crate::comments::write_comments;
 use crate::error::CheckError;
 use crate::titles::{Question, Summed, Title, write_title};
-use aig_answers::{Window, check_step, check_window, read_query, read_unrolled, window};
+use aig_answers::{
+    UnrolledWindow, Window, check_step, check_window, read_query, read_unrolled, read_window,
+};
 use aig_base::{DagCnf, LitVvec, Sink, Source, StreamFault};
 use aig_circuit::CircuitView;
 use aig_cnf::{NeededGates, find_needed};
 use aig_command_line::Origin;
-use aig_dimacs::{write_circuit, write_dimacs};
+use aig_dimacs::{write_circuit, write_circuit_with};
 use aig_encode::Query;
 use aig_output::OutputBuffer;
 use aig_runs::{Unrolled, inductive_windows_are_safe};
@@ -66,22 +70,22 @@ fn is_distinct(form: Window) -> bool
     }
 }
 
-/// Writes clauses behind their title.
-fn write_titled<W: Sink>(
+/// Writes the clauses of a window behind their title. They are written from the circuit, and no list of those of gates is made.
+fn write_window<W: Sink>(
     w: &mut W,
     title: &Title,
-    clauses: &DagCnf,
-    extra: &LitVvec,
+    window: &UnrolledWindow,
+    optimize: bool,
 ) -> Result<(), StreamFault>
-    requires { AreBelow (length clauses.now) extra.now }
-    ensures writes { let formula = clauses_in clauses.now ++ extra.now in
-        let text = title_text title.now ++ dimacs_of (length clauses.now) formula in
-        WritesOrStops W.held W.failed w.old result text w.new }
-    ensures formula { IsFormula (length clauses.now) (clauses_in clauses.now ++ extra.now) }
+    requires { (form : Window) × (c : Circuit) × (k : ℕ)
+        × IsUnrolledWindow form c k optimize window.now }
+    ensures { WritesWindow W.held W.failed title.now window.now optimize w.old result w.new }
 {
-    tell_formula(clauses, extra);
+    let unrolled = CircuitView::new(&window.unrolled);
+    let free = window.free;
+    tell_circuit_with(&unrolled, free, optimize, &window.needed, &window.extra);
     write_title(w, title)?;
-    write_dimacs(w, clauses, extra)
+    write_circuit_with(w, &unrolled, free, optimize, &window.needed, &window.extra)
 }
 
 /// Prints the clauses of a window of the file whose bytes are the origin.
@@ -102,7 +106,7 @@ fn print_window_of<R: Source + Drop, B: Origin, W: Sink>(
         command limit r tt w.old result rest tt w.new }
 {
     let mut file = Summed::<R, B>::new(r);
-    let asked = window(alloc, &mut file, limit, k, optimize, form)?;
+    let asked = read_window(alloc, &mut file, limit, k, optimize, form)?;
     let title = Title {
         question: Question::Window {
             k,
@@ -112,7 +116,7 @@ fn print_window_of<R: Source + Drop, B: Origin, W: Sink>(
         sum: file.finish(),
         beside: None,
     };
-    Ok(write_titled(w, &title, &asked.clauses, &asked.extra)?)
+    Ok(write_window(w, &title, &asked, optimize)?)
 }
 
 /// Prints the clauses that ask for a window of a file's machine, behind their title. Requires that `k` is below 2^32.
@@ -199,7 +203,26 @@ pub(crate) fn tell_circuit(
     ensures { (lists : List (List (List Lit))) × HasClauses circuit.now optimize lists
         × IsFormula (length lists) (clauses_in lists ++ extra.now) }
 {
-    let _counts = (circuit.nodes().len(), needed.clauses, optimize, extra.len());
+    tell_circuit_with(circuit, 0, optimize, needed, extra);
+}
+
+/// Tells the same where the further clauses may be of so many free variables behind those of the nodes.
+fn tell_circuit_with(
+    circuit: &CircuitView<'_>,
+    free: usize,
+    optimize: bool,
+    needed: &NeededGates,
+    extra: &LitVvec,
+)
+    requires few { length circuit.now.nodes + free ≤ 2 ^ 31 }
+    requires needed { AreNeeded circuit.now optimize needed.now.marks.items needed.now.clauses }
+    requires below { AreBelow (length circuit.now.nodes + free) extra.now }
+    ensures { (lists : List (List (List Lit))) × HasClauses circuit.now optimize lists
+        × IsFormula (length (lists ++ replicate free []))
+        (clauses_in (lists ++ replicate free []) ++ extra.now) }
+{
+    let variables = circuit.nodes().len() + free;
+    let _counts = (variables, needed.clauses, optimize, extra.len());
 }
 
 /// Writes the title and the comments of a query.

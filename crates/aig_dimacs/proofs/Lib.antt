@@ -4,4 +4,4 @@ pub mod Comments
 pub mod Pieces
 mod Examples
 mod Puts
-mod ByMarks
+pub mod ByMarks

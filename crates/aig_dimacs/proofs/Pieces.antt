@@ -26,7 +26,7 @@ clause_count lists extra = length-append (clauses_in lists) extra ∙ ap (λ n. 
 
 -- ---- clauses of variables that are there
 
-all_below : (n : ℕ) (lists : List (List (List Lit))) → All (AreBelow n) lists → AreBelow n (clauses_in lists)
+pub all_below : (n : ℕ) (lists : List (List (List Lit))) → All (AreBelow n) lists → AreBelow n (clauses_in lists)
 all_below n [] h = All-from_recursion (λ clause. All (λ lit. variable_of lit < n) clause) [] tt
 all_below n (clauses ∷ lists) h =
     All-append (λ clause. All (λ lit. variable_of lit < n) clause) clauses (clauses_in lists) (h 0 clauses (omega arith)) (all_below n lists (All-tail (AreBelow n) clauses lists h))

@@ -1,6 +1,6 @@
 //! The DIMACS text of a circuit's clauses, written gate by gate.
 
-ghost use Rattle.std.specs.Prelude.{◌≡◌, ◌<◌, ◌≤◌, ◌^◌, ◌++◌, List, length};
+ghost use Rattle.std.specs.Prelude.{◌≡◌, ◌+◌, ◌<◌, ◌≤◌, ◌^◌, ◌++◌, [], List, length, replicate};
 ghost use Rattle.std.specs.List.{flat_map};
 ghost use Rattle.aig_base.specs.Clauses.{AreBelow};
 ghost use Rattle.aig_base.specs.Formula.{clauses_in};
@@ -67,14 +67,14 @@ fn write_gates<W: Sink>(
     Ok(())
 }
 
-/// Writes the header line of `total` clauses, the lines of the clauses of the nodes that are marked, and those of further ones.
+/// Writes the header line of these counts, the lines of the clauses of the nodes that are marked, and those of further ones.
 fn write_all<W: Sink>(
     buffer: &mut OutputBuffer,
     w: &mut W,
     nodes: &[AigNode],
     optimize: bool,
     marks: &[bool],
-    total: usize,
+    counts: (usize, usize),
     extra: &LitVvec,
 ) -> Result<(), StreamFault>
     requires sound { AreNodes nodes.now }
@@ -82,10 +82,10 @@ fn write_all<W: Sink>(
     requires marks { length marks.now ≡ length nodes.now }
     ensures { (lists : List (List (List Lit))) → AreByMarks nodes.now optimize marks.now lists
         → BuffersOrStops W.held W.failed buffer.old w.old result
-        (header_line (length nodes.now) total
+        (header_line counts.0 counts.1
         ++ flat_map clause_line (clauses_in lists ++ extra.now)) buffer.new w.new }
 {
-    write_header(buffer, w, nodes.len(), total)?;
+    write_header(buffer, w, counts.0, counts.1)?;
     write_gates(buffer, w, nodes, optimize, marks)?;
     write_list(buffer, w, extra)
 }
@@ -108,9 +108,37 @@ pub fn write_circuit<W: Sink>(
     ensures { (lists : List (List (List Lit))) × HasClauses circuit.now optimize lists
         × IsTextWith W.held W.failed w.old result lists extra.now w.new }
 {
+    write_circuit_with(w, circuit, 0, optimize, needed, extra)
+}
+
+/// Writes the clauses of a circuit as `write_circuit` does, where the further ones may also be of so many free variables, which come
+/// behind those of the nodes and have no clauses.
+pub fn write_circuit_with<W: Sink>(
+    w: &mut W,
+    circuit: &CircuitView<'_>,
+    free: usize,
+    optimize: bool,
+    needed: &NeededGates,
+    extra: &LitVvec,
+) -> Result<(), StreamFault>
+    requires few { length circuit.now.nodes + free ≤ 2 ^ 31 }
+    requires needed { AreNeeded circuit.now optimize needed.now.marks.items needed.now.clauses }
+    requires below { AreBelow (length circuit.now.nodes + free) extra.now }
+    // The text is that of the clauses of the circuit's and the free variables and the further ones, and they are read from it again.
+    ensures { (lists : List (List (List Lit))) × HasClauses circuit.now optimize lists
+        × IsTextWith W.held W.failed w.old result (lists ++ replicate free []) extra.now w.new }
+{
     let mut buffer = OutputBuffer::new();
-    let total = needed.clauses + extra.len();
     let nodes = circuit.nodes();
-    write_all(&mut buffer, w, nodes, optimize, &needed.marks, total, extra)?;
+    let counts = (nodes.len() + free, needed.clauses + extra.len());
+    write_all(
+        &mut buffer,
+        w,
+        nodes,
+        optimize,
+        &needed.marks,
+        counts,
+        extra,
+    )?;
     buffer.flush(w)
 }

@@ -1,8 +1,8 @@
-use Rattle.aig_base.proofs.Words.{◌≡◌, suc, ◌+◌, ◌*◌, ◌<◌, ◌≤◌, ◌^◌, ◌++◌, length, ap, sym, ◌∙◌, arith, add-mul, mul-le-mul_right, All-drop, All-same, All-take}
+use Rattle.aig_base.proofs.Words.{◌≡◌, suc, ◌+◌, ◌*◌, ◌<◌, ◌≤◌, ◌^◌, ◌++◌, refl, ap, sym, ◌∙◌, arith, add-mul, mul-le-mul_right, All-drop, All-same, All-take}
 use Rattle.aig_circuit.specs.declared.edge.AigEdge.{AigEdge}
 use Rattle.aig_runs.specs.WindowClauses.{apart_clauses, pair_clauses, state_at}
 use Rattle.aig_answers.proofs.Asking.{pair_cut}
-use Rattle.aig_answers.proofs.Growing.{free, free_length, free_step, more_step}
+use Rattle.aig_answers.proofs.Growing.{more_step}
 use Rattle.aig_answers.proofs.distinct.push_apart.Goals as goal
 
 pub state_of-before-requires : goal.state_of-before-requires
@@ -14,9 +14,8 @@ pub push_pair-requires-clause-room : goal.push_pair-requires-clause-room
 push_pair-requires-clause-room c =
     let s = c.loop-s.s in
     let l = c.args.latchs in
-    let at = ap length c.loop-s.invariant.clauses ∙ free_length c.args.clauses.now (s * l) in
     let rows : (s + 1) * l ≤ c.args.t * l = mul-le-mul_right l (omega arith) in
-    omega (arith, at, rows, add-mul s 1 l, c.state_of-before.ensures.count, c.requires.room)
+    omega (arith, rows, add-mul s 1 l, c.state_of-before.ensures.count, c.requires.room)
 
 pub push_pair-requires-clause-long : goal.push_pair-requires-clause-long
 push_pair-requires-clause-long c = c.state_of-state.ensures.count ∙ sym c.state_of-before.ensures.count
@@ -33,19 +32,12 @@ push_pair-requires-clause-ys c =
 
 pub loop-s-preserved : goal.loop-s-preserved
 loop-s-preserved c =
-    let n = length c.args.clauses.now in
+    let n = c.args.first in
     let s = c.loop-s.s in
     let t = c.args.t in
     let l = c.args.latchs in
     let edges = c.args.edges.now in
-    let before = c.loop-s.invariant in
     let next : suc s ≡ s + 1 = omega arith in
-    let at : length c.loop-s.clauses ≡ n + s * l = ap length before.clauses ∙ free_length c.args.clauses.now (s * l) in
-    let rows : s * l + l ≡ (s + 1) * l = omega (arith, add-mul s 1 l) in
-    let pair = pair_cut _ c.loop-s.extra _ (n + s * l) l s t edges _ _ c.in_ok-push_pair.ensures.extra at c.state_of-before.ensures.state c.state_of-state.ensures.state in
-    record {
-      clauses = free_step _ c.args.clauses.now c.loop-s.clauses (s * l) l before.clauses (c.in_ok-push_pair.ensures.clauses ∙ ap (λ m. c.loop-s.clauses ++ free m) c.state_of-before.ensures.count) ∙ ap (λ m. c.args.clauses.now ++ free m) rows;
-      extra =
-          more_step _ c.args.extra.now c.loop-s.extra (apart_clauses n l edges t s) (pair_clauses (n + s * l) (state_at l edges s) (state_at l edges t)) before.extra pair
-          ∙ ap (λ m. c.args.extra.now ++ apart_clauses n l edges t m) next;
-    }
+    let pair = pair_cut _ c.loop-s.extra _ (n + s * l) l s t edges _ _ c.in_ok-push_pair.ensures refl c.state_of-before.ensures.state c.state_of-state.ensures.state in
+    more_step _ c.args.extra.now c.loop-s.extra (apart_clauses n l edges t s) (pair_clauses (n + s * l) (state_at l edges s) (state_at l edges t)) c.loop-s.invariant pair
+    ∙ ap (λ m. c.args.extra.now ++ apart_clauses n l edges t m) next

@@ -1,4 +1,4 @@
-use Rattle.aig_base.proofs.Words.{on_ok_weaker}
+use Rattle.aig_base.proofs.Words.{sym, err_from_is_err_and, on_ok_weaker}
 use Rattle.aig_circuit.specs.View.{lists_circuit}
 use Rattle.aig_answers.proofs.Alike.{window_told}
 use Rattle.aig_answers.proofs.NamelessWindows.{asks_of_file}
@@ -11,8 +11,19 @@ returns-clause-answer g c =
     on_ok_weaker c.refute.result (λ none f bound fits is.
     c.refuted_windows_are_inductive.ensures form f bound c.args.k c.args.optimize _ _ fits
     (asks_of_file form f bound (lists_circuit c.args.circuit) c.args.k c.args.optimize made.clauses made.extra fits is
-    c.in_ok-asked.ensures.asks) none) c.refute.ensures.refuted
+    (c.in_ok-asked.ensures form (lists_circuit c.args.circuit) c.args.k c.in_ok-window.ensures.asks)) none) c.refute.ensures.refuted
 
 pub returns-clause-shown : goal.returns-clause-shown
 returns-clause-shown g c taken =
-    window_told c.windows_are_one.ensures c.args.form _ c.args.k c.args.optimize _ c.refute.result _ _ c.in_ok-asked.ensures.asks c.refute.ensures.shown
+    window_told c.windows_are_one.ensures c.args.form _ c.args.k c.args.optimize _ c.refute.result _ _ (c.in_ok-asked.ensures c.args.form (lists_circuit c.args.circuit) c.args.k c.in_ok-window.ensures.asks) c.refute.ensures.shown
+
+pub list_window-requires-clause-circuit : goal.list_window-requires-clause-circuit
+list_window-requires-clause-circuit g c = c.in_ok-window.ensures.asks.circuit
+
+pub list_window-requires-clause-few : goal.list_window-requires-clause-few
+list_window-requires-clause-few g c = c.in_ok-window.ensures.asks.few
+
+pub returns-in_err-asked-clause-said : goal.returns-in_err-asked-clause-said
+returns-in_err-asked-clause-said g c =
+    let p = err_from_is_err_and c.from_residual-in_err-asked.result c.from_residual-in_err-asked.ensures.1 in
+    rw (p.1, p.2) (sym c.in_ok-window.ensures.said)

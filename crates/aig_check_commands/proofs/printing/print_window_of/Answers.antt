@@ -1,6 +1,8 @@
-use Rattle.aig_base.proofs.Words.{◌++◌, length, refl, ap, sym, ◌∙◌, err_from_is_err_and}
+use Rattle.std.specs.Prelude.{replicate}
+use Rattle.aig_base.proofs.Words.{[], ◌++◌, length, refl, ap, sym, ◌∙◌, err_from_is_err_and}
 use Rattle.aig_base.specs.Formula.{clauses_in}
 use Rattle.aig_dimacs.specs.Text.{dimacs_of}
+use Rattle.aig_format.specs.Circuit.{circuit_of}
 use Rattle.aig_check_commands.specs.Titles.{title_text}
 use Rattle.aig_check_commands.specs.declared.titles.title.Question.TheVariants.{Window}
 use Rattle.aig_check_commands.specs.Titling.{is_distinct, title_of}
@@ -8,60 +10,67 @@ use Rattle.aig_check_commands.proofs.Commenting.{titled_again}
 use Rattle.aig_check_commands.proofs.Outcomes.{answered, read_again, stopped, summed, window_refused}
 use Rattle.aig_check_commands.proofs.printing.print_window_of.Goals as goal
 
+pub write_window-requires : goal.write_window-requires
+write_window-requires g c =
+    let read = c.in_ok-asked.ensures.answer in
+    (c.args.form, circuit_of read.file, c.args.k, read.means)
+
 pub returns-in_err-asked : goal.returns-in_err-asked
 returns-in_err-asked g c =
     let p = err_from_is_err_and c.from_residual.result c.from_residual.ensures.1 in
     let told = c.in_err-asked.ensures in
     let e = c.in_err-asked.field-0.0 in
     rw (sym c.new-file.ensures, p.1, p.2)
-    (c.window.new.r.source, window_refused e told.verdict told.own told.own refl refl)
+    (c.read_window.new.r.source, window_refused e told.verdict told.own told.own refl refl)
 
-pub returns-in_err-write_titled : goal.returns-in_err-write_titled
-returns-in_err-write_titled g c =
-    let p = err_from_is_err_and c.from_residual-in_err-write_titled.result
-    c.from_residual-in_err-write_titled.ensures.1 in
+pub returns-in_err-write_window : goal.returns-in_err-write_window
+returns-in_err-write_window g c =
+    let p = err_from_is_err_and c.from_residual-in_err-write_window.result
+    c.from_residual-in_err-write_window.ensures.1 in
     let read = c.in_ok-asked.ensures in
     let made = c.in_ok-asked.asked in
-    let told = c.in_err-write_titled.ensures in
-    let all = clauses_in made.clauses ++ made.extra in
+    let told = rw c.is_distinct.ensures at c.in_err-write_window.ensures in
+    let lists = told.lists ++ replicate made.free [] in
+    let all = clauses_in lists ++ made.extra in
     let sum = c.finish.result in
     let t = title_of (Window c.args.k (is_distinct c.args.form)) c.args.optimize sum in
     let start = ap g.R.Source.left c.new-file.ensures ∙ c.requires.origin in
     rw (sym c.new-file.ensures, p.1, p.2) (
-      c.window.new.r.source,
-      stopped (title_text t ++ dimacs_of (length made.clauses) all) tt
+      c.read_window.new.r.source,
+      stopped (title_text t ++ dimacs_of (length lists) all) tt
           read.verdict
-          (read_again read.answer (λ bytes f holds asks. record {
+          (read_again read.answer (λ bytes f holds of. record {
             sum = sum;
             sums = summed g.B.Origin.bytes sum read.verdict start c.finish.ensures;
-            lists = made.clauses;
+            lists = lists;
             extra = made.extra;
-            asks = asks;
+            asks = of.asks told.lists told.has;
             exact = refl;
-            again = titled_again t (length made.clauses) all told.formula;
-          })) (rw c.is_distinct.ensures at told.writes.err),
+            again = titled_again t (length lists) all told.formula;
+          })) told.writes.err,
     )
 
 pub returns : goal.returns
 returns g c =
     let read = c.in_ok-asked.ensures in
     let made = c.in_ok-asked.asked in
-    let told = c.in_ok-write_titled.ensures in
-    let all = clauses_in made.clauses ++ made.extra in
+    let told = rw c.is_distinct.ensures at c.in_ok-write_window.ensures in
+    let lists = told.lists ++ replicate made.free [] in
+    let all = clauses_in lists ++ made.extra in
     let sum = c.finish.result in
     let t = title_of (Window c.args.k (is_distinct c.args.form)) c.args.optimize sum in
     let start = ap g.R.Source.left c.new-file.ensures ∙ c.requires.origin in
     rw (sym c.new-file.ensures) (
-      c.window.new.r.source,
-      answered tt (title_text t ++ dimacs_of (length made.clauses) all) tt
+      c.read_window.new.r.source,
+      answered tt (title_text t ++ dimacs_of (length lists) all) tt
           read.verdict
-          (read_again read.answer (λ bytes f holds asks. record {
+          (read_again read.answer (λ bytes f holds of. record {
             sum = sum;
             sums = summed g.B.Origin.bytes sum read.verdict start c.finish.ensures;
-            lists = made.clauses;
+            lists = lists;
             extra = made.extra;
-            asks = asks;
+            asks = of.asks told.lists told.has;
             exact = refl;
-            again = titled_again t (length made.clauses) all told.formula;
-          })) (rw c.is_distinct.ensures at told.writes.ok) told.writes.sound,
+            again = titled_again t (length lists) all told.formula;
+          })) told.writes.ok told.writes.sound,
     )

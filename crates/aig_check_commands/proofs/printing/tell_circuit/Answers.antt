@@ -1,25 +1,14 @@
-use Rattle.aig_base.proofs.Words.{◌≡◌, ◌+◌, ◌<◌, length, sym, subst, ◌∙◌, arith, sum_by, length-flat_map, slice_get_within}
-use Rattle.aig_base.specs.Clauses.{AreBelow, AreRelations}
-use Rattle.aig_dimacs.proofs.Pieces.{IsFormula-from}
+use Rattle.std.proofs.Common.{◌≡◌, ◌+◌, length, subst, append-nil, arith}
+use Rattle.aig_base.specs.Clauses.{AreBelow}
 use Rattle.aig_check_commands.proofs.printing.tell_circuit.Goals as goal
+
+pub tell_circuit_with-requires-clause-below : goal.tell_circuit_with-requires-clause-below
+tell_circuit_with-requires-clause-below c =
+    let n = length c.args.circuit.now.nodes in
+    let same : n ≡ n + 0 = omega arith in
+    subst (λ m. AreBelow m c.args.extra.now) same c.requires.below
 
 pub returns : goal.returns
 returns c =
-    let h = c.requires.needed in
-    let extra = c.args.extra.now in
-    let same = h.has_clauses.count in
-    let some : 0 < length h.lists = slice_get_within h.lists 0 _ h.has_clauses.zero in
-    let sum : c.args.needed.now.clauses ≡ sum_by length h.lists =
-    h.count ∙ length-flat_map (λ clauses. clauses) h.lists in
-    let relations : AreRelations h.lists = record {
-      some = some;
-      few = omega (arith, c.requires.few, same);
-      below = h.below;
-    } in
-    let below = subst (λ n. AreBelow n extra) (sym same) c.requires.below in (
-      h.lists,
-      h.has_clauses,
-      IsFormula-from h.lists extra (c.args.needed.now.clauses + length extra) relations below
-          (omega (arith, sum))
-          (omega (arith, h.few, c.requires.few, c.len.ensures.few, c.len.ensures.count)),
-    )
+    let told = c.tell_circuit_with.ensures in
+    (told.0, told.1, rw (append-nil told.0) at told.2)

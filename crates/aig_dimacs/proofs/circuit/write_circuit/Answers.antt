@@ -1,37 +1,14 @@
-use Rattle.std.proofs.Common.{◌≡◌, ◌+◌, ◌++◌, length, sym, ap, ◌∙◌, rules, arith}
-use Rattle.std.proofs.lemmas.List.{length-append}
-use Rattle.aig_base.specs.Formula.{clauses_in}
-use Rattle.aig_output.proofs.Putting.{failed_put, written_through}
-use Rattle.aig_dimacs.specs.Text.{dimacs_of}
-use Rattle.aig_dimacs.proofs.ByMarks.{by_marks, formula_of}
+use Rattle.std.proofs.Common.{◌≡◌, ◌+◌, length, subst, append-nil, arith}
+use Rattle.aig_base.specs.Clauses.{AreBelow}
 use Rattle.aig_dimacs.proofs.circuit.write_circuit.Goals as goal
 
-pub returns-in_err-write_all : goal.returns-in_err-write_all
-unfolding dimacs_of
-returns-in_err-write_all g c =
-    let h = c.requires.needed in
-    let count : length (clauses_in h.lists ++ c.args.extra.now) ≡ c.args.needed.now.clauses + c.len.result = omega (arith, length-append (clauses_in h.lists) c.args.extra.now, h.count, c.len.ensures.count) in
-    let nodes = h.has_clauses.count ∙ sym (ap length c.nodes-nodes.ensures.value) in
-    let told = c.in_err-write_all.ensures h.lists (rw (c.nodes-nodes.ensures.value, c.deref.ensures.value) (by_marks c.args.circuit.now c.args.optimize c.args.needed.now.marks.items c.args.needed.now.clauses h)) in (
-      h.lists,
-      h.has_clauses,
-      record {
-        writes = failed_put (rw (c.new-buffer.ensures, sym nodes, sym count) at told.err) (search rules);
-        formula = formula_of c.args.circuit.now c.args.optimize c.args.needed.now.marks.items c.args.needed.now.clauses c.args.extra.now c.requires.few h c.requires.below (omega (arith, c.len.ensures.count, c.len.ensures.few));
-      },
-    )
+pub write_circuit_with-requires-clause-below : goal.write_circuit_with-requires-clause-below
+write_circuit_with-requires-clause-below g c =
+    let n = length c.args.circuit.now.nodes in
+    let same : n ≡ n + 0 = omega arith in
+    subst (λ m. AreBelow m c.args.extra.now) same c.requires.below
 
 pub returns : goal.returns
-unfolding dimacs_of
 returns g c =
-    let h = c.requires.needed in
-    let count : length (clauses_in h.lists ++ c.args.extra.now) ≡ c.args.needed.now.clauses + c.len.result = omega (arith, length-append (clauses_in h.lists) c.args.extra.now, h.count, c.len.ensures.count) in
-    let nodes = h.has_clauses.count ∙ sym (ap length c.nodes-nodes.ensures.value) in
-    let told = c.in_ok-write_all.ensures h.lists (rw (c.nodes-nodes.ensures.value, c.deref.ensures.value) (by_marks c.args.circuit.now c.args.optimize c.args.needed.now.marks.items c.args.needed.now.clauses h)) in (
-      h.lists,
-      h.has_clauses,
-      record {
-        writes = written_through c.new-buffer.ensures (rw (sym nodes, sym count) at told.ok) c.flush.ensures.writes;
-        formula = formula_of c.args.circuit.now c.args.optimize c.args.needed.now.marks.items c.args.needed.now.clauses c.args.extra.now c.requires.few h c.requires.below (omega (arith, c.len.ensures.count, c.len.ensures.few));
-      },
-    )
+    let told = c.write_circuit_with.ensures in
+    (told.0, told.1, rw (append-nil told.0) at told.2)

@@ -4,10 +4,9 @@ use Rattle.aig_circuit.specs.View.{lists_circuit}
 use Rattle.aig_format.proofs.Circuits.{IsCircuit-of_file}
 use Rattle.aig_answers.specs.Answers.{circuit_window_verdict, verdict_of, window_verdict}
 use Rattle.aig_reader.specs.Verdicts.{verdict_by}
-use Rattle.aig_answers.proofs.Asking.{below_told}
 use Rattle.aig_answers.proofs.Answering.{read_lists, window_answers}
 use Rattle.aig_answers.proofs.Verdicts.{judged, unread, window_alike, window_of_file}
-use Rattle.aig_answers.proofs.windows.window.Goals as goal
+use Rattle.aig_answers.proofs.windows.read_window.Goals as goal
 
 pub returns-in_err-circuit-clause-verdict : goal.returns-in_err-circuit-clause-verdict
 returns-in_err-circuit-clause-verdict g c =
@@ -24,9 +23,6 @@ returns-clause-verdict g c =
     let read = c.in_ok-circuit.ensures in
     let lists = c.in_ok-circuit.circuit in
     judged (circuit_window_verdict c.args.form c.args.limit c.args.k) (window_verdict c.args.form c.args.limit c.args.k) (window_alike c.args.form c.args.limit c.args.k) c.args.limit _ _ _ (lists_circuit lists) (verdict_by verdict_of c.ask_window.result) (window_of_file c.args.limit c.args.k (lists_circuit lists) c.args.form) (read_lists c.args.limit lists _ _ read.circuit) read.verdict c.ask_window.ensures.said
-
-pub returns-clause-below : goal.returns-clause-below
-returns-clause-below g c = below_told c.args.form (lists_circuit c.in_ok-circuit.circuit) c.args.k c.args.optimize c.ask_window.result c.ask_window.ensures.asks
 
 pub returns-clause-answer : goal.returns-clause-answer
 returns-clause-answer g c =
