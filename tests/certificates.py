@@ -1,30 +1,47 @@
 #!/usr/bin/env python3
 """Checks the certificates that `bin/aigprove --write-certificate` writes, by the competition's conditions: certificates.py [FILES [SEED]]
 
-For the safe designs of tests/designs that an engine answers in SECONDS, and for FILES (60) random machines that a search over all states
-finds safe, one engine at a time: where aigprove says `no bad state at any step`, the file that it writes is a witness circuit. The five
-conditions of the hardware model checking competition (reset, transition, property, base, step; the first inputs and latches are the
-model's, in order) are asked of cadical, by clauses that are made here, with no program of this repository. `--certificate` takes the
-file, too. With its bad literal the constant 0, or the next value or the reset of a latch of its own turned, either a condition is broken
-here and it is refused, or it is taken and neither base nor step is. An answer about runs on which no state comes twice has no certificate. What breaks a certificate is
-told: a state and inputs, by which one comes to the other. An invariant that pdr of ABC writes of the file itself is taken.
+For safe designs of tests/designs, for some beside what ABC makes of them (`--equal`), and for FILES (60) random machines, one engine at a
+time: where aigprove says that no bad state is reached, or no difference, the file that it writes is a witness circuit of what was asked
+about. It writes none for an answer about runs on which no state comes twice, for one that is a run, and without an answer, and says so.
 
-The solver and ABC are the Debian packages cadical and berkeley-abc. It is no part of tests/run."""
-import itertools
-import random
+The five conditions of the hardware model checking competition (reset, transition, property, base, step; the first inputs and latches are
+the model's, in order) are asked of cadical, by clauses that are made here, with no program of this repository; where both circuits are
+small, a search over all values says the same. `aigcheck certified` takes the file, by cadical's proofs of what `aigcheck obligations`
+prints for each condition, and so does `aigprove --certificate`. Then each is mangled: a gate, a reset, a next value, the bad literal or a
+constraint is another, a latch becomes an input, leaves change places. It is refused by the first condition that is broken here, or taken
+where none is, and what breaks it is told: a state and inputs, by which one comes to the other. Some of the random machines have names
+that would say for which literals leaves stand.
+
+An invariant that pdr of ABC writes of the file itself of a design without constraints is taken, and one with half of its cubes told of.
+
+It ends at the first that differs. The solver and ABC are the Debian packages cadical and berkeley-abc. It is no part of tests/run."""
+import concurrent.futures
 import re
 import shutil
 import sys
 
 import harness
-from aiger import Machine, machine_of
-from harness import PROVE, TESTS, TOOL, numbers, output
-from machines import random_machine
+import simulations
+from aiger import machine_of
+from claims import CONDITIONS, MANGLES, Search, Witness, leaves_of, other_names
+from designs import REWRITTEN, rewritten
+from harness import EDIT, PROVE, TOOL, numbers, output, rows
+from machines import NAMES, named, random_machine
+from pairs import is_inductive
+from simulations import DESIGNS, SAFE, SLOW, Claims
+from trials import counted, run_files, told
 
-SECONDS = 60
-DESIGNS = ["count_wrap", "gray", "johnson", "msi", "peterson", "two_phase"]
-SAFE = "no bad state at any step"
-NO_CERTIFICATE = "aigprove: no certificate: the answer is about runs on which no state comes twice"
+SECONDS = 30
+# The line of an answer about all steps.
+SHOWN = re.compile("^(no bad state at any step|equal at every step)$", re.M)
+# How it is said that there is no certificate, and why.
+SAID = re.compile("^aigprove: no certificate: (.*)$", re.M)
+DISTINCT, RUN, OPEN = "the answer is about runs on which no state comes twice", "the answer is a run", "there is no answer"
+# How many leaves a witness circuit has at most that is searched, and names that leaves of a file have.
+SMALL, STANDS = 11, [*NAMES, "= 2", "= 4", "= 03", "= x"]
+# How what breaks a certificate is told.
+BREAKS = re.compile("certificate: (it doesn't hold at the start: |a step breaks it: from )")
 
 
 class Clauses:
@@ -62,20 +79,15 @@ class Clauses:
     def some(self, literals):
         self.clauses.append(list(literals))
 
-    def has_solution(self, folder):
-        text = f"p cnf {self.count} {len(self.clauses)}\n" + "".join(f"{' '.join(map(str, clause))} 0\n" for clause in self.clauses)
-        (folder / "condition.cnf").write_text(text)
-        status, _, said = harness.run(["cadical", "-q", "-n", str(folder / "condition.cnf")])
-        if status not in (10, 20):
-            sys.exit(f"cadical ended with status {status}: {said}")
-        return status == 10
+    def text(self):
+        return f"p cnf {self.count} {len(self.clauses)}\n" + "".join(f"{' '.join(map(str, clause))} 0\n" for clause in self.clauses)
 
 
 class Conditions:
     """A model and a witness circuit, whose first inputs and latches are the model's."""
 
-    def __init__(self, model, witness, folder):
-        self.model, self.witness, self.folder = model, witness, folder
+    def __init__(self, model, witness):
+        self.model, self.witness = model, witness
         self.inputs = dict(zip(witness.inputs, model.inputs))
         self.latches = {own[0]: latch[0] for own, latch in zip(witness.latches, model.latches)}
 
@@ -155,105 +167,132 @@ class Conditions:
         clauses.some(self.parts(self.witness, z, "bads"))
         return clauses
 
-    def all(self):
-        """The names of the conditions that are broken."""
-        return [name for name in ["reset", "transition", "property", "base", "step"] if getattr(self, name)().has_solution(self.folder)]
 
+class Written(Claims):
+    """A file, and what aigprove writes of it."""
 
-def changed(rng, witness, count):
-    """A witness circuit that is wrong in one place, most often: its property, or the next value of a latch of its own."""
-    changes = [{"bads": [0]}]
-    if len(witness.latches) > count:
-        place = rng.randrange(count, len(witness.latches))
-        latch, next, *reset = witness.latches[place]
-        for row in [(latch, next ^ 1, *reset), (latch, latch, *reset), (latch, next, 1)]:
-            changes.append({"latches": [*witness.latches[:place], row, *witness.latches[place + 1:]]})
-    given = {name: getattr(witness, name) for name in ["inputs", "latches", "bads", "constraints", "gates"]}
-    return Machine(**{**given, **rng.choice(changes)})
+    def asked_of(self):
+        """Engines, and the words that ask each."""
+        return {engine: [self.file] for engine in ["pdr", "windows"]}
 
+    def run(self):
+        for engine, words in self.asked_of().items():
+            if witness := self.taken(engine, words):
+                self.mangle(witness)
+        return self
 
-class Certificates(harness.Tally):
-    """Files, and certificates of them."""
-
-    def __init__(self, folder):
-        super().__init__()
-        self.folder, self.written = folder, 0
-
-    def prove(self, *words):
-        status, printed, said = harness.run([PROVE, "--timeout", str(SECONDS), *words])
-        return status, printed.decode().splitlines(), said.decode("utf-8", "replace")
-
-    def takes(self, file, certificate):
-        """Whether aigprove takes a certificate, and what it says."""
-        _, printed, said = self.prove("--certificate", certificate, file)
-        return SAFE in printed, said
-
-    def compare(self, name, file, engine, rng=None):
-        """Checks what an engine writes of a file."""
-        out = self.folder / "certificate"
+    def written(self, engine, words):
+        """The certificate that aigprove writes by an engine; None where it writes none, and says why."""
+        out = self.folder / "certificate.aag"
         out.unlink(missing_ok=True)
-        _, printed, said = self.prove("--engine", engine, "--write-certificate", str(out), file)
-        what = f"{name} by {engine}"
-        if SAFE not in printed:
-            self.wants(f"{what}: no answer and no certificate", False, out.exists())
-            return
-        if not out.exists():
-            self.wants(f"{what}: no certificate", (True, True), (NO_CERTIFICATE in said, "windows" in engine))
-            return
-        self.written += 1
-        model, witness = (machine_of(output([TOOL, "text", str(path)])) for path in [file, out])
-        self.wants(f"{what}: broken conditions", [], Conditions(model, witness, self.folder).all())
-        self.wants(f"{what}: taken", True, self.takes(file, str(out))[0])
-        if rng:
-            other = changed(rng, witness, len(model.latches))
-            out.write_text(other.text())
-            # Our check asks about the model's property beside that of the witness circuit.
-            conditions = Conditions(model, other, self.folder).all()
-            is_taken, said = self.takes(file, str(out))
-            if is_taken:
-                self.wants(f"{what}: a changed one is taken", [], [it for it in conditions if it in ("base", "step")])
-            else:
-                self.check_said(what, conditions, said)
+        status, printed, said = harness.run([PROVE, "--timeout", str(SECONDS), "--engine", engine, "--write-certificate", out, *words])
+        is_shown, given = bool(SHOWN.search(printed.decode())), SAID.findall(said.decode())
+        wanted = [] if out.exists() else [DISTINCT if is_shown else RUN if status == 10 else OPEN]
+        if given != wanted or out.exists() and not is_shown or is_shown and not self.is_safe or given == [DISTINCT] and engine != "windows":
+            self.fail(f"{engine}: {status} {printed} {said}")
+        self.counts[f"by {engine}: {given[0] if given else 'written'}"] += 1
+        return str(out) if out.exists() else None
 
-    def check_said(self, what, conditions, said):
-        """Checks what is said of a certificate that isn't taken."""
-        tells = re.search("certificate: (it doesn't hold at the start: |a step breaks it: from )", said)
-        self.check(tells and conditions, f"{what}: a changed one is refused: {conditions} {said}")
+    def broken(self, witness):
+        """The conditions that a witness circuit in the model's order breaks, as cadical says, and of a small one a search, too."""
+        conditions = Conditions(self.model, witness)
+        broken = [name for name in CONDITIONS if self.proof(getattr(conditions, name)().text(), "own-proof") is None]
+        if sum(map(len, leaves_of(witness))) <= SMALL:
+            self.counts["searched"] += 1
+            if (found := Search(self.model, Witness(witness, {})).broken()) != broken:
+                self.fail(f"a search finds broken {found}, and by the clauses that are made here {broken} are")
+        return broken
 
-    def check_invariant(self, name, file):
+    def taken(self, engine, words):
+        """Checks the certificate that aigprove writes by an engine, if it does, and gives its circuit."""
+        out = self.written(engine, words)
+        if out is None:
+            return None
+        witness = machine_of(output([TOOL, "text", out]))
+        if broken := self.broken(witness):
+            self.fail(f"{engine}: a certificate breaks {broken}")
+        self.compare([self.file, out], [], self.rng.choice([[], ["raw"]]))
+        if said := self.compare_proved([self.file, out], []):
+            self.fail(f"{engine}: a certificate isn't taken: {said}")
+        return witness
+
+    def mangle(self, witness):
+        """Has a mangled certificate be refused by what it breaks, or taken."""
+        other = self.rng.choice([it for it in MANGLES if it is not other_names])(self.rng, Witness(witness, {}))
+        pair, broken = self.pair(other), self.broken(other.machine)
+        self.compare(pair, broken, self.rng.choice([[], ["raw"]]))
+        said = self.compare_proved(pair, broken)
+        has_all = all(len(own) >= len(given) for given, own in zip(leaves_of(self.model), leaves_of(other.machine)))
+        if said and has_all and not BREAKS.search(said):
+            self.fail(f"what breaks a certificate isn't told: {said}")
+
+
+class Design(Written, simulations.Design):
+    """A safe design."""
+
+    def run(self):
+        # ABC has constraints kept by a latch more.
+        if not self.model.constraints:
+            self.check_invariant()
+        return super().run()
+
+    def check_invariant(self):
         """Checks that an invariant is taken that pdr of ABC writes of the file."""
         pla = self.folder / "inv.pla"
-        pla.unlink(missing_ok=True)
-        harness.run(["berkeley-abc", "-q", f"read_aiger {file}; fold; pdr -d -I {pla}"], timeout=SECONDS)
+        harness.run(["berkeley-abc", "-q", f"read_aiger {self.file}; fold; pdr -d -I {pla}"], timeout=SECONDS)
         if pla.exists():
-            self.wants(f"{name}: an invariant of ABC's", True, self.takes(file, str(pla))[0])
+            self.compare_proved([self.file, str(pla)], [])
             lines = pla.read_text().splitlines()
             cubes = [i for i, line in enumerate(lines) if line[:1] in ("0", "1", "-")]
             pla.write_text("\n".join(line for i, line in enumerate(lines) if i not in cubes[::2]) + "\n")
-            is_taken, said = self.takes(file, str(pla))
-            self.check(is_taken or "certificate: " in said, f"{name}: half an invariant: {said}")
+            _, printed, said = harness.run([PROVE, "--certificate", pla, self.file])
+            if SAFE not in printed and b"certificate: " not in said:
+                self.fail(f"half an invariant: {printed} {said}")
+            self.counts["invariants of ABC's"] += 1
+
+
+class Rewritten(Written):
+    """A design beside what ABC makes of it: a certificate is about their miter."""
+
+    def __init__(self, design, command, folder):
+        super().__init__(folder, design)
+        *self.files, _ = rewritten(design, command, self.folder)
+        self.file, self.is_safe = self.put("miter.aag", output([EDIT, "miter", *self.files])), True
+        self.model = machine_of(output([TOOL, "text", self.file]))
+
+    def asked_of(self):
+        first, other = self.files
+        return {"registers": ["--equal", other, first]}
+
+
+def one_of_machines(rng):
+    """A random machine, most often one that is never bad, though a state that isn't reached leads to one; and whether it's never bad."""
+    while True:
+        machine = random_machine(rng)
+        is_safe = machine.first_bad() is None
+        if rng.random() < (0.01 if not is_safe else 0.03 if is_inductive(machine) else 1):
+            return machine, is_safe
+
+
+class Trial(Written):
+    """A random machine."""
+
+    def __init__(self, seed, folder):
+        super().__init__(folder, seed)
+        self.model, self.is_safe = one_of_machines(self.rng)
+        self.file = self.put("model.aag", named(self.rng, self.model, STANDS, "il").text())
 
 
 def main():
     files, seed = numbers(60, 1)
-    rng = random.Random(seed)
-    with harness.new_folder() as folder:
-        made = Certificates(folder)
-        for name, engine in itertools.product(DESIGNS, ["pdr", "windows"]):
-            made.compare(name, str(TESTS / "designs" / f"{name}.aig"), engine)
-        for name in DESIGNS:
-            made.check_invariant(name, str(TESTS / "designs" / f"{name}.aig"))
-        for i in range(files):
-            machine = random_machine(rng)
-            while machine.first_bad() is not None:
-                machine = random_machine(rng)
-            file = folder / f"{i}.aag"
-            file.write_text(machine.text())
-            for engine in ["pdr", "windows"]:
-                made.compare(f"machine {i} of seed {seed}", str(file), engine, rng)
-            file.unlink()
-        print(f"{made.written} certificates")
-        return made.end()
+    names = [name for name, answer in rows(DESIGNS / "answers.tsv") if answer in ("safe", "open") and name not in SLOW]
+    with harness.new_folder() as folder, concurrent.futures.ProcessPoolExecutor() as pool:
+        counts = counted(pool, Design, [(name, folder / name) for name in names])
+        counts += counted(pool, Rewritten, [(*pair, folder / f"registers-{i}") for i, pair in enumerate(REWRITTEN)])
+    print(f"{len(names)} designs: {told(counts)}")
+    if not all(counts[f"by {engine}: written"] for engine in ["pdr", "windows", "registers"]):
+        sys.exit("an engine has no certificate of a design")
+    run_files(Trial, files, seed)
 
 
 if __name__ == "__main__":

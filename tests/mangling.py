@@ -1,4 +1,6 @@
 """Proofs as lines and as bytes, and mangled. A line is a list of words; a step of a DRAT proof says whether it deletes, and its clause."""
+import functools
+
 # Which finds the package of aigprove.
 import harness
 
@@ -14,10 +16,25 @@ def lines_of(steps):
     return [["d"] * deletes + [*map(str, clause), "0"] for deletes, clause in steps]
 
 
+@functools.cache
+def code(number):
+    """The bytes of a literal, of a hint, and of the 0 after them: twice the number, and one more for a minus."""
+    return difference(2 * abs(number) + (number < 0))
+
+
+def coded(words):
+    """The bytes of a list."""
+    return b"".join(map(code, map(int, words)))
+
+
 def binary_of(steps):
     """The bytes of a binary DRAT proof."""
-    literals = lambda clause: b"".join(difference(2 * abs(literal) + (literal < 0)) for literal in clause)
-    return b"".join((b"d" if deletes else b"a") + literals(clause) + b"\0" for deletes, clause in steps)
+    return b"".join((b"d" if deletes else b"a") + coded([*clause, 0]) for deletes, clause in steps)
+
+
+def binary_of_lines(lines):
+    """The bytes of a binary LRAT file that say what the lines of one do."""
+    return b"".join(b"d" + coded(line[2:]) if line[1:2] == ["d"] else b"a" + difference(int(line[0])) + coded(line[1:]) for line in lines)
 
 
 def damaged_lines(rng, lines):

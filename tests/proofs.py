@@ -10,6 +10,7 @@ reverse unit propagation, which knows nothing of the library.
 It ends with the first that differs, and else prints one line. It is no part of tests/run."""
 import collections
 import concurrent.futures
+import functools
 import itertools
 import re
 from pathlib import Path
@@ -17,7 +18,7 @@ from pathlib import Path
 import harness
 from harness import CHECK, numbers, output
 from machines import machine_of_clauses, random_clauses, random_machine
-from mangling import damaged_bytes, mangled, text_of
+from mangling import binary_of_lines, damaged_bytes, mangled, text_of
 from trials import Files, counted, told
 
 # How often a proof is mangled, and which bytes are put into a binary one.
@@ -31,29 +32,31 @@ SETTINGS = [[], ["--plain"], ["--unsat"], ["--sat"], ["--no-elim"], ["--no-probe
 
 
 class Clauses:
-    """Clauses by their numbers, those that have a literal, those of one at most, and the literals that were found to be true in any case."""
+    """Clauses by their numbers, what is true where each is false, those that have a literal, those of one at most, and the literals that
+    were found to be true in any case."""
 
     def __init__(self, clauses=()):
-        self.all, self.having, self.short, self.fixed = {}, collections.defaultdict(set), {}, set()
+        self.all, self.inverses, self.having, self.short, self.fixed = {}, {}, collections.defaultdict(set), {}, set()
         for number, clause in enumerate(clauses, 1):
             self.add(number, clause)
 
     def add(self, number, clause):
-        self.all[number] = clause
-        if len(set(clause)) < 2:
+        self.all[number], self.inverses[number] = clause, {-literal for literal in clause}
+        if len(self.inverses[number]) < 2:
             self.short[number] = clause
         for literal in clause:
             self.having[literal].add(number)
 
     def remove(self, number):
         self.short.pop(number, None)
+        del self.inverses[number]
         for literal in self.all.pop(number):
             self.having[literal].discard(number)
 
     def find(self, clause):
         """The number of a clause of these literals, if there is one."""
-        among = self.having[clause[0]] if clause else self.all
-        return min((n for n in among if set(self.all[n]) == set(clause)), default=None)
+        among, inverses = self.having[clause[0]] if clause else self.all, {-literal for literal in clause}
+        return min((number for number in among if self.inverses[number] == inverses), default=None)
 
     def propagate(self, literals):
         """The numbers of clauses along which unit propagation from true literals ends in a conflict, in order; None where it doesn't.
@@ -64,15 +67,15 @@ class Clauses:
         waiting = list(self.short)
         waiting += [number for literal in true for number in sorted(self.having[-literal])]
         for number in waiting:
-            clause = self.all[number]
-            left = {literal for literal in clause if -literal not in true}
-            if len(left) > 1 or left & true:
+            left = self.inverses[number] - true
+            if not left:
+                return [*hints, number]
+            inverse = left.pop()
+            if left or -inverse in true:
                 continue
             hints.append(number)
-            if not left:
-                return hints
-            true |= left
-            waiting += sorted(self.having[-left.pop()])
+            true.add(-inverse)
+            waiting += sorted(self.having[inverse])
         self.fixed = self.fixed if literals else true
         return None
 
@@ -95,7 +98,7 @@ class Formula:
 
     def may_name(self, literals, steps):
         """Whether a step may name these, with so many steps before it."""
-        return all(abs(literal) <= min(self.variables + NEW + steps, 1 << 31) for literal in literals)
+        return max(map(abs, literals), default=0) <= min(self.variables + NEW + steps, 1 << 31)
 
     def is_in_conflict(self):
         """Whether there is the empty clause, or a literal and its inverse alone."""
@@ -136,50 +139,53 @@ def steps_of(formula, lines):
     return itertools.chain(first, (step_of(formula, steps, line) for steps, line in enumerate(lines[1:], 1)))
 
 
-def binary_number(data):
-    """The next number of a binary file: groups of seven bits, the lowest first, below 2^32."""
-    value = place = 0
-    for byte in data:
-        value += (byte & 127) << place
-        if byte < 128:
-            needs(value < 1 << 32)
-            return value
-        place += 7
-        needs(place < 35)
-    raise Refusal
+@functools.cache
+def number_of(word):
+    """The number that a word of a binary file spells: groups of seven bits, the lowest first, below 2^32."""
+    needs(0 < len(word) < 6 and word[-1] < 128)
+    value = sum((byte & 127) << 7 * place for place, byte in enumerate(word))
+    needs(value < 1 << 32)
+    return value
+
+
+@functools.cache
+def signed(word):
+    """The number that is half of what a word spells, and negative where that is odd."""
+    code = number_of(word)
+    needs(code != 1)
+    return -(code // 2) if code % 2 else code // 2
+
+
+def words_of(data):
+    """The words of a binary file, and an empty one behind them, which spells nothing."""
+    return iter([*CUT.findall(data), b""])
+
+
+def listed(words):
+    """The numbers of a list, without the 0 behind them."""
+    return list(itertools.takewhile(bool, map(signed, words)))
 
 
 def binary_steps_of(formula, data):
     """The steps of a binary DRAT file: `a` or `d`, twice each literal's number and one more for an inverted one, and 0."""
-    data = iter(data)
-    for steps, letter in enumerate(data):
-        needs(letter in b"ad")
-        clause = []
-        while code := binary_number(data):
-            needs(code > 1)
-            clause.append(-(code // 2) if code % 2 else code // 2)
-            needs(formula.may_name(clause[-1:], steps))
-        yield letter == ord("d"), clause
-
-
-def signed(codes):
-    """The numbers that a list's codes say: half of each, and negative where one is odd."""
-    needs(1 not in codes)
-    return [str(-(code // 2) if code % 2 else code // 2) for code in codes]
+    words = words_of(data)
+    for steps, letter in enumerate(iter(words.__next__, b"")):
+        needs(letter in [b"a", b"d"])
+        clause = listed(words)
+        needs(formula.may_name(clause, steps))
+        yield letter == b"d", clause
 
 
 def binary_lines_of(data):
-    """The lines of an LRAT file that say what a binary one does: `a`, a clause's number, its literals and 0, its hints and 0; or `d`, the
-    clauses' numbers and 0. All but the first number are doubled, and one more stands for a minus."""
-    data = iter(data)
-    listed = lambda: signed(list(iter(lambda: binary_number(data), 0)))
-    for letter in data:
-        needs(letter in b"ad")
-        if letter == ord("d"):
-            yield ["1", "d", *listed(), "0"]
+    """The lines of an LRAT file that say what a binary one does, with numbers for words: `a`, a clause's number, its literals and 0, its
+    hints and 0; or `d`, the clauses' numbers and 0. All but the first number are doubled, and one more stands for a minus."""
+    words = words_of(data)
+    for letter in iter(words.__next__, b""):
+        needs(letter in [b"a", b"d"])
+        if letter == b"d":
+            yield [1, "d", *listed(words), 0]
         else:
-            number = str(binary_number(data))
-            yield [number, *listed(), "0", *listed(), "0"]
+            yield [number_of(next(words)), *listed(words), 0, *listed(words), 0]
 
 
 def is_shaped(data, numbered):
@@ -221,36 +227,33 @@ def check_unnumbered(formula, steps):
 def follows(clauses, clause, hints):
     """Whether a clause follows along these hints, each of which names a clause with at most one literal that isn't false."""
     true = {-literal for literal in clause}
-    if any(-literal in true for literal in true):
+    if not true.isdisjoint(clause):
         return True
     for hint in hints:
-        left = {literal for literal in clauses.all[hint] if -literal not in true}
+        left = clauses.inverses[hint] - true
         if not left:
             return True
-        if len(left) > 1:
+        true.add(-left.pop())
+        if left:
             return False
-        true |= left
     return False
 
 
 def parted(numbers):
     """The hints at the front of a line's numbers, and those behind each negative one, by it."""
-    hints, groups = [], collections.defaultdict(list)
-    into = hints
-    for number in numbers:
-        if number < 0:
-            into = groups[-number]
-        else:
-            into.append(number)
-    return hints, groups
+    places = [place for place, number in enumerate(numbers) if number < 0]
+    groups = collections.defaultdict(list)
+    for place, end in zip(places, [*places[1:], len(numbers)]):
+        groups[-numbers[place]] += numbers[place + 1 : end]
+    return numbers[: min(places, default=len(numbers))], groups
 
 
 def is_rat(clauses, clause, hints, groups):
     """Whether what follows of a clause and each other one that has the inverse of its first literal does so along the hints and those
     for that other one (RAT)."""
     opposed = clauses.having[-clause[0]] if clause else ()
-    resolvents = {number: [*clause, *(literal for literal in clauses.all[number] if literal != -clause[0])] for number in opposed}
-    return bool(clause) and all(follows(clauses, made, [*hints, *groups.get(number, [])]) for number, made in resolvents.items())
+    resolvent = lambda number: [*clause, *(literal for literal in clauses.all[number] if literal != -clause[0])]
+    return bool(clause) and all(follows(clauses, resolvent(number), [*hints, *groups.get(number, [])]) for number in opposed)
 
 
 def check_numbered(formula, lines):
@@ -310,26 +313,6 @@ def is_taken(formula, data):
         return True
     except Refusal:
         return False
-
-
-def grouped(number):
-    """The bytes of a number: groups of seven bits, the lowest first."""
-    made = []
-    while number > 127:
-        made.append(number & 127 | 128)
-        number >>= 7
-    return bytes([*made, number])
-
-
-def code(number):
-    """The bytes of a literal, of a hint, and of the 0 after them: twice the number, and one more for a minus."""
-    return grouped(2 * abs(number) + (number < 0))
-
-
-def binary_of(lines):
-    """The bytes of a binary LRAT file that say what the lines of one do."""
-    rest = lambda words: b"".join(code(int(word)) for word in words)
-    return b"".join(b"d" + rest(line[2:]) if line[1:2] == ["d"] else b"a" + grouped(int(line[0])) + rest(line[1:]) for line in lines)
 
 
 def numbered(formula, lines):
@@ -417,7 +400,7 @@ class Trial(Files):
             return self
         hints = numbered(self.formula, lines)
         self.compare_lines("hints", hints)
-        self.compare_binary(binary_of(hints))
+        self.compare_binary(binary_of_lines(hints))
         binary = self.proof("--binary")
         self.compare("binary", binary, lambda: damaged_bytes(self.rng, binary, PIECES))
         return self

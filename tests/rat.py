@@ -3,11 +3,13 @@
 
 Writes PROOFS (500) LRAT proofs for random clauses that have no solution, with steps by resolution asymmetry: clauses are deleted and
 added again, blocked ones are added, spare variables and new ones get definitions, and what cadical proves of all these clauses stands
-behind. Pigeonholes of 3 to 12 holes are refuted by extended resolution (Cook, 1976), whose variables are new. `aigcheck refuted` takes
-each, as text and in the binary form, behind the word for it and without where the first bytes tell. Each is mangled four times, too: hints for a clause are left out, or one of them, or some come behind its number once more, another
-literal comes first, a clause that they are for is deleted before, a number is skipped, a new variable goes up to the last number that may
-be named, or past it; and bytes of the binary form are changed. aigcheck takes what comes of it exactly where the checker of proofs.py does,
-which was written from the forms' descriptions and knows nothing of the library.
+behind. Pigeonholes of 3 to 12 holes are refuted by extended resolution (Cook, 1976), whose variables are new, along hints that are all
+needed, while those for random clauses are as propagation finds them. `aigcheck refuted` takes each, as text and in the binary form,
+behind the word for it and without where the first bytes tell. Each is mangled four times, too: hints for a clause are left out, or one of
+them, or some come behind its number once more, another literal comes first, a clause that they are for is deleted before, a number is
+skipped, a new variable goes up to the last number that may be named, or past it; and bytes of the binary form are changed. aigcheck takes
+what comes of it exactly where the checker of proofs.py does, which was written from the forms' descriptions and knows nothing of the
+library.
 
 It ends with the first that differs, and else prints one line. It is no part of tests/run."""
 import concurrent.futures
@@ -20,8 +22,8 @@ from pathlib import Path
 import harness
 from harness import CHECK, numbers, output
 from machines import machine_of_clauses, random_clauses
-from mangling import damaged_bytes, mangled, text_of
-from proofs import NEW, PIECES, WORD, Clauses, Formula, binary_of, is_taken, numbered
+from mangling import binary_of_lines, damaged_bytes, mangled, text_of
+from proofs import NEW, PIECES, WORD, Clauses, Formula, is_taken, numbered
 from trials import Files, counted, told
 
 # How often a proof is mangled.
@@ -36,8 +38,23 @@ def true_along(clauses, clause, hints):
     """What is true where a clause is false, along hints each of which has one literal that isn't false."""
     true = {-literal for literal in clause}
     for hint in hints:
-        true |= {literal for literal in clauses.all[hint] if -literal not in true}
+        true |= {-inverse for inverse in clauses.inverses[hint] - true}
     return true
+
+
+def needed(clauses, clause, hints):
+    """Those of the hints on which the conflict at their end rests."""
+    true, made = {-literal for literal in clause}, {}
+    for hint in hints:
+        made[hint] = {-inverse for inverse in clauses.inverses[hint] - true}
+        true |= made[hint]
+    kept, used = [], set()
+    for hint in reversed(hints):
+        # The last one makes nothing true.
+        if not made[hint] or made[hint] & used:
+            kept.append(hint)
+            used |= clauses.inverses[hint]
+    return kept[::-1]
 
 
 def some_hints(clauses, clause):
@@ -52,10 +69,10 @@ def some_hints(clauses, clause):
 
 
 class Writer:
-    """Lines of an LRAT file, and the clauses that are there behind them."""
+    """Lines of an LRAT file, and the clauses that are there behind them. A brief one gives a clause that follows no hint beyond need."""
 
-    def __init__(self, formula):
-        self.clauses, self.number, self.lines = Clauses(formula.clauses), len(formula.clauses), []
+    def __init__(self, formula, brief=False):
+        self.clauses, self.number, self.lines, self.brief = Clauses(formula.clauses), len(formula.clauses), [], brief
 
     def put(self, clause, behind):
         """Adds a clause, with these numbers behind it."""
@@ -68,7 +85,7 @@ class Writer:
         hints = self.clauses.follow(clause)
         assert hints is not None, clause
         self.clauses.forget()
-        self.put(clause, hints)
+        self.put(clause, needed(self.clauses, clause, hints) if self.brief else hints)
 
     def groups(self, clause, along):
         """Hints for each clause with the inverse of the first literal that needs some, behind its number, where hints for all stand before;
@@ -164,7 +181,7 @@ class Question(Files):
     def compare(self, rng, kind, lines):
         """Compares a proof, and what is mangled of it, with the checker."""
         self.counts[kind] += 1
-        data = binary_of(lines)
+        data = binary_of_lines(lines)
         for proof in [text_of(lines).encode(), WORD + data]:
             if not is_taken(self.formula, proof) or not self.is_taken(proof):
                 self.fail(f"a proof is refused:\n{proof}")
@@ -178,7 +195,7 @@ class Question(Files):
         """Compares mangled lines as text, and in the binary form where it has a place for each word."""
         self.compare_bytes("mangled", text_of(lines).encode())
         if all(len(line) > 1 and "d" not in [line[0], *line[2:]] and int(line[0]) >= 0 for line in lines):
-            self.compare_bytes("mangled, binary", rng.choice([WORD, b""]) + binary_of(lines))
+            self.compare_bytes("mangled, binary", rng.choice([WORD, b""]) + binary_of_lines(lines))
 
     def compare_bytes(self, kind, proof):
         taken = is_taken(self.formula, proof)
@@ -243,14 +260,31 @@ class Pigeons(Question):
         self.rows = [[self.literals[i - 1] for i in row] for row in pigeons]
 
     def run(self):
-        writer, rows = Writer(self.formula), self.rows
+        writer, rows = Writer(self.formula, brief=True), self.rows
+        self.learn_fixed(writer)
+        fixed = writer.number
         self.learn_level(writer, rows)
+        # All else follows without the machine's clauses. The proof keeps them, but they aren't looked through again.
+        for number in range(1, fixed + 1):
+            writer.clauses.remove(number)
         new = itertools.count(self.formula.variables + 1)
         while len(rows) > 2:
             rows = self.fewer(writer, rows, new)
         writer.learn()
         self.compare(self.rng, "pigeonholes", writer.lines)
         return self
+
+    def learn_fixed(self, writer):
+        """What is true in any case, each by a clause and what came before, so that later hints are few."""
+        clauses, known = writer.clauses, {}
+        waiting = list(clauses.short)
+        for number in waiting:
+            left = clauses.inverses[number] - known.keys()
+            if len(left) == 1 and -min(left) not in known:
+                literal = -left.pop()
+                writer.put([literal], [*sorted(known[other] for other in clauses.inverses[number] - {-literal}), number])
+                known[literal] = writer.number
+                waiting += sorted(clauses.having[-literal])
 
     def learn_level(self, writer, rows):
         """Each pigeon is somewhere, and no two are together."""
@@ -335,11 +369,17 @@ def renumbered(variables, rng, lines):
     return lines
 
 
+def made(kind, *words):
+    """A trial of a kind."""
+    return kind(*words)
+
+
 def main():
     proofs, seed = numbers(500, 1)
     with harness.new_folder() as folder, concurrent.futures.ProcessPoolExecutor() as pool:
-        counts = counted(pool, Pigeons, [(holes, folder / f"pigeons{holes}") for holes in HOLES])
-        counts += counted(pool, Trial, [(f"{seed} {i}", folder / str(i)) for i in range(proofs)])
+        # The longest begin first, and the random ones run beside them.
+        trials = [(Pigeons, holes, folder / f"pigeons{holes}") for holes in reversed(HOLES)]
+        counts = counted(pool, made, [*trials, *((Trial, f"{seed} {i}", folder / str(i)) for i in range(proofs))])
     print(f"seed {seed}: all agree ({told(counts)})")
 
 

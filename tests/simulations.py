@@ -42,7 +42,7 @@ PROVED, TOLD = 10, re.compile("it doesn't meet the conditions: ([a-z, ]+)$", re.
 
 
 class Claims(Files):
-    """A file, and what aigcheck says of witness circuits of it."""
+    """A file, its model, whether that is never bad, and what aigcheck and aigprove say of witness circuits of it."""
 
     def pair(self, witness):
         """The paths of both files."""
@@ -70,13 +70,37 @@ class Claims(Files):
             if said is None or why not in said:
                 self.fail(f"{words[0]} wants {why}, and says {said}")
 
+    def compare(self, pair, broken, setting=()):
+        """Compares what is said of a witness circuit with the conditions that don't hold."""
+        proofs = self.asked(pair, setting)
+        if [name for name in CONDITIONS if name not in proofs] != broken:
+            self.fail(f"a search finds broken {broken}, and cadical refutes {list(proofs)}")
+        other = self.rng.choice([*proofs.values()] or [self.put("empty", "0\n")])
+        said = self.refusal("certified", *pair, *(proofs.get(name, other) for name in CONDITIONS), *setting)
+        if (NAMED.findall(said)[:1] if said else []) != broken[:1]:
+            self.fail(f"a search finds broken {broken}, and certified says {said}")
+        self.counts[f"refused by {broken[0]}" if broken else "taken"] += 1
+
+    def compare_proved(self, pair, broken):
+        """Compares what aigprove says, which may take a witness circuit as one whose steps don't matter, too: what it says where not."""
+        keep = self.folder / f"kept-{sum(self.counts.values())}"
+        _, printed, said = harness.run([PROVE, "--keep", keep, "--certificate", *reversed(pair)])
+        found = TOLD.search(said.decode())
+        is_taken = SAFE in printed
+        if is_taken and (not self.is_safe or SAFE.decode() not in (harness.shown_again(keep) or "")):
+            self.fail(f"aigprove takes it, and {keep}/check.sh prints {harness.shown_again(keep)}")
+        if not is_taken and (not found or found[1].split(", ") != broken):
+            self.fail(f"a search finds broken {broken}, and aigprove says {said}")
+        self.counts[f"by aigprove {'taken' if is_taken else 'refused'}"] += 1
+        return "" if is_taken else said.decode()
+
 
 class Design(Claims):
     """A safe design, and certificates of it."""
 
     def __init__(self, name, folder):
         super().__init__(folder, name)
-        self.name, self.file = name, str(DESIGNS / f"{name}.aig")
+        self.name, self.file, self.is_safe = name, str(DESIGNS / f"{name}.aig"), True
         self.model = machine_of(output([TOOL, "text", self.file]))
 
     def fail(self, why):
@@ -104,22 +128,12 @@ class Design(Claims):
         for kind, made in self.certificates():
             both = made.in_order(), made.by_names(self.rng)
             for witness in both:
-                self.take(kind, witness)
+                self.compare(self.pair(witness), [], self.rng.choice([[], ["raw"]]))
                 self.counts[f"taken {kind}"] += 1
             if made.own:
                 self.refuse(FUNCTION, self.pair(with_function(self.rng.choice(both))), [])
                 self.counts["refused by a reset"] += 1
         return self
-
-    def take(self, kind, witness):
-        """Has a certificate be taken."""
-        pair, setting = self.pair(witness), self.rng.choice([[], ["raw"]])
-        proofs = self.asked(pair, setting)
-        if list(proofs) != CONDITIONS:
-            self.fail(f"a certificate {kind}: cadical refutes {list(proofs)} alone")
-        said = self.refusal("certified", *pair, *proofs.values(), *setting)
-        if said is not None:
-            self.fail(f"a certificate {kind} is refused: {said}")
 
 
 def with_function(witness):
@@ -134,6 +148,7 @@ class Trial(Claims):
     def __init__(self, seed, folder):
         super().__init__(folder, seed)
         self.model, self.witness, is_right = random_claim(self.rng)
+        self.is_safe = self.model.first_bad() is None
         self.file, self.setting = self.put("model.aag", self.model.text()), self.rng.choice([[], ["raw"]])
         if is_right and Search(self.model, self.witness).broken():
             self.pair(self.witness)
@@ -149,36 +164,17 @@ class Trial(Claims):
             self.refuse(f"leaf {leaf // 2}: {why}", self.pair(self.witness), self.setting)
             self.counts["refused by a name"] += 1
         else:
-            self.compare(search.broken())
+            self.compare_all(search.broken())
         return self
 
-    def compare(self, broken):
+    def compare_all(self, broken):
         """Compares what is said with the conditions that don't hold."""
         pair = self.pair(self.witness)
-        if not broken and self.model.first_bad() is not None:
+        if not broken and not self.is_safe:
             self.fail(f"all conditions hold, and a bad state is reached at step {self.model.first_bad()}")
-        proofs = self.asked(pair, self.setting)
-        if [name for name in CONDITIONS if name not in proofs] != broken:
-            self.fail(f"a search finds broken {broken}, and cadical refutes {list(proofs)}")
-        other = self.rng.choice([*proofs.values()] or [self.put("empty", "0\n")])
-        said = self.refusal("certified", *pair, *(proofs.get(name, other) for name in CONDITIONS), *self.setting)
-        if (NAMED.findall(said)[:1] if said else []) != broken[:1]:
-            self.fail(f"a search finds broken {broken}, and certified says {said}")
-        self.counts[f"refused by {broken[0]}" if broken else "taken"] += 1
+        self.compare(pair, broken, self.setting)
         if int(self.folder.name) < PROVED:
             self.compare_proved(pair, broken)
-
-    def compare_proved(self, pair, broken):
-        """Compares what aigprove says, which may take a witness circuit as one whose steps don't matter, too."""
-        keep = self.folder / "kept"
-        _, printed, said = harness.run([PROVE, "--keep", keep, "--certificate", *reversed(pair)])
-        found = TOLD.search(said.decode())
-        is_taken = SAFE in printed
-        if is_taken and (self.model.first_bad() is not None or SAFE.decode() not in (harness.shown_again(keep) or "")):
-            self.fail(f"aigprove takes it, and {keep}/check.sh prints {harness.shown_again(keep)}")
-        if not is_taken and (not found or found[1].split(", ") != broken):
-            self.fail(f"a search finds broken {broken}, and aigprove says {said}")
-        self.counts[f"by aigprove {'taken' if is_taken else 'refused'}"] += 1
 
 
 def main():

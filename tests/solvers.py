@@ -174,7 +174,7 @@ def worded():
         ]:
             status, out, said, left = run.result(wrong.split(" "), words)
             yield wrong, (2, "", [f"aigprove: error: {why}"], []), (status, out, said.splitlines()[-1:], left)
-        for option in ["--keep", "--equal", "--run", "--certificate", "--witness", "--vcd"]:
+        for option in ["--keep", "--equal", "--run", "--certificate", "--write-certificate", "--witness", "--vcd"]:
             status, _, said, _ = run.result([option, ""])
             yield option, (2, [f"aigprove: error: argument {option}: an empty name is no file's"]), (status, said.splitlines()[-1:])
 

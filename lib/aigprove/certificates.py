@@ -1,5 +1,6 @@
 """Certificates in the form of the hardware model checking competition: a witness circuit, whose first inputs and latches are the file's, in
 order, with their resets and next values, and whose property is inductive and implies the file's. Nothing here is believed."""
+from aigprove.conditions import STANDS
 from aigprove.plain import Gates, literals_of
 
 
@@ -73,13 +74,14 @@ class WitnessCircuit:
             before = frame.literals()
 
     def text(self):
-        """Its text, with the file's names."""
+        """Its text, with the file's names, but for those that would say that its leaves stand for others."""
         rows, bad = list(self.rows()), self.gates.any(self.bads)
         constraints = list(map(self.literal, self.circuit.constraints))
         gates = [" ".join(map(str, row)) for row in self.gates.rows]
         count = len(self.inputs) + len(rows) + len(gates)
         header = f"aag {count} {len(self.inputs)} {len(rows)} 0 {len(gates)} 1 {len(constraints)}"
-        names = (b"%s%d %s" % (letter.encode(), i, name) for (letter, i), name in self.circuit.names.items() if letter in "il")
+        kept = (it for it in self.circuit.names.items() if it[0][0] in "il" and not it[1].startswith(STANDS))
+        names = (b"%s%d %s" % (letter.encode(), i, name) for (letter, i), name in kept)
         lines = [str(line).encode() for line in [header, *self.inputs, *rows, bad, *constraints, *gates]]
         return b"".join(line + b"\n" for line in [*lines, *names])
 

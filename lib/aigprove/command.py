@@ -343,7 +343,9 @@ def raced(words, above, judge):
     try:
         for source in asked(words, above, judge):
             keep = os.path.join(words.keep, source.stem) if words.keep and races else words.keep
-            races.append(Race(argparse.Namespace(**{**vars(words), "keep": keep}), judge.programs, judge, above, source))
+            # A certificate is of what is asked first.
+            own = {"keep": keep, "write_certificate": None if races else words.write_certificate}
+            races.append(Race(argparse.Namespace(**{**vars(words), **own}), judge.programs, judge, above, source))
             statuses.append(races[-1].run())
             if statuses[-1] in (UNSAFE, FAILED) or words.aiger:
                 break

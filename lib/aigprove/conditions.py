@@ -5,8 +5,9 @@ import re
 from aigprove.questions import Question
 
 CONDITIONS = ["reset", "transition", "property", "base", "step"]
-# A line of a name that says for which literal of the file a leaf stands, and such a name.
-LINE, NAME = re.compile(rb"^[il][0-9]+ = ", re.M), re.compile(rb"= ([0-9]+)")
+# How a name begins that says for which literal of the file a leaf stands, a line of such a name, and one that has a number.
+STANDS = b"= "
+LINE, NAME = re.compile(rb"^[il][0-9]+ " + STANDS, re.M), re.compile(STANDS + rb"([0-9]+)")
 
 
 class Condition(Question):

@@ -178,7 +178,10 @@ class Race:
         """Prints a window, and what is shown by it and by the steps before."""
         self.print_claim(window, self.source.prefix)
         status = self.print_safe(claim)
-        self.write_certificate(None if question.form else lambda: certificates.by_window(self.circuit, question.k))
+        if question.form:
+            self.tell_no_certificate("the answer is about runs on which no state comes twice")
+        else:
+            self.write_certificate(lambda: certificates.by_window(self.circuit, question.k))
         return status
 
     def print_inductive(self, claim, machine):
@@ -190,18 +193,18 @@ class Race:
     def print_counted(self, claim):
         """Prints what a file that counts rounds shows."""
         status = self.print_safe(claim)
-        if self.words.write_certificate:
-            say("no certificate: the answer is about rounds")
+        self.tell_no_certificate("the answer is about rounds")
         return status
 
     def write_certificate(self, make):
-        """Writes a certificate of the answer, where that is wanted and there is one."""
-        if not self.words.write_certificate:
-            return
-        if make is None:
-            say("no certificate: the answer is about runs on which no state comes twice")
-        else:
+        """Writes a certificate of the answer, where one is wanted."""
+        if self.words.write_certificate:
             files.write(self.words.write_certificate, [make()])
+
+    def tell_no_certificate(self, why):
+        """Says why no certificate is written, where one is wanted."""
+        if self.words.write_certificate:
+            say(f"no certificate: {why}")
 
     def print_safe(self, claim):
         """Prints a claim that no step has what is asked about."""
@@ -342,6 +345,8 @@ class Race:
         self.show_progress("")
         if status is None:
             status = FAILED if len(self.faults) == len(engines) else self.print_open()
+        if status != SAFE:
+            self.tell_no_certificate("the answer is a run" if status == UNSAFE else "there is no answer")
         if status == SAFE and self.header.constraints:
             status = SAFE if self.print_met() else OPEN
         if status == SAFE and self.source.is_fair():

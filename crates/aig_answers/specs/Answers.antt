@@ -25,7 +25,7 @@ use Rattle.aig_encode.specs.declared.query_clauses.Query.{Query}
 use Rattle.aig_encode.specs.Encoding as encoding
 use Rattle.aig_encode.specs.Encoding.{IsQuery}
 use Rattle.aig_answers.specs.declared.circuits.CircuitQuery.{CircuitQuery}
-use Rattle.aig_answers.specs.declared.parts.ClauseParts.{ClauseParts}
+use Rattle.aig_answers.specs.declared.clause_parts.ClauseParts.{ClauseParts}
 use Rattle.aig_answers.specs.declared.windows.UnrolledWindow.{UnrolledWindow}
 use Rattle.aig_answers.specs.declared.windows.WindowClauses.{WindowClauses}
 use Rattle.aig_answers.specs.declared.error.AnswerError.{AnswerError}

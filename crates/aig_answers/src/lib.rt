@@ -6,13 +6,13 @@ mod asks;
 mod bounded_checks;
 mod certificates;
 mod circuits;
+mod clause_parts;
 mod clauses;
 mod distinct;
 mod equality;
 mod error;
 mod laws;
 mod liveness;
-mod parts;
 mod refuting;
 mod safety;
 mod step;
@@ -30,11 +30,11 @@ pub use certificates::{
     check_step_of, obligations_of,
 };
 pub use circuits::{CircuitQuery, check_query_of, query_of};
+pub use clause_parts::{ClauseParts, query_parts, window_parts};
 pub use equality::{EqualityError, check_always_equal};
 pub use error::AnswerError;
 pub use laws::{circuit_clauses_are_one, windows_are_asked};
 pub use liveness::{LivenessError, check_no_fair_run, check_no_lasso, check_no_lasso_to};
-pub use parts::{ClauseParts, query_parts, window_parts};
 pub use refuting::refute;
 pub use safety::{
     SafetyError, StepsError, check_safe, check_safe_by_steps, check_safe_by_steps_of, check_safe_of,

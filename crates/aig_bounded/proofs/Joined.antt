@@ -5,14 +5,15 @@ use Rattle.aig_circuit.specs.declared.edge.AigEdge.{AigEdge}
 use Rattle.aig_circuit.proofs.Words.{IsInRange, edge_to, edge_value}
 use Rattle.aig_circuit.proofs.Joining.{GivesEdge-same}
 use Rattle.aig_bounded.specs.declared.frames.Frames.{Frames}
-use Rattle.aig_bounded.specs.Frames.{AddsAnds, AreShared, Gives}
+use Rattle.aig_bounded.specs.Frames.{AddsAnds, AreShared, MakesEdge}
 use Rattle.aig_unroll.specs.Frame.{image_in}
 use Rattle.aig_bounded.proofs.Extended.{AddsAnds-itself, AddsAnds-then}
 use Rattle.aig_bounded.proofs.Shown.{constant_there, value-constant}
 
 -- what is given after other gates
 Gives-then : (v w : (ℕ → Bool) → Bool) (old mid new : Frames) (e : AigEdge)
-    → AddsAnds old mid → Gives w mid new e → ((y : ℕ → Bool) → w y ≡ v y) → Gives v old new e
+    → AddsAnds old mid → MakesEdge w mid new e → ((y : ℕ → Bool) → w y ≡ v y)
+    → MakesEdge v old new e
 Gives-then v w old mid new e adds gives same = record {
   edge = GivesEdge-same new.nodes.items e same gives.edge;
   adds = AddsAnds-then old mid new adds gives.adds;
@@ -20,8 +21,8 @@ Gives-then v w old mid new e adds gives same = record {
 
 -- the constant false
 pub Gives-false : (f : Frames) (e : AigEdge) → AreShared f → e ≡ edge_to 0 false
-    → Gives (λ y. false) f f e
-Gives-false f e shared is = subst (Gives (λ y. false) f f) (sym is) (record {
+    → MakesEdge (λ y. false) f f e
+Gives-false f e shared is = subst (MakesEdge (λ y. false) f f) (sym is) (record {
   edge = record {
     there = constant_there f.nodes.items false shared.gates.sound;
     value = λ y. value-constant f.nodes.items shared.gates.sound y false;
@@ -43,7 +44,7 @@ abbrev pub any_true : Frames → List AigEdge → List AigEdge → (ℕ → Bool
 any_true f images es y = list_any (image_value f images y) es
 
 pub all_true-none : (f : Frames) (images : List AigEdge) (first : AigEdge) → AreShared f
-    → IsInRange f.nodes.items first → Gives (all_true f images first []) f f first
+    → IsInRange f.nodes.items first → MakesEdge (all_true f images first []) f f first
 all_true-none f images first shared there =
     record {
       edge = record { there = there; value = λ y. sym (and-true _) };
@@ -58,9 +59,11 @@ module _ (old mid new : Frames) (images es : List AigEdge) (i : ℕ) (d so_far e
       → edge_value mid.nodes.items y image ≡ image_value old images y (get_or es i d)
   same before y = ap (edge_value mid.nodes.items y) is_image ∙ before.nodes.grows.values y (image_in images (get_or es i d)) in_range
 
-  pub all_true-more : (first : AigEdge) → Gives (all_true old images first (take i es)) old mid so_far
-      → Gives (λ y. edge_value mid.nodes.items y so_far && edge_value mid.nodes.items y image) mid new e
-      → Gives (all_true old images first (take (i + 1) es)) old new e
+  pub all_true-more : (first : AigEdge) → MakesEdge (all_true old images first (take i es)) old mid
+      so_far
+      → MakesEdge (λ y. edge_value mid.nodes.items y so_far && edge_value mid.nodes.items y image)
+      mid new e
+      → MakesEdge (all_true old images first (take (i + 1) es)) old new e
   all_true-more first before more =
       Gives-then _ _ old mid new e before.adds more (λ y.
       let p = image_value old images y in
@@ -69,9 +72,10 @@ module _ (old mid new : Frames) (images es : List AigEdge) (i : ℕ) (d so_far e
       ∙ and_assoc (edge_value old.nodes.items y first) (list_all p (take i es)) (p (get_or es i d))
       ∙ ap (λ b. edge_value old.nodes.items y first && b) (sym (list_all_more p es i d within)))
 
-  pub any_true-more : Gives (any_true old images (take i es)) old mid so_far
-      → Gives (λ y. edge_value mid.nodes.items y so_far || edge_value mid.nodes.items y image) mid new e
-      → Gives (any_true old images (take (i + 1) es)) old new e
+  pub any_true-more : MakesEdge (any_true old images (take i es)) old mid so_far
+      → MakesEdge (λ y. edge_value mid.nodes.items y so_far || edge_value mid.nodes.items y image)
+      mid new e
+      → MakesEdge (any_true old images (take (i + 1) es)) old new e
   any_true-more before more =
       Gives-then _ _ old mid new e before.adds more (λ y.
       let p = image_value old images y in

@@ -13,3 +13,4 @@ mod Attained
 mod Exactly
 pub mod Single
 pub mod Witnesses
+pub mod Examples

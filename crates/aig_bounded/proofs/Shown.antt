@@ -6,7 +6,7 @@ use Rattle.aig_circuit.specs.declared.node.AigNodeType.TheVariants.{And, False, 
 use Rattle.aig_circuit.proofs.Words.{edge_to, inverted_if, kind_at, AreNodes, Circuit, IsCircuit, IsInRange, IsInitial, IsRun, edge_value, node_value}
 use Rattle.aig_circuit.proofs.Trees.{kind_at-last, kind_at-within, node_value-and, node_value-false, node_value-leaf}
 use Rattle.aig_bounded.specs.declared.frames.Frames.{Frames}
-use Rattle.aig_bounded.specs.Frames.{AreFrames, Extends, Gives, Opens, ReadsOff, Shows}
+use Rattle.aig_bounded.specs.Frames.{AreFrames, Extends, MakesEdge, Opens, ReadsOff, Shows}
 use Rattle.aig_unroll.specs.Frame.{image_at, image_in}
 use Rattle.aig_bounded.specs.Steps.{ShowsNode}
 use Rattle.aig_bounded.proofs.Extended.{Extends-ands, opened_reads}
@@ -65,7 +65,8 @@ either_same a b x y p q = ap (λ v. v || b) p ∙ ap (λ v. x || v) q
 -- two edges that are joined
 pub Shows-join : (c : Circuit) (t : ℕ) (join : Bool → Bool → Bool) (old new : Frames)
     (a b e : AigEdge) (v w : (ℕ → ℕ → Bool) → Bool) → Shows c t old a v → Shows c t old b w
-    → Gives (λ y. join (edge_value old.nodes.items y a) (edge_value old.nodes.items y b)) old new e
+    → MakesEdge (λ y. join (edge_value old.nodes.items y a) (edge_value old.nodes.items y b)) old
+    new e
     → Shows c t new e (λ run. join (v run) (w run))
 Shows-join c t join old new a b e v w shows_a shows_b gives = record {
   there = gives.edge.there;
@@ -159,7 +160,7 @@ module _ (c : Circuit) (t : ℕ) (old new : Frames) (images es : List AigEdge) (
       (Shows-image c t old images (get_or es k d) (shows k d h)).shown y run is start reads
 
   pub Shows-all : (first : AigEdge) (v : (ℕ → ℕ → Bool) → Bool) → Shows c t old first v
-      → Gives (λ y. edge_value old.nodes.items y first
+      → MakesEdge (λ y. edge_value old.nodes.items y first
       && list_all (λ f. edge_value old.nodes.items y (image_in images f)) es) old new e
       → Shows c t new e (λ run. v run && list_all (edge_value c.nodes (run t)) es)
   Shows-all first v s gives = record {
@@ -169,7 +170,8 @@ module _ (c : Circuit) (t : ℕ) (old new : Frames) (images es : List AigEdge) (
         gives.edge.value y ∙ both_same _ _ _ _ (s.shown y run is start before) (all_same _ _ es (each y run is start before));
   }
 
-  pub Shows-any : Gives (λ y. list_any (λ f. edge_value old.nodes.items y (image_in images f)) es)
+  pub Shows-any : MakesEdge (λ y. list_any (λ f. edge_value old.nodes.items y (image_in images f))
+      es)
       old new e
       → Shows c t new e (λ run. list_any (edge_value c.nodes (run t)) es)
   Shows-any gives = record {

@@ -11,7 +11,7 @@ use Rattle.aig_circuit.proofs.Trees.{kind_at-read, kind_at-within}
 use Rattle.aig_renumber.proofs.Kept.{is_in-back, is_in-there}
 use Rattle.aig_bounded.specs.declared.frames.Frames.{Frames}
 use Rattle.aig_bounded.specs.Depths.{AreDepths, HaveNoDepth}
-use Rattle.aig_bounded.specs.Frames.{AreFrames, Extends, Gives, Opens, Shows}
+use Rattle.aig_bounded.specs.Frames.{AreFrames, Extends, MakesEdge, Opens, Shows}
 use Rattle.aig_circuit.specs.Edges.{HasConstantInit}
 use Rattle.aig_bounded.specs.Question.{IsPlace}
 use Rattle.aig_unroll.specs.Frame.{image_at, image_in}
@@ -303,7 +303,8 @@ pub makes_gate : (c : Circuit) (t id : ℕ) (old new : Frames) (images : List Ai
     → kind_at c.nodes id ≡ Some (And a b)
     → ((m : ℕ) → IsFanin c.nodes id m → ShowsNode c t old images m)
     → first ≡ image_in images a → second ≡ image_in images b
-    → Gives (λ y. edge_value old.nodes.items y first && edge_value old.nodes.items y second) old new
+    → MakesEdge (λ y. edge_value old.nodes.items y first && edge_value old.nodes.items y second) old
+    new
     e
     → MakesImage c t id old new e
 makes_gate c t id old new images a b first second e circuit are kind operands is_first is_second gives =
@@ -462,14 +463,14 @@ module _ (c : Circuit) (t : ℕ) (images : List AigEdge) (f0 f1 f2 f3 f4 : Frame
     (constraints : All (λ e. ShowsNode c t f0 images e.node_id) c.properties.constraints)
     (bads : All (λ e. ShowsNode c t f0 images e.node_id) c.properties.bads)
     (sum : Sum c t t f0 sums)
-    (gives1 : Gives (λ y. edge_value f0.nodes.items y sums.within
+    (gives1 : MakesEdge (λ y. edge_value f0.nodes.items y sums.within
     && list_all (λ e. edge_value f0.nodes.items y (image_in images e)) c.properties.constraints)
     f0 f1 within)
-    (gives2 : Gives (λ y. list_any (λ e. edge_value f1.nodes.items y (image_in images e))
+    (gives2 : MakesEdge (λ y. list_any (λ e. edge_value f1.nodes.items y (image_in images e))
     c.properties.bads) f1 f2 bad)
-    (gives3 : Gives (λ y. edge_value f2.nodes.items y within && edge_value f2.nodes.items y bad)
+    (gives3 : MakesEdge (λ y. edge_value f2.nodes.items y within && edge_value f2.nodes.items y bad)
     f2 f3 now)
-    (gives4 : Gives (λ y. edge_value f3.nodes.items y sums.reached
+    (gives4 : MakesEdge (λ y. edge_value f3.nodes.items y sums.reached
     || edge_value f3.nodes.items y now) f3 f4 reached) where
   abbrev is_within : (ℕ → ℕ → Bool) → Bool
   is_within run =

@@ -50,7 +50,7 @@ pub record AddsAnds (old new : Frames) : Type 0 where
   pub places : new.places.items ≡ old.places.items
 
 -- gates alone are added, of which an edge has this value
-pub record Gives (wanted : (ℕ → Bool) → Bool) (old new : Frames) (e : AigEdge) : Type 0 where
+pub record MakesEdge (wanted : (ℕ → Bool) → Bool) (old new : Frames) (e : AigEdge) : Type 0 where
   pub edge : GivesEdge new.nodes.items wanted e
   pub adds : AddsAnds old new
 

@@ -6,7 +6,7 @@ ghost use Rattle.aig_circuit.specs.Build.{with_node};
 ghost use Rattle.aig_circuit.specs.Circuit.{AreNodes, Circuit, IsInRange};
 ghost use Rattle.aig_circuit.specs.Tree.{edge_value};
 ghost use Rattle.aig_bounded.specs.Shared.{made_in, shared_and, shared_or};
-ghost use Rattle.aig_bounded.specs.Frames.{AddsUpTo, AreFrames, AreShared, Gives, Opens, net_of};
+ghost use Rattle.aig_bounded.specs.Frames.{AddsUpTo, AreFrames, AreShared, MakesEdge, Opens, net_of};
 
 use crate::error::BoundedError;
 use crate::gates::shared_and_node;
@@ -93,7 +93,7 @@ impl Frames {
         requires shared { AreShared self.old }
         requires first { IsInRange self.old.nodes.items fanin0 }
         requires second { IsInRange self.old.nodes.items fanin1 }
-        ensures gives { IfOk result (Gives (λ y. edge_value self.old.nodes.items y fanin0
+        ensures gives { IfOk result (MakesEdge (λ y. edge_value self.old.nodes.items y fanin0
             && edge_value self.old.nodes.items y fanin1) self.old self.new) }
         ensures exact { IfOk result
             (λ e. made_in (net_of self.new) e ≡ shared_and (net_of self.old) fanin0 fanin1) }
@@ -111,7 +111,7 @@ impl Frames {
         requires shared { AreShared self.old }
         requires first { IsInRange self.old.nodes.items fanin0 }
         requires second { IsInRange self.old.nodes.items fanin1 }
-        ensures gives { IfOk result (Gives (λ y. edge_value self.old.nodes.items y fanin0
+        ensures gives { IfOk result (MakesEdge (λ y. edge_value self.old.nodes.items y fanin0
             || edge_value self.old.nodes.items y fanin1) self.old self.new) }
         ensures exact { IfOk result
             (λ e. made_in (net_of self.new) e ≡ shared_or (net_of self.old) fanin0 fanin1) }

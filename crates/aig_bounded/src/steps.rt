@@ -13,7 +13,7 @@ ghost use Rattle.aig_bounded.specs.Depths.{AreDepths};
 ghost use Rattle.aig_bounded.specs.Exact.{ReadsExactly, false_net, frame_to, node_image, reached_in, states_at, steps_to, with_checks};
 ghost use Rattle.aig_bounded.specs.Shared.{made_in, shared_ands, shared_ors};
 ghost use Rattle.aig_circuit.specs.Node.{kind_at};
-ghost use Rattle.aig_bounded.specs.Frames.{AddsUpTo, AreFrames, AreShared, Extends, Gives, Shows, net_of};
+ghost use Rattle.aig_bounded.specs.Frames.{AddsUpTo, AreFrames, AreShared, Extends, MakesEdge, Shows, net_of};
 ghost use Rattle.aig_unroll.specs.Frame.{image_in};
 ghost use Rattle.aig_bounded.specs.Steps.{HasImages, HasStates, IsFrame, MakesFrame, MakesImage, SetsStates, ShowsNode, Sum, checks_of, is_read, reached_to};
 
@@ -140,7 +140,7 @@ impl Frames {
         requires edges { All (λ e. e.node_id < length images.now) edges.now }
         requires images { All (λ e.
             IsInRange self.old.nodes.items (image_in images.now e)) edges.now }
-        ensures gives { IfOk result (Gives (λ y. edge_value self.old.nodes.items y first
+        ensures gives { IfOk result (MakesEdge (λ y. edge_value self.old.nodes.items y first
             && list_all (λ e. edge_value self.old.nodes.items y (image_in images.now e)) edges.now)
             self.old self.new) }
         ensures exact { IfOk result (λ e. made_in (net_of self.new) e
@@ -161,7 +161,7 @@ impl Frames {
         requires edges { All (λ e. e.node_id < length images.now) edges.now }
         requires images { All (λ e.
             IsInRange self.old.nodes.items (image_in images.now e)) edges.now }
-        ensures gives { IfOk result (Gives (λ y. list_any
+        ensures gives { IfOk result (MakesEdge (λ y. list_any
             (λ e. edge_value self.old.nodes.items y (image_in images.now e)) edges.now)
             self.old self.new) }
         ensures exact { IfOk result (λ e. made_in (net_of self.new) e

@@ -1,3 +1,4 @@
+pub mod Examples
 mod Seen
 mod Listing
 mod Placing

@@ -236,9 +236,10 @@ GivesItems of (Err e) status old new before needed =
     (status ≡ of e) × (new ≡ old) × (needed ≡ before)
 
 -- something was done whose result is given
-abbrev pub Gives : {X E : Type 0} → (E → ℕ) → (Result (List X) E → Type 0) → ℕ → List X → List X
+abbrev pub GivesResult : {X E : Type 0} → (E → ℕ) → (Result (List X) E → Type 0) → ℕ → List X
+    → List X
     → ℕ → ℕ → Type 0
-Gives {X} of Does status old new before needed =
+GivesResult {X} of Does status old new before needed =
     (result : Result (List X) _) × Does result × GivesItems of result status old new before needed
 
 -- which bad state is shown, and at which step; else both numbers stay
@@ -286,4 +287,4 @@ abbrev pub GivesAt : {X E : Type 0} → ℕ → (E → ℕ) → (Result (List X)
     → List X → ℕ → ℕ → Type 0
 GivesAt k of Does status old new before needed =
     AtStep k status ((new ≡ old) × (needed ≡ before))
-    (Gives of Does status old new before needed)
+    (GivesResult of Does status old new before needed)

@@ -1,7 +1,7 @@
 //! Calls that give what is made of one file.
 
 ghost use Rattle.aig_edits.specs.declared.editing.Edit.TheVariants as edits;
-ghost use Rattle.aig_calls.specs.Calls.{Gives, GivesAt, MakesEdit, MakesInfo, MakesQuestion, MakesReduction, Prints, items_in};
+ghost use Rattle.aig_calls.specs.Calls.{GivesResult, GivesAt, MakesEdit, MakesInfo, MakesQuestion, MakesReduction, Prints, items_in};
 ghost use Rattle.aig_calls.specs.Statuses.{edit_status};
 
 use crate::buffer::put;
@@ -53,7 +53,8 @@ fn info_text(alloc: Global, file: &[u8]) -> Result<Vec<u8>, EditError>
 
 /// Gives the text form of the circuit that an edit makes of a file's circuit.
 fn print_edit(alloc: Global, edit: &Edit, file: &[u8], out: &mut [u8], needed: &mut usize) -> u32
-    ensures { Gives edit_status (Prints (MakesEdit LIMIT edit.now file.now)) result out.old out.new
+    ensures { GivesResult edit_status (Prints (MakesEdit LIMIT edit.now file.now)) result out.old
+        out.new
         needed.old needed.new }
 {
     put(edit_text(alloc, edit, file), out, needed)
@@ -62,7 +63,8 @@ fn print_edit(alloc: Global, edit: &Edit, file: &[u8], out: &mut [u8], needed: &
 /// The text form of a file's circuit, cut to its cone of influence.
 #[unsafe(no_mangle)]
 pub extern "C" fn aig_refine(alloc: Global, file: &[u8], out: &mut [u8], needed: &mut usize) -> u32
-    ensures { Gives edit_status (Prints (MakesEdit LIMIT edits.Refine file.now)) result out.old
+    ensures { GivesResult edit_status (Prints (MakesEdit LIMIT edits.Refine file.now)) result
+        out.old
         out.new needed.old needed.new }
 {
     print_edit(alloc, &Edit::Refine, file, out, needed)
@@ -76,7 +78,8 @@ pub extern "C" fn aig_reencode(
     out: &mut [u8],
     needed: &mut usize,
 ) -> u32
-    ensures { Gives edit_status (Prints (MakesEdit LIMIT edits.Reencode file.now)) result out.old
+    ensures { GivesResult edit_status (Prints (MakesEdit LIMIT edits.Reencode file.now)) result
+        out.old
         out.new needed.old needed.new }
 {
     print_edit(alloc, &Edit::Reencode, file, out, needed)
@@ -91,7 +94,7 @@ pub extern "C" fn aig_move_constraints(
     out: &mut [u8],
     needed: &mut usize,
 ) -> u32
-    ensures { Gives edit_status (Prints (MakesEdit LIMIT edits.Move file.now)) result out.old
+    ensures { GivesResult edit_status (Prints (MakesEdit LIMIT edits.Move file.now)) result out.old
         out.new needed.old needed.new }
 {
     print_edit(alloc, &Edit::Move, file, out, needed)
@@ -105,7 +108,8 @@ pub extern "C" fn aig_compress_bads(
     out: &mut [u8],
     needed: &mut usize,
 ) -> u32
-    ensures { Gives edit_status (Prints (MakesEdit LIMIT edits.Compress file.now)) result out.old
+    ensures { GivesResult edit_status (Prints (MakesEdit LIMIT edits.Compress file.now)) result
+        out.old
         out.new needed.old needed.new }
 {
     print_edit(alloc, &Edit::Compress, file, out, needed)
@@ -119,7 +123,7 @@ pub extern "C" fn aig_outputs_as_bads(
     out: &mut [u8],
     needed: &mut usize,
 ) -> u32
-    ensures { Gives edit_status (Prints (MakesEdit LIMIT edits.Bads file.now)) result out.old
+    ensures { GivesResult edit_status (Prints (MakesEdit LIMIT edits.Bads file.now)) result out.old
         out.new needed.old needed.new }
 {
     print_edit(alloc, &Edit::Bads, file, out, needed)
@@ -134,7 +138,7 @@ pub extern "C" fn aig_property_alone(
     out: &mut [u8],
     needed: &mut usize,
 ) -> u32
-    ensures { Gives edit_status (Prints (MakesEdit LIMIT (edits.Property n) file.now)) result
+    ensures { GivesResult edit_status (Prints (MakesEdit LIMIT (edits.Property n) file.now)) result
         out.old out.new needed.old needed.new }
 {
     print_edit(alloc, &Edit::Property(n), file, out, needed)
@@ -148,7 +152,8 @@ pub extern "C" fn aig_possible(
     out: &mut [u8],
     needed: &mut usize,
 ) -> u32
-    ensures { Gives edit_status (Prints (MakesEdit LIMIT edits.Possible file.now)) result out.old
+    ensures { GivesResult edit_status (Prints (MakesEdit LIMIT edits.Possible file.now)) result
+        out.old
         out.new needed.old needed.new }
 {
     print_edit(alloc, &Edit::Possible, file, out, needed)
@@ -163,7 +168,8 @@ pub extern "C" fn aig_cone(
     out: &mut [u8],
     needed: &mut usize,
 ) -> u32
-    ensures { Gives edit_status (Prints (MakesEdit LIMIT (edits.Cone n) file.now)) result out.old
+    ensures { GivesResult edit_status (Prints (MakesEdit LIMIT (edits.Cone n) file.now)) result
+        out.old
         out.new needed.old needed.new }
 {
     print_edit(alloc, &Edit::Cone(n), file, out, needed)
@@ -190,7 +196,8 @@ pub extern "C" fn aig_unroll(
 /// The text form of what of a file's circuit its query needs.
 #[unsafe(no_mangle)]
 pub extern "C" fn aig_reduce(alloc: Global, file: &[u8], out: &mut [u8], needed: &mut usize) -> u32
-    ensures { Gives edit_status (Prints (MakesReduction LIMIT file.now)) result out.old out.new
+    ensures { GivesResult edit_status (Prints (MakesReduction LIMIT file.now)) result out.old
+        out.new
         needed.old needed.new }
 {
     put(reduction_text(alloc, file), out, needed)
@@ -217,7 +224,7 @@ pub extern "C" fn aig_question(
 /// The counts of a file's circuit, a line each.
 #[unsafe(no_mangle)]
 pub extern "C" fn aig_info(alloc: Global, file: &[u8], out: &mut [u8], needed: &mut usize) -> u32
-    ensures { Gives edit_status (Prints (MakesInfo LIMIT file.now)) result out.old out.new
+    ensures { GivesResult edit_status (Prints (MakesInfo LIMIT file.now)) result out.old out.new
         needed.old needed.new }
 {
     put(info_text(alloc, file), out, needed)

@@ -1,6 +1,6 @@
 //! Calls that give the files whose bad states are a justice property's lasso or its rounds.
 
-ghost use Rattle.aig_calls.specs.Calls.{Gives, MakesLive, MakesRounds, Prints, items_in};
+ghost use Rattle.aig_calls.specs.Calls.{GivesResult, MakesLive, MakesRounds, Prints, items_in};
 ghost use Rattle.aig_calls.specs.Statuses.{edit_status};
 
 use crate::buffer::put;
@@ -39,7 +39,7 @@ pub extern "C" fn aig_live(
     out: &mut [u8],
     needed: &mut usize,
 ) -> u32
-    ensures { Gives edit_status (Prints (MakesLive LIMIT j file.now)) result out.old out.new
+    ensures { GivesResult edit_status (Prints (MakesLive LIMIT j file.now)) result out.old out.new
         needed.old needed.new }
 {
     put(live_text(alloc, file, j), out, needed)
@@ -56,7 +56,8 @@ pub extern "C" fn aig_rounds(
     out: &mut [u8],
     needed: &mut usize,
 ) -> u32
-    ensures { Gives edit_status (Prints (MakesRounds LIMIT j count file.now)) result out.old out.new
+    ensures { GivesResult edit_status (Prints (MakesRounds LIMIT j count file.now)) result out.old
+        out.new
         needed.old needed.new }
 {
     put(rounds_text(alloc, file, j, count), out, needed)

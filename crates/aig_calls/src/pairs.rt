@@ -3,7 +3,7 @@
 ghost use Rattle.std.specs.Prelude.{None};
 ghost use Rattle.aig_check_commands.specs.declared.command.PairCommand.TheVariants as commands;
 ghost use Rattle.aig_edits.specs.declared.pairing.Pairing.TheVariants.{Certificate, Merge, Miter};
-ghost use Rattle.aig_calls.specs.Calls.{Gives, MakesJoint, Prints, RunsOnPair, items_in};
+ghost use Rattle.aig_calls.specs.Calls.{GivesResult, MakesJoint, Prints, RunsOnPair, items_in};
 ghost use Rattle.aig_calls.specs.Statuses.{check_status, pair_status};
 
 use crate::buffer::put;
@@ -39,7 +39,7 @@ fn print_pair(
     out: &mut [u8],
     needed: &mut usize,
 ) -> u32
-    ensures { Gives pair_status (Prints (MakesJoint LIMIT pairing file.now other.now)) result
+    ensures { GivesResult pair_status (Prints (MakesJoint LIMIT pairing file.now other.now)) result
         out.old out.new needed.old needed.new }
 {
     put(joint_text(alloc, pairing, file, other), out, needed)
@@ -54,7 +54,8 @@ pub extern "C" fn aig_miter(
     out: &mut [u8],
     needed: &mut usize,
 ) -> u32
-    ensures { Gives pair_status (Prints (MakesJoint LIMIT Miter file.now other.now)) result out.old
+    ensures { GivesResult pair_status (Prints (MakesJoint LIMIT Miter file.now other.now)) result
+        out.old
         out.new needed.old needed.new }
 {
     print_pair(alloc, Pairing::Miter, file, other, out, needed)
@@ -69,7 +70,8 @@ pub extern "C" fn aig_join(
     out: &mut [u8],
     needed: &mut usize,
 ) -> u32
-    ensures { Gives pair_status (Prints (MakesJoint LIMIT Certificate file.now certificate.now))
+    ensures { GivesResult pair_status (Prints (MakesJoint LIMIT Certificate file.now
+        certificate.now))
         result out.old out.new needed.old needed.new }
 {
     print_pair(alloc, Pairing::Certificate, file, certificate, out, needed)
@@ -84,7 +86,8 @@ pub extern "C" fn aig_merge(
     out: &mut [u8],
     needed: &mut usize,
 ) -> u32
-    ensures { Gives pair_status (Prints (MakesJoint LIMIT Merge file.now other.now)) result out.old
+    ensures { GivesResult pair_status (Prints (MakesJoint LIMIT Merge file.now other.now)) result
+        out.old
         out.new needed.old needed.new }
 {
     print_pair(alloc, Pairing::Merge, file, other, out, needed)
@@ -118,7 +121,8 @@ pub extern "C" fn aig_obligations(
     out: &mut [u8],
     needed: &mut usize,
 ) -> u32
-    ensures { Gives check_status (Prints (RunsOnPair LIMIT (commands.Obligations optimize) file.now
+    ensures { GivesResult check_status (Prints
+        (RunsOnPair LIMIT (commands.Obligations optimize) file.now
         certificate.now None None)) result out.old out.new needed.old needed.new }
 {
     put(

@@ -1,7 +1,7 @@
 //! Calls that give what a command of `aigtool` prints of a file.
 
 ghost use Rattle.aig_tool_commands.specs.declared.command.Command.TheVariants as commands;
-ghost use Rattle.aig_calls.specs.Calls.{Gives, GivesAt, Prints, RunsTool, items_in};
+ghost use Rattle.aig_calls.specs.Calls.{GivesResult, GivesAt, Prints, RunsTool, items_in};
 ghost use Rattle.aig_calls.specs.Statuses.{tool_status};
 
 use crate::buffer::put;
@@ -22,7 +22,7 @@ fn text(alloc: Global, c: Command, file: &[u8]) -> Result<Vec<u8>, ToolError>
 
 /// Gives what a command of `aigtool` puts into its writer.
 fn print(alloc: Global, c: Command, file: &[u8], out: &mut [u8], needed: &mut usize) -> u32
-    ensures { Gives tool_status (Prints (RunsTool LIMIT c file.now)) result out.old out.new
+    ensures { GivesResult tool_status (Prints (RunsTool LIMIT c file.now)) result out.old out.new
         needed.old needed.new }
 {
     put(text(alloc, c, file), out, needed)
@@ -31,7 +31,8 @@ fn print(alloc: Global, c: Command, file: &[u8], out: &mut [u8], needed: &mut us
 /// The text form of a file's circuit.
 #[unsafe(no_mangle)]
 pub extern "C" fn aig_text(alloc: Global, file: &[u8], out: &mut [u8], needed: &mut usize) -> u32
-    ensures { Gives tool_status (Prints (RunsTool LIMIT commands.Text file.now)) result out.old
+    ensures { GivesResult tool_status (Prints (RunsTool LIMIT commands.Text file.now)) result
+        out.old
         out.new needed.old needed.new }
 {
     print(alloc, Command::Text, file, out, needed)
@@ -40,7 +41,8 @@ pub extern "C" fn aig_text(alloc: Global, file: &[u8], out: &mut [u8], needed: &
 /// The binary form of a file's circuit.
 #[unsafe(no_mangle)]
 pub extern "C" fn aig_binary(alloc: Global, file: &[u8], out: &mut [u8], needed: &mut usize) -> u32
-    ensures { Gives tool_status (Prints (RunsTool LIMIT commands.Binary file.now)) result out.old
+    ensures { GivesResult tool_status (Prints (RunsTool LIMIT commands.Binary file.now)) result
+        out.old
         out.new needed.old needed.new }
 {
     print(alloc, Command::Binary, file, out, needed)
@@ -49,7 +51,8 @@ pub extern "C" fn aig_binary(alloc: Global, file: &[u8], out: &mut [u8], needed:
 /// The text form of a file's circuit after structural hashing.
 #[unsafe(no_mangle)]
 pub extern "C" fn aig_strash(alloc: Global, file: &[u8], out: &mut [u8], needed: &mut usize) -> u32
-    ensures { Gives tool_status (Prints (RunsTool LIMIT commands.Strash file.now)) result out.old
+    ensures { GivesResult tool_status (Prints (RunsTool LIMIT commands.Strash file.now)) result
+        out.old
         out.new needed.old needed.new }
 {
     print(alloc, Command::Strash, file, out, needed)

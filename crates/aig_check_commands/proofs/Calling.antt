@@ -7,7 +7,7 @@ use Rattle.aig_command_line.specs.declared.help.Help.TheVariants.{Usage, Version
 use Rattle.aig_command_line.specs.Help.{word_of}
 use Rattle.aig_command_line.specs.declared.status.Ending.TheVariants as endings
 use Rattle.aig_command_line.specs.Ending.{ended}
-use Rattle.aig_command_line.specs.Arguments.{Arguments, Gives, further_of}
+use Rattle.aig_command_line.specs.Arguments.{Arguments, GivesArguments, further_of}
 use Rattle.aig_command_line.specs.declared.arguments.Given.{Given}
 use Rattle.aig_command_line.specs.Limits.{IsLimited}
 use Rattle.aig_command_line.proofs.Apart as apart
@@ -183,8 +183,8 @@ witness_among witness.Obligations = (1, omega arith, refl)
 
 -- words give one of them, and one list of what it takes
 one_witness : (words : List (List ℕ)) (a b : WitnessAction) (x y : Arguments)
-    → Gives (witness_name a) (witness_form a) words x
-    → Gives (witness_name b) (witness_form b) words y → (a ≡ b) × (x ≡ y)
+    → GivesArguments (witness_name a) (witness_form a) words x
+    → GivesArguments (witness_name b) (witness_form b) words y → (a ≡ b) × (x ≡ y)
 one_witness words a b x y g h =
     apart.one_fits witness_name witness_form on_witness.ALL refl witness_among words a b x y g h
 
@@ -223,16 +223,18 @@ one_on_witness words c d x y g h =
 
 -- words that fit no form are none of them
 pub witness_none : (words : List (List ℕ))
-    → All (λ a. (g : Arguments) → ¬ Gives (witness_name a) (witness_form a) words g) on_witness.ALL
+    → All (λ a. (g : Arguments) → ¬ GivesArguments (witness_name a) (witness_form a) words g)
+    on_witness.ALL
     → FitNone (IsOnWitness words)
 witness_none words none c x g =
     apart.each witness_name witness_form on_witness.ALL refl witness_among
-    (λ b. (x : Arguments) → ¬ Gives (witness_name b) (witness_form b) words x) none g.action g.given
+    (λ b. (x : Arguments) → ¬ GivesArguments (witness_name b) (witness_form b) words x) none
+    g.action g.given
     g.gives
 
 -- nor are those where a word should name a condition, and names none
 pub unnamed_none : (words : List (List ℕ)) (u : Arguments)
-    → Gives (witness_name witness.Obligations) (witness_form witness.Obligations) words u
+    → GivesArguments (witness_name witness.Obligations) (witness_form witness.Obligations) words u
     → ((condition : Condition) (rest : List (List ℕ))
     → ¬ (u.further ≡ condition_name condition ∷ rest))
     → FitNone (IsOnWitness words)
@@ -262,10 +264,11 @@ one_command words c d x y (inr g) (inr h) = one_else words c d x y g.1 h.1
 
 -- words that fit no form are no command with one setting
 pub whole_none : (words : List (List ℕ))
-    → All (λ a. (g : Arguments) → ¬ Gives (name_of a) (form_of a) words g) ALL
+    → All (λ a. (g : Arguments) → ¬ GivesArguments (name_of a) (form_of a) words g) ALL
     → (c : Command) (x : Arguments) → ¬ IsWhole words c x
 whole_none words none c x g =
-    each (λ b. (x : Arguments) → ¬ Gives (name_of b) (form_of b) words x) none g.action x g.gives
+    each (λ b. (x : Arguments) → ¬ GivesArguments (name_of b) (form_of b) words x) none g.action x
+    g.gives
 
 -- words and a last one are their bytes
 pub last_words : (xs ys : List (String Global)) (x : String Global) → xs ≡ ys ++ x ∷ []
@@ -422,7 +425,7 @@ no_command words q limit c paths further are g =
         omega (arith, letter)
 
     no_form : (q : Help) (a : Action) (x : Arguments)
-        → ¬ Gives (name_of a) (form_of a) (word_of q ∷ []) x
+        → ¬ GivesArguments (name_of a) (form_of a) (word_of q ∷ []) x
     no_form Usage a x = apart.no_name name_of form_of ALL refl among (codes "--help") [] refl a x
     no_form Version a x =
         apart.no_name name_of form_of ALL refl among (codes "--version") [] refl a x
@@ -442,7 +445,7 @@ no_command words q limit c paths further are g =
         omega (arith, letter)
 
     no_witness : (q : Help) (a : WitnessAction) (x : Arguments)
-        → ¬ Gives (witness_name a) (witness_form a) (word_of q ∷ []) x
+        → ¬ GivesArguments (witness_name a) (witness_form a) (word_of q ∷ []) x
     no_witness Usage a x =
         apart.no_name witness_name witness_form on_witness.ALL refl witness_among (codes "--help") []
         refl a x

@@ -22,7 +22,7 @@ use Rattle.aig_check_commands.specs.declared.justice.Justice.{Justice}
 use Rattle.aig_check_commands.proofs.Calling.{no_justice}
 use Rattle.aig_check_commands.specs.declared.error.CheckError.TheVariants as errors
 use Rattle.aig_check_commands.specs.Running.{Answers, IsErrorOf, TellsOfGiven, error_status, file_verdict, shown_line, step_line, window_line}
-use Rattle.aig_command_line.specs.Arguments.{Arguments, Gives, setting_words}
+use Rattle.aig_command_line.specs.Arguments.{Arguments, GivesArguments, setting_words}
 use Rattle.aig_command_line.specs.Limits.{IsLimited}
 use Rattle.aig_check_commands.specs.declared.command.Action.{Action}
 use Rattle.aig_check_commands.specs.declared.command.Action.TheVariants as actions
@@ -97,7 +97,8 @@ no_more_words file witness more a give =
     let whole = whole_of (codes "run" ∷ file ∷ witness ∷ more ∷ []) (asked.File commands.Run) _ x refl
     (rw every at call.gives) in
     let run = is_run whole.action x.step x.distinct x.optimize whole.command in
-    let gives = subst (λ a. Gives (name_of a) (form_of a) (codes "run" ∷ file ∷ witness ∷ more ∷ [])
+    let gives = subst (λ a. GivesArguments (name_of a) (form_of a)
+    (codes "run" ∷ file ∷ witness ∷ more ∷ [])
     x) run whole.gives in
     let settings = setting_words x.distinct x.optimize in
     let count = ap length gives.spelled in

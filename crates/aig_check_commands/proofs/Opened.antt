@@ -148,13 +148,13 @@ opened_behind opens paths before inputs result was o =
     )
 
 -- what a result tells of all
-abbrev pub Tells : {F : Type 0} → Result (F × Inputs F) CheckError → List F → Type 0
-Tells {F} result opened =
+abbrev pub IsOpened : {F : Type 0} → Result (F × Inputs F) CheckError → List F → Type 0
+IsOpened {F} result opened =
     (all : F × Inputs F) × (result ≡ Ok all) × (opened ≡ all.0 ∷ listed all.1)
 
 pub opened_are : {F : Type 0} (file : F) (inputs : Inputs F)
     (result : Result (F × Inputs F) CheckError) → result ≡ Ok (file, inputs)
-    → (opened : List F) → Tells result opened → file ∷ listed inputs ≡ opened
+    → (opened : List F) → IsOpened result opened → file ∷ listed inputs ≡ opened
 opened_are file inputs result was opened told =
     let is = sym was ∙ told.1 in
     let one : file ≡ told.0.0 = cc in
@@ -175,7 +175,7 @@ was_opened all result was (inr short) = absurd (not_refused all errors.Memory re
 pub all_opened : {F Short : Type 0} (opens : List ℕ → Result F OpenError → Type 0)
     (names : List (List ℕ)) (file : F) (inputs : Inputs F)
     (result : Result (F × Inputs F) CheckError) → result ≡ Ok (file, inputs)
-    → OpensAll opens names (Tells result) (λ e. result ≡ Err e)
+    → OpensAll opens names (IsOpened result) (λ e. result ≡ Err e)
     ⊎ (Short × (result ≡ Err errors.Memory))
     → AreOpened opens names (file ∷ listed inputs)
 all_opened opens names file inputs result was o =

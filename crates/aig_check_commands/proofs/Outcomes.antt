@@ -28,7 +28,7 @@ use Rattle.aig_check_commands.specs.declared.command.FileCommand.{FileCommand}
 use Rattle.aig_check_commands.specs.declared.command.FileCommand.TheVariants as commands
 use Rattle.aig_check_commands.specs.declared.error.CheckError.{CheckError}
 use Rattle.aig_check_commands.specs.declared.error.CheckError.TheVariants as errors
-use Rattle.aig_check_commands.specs.Printing.{IsOfSolution, IsOfText, Prints}
+use Rattle.aig_check_commands.specs.Printing.{IsOfSolution, IsOfText, PrintsSuch}
 use Rattle.aig_check_commands.specs.Running.{Answers, IsAskedBy, IsErrorOf, IsOfFileAlone, Runs, TakesProof, TellsOfGiven, TellsOfQuestion, TellsOfSolution, file_verdict, verdict_of}
 
 pub is_error : (T E : Type 0) (e x : E) → IsErrOf {T = T} (Err e) x → e ≡ x
@@ -159,7 +159,7 @@ module _ {R P W : Type 0} {left : R → Option (List ℕ)} {read_failed : R → 
       (left r) (left rest) (given p) → Judges (file_verdict c limit) limit (left r) (left rest)
       (read_failed rest) Accepted
       → ((text : List ℕ) → IsSuch text → IsReadAs (IsAskedBy c limit) (Answers c (given p) (left r)) (left r)
-      (left rest) text) → Prints held write_failed IsSuch w result made → IfErr result IsOfText
+      (left rest) text) → PrintsSuch held write_failed IsSuch w result made → IfErr result IsOfText
       → IsErrorOf c errors.Memory
       → Runs left read_failed given given_failed held write_failed c limit r p w result rest used
       made
@@ -177,7 +177,7 @@ module _ {R P W : Type 0} {left : R → Option (List ℕ)} {read_failed : R → 
       limit (left r) (left rest) (given p) → Judges (file_verdict c limit) limit (left r) (left
       rest) (read_failed rest) Accepted
       → ((text : List ℕ) → IsSuch text → IsReadAs (IsAskedBy c limit) (Answers c (given p) (left r)) (left r)
-      (left rest) text) → Prints held write_failed IsSuch w result made → (x : Encoded) (k : ℕ)
+      (left rest) text) → PrintsSuch held write_failed IsSuch w result made → (x : Encoded) (k : ℕ)
       → IfErr result (IsOfSolution (given p) (given_failed used) x k) → ((e : SolutionError) →
       IsErrorOf c (errors.Solution e)) → ((e : SolutionError) → RefusesSolution (given p) x k
       (given_failed used) e → TellsOfSolution c limit (left r) (left rest) (given p)
@@ -207,7 +207,7 @@ module _ {W : Type 0} {held : W → Option (List ℕ)} {failed : W → Bool} {Is
     made : W} where
   pub text_printed : (u : Unit {0}) (text : List ℕ) → IsSuch text → Appends (held w) (held made)
       text → failed made ≡ false
-      → Prints held failed IsSuch w (Ok u) made
+      → PrintsSuch held failed IsSuch w (Ok u) made
   text_printed u text such done sound = record {
     ok = (text, such, done, sound);
     stopped = λ is.
@@ -216,7 +216,7 @@ module _ {W : Type 0} {held : W → Option (List ℕ)} {failed : W → Bool} {Is
   }
 
   pub some_printed : (text : List ℕ) → IsSuch text → Stops (held w) (held made) (failed made) text →
-      Prints held failed IsSuch w (Err errors.Write) made
+      PrintsSuch held failed IsSuch w (Err errors.Write) made
   some_printed text such stops = record {
     ok = tt;
     stopped = λ is. (text, such, stops);
@@ -224,7 +224,8 @@ module _ {W : Type 0} {held : W → Option (List ℕ)} {failed : W → Bool} {Is
         not. absurd (not refl);
   }
 
-  pub nothing_printed : (e : CheckError) → e ≢ errors.Write → made ≡ w → Prints held failed IsSuch w
+  pub nothing_printed : (e : CheckError) → e ≢ errors.Write → made ≡ w
+      → PrintsSuch held failed IsSuch w
       (Err e) made
   nothing_printed e other same = record {
     ok = tt;

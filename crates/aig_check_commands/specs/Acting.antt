@@ -7,7 +7,7 @@ use Rattle.aig_command_line.specs.declared.help.Help.{Help}
 use Rattle.aig_command_line.specs.Help.{word_of}
 use Rattle.aig_command_line.specs.declared.status.Ending.{Ending}
 use Rattle.aig_command_line.specs.declared.status.Ending.TheVariants as endings
-use Rattle.aig_command_line.specs.Ending.{Says, ended}
+use Rattle.aig_command_line.specs.Ending.{WritesLine, ended}
 use Rattle.aig_command_line.specs.declared.files.OpenError.{OpenError}
 use Rattle.aig_check_commands.specs.declared.command.Asked.{Asked}
 use Rattle.aig_check_commands.specs.declared.command.Command.{Command}
@@ -57,7 +57,7 @@ pub record Obeys {F W : Type 0} (opens : List ℕ → Result F OpenError → Typ
   -- a question of the program is answered by a line
   pub tells : (q : Help) → words ≡ word_of q ∷ [] → (done : Result Unit CheckError)
       × (ending ≡ ended done)
-      × Says held write_failed flushed errors.Write (answer_of q ++ 10 ∷ []) w done made
+      × WritesLine held write_failed flushed errors.Write (answer_of q ++ 10 ∷ []) w done made
   -- other words give no command exactly where it ends so
   pub none : (ending ≡ endings.NoCommand) ↔ (((c : Asked) → ¬ Give words c)
       × ((q : Help) → ¬ (words ≡ word_of q ∷ [])))

@@ -6,7 +6,7 @@ use Rattle.aig_runs.specs.declared.window.Window.TheVariants.{Plain, Distinct}
 use Rattle.aig_command_line.specs.declared.arguments.ArgumentForm.{ArgumentForm}
 use Rattle.aig_command_line.specs.declared.arguments.Step.{Step}
 use Rattle.aig_command_line.specs.declared.arguments.Step.TheVariants.{Absent, At, UpTo, By, Each}
-use Rattle.aig_command_line.specs.Arguments.{Arguments, Gives}
+use Rattle.aig_command_line.specs.Arguments.{Arguments, GivesArguments}
 use Rattle.aig_command_line.specs.Limits.{IsLimited}
 use Rattle.aig_check_commands.specs.declared.command.Action.{Action}
 use Rattle.aig_check_commands.specs.declared.command.Action.TheVariants as actions
@@ -120,7 +120,7 @@ raw_alone step c = None
 -- the words fit the command, with one setting for all its proofs
 pub record IsWhole (words : List (List ℕ)) (c : Command) (a : Arguments) : Type 0 where
   pub action : Action
-  pub gives : Gives (name_of action) (form_of action) words a
+  pub gives : GivesArguments (name_of action) (form_of action) words a
   pub command : c ≡ command_of action a.step a.distinct a.optimize
 
 -- without the last, which says which clauses alone are raw, the words fit one, without `raw`
@@ -155,7 +155,7 @@ IsOf witness.Obligations given c further =
 pub record IsOnWitness (words : List (List ℕ)) (c : Command) (a : Arguments) : Type 0 where
   pub action : WitnessAction
   pub given : Arguments
-  pub gives : Gives (witness_name action) (witness_form action) words given
+  pub gives : GivesArguments (witness_name action) (witness_form action) words given
   pub command : IsOf action given c a.further
   pub rest : a ≡ record given { further = a.further }
 

@@ -99,7 +99,7 @@ IsPlaceOf opens left limit c paths further path e subject (searches.Run measure)
 -- ---- endings
 
 -- the error is told with the path of what it is about, and the place there
-pub record Tells {F : Type 0} (opens : List ℕ → Result F OpenError → Type 0)
+pub record TellsPlaced {F : Type 0} (opens : List ℕ → Result F OpenError → Type 0)
     (left : F → Option (List ℕ)) (limit : ℕ) (c : Asked) (paths further : List (List ℕ))
     (e : CheckError)
     (fault : Fault CheckError) : Type 0 where
@@ -116,4 +116,4 @@ pub record TellsOf {F : Type 0} (opens : List ℕ → Result F OpenError → Typ
   pub error : error_of fault ≡ e
   pub told : (limit : ℕ) (c : Asked) (paths further : List (List ℕ))
       → IsCall words limit c paths further
-      → Tells opens left limit c paths further e fault
+      → TellsPlaced opens left limit c paths further e fault

@@ -124,7 +124,7 @@ pub record IsKnownText (given : Option (List ℕ)) (e : Encoded) (k : ℕ) (text
 
 -- Such a text is held, or after a failed write a beginning of one. After any other error nothing
 -- was written.
-pub record Prints {W : Type 0} (held : W → Option (List ℕ)) (failed : W → Bool)
+pub record PrintsSuch {W : Type 0} (held : W → Option (List ℕ)) (failed : W → Bool)
     (IsSuch : List ℕ → Type 0) (w : W) (result : Result Unit CheckError) (made : W) : Type 0 where
   pub ok : OnOk result
       ((text : List ℕ) × IsSuch text × Appends (held w) (held made) text × (failed made ≡ false))

@@ -2,7 +2,7 @@
 
 ghost use Rattle.std.specs.Prelude.{◌≡◌, ◌++◌, ◌∷◌, [], IfOk, IfSome, IsErr, IsNone, IsTrue, OnOk, map, string_bytes};
 ghost use Rattle.aig_command_line.specs.declared.status.Ending.TheVariants as endings;
-ghost use Rattle.aig_command_line.specs.Ending.{Says};
+ghost use Rattle.aig_command_line.specs.Ending.{WritesLine};
 ghost use Rattle.aig_check_commands.specs.Acting.{Acts, Obeys};
 ghost use Rattle.aig_check_commands.specs.Help.{answer_of};
 ghost use Rattle.aig_check_commands.specs.Fits.{Fits};
@@ -77,7 +77,7 @@ fn print<F: Opens, W: Flush>(
 
 /// Writes a line, and flushes it.
 fn say<W: Flush>(text: &str, w: &mut W) -> Result<(), CheckError>
-    ensures { Says W.held W.failed W.flushed CheckError.Write (text.now ++ 10 ∷ []) w.old
+    ensures { WritesLine W.held W.failed W.flushed CheckError.Write (text.now ++ 10 ∷ []) w.old
         result w.new }
 {
     write_text(w, text.as_bytes())?;

@@ -8,7 +8,7 @@ use aig_answers::{
     AnswerError, BoundedAnswerError, CertificateError, EqualityError, MiterError, SafetyError,
     StepsError,
 };
-use aig_command_line::{Ending, Tells};
+use aig_command_line::{Ending, Teller};
 use aig_refutation::RefutationError;
 use aig_simulated::{ConditionError, SimulationError};
 
@@ -110,7 +110,7 @@ fn has_misfit(ending: Ending<CheckError>) -> bool
 
 /// Tells in a line what may be the matter where a proof is refused as one of other clauses is: a step doesn't follow, it names a
 /// literal or a clause that isn't theirs, or it is unfinished. Beside each other ending nothing is told.
-pub fn advise<T: Tells>(ending: Ending<CheckError>, errors: &mut T)
+pub fn advise<T: Teller>(ending: Ending<CheckError>, errors: &mut T)
     ensures { Advises T.tells ending errors.old errors.new }
 {
     if has_misfit(ending) {

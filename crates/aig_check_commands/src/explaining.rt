@@ -4,7 +4,7 @@ ghost use Rattle.std.specs.Prelude.{◌≡◌, ◌++◌, Contains, Err, IfNone, 
 ghost use Rattle.aig_command_line.specs.Ending.{IsMapped};
 ghost use Rattle.aig_command_line.specs.Faults.{IsAlone};
 ghost use Rattle.aig_command_line.specs.declared.files.OpenError.TheVariants as opening;
-ghost use Rattle.aig_check_commands.specs.Explaining.{IsPathOf, IsPlaceOf, Tells, TellsOf, number_of};
+ghost use Rattle.aig_check_commands.specs.Explaining.{IsPathOf, IsPlaceOf, TellsPlaced, TellsOf, number_of};
 ghost use Rattle.aig_check_commands.specs.Fits.{Fits};
 
 use crate::command::{Call, call_of};
@@ -104,7 +104,7 @@ fn fault_of<'a, F: Reopens>(
     error: CheckError,
 ) -> Fault<'a, CheckError>
     requires { Fits call.now }
-    ensures { Tells (F.opens files.now) F.File.left call.now.limit call.now.asked
+    ensures { TellsPlaced (F.opens files.now) F.File.left call.now.limit call.now.asked
         (map string_bytes call.now.paths.now) (map string_bytes call.now.further.now) error result }
 {
     let about = about_error(error);

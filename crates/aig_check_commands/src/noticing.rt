@@ -6,7 +6,7 @@ ghost use Rattle.aig_check_commands.specs.Noticing.{IsAnswer, TellsBeside, regar
 use crate::command::{Asked, Command, FileCommand, PairCommand, call_of};
 use crate::error::CheckError;
 use aig_base::MemoryError;
-use aig_command_line::{Ending, Headers, Regard, Tells, tell_of_files};
+use aig_command_line::{Ending, Headers, Regard, Teller, tell_of_files};
 
 /// What a command does with parts of its files that its answer isn't about: it answers without a look at justice and fairness, but where a
 /// justice property is asked about, and `run`, which names the property that the witness shows.
@@ -37,7 +37,7 @@ fn is_answer(ending: Ending<CheckError>) -> bool
 }
 
 /// Tells beside an answer to these words what it isn't about.
-fn tell_beside<T: Tells>(
+fn tell_beside<T: Teller>(
     words: &[String],
     headers: Headers,
     ending: Ending<CheckError>,
@@ -62,7 +62,7 @@ fn tell_beside<T: Tells>(
 }
 
 /// Tells beside an answer what it isn't about, of each file with such a header.
-pub fn notice<T: Tells>(
+pub fn notice<T: Teller>(
     words: &Result<Option<Vec<String>>, MemoryError>,
     headers: Headers,
     ending: Ending<CheckError>,

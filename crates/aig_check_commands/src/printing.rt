@@ -13,7 +13,7 @@ ghost use Rattle.aig_output.specs.Sinks.{BuffersOrStops, WritesOrStops};
 ghost use Rattle.aig_check_commands.specs.Titles.{title_text};
 ghost use Rattle.aig_unroll.specs.Unroll.{UnrollsTo};
 ghost use Rattle.aig_check_commands.specs.Comments.{comments_of};
-ghost use Rattle.aig_check_commands.specs.Printing.{IsKnownText, IsOfSolution, IsOfText, IsQueryText, Prints, WritesQuery, WritesWindow};
+ghost use Rattle.aig_check_commands.specs.Printing.{IsKnownText, IsOfSolution, IsOfText, IsQueryText, PrintsSuch, WritesQuery, WritesWindow};
 ghost use Rattle.aig_check_commands.specs.Running.{Runs, nothing_fails, nothing_given};
 ghost use Rattle.aig_check_commands.specs.Titling.{is_distinct};
 
@@ -278,7 +278,8 @@ fn print_query<W: Sink>(
 ) -> Result<(), CheckError>
     requires few { length asked.now.unrolled.nodes ≤ 2 ^ 31 }
     requires small { asked.now.steps < 2 ^ 32 }
-    ensures prints { Prints W.held W.failed (IsQueryText title.now asked.now optimize) w.old result
+    ensures prints { PrintsSuch W.held W.failed (IsQueryText title.now asked.now optimize) w.old
+        result
         w.new }
     ensures own { IfErr result IsOfText }
 {
@@ -347,7 +348,7 @@ fn print_solution<P: Source, W: Sink>(
     requires small { k < 2 ^ 32 }
     requires steps { UnrollsTo asked.now.encoded.circuit k asked.now.encoded.unrolled }
     ensures prints { let given = P.left solution.old in
-        Prints W.held W.failed (IsKnownText given asked.now.encoded k) w.old result w.new }
+        PrintsSuch W.held W.failed (IsKnownText given asked.now.encoded k) w.old result w.new }
     // The solver's answer is refused as `checked_witness` refuses it.
     ensures own { IfErr result
         (IsOfSolution (P.left solution.old) (P.failed solution.new) asked.now.encoded k) }

@@ -7,7 +7,7 @@ use Rattle.aig_format.specs.Text.{IsNumber}
 use Rattle.aig_command_line.specs.declared.arguments.ArgumentForm.{ArgumentForm}
 use Rattle.aig_command_line.specs.declared.arguments.Step.{Step}
 use Rattle.aig_command_line.specs.declared.arguments.Step.TheVariants.{At, By, Each, UpTo}
-use Rattle.aig_command_line.specs.Arguments.{AreStep, Arguments, Gives}
+use Rattle.aig_command_line.specs.Arguments.{AreStep, Arguments, GivesArguments}
 use Rattle.aig_command_line.proofs.Giving.{after_paths, by_no_number, each_no_number, one_given, to_no_number}
 
 same_first : (a b : List ℕ) (l m : List (List ℕ)) → a ∷ l ≡ b ∷ m → a ≡ b
@@ -143,8 +143,8 @@ steps_apart s t k m a b rest more differ h i same = cc
 module _ {A : Type 0} (name : A → List ℕ) (form : A → ArgumentForm) (words : List (List ℕ)) where
   -- commands that exclude each other aren't both given
   excluded : (x y : A) (u v : Arguments) → IsTrue (exclude name form x y)
-      → Gives (name x) (form x) words u
-      → ¬ Gives (name y) (form y) words v
+      → GivesArguments (name x) (form x) words u
+      → ¬ GivesArguments (name y) (form y) words v
   excluded x y u v apart g h = by_name (pointwise nat_eq (name x) (name y)) refl apart
     where
       names : name x ≡ name y
@@ -164,12 +164,12 @@ module _ {A : Type 0} (name : A → List ℕ) (form : A → ArgumentForm) (words
       by_name true is told = by_paths (nat_eq (form y).paths (form x).paths) refl told
 
   excluded_all : (x : A) (all : List A) (u v : Arguments) → IsTrue (exclude_all name form x all)
-      → Gives (name x) (form x) words u
-      → (b : A) → Contains all b → ¬ Gives (name b) (form b) words v
+      → GivesArguments (name x) (form x) words u
+      → (b : A) → Contains all b → ¬ GivesArguments (name b) (form b) words v
   excluded_all x [] u v apart g b at h = absurd (omega (arith, at.1))
   excluded_all x (y ∷ ys) u v apart g b (zero, low, is) h =
       let told = both (exclude name form x y) (exclude_all name form x ys) apart in
-      excluded x y u v told.0 g (subst (λ z. Gives (name z) (form z) words v) (sym is) h)
+      excluded x y u v told.0 g (subst (λ z. GivesArguments (name z) (form z) words v) (sym is) h)
   excluded_all x (y ∷ ys) u v apart g b (suc k, low, is) h =
       let told = both (exclude name form x y) (exclude_all name form x ys) apart in
       excluded_all x ys u v told.1 g b (k, omega (arith, low), is) h
@@ -177,15 +177,17 @@ module _ {A : Type 0} (name : A → List ℕ) (form : A → ArgumentForm) (words
   -- so what they give is one
   one_of : (all : List A) → IsTrue (are_apart name form all) → (a b : A) (u v : Arguments)
       → Contains all a → Contains all b
-      → Gives (name a) (form a) words u → Gives (name b) (form b) words v → a ≡ b
+      → GivesArguments (name a) (form a) words u → GivesArguments (name b) (form b) words v → a ≡ b
   one_of [] apart a b u v at bt g h = absurd (omega (arith, at.1))
   one_of (x ∷ xs) apart a b u v (zero, low, is) (zero, down, was) g h = sym is ∙ was
   one_of (x ∷ xs) apart a b u v (zero, low, is) (suc j, down, was) g h =
       let told = both (exclude_all name form x xs) (are_apart name form xs) apart in
-      absurd (excluded_all x xs u v told.0 (subst (λ z. Gives (name z) (form z) words u) (sym is) g) b (j, omega (arith, down), was) h)
+      absurd (excluded_all x xs u v told.0 (subst (λ z. GivesArguments (name z) (form z) words u)
+      (sym is) g) b (j, omega (arith, down), was) h)
   one_of (x ∷ xs) apart a b u v (suc k, low, is) (zero, down, was) g h =
       let told = both (exclude_all name form x xs) (are_apart name form xs) apart in
-      absurd (excluded_all x xs v u told.0 (subst (λ z. Gives (name z) (form z) words v) (sym was) h) a (k, omega (arith, low), is) g)
+      absurd (excluded_all x xs v u told.0 (subst (λ z. GivesArguments (name z) (form z) words v)
+      (sym was) h) a (k, omega (arith, low), is) g)
   one_of (x ∷ xs) apart a b u v (suc k, low, is) (suc j, down, was) g h =
       let told = both (exclude_all name form x xs) (are_apart name form xs) apart in
       one_of xs told.1 a b u v (k, omega (arith, low), is) (j, omega (arith, down), was) g h
@@ -199,15 +201,18 @@ module _ {A : Type 0} (name : A → List ℕ) (form : A → ArgumentForm) (all :
 
   -- words give one command alone, and one list of arguments
   pub one_fits : (words : List (List ℕ)) (a b : A) (x y : Arguments)
-      → Gives (name a) (form a) words x → Gives (name b) (form b) words y
+      → GivesArguments (name a) (form a) words x → GivesArguments (name b) (form b) words y
       → (a ≡ b) × (x ≡ y)
   one_fits words a b x y g h =
-      let same = one_of name form words all apart a b x y (among a) (among b) g h in
-      (same, one_given (name b) (form b) words y x h (subst (λ c. Gives (name c) (form c) words x) same g))
+      let same = one_of name form words all apart a b x y (among a) (among b) g h in (
+        same,
+        one_given (name b) (form b) words y x h
+            (subst (λ c. GivesArguments (name c) (form c) words x) same g),
+      )
 
   -- a word that is no name gives no command
   pub no_name : (first : List ℕ) (rest : List (List ℕ)) → IsTrue (differ name first all)
       → (a : A) (x : Arguments)
-      → ¬ Gives (name a) (form a) (first ∷ rest) x
+      → ¬ GivesArguments (name a) (form a) (first ∷ rest) x
   no_name first rest none a x g =
       other name first all none a (among a) (same_first first (name a) rest _ g.spelled)

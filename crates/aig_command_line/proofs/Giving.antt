@@ -7,7 +7,7 @@ use Rattle.aig_format.specs.Text.{IsNumber, value_of}
 use Rattle.aig_command_line.specs.declared.arguments.ArgumentForm.{ArgumentForm}
 use Rattle.aig_command_line.specs.declared.arguments.Step.{Step}
 use Rattle.aig_command_line.specs.declared.arguments.Step.TheVariants.{Absent, At, UpTo, By, Each}
-use Rattle.aig_command_line.specs.Arguments.{AreStep, Arguments, Gives, further_of, setting_words}
+use Rattle.aig_command_line.specs.Arguments.{AreStep, Arguments, GivesArguments, further_of, setting_words}
 use Rattle.aig_command_line.specs.Settings.{AreSettings}
 
 -- ---- lists
@@ -146,7 +146,8 @@ each_no_number k number = omega (arith, number.each.0.1)
 
 -- ---- parts of words that give arguments
 
-module _ (name : List ℕ) (form : ArgumentForm) (words : List (List ℕ)) (a : Arguments) (g : Gives name form words a) (first : List ℕ) where
+module _ (name : List ℕ) (form : ArgumentForm) (words : List (List ℕ)) (a : Arguments)
+    (g : GivesArguments name form words a) (first : List ℕ) where
   pub after_name : (rest : List (List ℕ)) → words ≡ first ∷ rest → (first ≡ name)
       × (rest ≡ a.paths ++ (g.steps ++ (a.further ++ setting_words a.distinct a.optimize)))
   after_name rest are =
@@ -184,7 +185,7 @@ same_arguments p q k m r s d e o u a b c f g = rw (a, b, c, f, g) refl
 
 -- words give arguments of one form alone
 pub one_given : (name : List ℕ) (form : ArgumentForm) (words : List (List ℕ)) (a b : Arguments)
-    → Gives name form words a → Gives name form words b → b ≡ a
+    → GivesArguments name form words a → GivesArguments name form words b → b ≡ a
 one_given name form words a b g h =
     let paths = (after_paths name form words a g name b.paths h.paths _ h.spelled).0 in
     let step = (after_step name form words a g name b.paths h.paths b.step h.steps h.step _ h.spelled).0 in
@@ -208,7 +209,7 @@ module _ (name : List ℕ) (form : ArgumentForm) (words : List (String Global)) 
   -- no word names a step
   pub no_step : ((k : ℕ) (word last : List (List ℕ)) → AreStep form.step k word
       → ¬ (map string_bytes rest ≡ word ++ last))
-      → (a : Arguments) → ¬ Gives name form (map string_bytes words) a
+      → (a : Arguments) → ¬ GivesArguments name form (map string_bytes words) a
   no_step none a g =
       none a.step g.steps (a.further ++ setting_words a.distinct a.optimize) g.step
       (after_paths name form (map string_bytes words) a g (string_bytes first) (map string_bytes paths) so_many (map string_bytes rest) paths_are).1
@@ -220,7 +221,7 @@ module _ (name : List ℕ) (form : ArgumentForm) (words : List (String Global)) 
 
     -- too few words follow
     pub no_further : length last < further_of form k → (a : Arguments)
-        → ¬ Gives name form (map string_bytes words) a
+        → ¬ GivesArguments name form (map string_bytes words) a
     no_further few a g =
         let follow = (after_step name form (map string_bytes words) a g (string_bytes first) (map string_bytes paths) so_many k steps names (map string_bytes last) steps_are).1 in
         let number = same_number name form (map string_bytes words) a g (string_bytes first) (map string_bytes paths) so_many k steps names (map string_bytes last) steps_are in
@@ -241,7 +242,7 @@ module _ (name : List ℕ) (form : ArgumentForm) (words : List (String Global)) 
       -- the last words are no settings
       pub no_settings : ((d o : Bool) → ¬ AreSettings form d o (map string_bytes end))
           → (a : Arguments)
-          → ¬ Gives name form (map string_bytes words) a
+          → ¬ GivesArguments name form (map string_bytes words) a
       no_settings none a g =
           let follow = after_further name form (map string_bytes words) a g (string_bytes first) (map string_bytes paths) so_many k steps names (map string_bytes further) (map string_bytes end) (cut last further end (further_of form k) split_again).1 all_are in
           none a.distinct a.optimize (follow.1, g.distinct, g.raw)
@@ -249,7 +250,8 @@ module _ (name : List ℕ) (form : ArgumentForm) (words : List (String Global)) 
       -- all fit
       pub all_given : (d o : Bool) → AreSettings form d o (map string_bytes end)
           → string_bytes first ≡ name
-          → Gives name form (map string_bytes words) (record { paths = map string_bytes paths; step = k; further = map string_bytes further; distinct = d; optimize = o })
+          → GivesArguments name form (map string_bytes words)
+          (record { paths = map string_bytes paths; step = k; further = map string_bytes further; distinct = d; optimize = o })
       all_given d o settings is = record {
         steps = steps;
         spelled =

@@ -3,7 +3,7 @@ use Rattle.aig_base.proofs.Words.{Bool, List, [], ℕ, Option, None, Some, Err, 
 use Rattle.std.specs.Prelude.{IsTrue}
 use Rattle.std.proofs.lemmas.List.{append-nil}
 use Rattle.aig_output.specs.Sinks.{Stops}
-use Rattle.aig_command_line.specs.Ending.{Says}
+use Rattle.aig_command_line.specs.Ending.{WritesLine}
 
 -- known bytes that grew, and then stayed as they were
 pub appends_kept : (a b c : Option (List ℕ)) (text : List ℕ) → Appends a b text → Keeps b c
@@ -22,7 +22,7 @@ stops_unflushed a b c failed text grows stays lost =
 
 pub said_unflushed : {W E : Type 0} (held : W → Option (List ℕ)) (write_failed flushed : W → Bool) (cause : E) (text : List ℕ) (w made flat : W)
     → Appends (held w) (held made) text → Keeps (held made) (held flat) → IsTrue (write_failed flat)
-    → Says held write_failed flushed cause text w (Err cause) flat
+    → WritesLine held write_failed flushed cause text w (Err cause) flat
 said_unflushed held write_failed flushed cause text w made flat grows keeps lost = record {
   writes = record { ok = tt; sound = tt; err = stops_unflushed (held w) (held made) (held flat) (write_failed flat) text grows keeps lost };
   done = tt;

@@ -6,4 +6,5 @@ pub mod Counting
 mod Fronts
 pub mod Limits
 pub mod Telling
+pub mod Examples
 mod Following

@@ -49,7 +49,8 @@ setting_words distinct optimize =
 
 -- the words are a command's name, its paths, those of its step, further paths, and settings that it
 -- may have
-pub record Gives (name : List ℕ) (form : ArgumentForm) (words : List (List ℕ)) (a : Arguments)
+pub record GivesArguments (name : List ℕ) (form : ArgumentForm) (words : List (List ℕ))
+    (a : Arguments)
     : Type 0 where
   pub steps : List (List ℕ)
   pub spelled : words

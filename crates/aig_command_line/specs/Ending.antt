@@ -18,7 +18,7 @@ IsMapped {D} Makes (Refused e) made = (d : D) × (made ≡ Refused d) × Makes e
 IsMapped Makes NoCommand made = made ≡ NoCommand
 
 -- a text is written and flushed, or a beginning of it is written, and the writer has failed
-pub record Says {W E : Type 0} (held : W → Option (List ℕ)) (write_failed flushed : W → Bool)
+pub record WritesLine {W E : Type 0} (held : W → Option (List ℕ)) (write_failed flushed : W → Bool)
     (cause : E) (text : List ℕ) (w : W) (result : Result Unit E) (made : W) : Type 0 where
   pub writes : WritesOrStops held write_failed w result text made
   pub done : OnOk result (IsTrue (flushed made))

@@ -2,7 +2,7 @@
 
 ghost use Rattle.std.specs.Prelude.{◌≡◌, ◌↔◌, ◌<◌, ◌^◌, ◌++◌, ◌∷◌, ℕ, Bool, true, IfNone, IfSome, IsTrue, List, None, Some, codes, length, map, slice_get, string_bytes};
 ghost use Rattle.std.specs.List.{IsSplitAt};
-ghost use Rattle.aig_command_line.specs.Arguments.{AreStep, Arguments, Gives, further_by, further_of, of_paths, seen};
+ghost use Rattle.aig_command_line.specs.Arguments.{AreStep, Arguments, GivesArguments, further_by, further_of, of_paths, seen};
 ghost use Rattle.aig_command_line.specs.Settings.{AreSettings, IsRawSetting};
 ghost use Rattle.aig_format.specs.Text.{IsNumber};
 
@@ -180,9 +180,9 @@ fn further_first(
 /// What the words of a command line give a command of this name and form, or none where they don't fit it. It takes no memory.
 pub fn arguments_of<'a>(name: &str, form: ArgumentForm, words: &'a [String]) -> Option<Given<'a>>
     ensures some { IfSome result
-        (λ g. Gives name.now form (map string_bytes words.now) (seen g)) }
+        (λ g. GivesArguments name.now form (map string_bytes words.now) (seen g)) }
     ensures none { IfNone result
-        ((a : Arguments) → ¬ Gives name.now form (map string_bytes words.now) a) }
+        ((a : Arguments) → ¬ GivesArguments name.now form (map string_bytes words.now) a) }
     ensures paths { IfSome result (λ g. length g.paths.now ≡ form.paths) }
     ensures further { IfSome result (λ g. length g.further.now ≡ further_of form g.step) }
     ensures small { IfSome result (λ g. g.step < 2 ^ 32) }

@@ -2,7 +2,7 @@
 
 ghost use Rattle.std.specs.Prelude.{◌≡◌, ◌<◌, ◌^◌, All, Contains, IfNone, IfSome, List, ℕ, length, map, string_bytes};
 ghost use Rattle.aig_command_line.specs.declared.arguments.ArgumentForm.{ArgumentForm};
-ghost use Rattle.aig_command_line.specs.Arguments.{Arguments, Gives, further_of, seen};
+ghost use Rattle.aig_command_line.specs.Arguments.{Arguments, GivesArguments, further_of, seen};
 
 use crate::arguments::{ArgumentForm, Given, arguments_of};
 
@@ -27,9 +27,9 @@ pub trait HasArguments: Copy {
 pub fn find<'a, A: HasArguments>(all: &[A], words: &'a [String]) -> Option<(A, Given<'a>)>
     ensures among { IfSome result (λ p. Contains all.now p.0) }
     ensures some { IfSome result
-        (λ p. Gives (A.name p.0) (A.form p.0) (map string_bytes words.now) (seen p.1)) }
+        (λ p. GivesArguments (A.name p.0) (A.form p.0) (map string_bytes words.now) (seen p.1)) }
     ensures none { IfNone result (All (λ a. (g : Arguments)
-        → ¬ Gives (A.name a) (A.form a) (map string_bytes words.now) g) all.now) }
+        → ¬ GivesArguments (A.name a) (A.form a) (map string_bytes words.now) g) all.now) }
     ensures paths { IfSome result (λ p. length p.1.paths.now ≡ (A.form p.0).paths) }
     ensures further { IfSome result
         (λ p. length p.1.further.now ≡ further_of (A.form p.0) p.1.step) }

@@ -42,6 +42,6 @@ pub use output::{Flush, FlushedWriter};
 pub use path::ShownPath;
 pub use placed::{Placed, read_placed};
 pub use reading::place_in_file;
-pub use status::{Ending, HasStatus, StandardError, Tells, end};
+pub use status::{Ending, HasStatus, StandardError, Teller, end};
 pub use tally::{Measure, Place};
 pub use watched::{Watch, Watched, WatchedFiles};

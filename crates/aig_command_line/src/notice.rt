@@ -6,7 +6,7 @@ ghost use Rattle.std.specs.List.{FoldsTo};
 
 use crate::arguments::path_at;
 use crate::path::ShownPath;
-use crate::status::Tells;
+use crate::status::Teller;
 use aig_lexer::Header;
 
 /// What a command does with parts of a file that its answer isn't about.
@@ -42,7 +42,7 @@ fn compares_within(regard: Regard, header: Header) -> bool
 }
 
 /// Tells a text about the file at a path, by a line, or nothing.
-fn tell_if<T: Tells>(is_so: bool, program: &str, path: &str, text: &str, errors: &mut T)
+fn tell_if<T: Teller>(is_so: bool, program: &str, path: &str, text: &str, errors: &mut T)
     ensures { FoldsTo (tells_line T.tells) errors.old
         (line_if is_so (line_about program.now path.now text.now)) errors.new }
 {
@@ -54,7 +54,7 @@ fn tell_if<T: Tells>(is_so: bool, program: &str, path: &str, text: &str, errors:
 
 /// Tells of the file at a path, which has this header, what a program's answer isn't about: by a line, that its justice properties and
 /// fairness constraints were not looked at, and by another one, that files were compared only on runs that its constraints allow.
-fn tell_notices<T: Tells>(
+fn tell_notices<T: Teller>(
     program: &str,
     path: &str,
     regard: Regard,
@@ -80,7 +80,7 @@ fn tell_notices<T: Tells>(
 }
 
 /// Tells of the file at one of these paths, if there is one.
-fn tell_at<T: Tells>(
+fn tell_at<T: Teller>(
     program: &str,
     paths: &[String],
     index: usize,
@@ -99,7 +99,7 @@ fn tell_at<T: Tells>(
 }
 
 /// Tells what a program's answer isn't about, of the files at its first two paths.
-pub fn tell_of_files<T: Tells>(
+pub fn tell_of_files<T: Teller>(
     program: &str,
     paths: &[String],
     regard: Regard,

@@ -66,7 +66,7 @@ impl<E: HasStatus> Ending<E> {
 }
 
 /// Where a program tells what is wrong.
-pub trait Tells {
+pub trait Teller {
     /// What telling a line leaves, where it may be known what the line says.
     ghost tells: { Self → Option (List ℕ) → Self → Type 0 };
 
@@ -88,7 +88,7 @@ impl<'a, R> StandardError<'a, R> {
     }
 }
 
-impl<'a, R: Eprint> Tells for StandardError<'a, R> {
+impl<'a, R: Eprint> Teller for StandardError<'a, R> {
     ghost tells = { λ _ _ _. ⊤ };
 
     fn tell<D: Display + Drop>(&mut self, line: D) {
@@ -98,7 +98,7 @@ impl<'a, R: Eprint> Tells for StandardError<'a, R> {
 
 /// Tells how a program ends, by a line where it isn't done: its name and what it refused for, or how it is used. Returns the
 /// status of the process.
-pub fn end<E: Display + HasStatus, T: Tells>(
+pub fn end<E: Display + HasStatus, T: Teller>(
     program: &str,
     usage: &str,
     ending: &Ending<E>,

@@ -7,7 +7,7 @@ use Rattle.aig_command_line.specs.declared.help.Help.{Help}
 use Rattle.aig_command_line.specs.declared.help.Help.TheVariants.{Usage, Version}
 use Rattle.aig_command_line.specs.Help.{word_of}
 use Rattle.aig_command_line.specs.declared.status.Ending.TheVariants as endings
-use Rattle.aig_command_line.specs.Arguments.{AreStep, Arguments, Gives}
+use Rattle.aig_command_line.specs.Arguments.{AreStep, Arguments, GivesArguments}
 use Rattle.aig_command_line.specs.declared.arguments.Step.TheVariants.{At}
 use Rattle.aig_command_line.specs.Ending.{ended}
 use Rattle.aig_command_line.specs.Limits.{IsLimited}
@@ -88,15 +88,16 @@ one_call words limit other c d p q g h =
 
 -- words after a limit that fit no command give none
 pub fits_none : (words rest : List (List ℕ)) (limit : ℕ) → IsLimited words limit rest
-    → All (λ a. (g : Arguments) → ¬ Gives (name_of a) (form_of a) rest g) ALL
+    → All (λ a. (g : Arguments) → ¬ GivesArguments (name_of a) (form_of a) rest g) ALL
     → (other : ℕ) (c : Command) (paths : List (List ℕ)) → ¬ IsCall words other c paths
 fits_none words rest limit limited none other c paths g =
     let same = (one_limit words other limit g.rest rest g.limited limited).1 in
-    each (λ a. (x : Arguments) → ¬ Gives (name_of a) (form_of a) rest x) none g.action g.arguments (rw same at g.gives)
+    each (λ a. (x : Arguments) → ¬ GivesArguments (name_of a) (form_of a) rest x) none g.action
+    g.arguments (rw same at g.gives)
 
 -- words whose numbers are none that their command takes give none
 pub further_none : (words rest : List (List ℕ)) (limit : ℕ) (a : Action) (x : Arguments)
-    → IsLimited words limit rest → Gives (name_of a) (form_of a) rest x
+    → IsLimited words limit rest → GivesArguments (name_of a) (form_of a) rest x
     → ((c : Command) → ¬ IsCommandOf a x.step x.further c)
     → (other : ℕ) (c : Command) (paths : List (List ℕ)) → ¬ IsCall words other c paths
 further_none words rest limit a x limited gives none other c paths g =
@@ -114,7 +115,7 @@ no_command words q limit c paths are g =
     no_question q g.action g.arguments (rw (asked_alone words g.rest q limit are g.limited) at g.gives)
   where
     no_question : (q : Help) (a : Action) (x : Arguments)
-        → ¬ Gives (name_of a) (form_of a) (word_of q ∷ []) x
+        → ¬ GivesArguments (name_of a) (form_of a) (word_of q ∷ []) x
     no_question Usage a x = apart.no_name name_of form_of ALL refl among (codes "--help") [] refl a x
     no_question Version a x =
         apart.no_name name_of form_of ALL refl among (codes "--version") [] refl a x

@@ -9,7 +9,7 @@ use Rattle.aig_edits.specs.declared.pairing.Pairing.{Pairing}
 use Rattle.aig_edits.specs.Joints.{StopsJoint, WritesJoint}
 use Rattle.aig_edit_commands.specs.declared.command.FileCommand.{FileCommand}
 use Rattle.aig_edit_commands.specs.declared.command.FileCommand.TheVariants as files
-use Rattle.aig_edit_commands.specs.Acting.{Prints}
+use Rattle.aig_edit_commands.specs.Acting.{PrintsOfFile}
 
 module _ {W : Type 0} (held : W → Option (List ℕ)) (write_failed : W → Bool) (limit : ℕ) (w made flat : W) (keeps : Keeps (held made) (held flat)) where
   -- ---- of two files
@@ -40,7 +40,8 @@ module _ {W : Type 0} (held : W → Option (List ℕ)) (write_failed : W → Boo
   stops text grows lost = stops_unflushed (held w) (held made) (held flat) (write_failed flat) text grows keeps lost
 
   pub print_flushed : (c : FileCommand) (f : File) (u : Unit {0}) → write_failed flat ≡ false
-      → Prints held write_failed limit c w made f (Ok u) → Prints held write_failed limit c w flat f (Ok u)
+      → PrintsOfFile held write_failed limit c w made f (Ok u)
+      → PrintsOfFile held write_failed limit c w flat f (Ok u)
   print_flushed (files.Edit edit) f u sound (m, written, grows, was) =
       (m, written, appends_kept (held w) (held made) (held flat) _ grows keeps, sound)
   print_flushed files.Reduction f u sound (m, is, grows, was) =
@@ -55,8 +56,8 @@ module _ {W : Type 0} (held : W → Option (List ℕ)) (write_failed : W → Boo
       (text, is, appends_kept (held w) (held made) (held flat) text grows keeps, sound)
 
   pub print_unflushed : (c : FileCommand) (f : File) (u : Unit {0}) → IsTrue (write_failed flat)
-      → Prints held write_failed limit c w made f (Ok u)
-      → Prints held write_failed limit c w flat f (Err edit_errors.Write)
+      → PrintsOfFile held write_failed limit c w made f (Ok u)
+      → PrintsOfFile held write_failed limit c w flat f (Err edit_errors.Write)
   print_unflushed (files.Edit edit) f u lost (m, written, grows, was) =
       (m, written.edit_of, stops _ grows lost)
   print_unflushed files.Reduction f u lost (m, is, grows, was) = (m, is, stops _ grows lost)

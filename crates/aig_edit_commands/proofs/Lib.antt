@@ -1,3 +1,4 @@
+pub mod Examples
 pub mod Flushing
 pub mod Opening
 pub mod Calling

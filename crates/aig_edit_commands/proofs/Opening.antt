@@ -13,13 +13,14 @@ use Rattle.aig_edits.specs.Edits.{IsEditOwn, IsEditUnwritten, ReadsFile, edit_ve
 use Rattle.aig_edits.specs.Joints.{IsOwn, IsUnwritten, PrintsJoint, first_verdict, second_verdict}
 use Rattle.aig_edits.specs.Pairs.{ReadsPair}
 use Rattle.aig_edit_commands.specs.declared.command.FileCommand.{FileCommand}
-use Rattle.aig_edit_commands.specs.Acting.{Prints, PrintsOpen, PrintsPair}
+use Rattle.aig_edit_commands.specs.Acting.{PrintsOfFile, PrintsOpen, PrintsPair}
 
 -- an error after the reading is of a file as a whole
 pub open_whole : {R W : Type 0} (left : R → Option (List ℕ)) (failed : R → Bool)
     (held : W → Option (List ℕ)) (write_failed flushed : W → Bool) (limit : ℕ) (c : FileCommand)
     (r rest : R) (w made : W) (done : Result (Unit {0}) EditError)
-    → ReadsFile left failed limit (Prints held write_failed limit c w made) edit_verdict IsEditOwn r
+    → ReadsFile left failed limit (PrintsOfFile held write_failed limit c w made) edit_verdict
+    IsEditOwn r
     done rest
     → verdict_by edit_verdict done ≡ Accepted → (IsEditUnwritten done → made ≡ w)
     → OnOk done (IsTrue (flushed made))

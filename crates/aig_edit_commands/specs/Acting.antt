@@ -10,7 +10,7 @@ use Rattle.aig_command_line.specs.declared.files.OpenError.{OpenError}
 use Rattle.aig_command_line.specs.declared.files.OpenError.TheVariants as opening
 use Rattle.aig_command_line.specs.declared.status.Ending.{Ending}
 use Rattle.aig_command_line.specs.declared.status.Ending.TheVariants as endings
-use Rattle.aig_command_line.specs.Ending.{Says, ended}
+use Rattle.aig_command_line.specs.Ending.{WritesLine, ended}
 use Rattle.aig_command_line.specs.Places.{IsPlaceOfError, in_whole, unplaced, whole}
 use Rattle.aig_command_line.specs.declared.placed.Placed.{Placed}
 use Rattle.aig_command_line.specs.declared.tally.Place.{Place}
@@ -129,15 +129,17 @@ pub record PrintsFiles {F W : Type 0} (opens : List ℕ → Result F OpenError �
 -- ---- one file
 
 -- what is printed of the file
-abbrev pub Prints : {W : Type 0} → (W → Option (List ℕ)) → (W → Bool) → ℕ → FileCommand → W → W
+abbrev pub PrintsOfFile : {W : Type 0} → (W → Option (List ℕ)) → (W → Bool) → ℕ → FileCommand → W
+    → W
     → File
     → Result Unit EditError → Type 0
-Prints held failed limit (files.Edit edit) w made = PrintsEdit held failed edit limit w made
-Prints held failed limit files.Reduction w made = PrintsReduction held failed w made
-Prints held failed limit (files.Question k) w made = PrintsQuestion held failed k limit w made
-Prints held failed limit (files.Live j) w made = PrintsLive held failed j w made
-Prints held failed limit (files.Rounds j count) w made = PrintsRounds held failed j count w made
-Prints held failed limit files.Info w made = PrintsInfo held failed w made
+PrintsOfFile held failed limit (files.Edit edit) w made = PrintsEdit held failed edit limit w made
+PrintsOfFile held failed limit files.Reduction w made = PrintsReduction held failed w made
+PrintsOfFile held failed limit (files.Question k) w made = PrintsQuestion held failed k limit w made
+PrintsOfFile held failed limit (files.Live j) w made = PrintsLive held failed j w made
+PrintsOfFile held failed limit (files.Rounds j count) w made = PrintsRounds held failed j count w
+    made
+PrintsOfFile held failed limit files.Info w made = PrintsInfo held failed w made
 
 -- the place of an error: where reading the file stopped, or the file as a whole
 abbrev pub IsPlaceOfEdit : (ReadError → Place → Type 0) → EditError → Place → Type 0
@@ -149,7 +151,8 @@ pub record PrintsOpen {R W : Type 0} (left : R → Option (List ℕ)) (failed : 
     (held : W → Option (List ℕ)) (write_failed flushed : W → Bool) (limit : ℕ) (c : FileCommand)
     (r : R) (w : W)
     (result : Result Unit (Placed EditError)) (rest : R) (made : W) : Type 0 where
-  pub reads : ReadsFile left failed limit (Prints held write_failed limit c w made) edit_verdict
+  pub reads : ReadsFile left failed limit (PrintsOfFile held write_failed limit c w made)
+      edit_verdict
       IsEditOwn
       r (unplaced result) rest
   pub kept : IsEditUnwritten (unplaced result) → made ≡ w
@@ -208,7 +211,7 @@ pub record Obeys {F W : Type 0} (opens : List ℕ → Result F OpenError → Typ
   -- a question of the program is answered by a line
   pub tells : (q : Help) → words ≡ word_of q ∷ [] → (done : Result Unit CommandError)
       × (ending ≡ ended (in_whole done))
-      × Says held write_failed flushed refusals.Write (answer_of q ++ 10 ∷ []) w done made
+      × WritesLine held write_failed flushed refusals.Write (answer_of q ++ 10 ∷ []) w done made
   -- other words give no command exactly where it ends so
   pub none : (ending ≡ endings.NoCommand)
       ↔ (((limit : ℕ) (c : Command) (paths : List (List ℕ)) → ¬ IsCall words limit c paths)

@@ -3,7 +3,7 @@
 use Rattle.std.specs.Prelude.{◌≡◌, ℕ, List, codes}
 use Rattle.aig_command_line.specs.declared.arguments.ArgumentForm.{ArgumentForm}
 use Rattle.aig_command_line.specs.declared.arguments.Step.TheVariants.{At}
-use Rattle.aig_command_line.specs.Arguments.{AreStep, Arguments, Gives, of_paths}
+use Rattle.aig_command_line.specs.Arguments.{AreStep, Arguments, GivesArguments, of_paths}
 use Rattle.aig_command_line.specs.Limits.{IsLimited}
 use Rattle.aig_edits.specs.declared.editing.Edit.{Edit}
 use Rattle.aig_edits.specs.declared.editing.Edit.TheVariants as edits
@@ -89,6 +89,6 @@ pub record IsCall (words : List (List ℕ)) (limit : ℕ) (c : Command) (paths :
     pub limited : IsLimited words limit rest
     pub action : Action
     pub arguments : Arguments
-    pub gives : Gives (name_of action) (form_of action) rest arguments
+    pub gives : GivesArguments (name_of action) (form_of action) rest arguments
     pub command : IsCommandOf action arguments.step arguments.further c
     pub on : paths ≡ arguments.paths

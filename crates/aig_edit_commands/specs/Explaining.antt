@@ -19,7 +19,8 @@ word_of subjects.File paths = slice_get paths 0
 word_of subjects.Other paths = slice_get paths 1
 
 -- the error is told with the path of what it is about, and its place there
-pub record Tells (paths : List (List ℕ)) (e : Placed CommandError) (fault : Fault CommandError)
+pub record TellsPlaced (paths : List (List ℕ)) (e : Placed CommandError)
+    (fault : Fault CommandError)
     : Type 0 where
   pub error : error_of fault ≡ e.error
   pub path : path_of fault ≡ word_of (about_error e.error) paths
@@ -30,7 +31,7 @@ pub record TellsOf (words : List (List ℕ)) (e : Placed CommandError) (fault : 
     : Type 0 where
   pub error : error_of fault ≡ e.error
   pub told : (limit : ℕ) (c : Command) (paths : List (List ℕ)) → IsCall words limit c paths
-      → Tells paths e fault
+      → TellsPlaced paths e fault
 
 -- the error is told of no file
 abbrev pub IsToldAlone : Placed CommandError → Fault CommandError → Type 0

@@ -4,7 +4,7 @@ ghost use Rattle.std.specs.Prelude.{◌≡◌, ◌++◌, ◌∷◌, [], ℕ, IfO
 ghost use Rattle.aig_circuit.specs.Circuit.{IsCircuit};
 ghost use Rattle.aig_circuit.specs.View.{lists_circuit};
 ghost use Rattle.aig_command_line.specs.declared.status.Ending.TheVariants as endings;
-ghost use Rattle.aig_command_line.specs.Ending.{Says};
+ghost use Rattle.aig_command_line.specs.Ending.{WritesLine};
 ghost use Rattle.aig_command_line.specs.Limits.{IsLimit};
 ghost use Rattle.aig_command_line.specs.Places.{whole};
 ghost use Rattle.aig_format.specs.File.{File};
@@ -17,7 +17,7 @@ ghost use Rattle.aig_edits.specs.declared.edit_error.EditError.TheVariants as ed
 ghost use Rattle.aig_edits.specs.Joints.{IsUnwritten, PrintsJoint, first_verdict, second_verdict};
 ghost use Rattle.aig_edits.specs.Pairs.{OfTwoFiles};
 ghost use Rattle.aig_edit_commands.specs.declared.acting.CommandError.TheVariants as refusals;
-ghost use Rattle.aig_edit_commands.specs.Acting.{Acts, Obeys, Prints, PrintsBeside, PrintsFile, PrintsFiles, PrintsOpen, PrintsPair, ReadsBoth, edit_unopened, told, unopened};
+ghost use Rattle.aig_edit_commands.specs.Acting.{Acts, Obeys, PrintsOfFile, PrintsBeside, PrintsFile, PrintsFiles, PrintsOpen, PrintsPair, ReadsBoth, edit_unopened, told, unopened};
 ghost use Rattle.aig_edit_commands.specs.Help.{answer_of};
 ghost use Rattle.aig_edits.specs.Edits.{IsEditUnwritten, edit_verdict};
 ghost use Rattle.aig_edit_commands.specs.CommandWords.{paths_of};
@@ -94,7 +94,7 @@ fn write_made<W: Sink>(
     requires circuit { IsCircuit (lists_circuit lists) }
     requires plain { IsWritable (lists_circuit lists) }
     ensures prints { (f : File) (bound : ℕ) → Fits f bound → AreListsOf f lists
-        → Prints W.held W.failed limit command.now w.old w.new f result }
+        → PrintsOfFile W.held W.failed limit command.now w.old w.new f result }
     ensures never_read { verdict_by edit_verdict result ≡ Accepted }
     ensures kept { IsEditUnwritten result → w.new ≡ w.old }
 {
@@ -120,7 +120,7 @@ fn write_flushed<W: Flush>(
     requires circuit { IsCircuit (lists_circuit lists) }
     requires plain { IsWritable (lists_circuit lists) }
     ensures prints { (f : File) (bound : ℕ) → Fits f bound → AreListsOf f lists
-        → Prints W.held W.failed limit command.now w.old w.new f result }
+        → PrintsOfFile W.held W.failed limit command.now w.old w.new f result }
     ensures never_read { verdict_by edit_verdict result ≡ Accepted }
     ensures kept { IsEditUnwritten result → w.new ≡ w.old }
     ensures done { OnOk result (IsTrue (W.flushed w.new)) }
@@ -371,7 +371,7 @@ fn perform<F: Opens, W: Flush>(
 
 /// Writes a line, and flushes it.
 fn say<W: Flush>(text: &str, w: &mut W) -> Result<(), CommandError>
-    ensures { Says W.held W.failed W.flushed refusals.Write (text.now ++ 10 ∷ []) w.old
+    ensures { WritesLine W.held W.failed W.flushed refusals.Write (text.now ++ 10 ∷ []) w.old
         result w.new }
 {
     write_text(w, text.as_bytes())?;

@@ -2,7 +2,7 @@
 
 ghost use Rattle.std.specs.Prelude.{◌≡◌, IfNone, IfOk, IfSome, IsErr, IsNone, None, Some, map, string_bytes};
 ghost use Rattle.aig_command_line.specs.Ending.{IsMapped};
-ghost use Rattle.aig_edit_commands.specs.Explaining.{IsToldAlone, Tells, TellsOf, word_of};
+ghost use Rattle.aig_edit_commands.specs.Explaining.{IsToldAlone, TellsPlaced, TellsOf, word_of};
 
 use crate::acting::CommandError;
 use crate::command::call_of;
@@ -25,7 +25,7 @@ fn path_of(paths: &[String], subject: Subject) -> Option<&str>
 
 /// What is told of an error of a command on the files at these paths.
 fn fault_of(paths: &[String], refused: Placed<CommandError>) -> Fault<'_, CommandError>
-    ensures { Tells (map string_bytes paths.now) refused result }
+    ensures { TellsPlaced (map string_bytes paths.now) refused result }
 {
     match path_of(paths, about_error(refused.error)) {
         Some(path) => Fault::In {

@@ -6,7 +6,7 @@ ghost use Rattle.aig_edit_commands.specs.Noticing.{TellsBeside, regard_of};
 use crate::acting::CommandError;
 use crate::command::{Command, FileCommand, call_of};
 use aig_base::MemoryError;
-use aig_command_line::{Ending, Headers, Placed, Regard, Tells, tell_of_files};
+use aig_command_line::{Ending, Headers, Placed, Regard, Teller, tell_of_files};
 use aig_edits::{Edit, Pairing};
 
 /// What a command does with parts of its files that its answer isn't about: which leave out justice and fairness, and which compares.
@@ -30,7 +30,7 @@ fn regard_of(command: &Command) -> Regard
 }
 
 /// Tells beside an answer to these words what it isn't about.
-fn tell_beside<T: Tells>(
+fn tell_beside<T: Teller>(
     words: &[String],
     headers: Headers,
     ending: Ending<Placed<CommandError>>,
@@ -55,7 +55,7 @@ fn tell_beside<T: Tells>(
 }
 
 /// Tells beside an answer what it isn't about, of each file with such a header.
-pub fn notice<T: Tells>(
+pub fn notice<T: Teller>(
     words: &Result<Option<Vec<String>>, MemoryError>,
     headers: Headers,
     ending: Ending<Placed<CommandError>>,

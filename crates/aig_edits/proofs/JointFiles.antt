@@ -12,7 +12,7 @@ use Rattle.aig_edits.specs.declared.pair_error.PairError.{PairError}
 use Rattle.aig_edits.specs.declared.pair_error.PairError.TheVariants as errors
 use Rattle.aig_edits.specs.declared.pairing.Pairing.{Pairing}
 use Rattle.aig_edits.specs.declared.pairing.Pairing.TheVariants.{Certificate, Merge, Miter}
-use Rattle.aig_edits.specs.Joints.{DoFit, IsJoint, IsJointOf, IsMisfit, IsOwn, Joins, counted, ShowsOf, first_verdict, second_verdict}
+use Rattle.aig_edits.specs.Joints.{DoFit, IsJoint, IsJointOf, IsMisfit, IsOwn, IsJoined, counted, ShowsOf, first_verdict, second_verdict}
 use Rattle.aig_edits.proofs.MergedFiles.{written-merged}
 use Rattle.aig_edits.specs.JointParts.{AreListsOfBoth, CanPair, IsJoinOf, counted_circuit}
 
@@ -81,7 +81,7 @@ module _ (limit : ℕ) (low : limit ≤ 2 ^ 31) (f g : File) (bytes others : Lis
   -- ---- results
 
   joins : (pairing : Pairing) (made : Result CircuitLists PairError)
-      → IsJoinOf pairing (circuit_of f) (circuit_of g) made → Joins pairing f g made
+      → IsJoinOf pairing (circuit_of f) (circuit_of g) made → IsJoined pairing f g made
   joins pairing (Ok lists) told = joint_of pairing (lists_circuit lists) told.0 told.1 told.3
   joins pairing (Err (errors.Misfit m)) told =
       subst (λ b. IsMisfit pairing (counted f) b m) (counted-of g)
@@ -96,7 +96,7 @@ module _ (limit : ℕ) (low : limit ≤ 2 ^ 31) (f g : File) (bytes others : Lis
   pub lists_join : (pairing : Pairing) (own theirs : CircuitLists)
       (made : Result CircuitLists PairError)
       → IsJoinOf pairing (lists_circuit own) (lists_circuit theirs) made
-      → AreListsOfBoth f g (Ok (own, theirs)) → Joins pairing f g made
+      → AreListsOfBoth f g (Ok (own, theirs)) → IsJoined pairing f g made
   lists_join pairing own theirs made told lists = joins pairing made
       (subst (λ b. IsJoinOf pairing (circuit_of f) b made) lists.1
       (subst (λ a. IsJoinOf pairing a (lists_circuit theirs) made) lists.0 told))

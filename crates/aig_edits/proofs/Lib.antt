@@ -14,3 +14,4 @@ mod Written
 mod LiveFiles
 mod RoundsFiles
 pub mod Again
+pub mod Examples

@@ -125,9 +125,9 @@ IsRefusalOf pairing f g e = ⊥
 -- ---- results
 
 -- the lists are those of the joint circuit, or it is said why there are none
-abbrev pub Joins : Pairing → File → File → Result CircuitLists PairError → Type 0
-Joins pairing f g (Ok lists) = IsJointOf pairing f g (lists_circuit lists)
-Joins pairing f g (Err e) = IsRefusalOf pairing f g e
+abbrev pub IsJoined : Pairing → File → File → Result CircuitLists PairError → Type 0
+IsJoined pairing f g (Ok lists) = IsJointOf pairing f g (lists_circuit lists)
+IsJoined pairing f g (Err e) = IsRefusalOf pairing f g e
 
 -- the text of the joint circuit was written, and the writer has not failed
 abbrev pub WritesJoint : {W : Type 0} → (W → Option (List ℕ)) → (W → Bool) → Pairing → W → W

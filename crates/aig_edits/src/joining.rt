@@ -4,7 +4,7 @@ ghost use Rattle.std.specs.Prelude.{◌^◌, ◌≤◌, IfOk};
 ghost use Rattle.aig_circuit.specs.Circuit.{IsCircuit};
 ghost use Rattle.aig_circuit.specs.View.{lists_circuit};
 ghost use Rattle.aig_edits.specs.Pairs.{ReadsPair};
-ghost use Rattle.aig_edits.specs.Joints.{IsOwn, Joins, first_verdict, second_verdict};
+ghost use Rattle.aig_edits.specs.Joints.{IsOwn, IsJoined, first_verdict, second_verdict};
 ghost use Rattle.aig_edits.specs.Circuits.{IsJoinOf};
 ghost use Rattle.aig_edits.specs.JointParts.{IsPaired};
 ghost use Rattle.aig_edits.specs.declared.pairing.Pairing.TheVariants.{Certificate, Merge, Miter};
@@ -115,7 +115,7 @@ pub fn read_joint<R: Source, S: Source>(
     requires some { 1 ≤ limit }
     requires few { limit ≤ 2 ^ 31 }
     // The bytes that were read are two files, and the lists are those of their joint circuit.
-    ensures reads { ReadsPair R.left R.failed S.left S.failed limit (Joins pairing) first_verdict
+    ensures reads { ReadsPair R.left R.failed S.left S.failed limit (IsJoined pairing) first_verdict
         second_verdict IsOwn first.old second.old result first.new second.new }
     ensures circuit { IfOk result (λ lists. IsCircuit (lists_circuit lists)) }
 {

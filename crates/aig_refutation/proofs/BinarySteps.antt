@@ -16,7 +16,7 @@ use Rattle.aig_refutation.specs.ReadingBinary.{GivesCode, GivesItems, GivesLette
 use Rattle.aig_refutation.specs.Steps.{Drops, Learns, PlainStep}
 use Rattle.aig_refutation.specs.Tables.{Table}
 use Rattle.aig_refutation.specs.Text.{◌>>=◌}
-use Rattle.aig_refutation.specs.Tokens.{Leaves, Says, Tells, front}
+use Rattle.aig_refutation.specs.Tokens.{Leaves, Says, TellsOfText, front}
 use Rattle.aig_refutation.proofs.Known.{leaves_on, leaves_same, leaves_start, says_now, says_on, step_leaves, tells, tells_on}
 use Rattle.aig_refutation.proofs.Plainly.{PassesOn, line_passes, line_refused, passed_on, refused_on}
 
@@ -40,8 +40,8 @@ module _ {X : Type 0} (say : List ℕ → X) where
         leaves_same before mid (λ bytes rest. say bytes ≡ said rest) so_far
         (λ bytes rest. say bytes ≡ other rest) (λ bytes rest is. is ∙ same rest)
 
-    pub said_on : (e : RefutationError) (x : X) → Tells e (IsSaid said x mid)
-        → Tells e (IsSaid say x before)
+    pub said_on : (e : RefutationError) (x : X) → TellsOfText e (IsSaid said x mid)
+        → TellsOfText e (IsSaid say x before)
     said_on e x h =
         tells_on e (IsSaid said x mid) (IsSaid say x before)
         (λ says. says_on before mid (λ bytes rest. say bytes ≡ said rest) so_far
@@ -360,8 +360,8 @@ module _ (variables : ℕ) (clauses : List (List Lit)) (before : Feed) (bound : 
 
   module _ (s : held.Step) (after : Feed)
       (given : GivesNext binary_steps_in bound (plain_by s) mid after (Ok true)) (t : Table) where
-    abbrev Gives : List ℕ → List ℕ → Type 0
-    Gives bytes rest = Now bytes ≡ step_before (plain_by s) (Next rest)
+    abbrev IsStepNow : List ℕ → List ℕ → Type 0
+    IsStepNow bytes rest = Now bytes ≡ step_before (plain_by s) (Next rest)
 
     pub binary_wrong : (e : RefutationError)
         → TakesPlain now (plain_by s) t (Err e)
@@ -371,7 +371,7 @@ module _ (variables : ℕ) (clauses : List (List Lit)) (before : Feed) (bound : 
         tells_on e ((rest : Script PlainStep) → IsRefusal now (step_before (plain_by s) rest) e)
         (Says before Q)
         (λ wrong. says_now before after (λ bytes rest. Q bytes)
-        (leaves_on before mid Onward so_far after Gives (λ bytes rest. Q bytes) given
+        (leaves_on before mid Onward so_far after IsStepNow (λ bytes rest. Q bytes) given
         (λ bytes middle rest passes is. refused_on clauses now (Left bytes) (Now middle) e passes
         (subst (λ (script : Script PlainStep). IsRefusal now script e) (sym is)
         (wrong (Next rest))))) Q (λ bytes rest q. q))
@@ -383,7 +383,7 @@ module _ (variables : ℕ) (clauses : List (List Lit)) (before : Feed) (bound : 
         let more = line_passes now t (Plain (plain_by s)) h in (
           more.0,
           more.1,
-          leaves_on before mid Onward so_far after Gives
+          leaves_on before mid Onward so_far after IsStepNow
               (λ bytes rest. PassesOn clauses more.0 (Left bytes) (Next rest)) given
               (λ bytes middle rest passes is. passed_on clauses now more.0 (Left bytes)
               (Now middle) (Next rest) passes (subst (λ (script : Script PlainStep).
@@ -392,7 +392,7 @@ module _ (variables : ℕ) (clauses : List (List Lit)) (before : Feed) (bound : 
 
 -- memory ran out
 pub binary_stays : (before : Feed) (variables : ℕ) (clauses : List (List Lit)) (e : RefutationError)
-    → Tells e ⊥ → ConcludesPlain before clauses (binary_steps_in variables) (Err e)
+    → TellsOfText e ⊥ → ConcludesPlain before clauses (binary_steps_in variables) (Err e)
 binary_stays before variables clauses e h =
     tells_on e ⊥ (Says before (λ bytes. IsRefusal clauses (binary_steps_in variables bytes) e))
     (λ none. absurd none) h

@@ -11,7 +11,7 @@ use Rattle.aig_refutation.specs.Propagation.{FitsMarks, also, marked, reading_of
 use Rattle.aig_refutation.specs.Tables.{Table, clause_in, entry_at, place_in}
 use Rattle.aig_refutation.proofs.Literals.{clause_there, implied_within, number-fits}
 use Rattle.aig_refutation.proofs.Numbering.{some_item}
-use Rattle.aig_refutation.proofs.Rup.{Says, also_true, inverses_true, says_clause}
+use Rattle.aig_refutation.proofs.Rup.{IsTrueReading, also_true, inverses_true, says_clause}
 
 -- ---- clauses by their numbers
 
@@ -52,7 +52,7 @@ entails_start t clause v are fails = inverses_true v clause fails
 module _ (t : Table) (clause : List Lit) (holds : Lit → Bool) (so_far : Entails t clause holds)
     (n : ℕ) (other : List Lit) (there : clause_in t n ≡ Some other) where
   says_there : (v : ℕ → Bool) → AreTrue v t → is_true_clause v clause ≡ false
-      → Says v (reading_of holds other)
+      → IsTrueReading v (reading_of holds other)
   says_there v are fails =
       says_clause v holds (so_far v are fails) Conflict other (inr (are n other there))
 
@@ -60,13 +60,14 @@ module _ (t : Table) (clause : List Lit) (holds : Lit → Bool) (so_far : Entail
   pub found_conflict : Conflict ≡ reading_of holds other → IsImplied t clause
   found_conflict is v are =
       true_from_ne_false (is_true_clause v clause)
-      (λ fails. subst (Says v) (sym is) (says_there v are fails))
+      (λ fails. subst (IsTrueReading v) (sym is) (says_there v are fails))
 
   -- a literal follows
   pub found_more : (lit : Lit) → Implied lit ≡ reading_of holds other
       → Entails t clause (also lit holds)
   found_more lit is v are fails =
-      also_true v holds (so_far v are fails) lit (subst (Says v) (sym is) (says_there v are fails))
+      also_true v holds (so_far v are fails) lit
+      (subst (IsTrueReading v) (sym is) (says_there v are fails))
 
 -- ---- marks
 

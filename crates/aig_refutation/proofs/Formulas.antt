@@ -16,7 +16,7 @@ use Rattle.aig_refutation.specs.Proofs.{Script, allowed, plain_of, script_if}
 use Rattle.aig_refutation.specs.Steps.{PlainStep}
 use Rattle.aig_refutation.specs.Tables.{Checked, HoldsFormula}
 use Rattle.aig_refutation.specs.Text.{lines_of}
-use Rattle.aig_refutation.specs.Tokens.{Says, Tells}
+use Rattle.aig_refutation.specs.Tokens.{Says, TellsOfText}
 use Rattle.aig_lexer.specs.Takes.{Feed}
 use Rattle.aig_refutation.proofs.Known.{tells_both, tells_on}
 
@@ -160,7 +160,8 @@ module _ (variables : ℕ) (clauses : List (List Lit)) (text : Option (List ℕ)
   abbrev IsShown : Result (Unit {0}) RefutationError → Type 0
   IsShown = IsOutcome variables clauses text
 
-  pub shows_err : (e : RefutationError) → Tells e (IsShown (Err e)) → Shows variables clauses text
+  pub shows_err : (e : RefutationError) → TellsOfText e (IsShown (Err e))
+      → Shows variables clauses text
       (Err e)
   shows_err errors.Memory t = tt
   shows_err errors.Stream t = tt
@@ -176,7 +177,7 @@ module _ (variables : ℕ) (clauses : List (List Lit)) (text : Option (List ℕ)
   shows_err errors.Unfinished t = t
 
   -- a literal has no variable
-  pub shows_refused : (e : RefutationError) → Tells e ((e ≡ errors.Variable) ×
+  pub shows_refused : (e : RefutationError) → TellsOfText e ((e ≡ errors.Variable) ×
       (are_all_in variables clauses ≡ false)) → Shows variables clauses text (Err e)
   shows_refused e h = shows_err e (tells_on e _ (IsShown (Err e)) (λ wrong. record {
     no_variable = λ _. ap (λ f. Err f) wrong.0;
@@ -186,7 +187,7 @@ module _ (variables : ℕ) (clauses : List (List Lit)) (text : Option (List ℕ)
   }) h)
 
   -- there is no memory
-  pub shows_memory : (e : RefutationError) → Tells e ⊥ → Shows variables clauses text (Err e)
+  pub shows_memory : (e : RefutationError) → TellsOfText e ⊥ → Shows variables clauses text (Err e)
   shows_memory e h = shows_err e (tells_on e ⊥ (IsShown (Err e)) (λ wrong. absurd wrong) h)
 
   -- the clauses are in conflict at once

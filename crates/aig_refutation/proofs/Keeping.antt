@@ -10,7 +10,7 @@ use Rattle.aig_refutation.specs.Checking.{Live, all_live, clause_at, deleted, nu
 use Rattle.aig_refutation.specs.Reading.{plain_by}
 use Rattle.aig_refutation.specs.Steps.{Drops, Follows, Learns, are_same, dropped, is_empty, is_unit, without_one}
 use Rattle.aig_refutation.specs.Tables.{Holds, HoldsFormula, HoldsNext, SaysSame, Table, clause_in, entry_at}
-use Rattle.aig_refutation.specs.Tokens.{Tells}
+use Rattle.aig_refutation.specs.Tokens.{TellsOfText}
 use Rattle.aig_refutation.proofs.Adding.{deleted_one}
 use Rattle.aig_refutation.proofs.Amounts.{copies_without, enough_all, enough_next, enough_without, row_all, row_next, row_without}
 use Rattle.aig_refutation.proofs.Known.{tells_on}
@@ -158,7 +158,7 @@ learns_from clauses clause new (Err e) stays some =
     (λ none. absurd none) stays
 
 pub learns_err : (clauses : List (List Lit)) (clause : List Lit) (new : Table)
-    (e : RefutationError) → Tells e ⊥ → LearnsAhead clauses clause new (Err e)
+    (e : RefutationError) → TellsOfText e ⊥ → LearnsAhead clauses clause new (Err e)
 learns_err clauses clause new e tells =
     tells_on e ⊥ ((e ≡ errors.Step) × (Follows clauses clause → ⊥))
     (λ none. absurd none) tells

@@ -3,7 +3,7 @@ use Rattle.aig_base.proofs.Words.{◌≡◌, ℕ, List, [], ◌∷◌, ◌++◌,
 use Rattle.aig_lexer.specs.Takes.{Feed, Steps}
 use Rattle.aig_refutation.specs.declared.error.RefutationError.{RefutationError}
 use Rattle.aig_refutation.specs.declared.error.RefutationError.TheVariants as errors
-use Rattle.aig_refutation.specs.Tokens.{Leaves, Says, Tells, front}
+use Rattle.aig_refutation.specs.Tokens.{Leaves, Says, TellsOfText, front}
 
 pub consumed : (old new : Option (List ℕ)) (taken xs : List ℕ) → Consumes old new taken
     → old ≡ Some xs → (ys : List ℕ) × (new ≡ Some ys) × (xs ≡ taken ++ ys)
@@ -59,7 +59,7 @@ module _ (before now : Feed) (R : List ℕ → List ℕ → Type 0) (so_far : Le
   says_now P h bytes known = let r = so_far bytes known in h bytes r.0 r.2
 
 -- what an error tells, in other words
-pub tells_on : (e : RefutationError) (P Q : Type 0) → (P → Q) → Tells e P → Tells e Q
+pub tells_on : (e : RefutationError) (P Q : Type 0) → (P → Q) → TellsOfText e P → TellsOfText e Q
 tells_on errors.Memory P Q f t = tt
 tells_on errors.Stream P Q f t = tt
 tells_on errors.Variable P Q f t = f t
@@ -74,10 +74,10 @@ tells_on errors.Binary P Q f t = f t
 tells_on errors.Unfinished P Q f t = f t
 
 -- what is so is told
-pub tells : (e : RefutationError) (P : Type 0) → P → Tells e P
+pub tells : (e : RefutationError) (P : Type 0) → P → TellsOfText e P
 tells e P p = by e
   where
-    by : (e : RefutationError) → Tells e P
+    by : (e : RefutationError) → TellsOfText e P
     by errors.Memory = tt
     by errors.Stream = tt
     by errors.Variable = p
@@ -92,7 +92,8 @@ tells e P p = by e
     by errors.Unfinished = p
 
 -- two facts
-pub tells_both : (e : RefutationError) (P Q : Type 0) → Tells e P → Tells e Q → Tells e (P × Q)
+pub tells_both : (e : RefutationError) (P Q : Type 0) → TellsOfText e P → TellsOfText e Q
+    → TellsOfText e (P × Q)
 tells_both errors.Memory P Q p q = tt
 tells_both errors.Stream P Q p q = tt
 tells_both errors.Variable P Q p q = (p, q)

@@ -10,7 +10,7 @@ use Rattle.aig_refutation.specs.declared.words.Word.TheVariants as words
 use Rattle.aig_refutation.specs.Proofs.{is_none}
 use Rattle.aig_refutation.specs.Text as text
 use Rattle.aig_refutation.specs.Text.{◌>>=◌, is_blank, lines_after, lines_of, word_at, word_in, words_after, words_of}
-use Rattle.aig_refutation.specs.Tokens.{ClosesAt, Gives, GivesFirst, GivesWord, IsReadOn, IsWord, Leaves, Place, Says, end_of, first_in, front, held_word, left_after, left_at, lines_at, lines_past, next_in}
+use Rattle.aig_refutation.specs.Tokens.{ClosesAt, GivesValue, GivesFirst, GivesWord, IsReadOn, IsWord, Leaves, Place, Says, end_of, first_in, front, held_word, left_after, left_at, lines_at, lines_past, next_in}
 use Rattle.aig_refutation.proofs.Known.{leaves_on, leaves_same, leaves_start, says_now, says_on, tells, tells_on}
 use Rattle.aig_refutation.proofs.Texts.{end_first, feed_first, line_first, past_comment, past_empty, past_none, past_word, word_whole}
 
@@ -41,7 +41,7 @@ unfolding next_in
 next_word_wrong last word more e is = rw is refl
 
 -- the line has ended before
-pub next_closed : (f : Feed) (end : End) → Gives (λ w. w) next_in (at f (Some end)) (at f (Some
+pub next_closed : (f : Feed) (end : End) → GivesValue (λ w. w) next_in (at f (Some end)) (at f (Some
     end)) (Ok (words.End end))
 next_closed f ends.Line = leaves_start f (λ bytes rest. IsReadOn next_in (left_at (Some ends.Line)
     bytes) (left_at (Some ends.Line) rest) (words.End ends.Line)) (λ bytes. (refl, next_none false))
@@ -69,7 +69,7 @@ module _ (before mid : Feed) where
   pub skips_as : (o p : Option ℕ) → o ≡ p → Skips o → Skips p
   skips_as o p is h = subst (λ (x : Option ℕ). Skips x) is h
 
-  pub next_line_end : Skips (Some 10) → Gives (λ w. w) next_in (at before None) (at mid (Some
+  pub next_line_end : Skips (Some 10) → GivesValue (λ w. w) next_in (at before None) (at mid (Some
       ends.Line)) (Ok (words.End ends.Line))
   next_line_end skipped =
       leaves_same before mid (λ bytes rest. lines_of bytes ≡ lines_of (10 ∷ rest)) skipped
@@ -81,7 +81,7 @@ module _ (before mid : Feed) where
       let l : lines_after bytes ≡ lines_of rest = cc in
       (sym l, rw (w, l) (next_none false)))
 
-  pub next_stream_end : Skips None → Gives (λ w. w) next_in (at before None) (at mid (Some
+  pub next_stream_end : Skips None → GivesValue (λ w. w) next_in (at before None) (at mid (Some
       ends.Stream)) (Ok (words.End ends.Stream))
   next_stream_end skipped =
       leaves_same before mid (λ bytes rest. lines_of bytes ≡ lines_of []) skipped
@@ -100,7 +100,7 @@ module _ (before mid : Feed) where
     line_is bytes middle h = h ∙ line_first b middle (ne_eqb b 10 no_line) no_blank
 
     pub next_some : (r : Result code.Word RefutationError) → GivesWord (λ bytes. word_in (b ∷
-        bytes)) mid after end r → Gives (λ w. w) next_in (at before None) (at after end) r
+        bytes)) mid after end r → GivesValue (λ w. w) next_in (at before None) (at after end) r
     next_some (Ok w) given =
         leaves_on before mid (λ bytes rest. lines_of bytes ≡ lines_of (b ∷ rest)) skipped after
         (λ bytes rest. ((word_in (b ∷ bytes) >>= λ x. Ok (held_word x)) ≡ Ok w) × (left_at end rest

@@ -10,7 +10,7 @@ use Rattle.aig_refutation.specs.declared.words.Word.TheVariants as words
 use Rattle.aig_refutation.specs.Proofs.{groups_at, hint_number, hints_at, is_zero}
 use Rattle.aig_refutation.specs.Reading.{reads_numbers}
 use Rattle.aig_refutation.specs.Skipping.{AreNext, IsNext, TakesHints, TakesNumbers, unsigned}
-use Rattle.aig_refutation.specs.Tokens.{Gives, Place, Text, next_in, next_number, place, rest, said_number, said_numbers}
+use Rattle.aig_refutation.specs.Tokens.{GivesValue, Place, Text, next_in, next_number, place, rest, said_number, said_numbers}
 use Rattle.aig_refutation.proofs.LineParts.{hint_pushed, number_taken, numbers_more}
 use Rattle.aig_refutation.proofs.NearWords.{near_ends}
 use Rattle.aig_refutation.proofs.ReadersInTurn.{GoesOn, Reader, Reads, gives_ok, on_on, on_read}
@@ -58,7 +58,7 @@ hints_more numbers (n ∷ more) none =
 module _ {S : Type 0} (left : S → Option (List ℕ)) (failed : S → Bool) (pulls : S → ℕ) (s : S) where
   pub near_number : (held : List ℕ) (count : ℕ) (positive : Bool) (n : ℕ)
       → IsSigned (take count held) positive n 32
-      → Gives said_number next_number
+      → GivesValue said_number next_number
       (place left failed pulls (record { held = held; end = None }) s)
       (place left failed pulls (record { held = drop count held; end = None }) s)
       (Ok (record { value = n; positive = positive }))

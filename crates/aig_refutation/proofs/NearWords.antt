@@ -10,7 +10,7 @@ use Rattle.aig_refutation.specs.declared.words.End.{End}
 use Rattle.aig_refutation.specs.declared.words.Word as code
 use Rattle.aig_refutation.specs.declared.words.Word.TheVariants as words
 use Rattle.aig_refutation.specs.Text.{is_blank, lines_of, number_in, signed, word_in}
-use Rattle.aig_refutation.specs.Tokens.{Gives, GivesWord, end_after, front, next_in}
+use Rattle.aig_refutation.specs.Tokens.{GivesValue, GivesWord, end_after, front, next_in}
 use Rattle.aig_refutation.proofs.Known.{leaves_same, step_leaves}
 use Rattle.aig_refutation.proofs.Lines.{at, next_some}
 use Rattle.aig_refutation.proofs.ReadWords.{minus_word, number_ends, number_stops, plain_word}
@@ -27,7 +27,7 @@ module _ {S : Type 0} (left : S → Option (List ℕ)) (failed : S → Bool) (pu
   -- a word is next
   begins : (b : ℕ) (bs rest : List ℕ) → b ≢ 10 → is_blank b ≡ false
       → GivesWord (λ bytes. word_in (b ∷ bytes)) (to_come bs) (to_come rest) now r
-      → Gives (λ w. w) next_in (at (to_come (b ∷ bs)) None) (at (to_come rest) now) r
+      → GivesValue (λ w. w) next_in (at (to_come (b ∷ bs)) None) (at (to_come rest) now) r
   begins b bs rest no_line no_blank given =
       next_some (to_come (b ∷ bs)) (to_come bs) b no_line no_blank
       (leaves_same (to_come (b ∷ bs)) (to_come bs)
@@ -62,7 +62,8 @@ module _ {S : Type 0} (left : S → Option (List ℕ)) (failed : S → Bool) (pu
     signed_next : (sign : Bool)
         → GivesWord (λ bytes. signed sign (number_in (first ∷ bytes)))
         (to_come (digits ++ e ∷ rest)) (to_come rest) now r
-        → Gives (λ w. w) next_in (at (to_come (signed_by sign (first ∷ digits ++ e ∷ rest))) None)
+        → GivesValue (λ w. w) next_in (at (to_come (signed_by sign (first ∷ digits ++ e ∷ rest)))
+        None)
         (at (to_come rest) now) r
     signed_next true given =
         begins first (digits ++ e ∷ rest) rest (apart 10 refl) (digit_no_blank first digit)
@@ -79,7 +80,7 @@ module _ {S : Type 0} (left : S → Option (List ℕ)) (failed : S → Bool) (pu
   signed_append false xs ys = refl
 
   near : (held : List ℕ) (count : ℕ) → IsSigned (take count held) positive n e → GivesRest
-      → Gives (λ w. w) next_in (at (to_come held) None) (at (to_come (drop count held)) now) r
+      → GivesValue (λ w. w) next_in (at (to_come held) None) (at (to_come (drop count held)) now) r
   near held count h given =
       let rest = drop count held in
       let whole : signed_by positive (h.first ∷ h.digits ++ e ∷ rest) ≡ held =
@@ -88,7 +89,8 @@ module _ {S : Type 0} (left : S → Option (List ℕ)) (failed : S → Bool) (pu
       ∙ sym (signed_append positive (h.first ∷ h.digits ++ e ∷ []) rest)
       ∙ ap (λ (l : List ℕ). l ++ rest) (sym h.whole) ∙ take-append-drop count held in
       subst
-      (λ (l : List ℕ). Gives (λ w. w) next_in (at (to_come l) None) (at (to_come rest) now) r) whole
+      (λ (l : List ℕ). GivesValue (λ w. w) next_in (at (to_come l) None) (at (to_come rest) now) r)
+      whole
       (signed_next h.first h.digits rest h.digit h.is h.other positive
       (given h.first (to_come (h.digits ++ e ∷ rest)) (to_come rest) h.digit
       (came h.first h.digits rest h.digit h.is h.other)))
@@ -98,7 +100,7 @@ module _ {S : Type 0} (left : S → Option (List ℕ)) (failed : S → Bool) (pu
     (positive : Bool) (n e : ℕ) (held : List ℕ) (count : ℕ)
     (h : IsSigned (take count held) positive n e) (now : Option End) where
   pub near_ends : end_after None (Some e) ≡ Ok now
-      → Gives (λ w. w) next_in (at (feed left failed pulls held s) None)
+      → GivesValue (λ w. w) next_in (at (feed left failed pulls held s) None)
       (at (feed left failed pulls (drop count held) s) now)
       (Ok (words.Number (record { value = n; positive = positive })))
   near_ends is =
@@ -108,7 +110,7 @@ module _ {S : Type 0} (left : S → Option (List ℕ)) (failed : S → Bool) (pu
       number_ends before after first n positive (Some e) None now refl digit t is)
 
   pub near_stops : (fault : RefutationError) → end_after None (Some e) ≡ Err fault
-      → Gives (λ w. w) next_in (at (feed left failed pulls held s) None)
+      → GivesValue (λ w. w) next_in (at (feed left failed pulls held s) None)
       (at (feed left failed pulls (drop count held) s) now) (Err fault)
   near_stops fault is =
       near left failed pulls s positive n e now (Err fault) held count h

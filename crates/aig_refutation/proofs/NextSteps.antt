@@ -9,7 +9,7 @@ use Rattle.aig_refutation.specs.declared.words.Word.TheVariants as words
 use Rattle.aig_refutation.specs.Proofs.{Line, after_clause, is_none, line_in}
 use Rattle.aig_refutation.specs.Reading.{GivesStep, next_said, said_line}
 use Rattle.aig_refutation.specs.Text.{◌>>=◌}
-use Rattle.aig_refutation.specs.Tokens.{Gives, GivesFirst, IsClosed, IsReadOn, Place, Says, Tells, Tries, first_in, held_word, is_last, left_at, left_of, lines_at, lines_past, next_in}
+use Rattle.aig_refutation.specs.Tokens.{GivesValue, GivesFirst, IsClosed, IsReadOn, Place, Says, TellsOfText, Tries, first_in, held_word, is_last, left_at, left_of, lines_at, lines_past, next_in}
 use Rattle.aig_refutation.proofs.Known.{leaves_on, says_on, tells_on}
 use Rattle.aig_refutation.proofs.LineForms.{added_after, added_end_err, added_end_ok, line_wrong}
 use Rattle.aig_refutation.proofs.ReadersInTurn.{GoesOn, Reader, Reads, gives_ok, on_on, on_read, says_wrong}
@@ -21,7 +21,7 @@ module _ (numbered : Bool) (variables : ℕ) (n : Bool × ℕ) (clause : List Li
     variables n clause) before mid)
     (next : Reads next_in mid after (words.End end)) (view : Unit {0} → Line) where
   pub clause_ends : (r : Result (Unit {0}) RefutationError) → Tries view (after_clause numbered
-      variables (is_last (Some end)) n clause []) r → Gives view q before after r
+      variables (is_last (Some end)) n clause []) r → GivesValue view q before after r
   clause_ends (Ok done) there =
       let s : Reader Line = λ last ws. Ok (view done, ws) in
       gives_ok q s before after after view done
@@ -102,7 +102,7 @@ module _ (numbered : Bool) (variables : ℕ) (step : Line) (before : Place) wher
     pub step_fails : (other : Place) (e : RefutationError) → ((last : Bool) (word : List ℕ) (ws :
         List (List ℕ)) → (first_in word >>= λ x. Ok (held_word x)) ≡ Ok w → p last ws ≡ Err e →
         line_in numbered variables last word ws ≡ Err e)
-        → Tells e (Says mid.feed (λ bytes. p (is_none (left_of mid bytes).lines) (left_of mid
+        → TellsOfText e (Says mid.feed (λ bytes. p (is_none (left_of mid bytes).lines) (left_of mid
         bytes).words ≡ Err e)) → GivesStep numbered variables step before other (Err e)
     step_fails other e line then =
         let P : List ℕ → Type 0 = λ bytes. p (is_none (left_of mid bytes).lines) (left_of mid

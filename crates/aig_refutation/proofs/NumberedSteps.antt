@@ -15,7 +15,7 @@ use Rattle.aig_refutation.specs.Steps.{Step, Adds, Deletes}
 use Rattle.aig_refutation.specs.Tables.{Holds, Table}
 use Rattle.aig_refutation.specs.Taken.{CanHold, KeepsLive}
 use Rattle.aig_refutation.specs.Text.{◌>>=◌}
-use Rattle.aig_refutation.specs.Tokens.{Says, Tells}
+use Rattle.aig_refutation.specs.Tokens.{Says, TellsOfText}
 use Rattle.aig_refutation.proofs.BinarySteps.{first_word, passes_as, passes_on, said_now, said_on}
 use Rattle.aig_refutation.proofs.Known.{leaves_same, says_now, tells_on}
 use Rattle.aig_refutation.proofs.Outcomes.{outcome_last, outcome_more, outcome_none, outcome_wrong}
@@ -180,7 +180,7 @@ module _ {A : Type 0} (one : ℕ → Result A RefutationError) (old new : List A
       (λ bytes rest is. says bytes ∙ ap (after_list then) is)
 
   pub list_wrong : (e : RefutationError) → GivesItems one old new before after (Err e)
-      → Tells e (IsSaid say (no_step e) before)
+      → TellsOfText e (IsSaid say (no_step e) before)
   list_wrong e h =
       tells_on e (IsSaid (items_left one old) (Err e) before) (IsSaid say (no_step e) before)
       (λ is bytes known. says bytes ∙ ap (after_list then) (is bytes known)) h

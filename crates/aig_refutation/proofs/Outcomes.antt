@@ -11,7 +11,7 @@ use Rattle.aig_refutation.specs.declared.step.Step as held
 use Rattle.aig_base.specs.declared.logic.literal.Lit.{Lit}
 use Rattle.aig_refutation.specs.Tables.{Holds, Table}
 use Rattle.aig_refutation.specs.Text.{lines_of}
-use Rattle.aig_refutation.specs.Tokens.{Leaves, Place, Says, Tells, lines_at, lines_past, said_numbers}
+use Rattle.aig_refutation.specs.Tokens.{Leaves, Place, Says, TellsOfText, lines_at, lines_past, said_numbers}
 use Rattle.aig_refutation.specs.Taken.{CanHold, KeepsLive}
 use Rattle.aig_refutation.proofs.Known.{leaves_on, says_now, says_on, tells, tells_on}
 use Rattle.aig_refutation.proofs.Taken.{last_fails, taken_keeps}
@@ -109,7 +109,8 @@ module _ (variables : ℕ) (t : Table) (live : Live) where
       outcome_last live step rest.steps rest.fault h.0 h.1 (sym h.3)
 
   step_wrong : (step : Line) (e : RefutationError) → TakesStep live t (Err e) step
-      → Tells e ((place : Place) (bytes : List ℕ) → left_outcome variables live step place bytes ≡
+      → TellsOfText e ((place : Place) (bytes : List ℕ)
+      → left_outcome variables live step place bytes ≡
       Err e)
   step_wrong (Plain step) e h = tells_on e (e ≡ errors.Line) ((place : Place) (bytes : List ℕ) →
       left_outcome variables live (Plain step) place bytes ≡ Err e) (λ is place bytes. outcome_none

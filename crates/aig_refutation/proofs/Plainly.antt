@@ -15,7 +15,7 @@ use Rattle.aig_refutation.specs.Reading.{GivesStep, next_said, plain_by, said_by
 use Rattle.aig_refutation.specs.Steps.{Drops, Follows, Learns, PlainStep, Refute, Stand, Step, adds_empty, are_same, dropped, is_empty, is_unit, without_one}
 use Rattle.aig_refutation.specs.Tables.{Table}
 use Rattle.aig_refutation.specs.Text.{lines_of}
-use Rattle.aig_refutation.specs.Tokens.{Leaves, Place, Says, Tells, lines_at, lines_past}
+use Rattle.aig_refutation.specs.Tokens.{Leaves, Place, Says, TellsOfText, lines_at, lines_past}
 use Rattle.aig_refutation.proofs.Following.{rup_implied}
 use Rattle.aig_refutation.proofs.Known.{leaves_on, says_now, says_on, tells, tells_on}
 use Rattle.aig_refutation.proofs.Outcomes.{Said, script_if_past, script_if_said}
@@ -88,7 +88,7 @@ line_passes now t (Plain (Learns clause)) h = (
 
 pub line_refused : (now : List (List Lit)) (t : Table) (line : Line)
     (e : RefutationError) → TakesLine now line t (Err e)
-    → Tells e ((rest : Script PlainStep) → IsRefusal now (then_plain (Ok line) rest) e)
+    → TellsOfText e ((rest : Script PlainStep) → IsRefusal now (then_plain (Ok line) rest) e)
 line_refused now t (Numbered step) e h =
     tells_on e (e ≡ errors.Line)
     ((rest : Script PlainStep) → IsRefusal now (then_plain (Ok (Numbered step)) rest) e)
@@ -247,7 +247,7 @@ plain_same now before numbers deletes clause is =
 
 -- memory ran out
 pub shows_stays : (before : Feed) (variables : ℕ) (clauses : List (List Lit)) (e : RefutationError)
-    → Tells e ⊥ → ShowsPlain before variables clauses (Err e)
+    → TellsOfText e ⊥ → ShowsPlain before variables clauses (Err e)
 shows_stays before variables clauses e h = tells_on e ⊥ _ (λ none. absurd none) h
 
 module _ (variables : ℕ) (clauses : List (List Lit)) (before : Place)

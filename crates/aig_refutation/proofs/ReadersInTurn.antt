@@ -2,7 +2,7 @@
 use Rattle.std.proofs.Common.{◌≡◌, ℕ, Bool, List, Result, Ok, Err, refl, sym, ap, ◌∙◌}
 use Rattle.aig_refutation.specs.declared.error.RefutationError.{RefutationError}
 use Rattle.aig_refutation.specs.Proofs.{is_none}
-use Rattle.aig_refutation.specs.Tokens.{Gives, IsReadOn, Leaves, Left, Place, Says, left_of}
+use Rattle.aig_refutation.specs.Tokens.{GivesValue, IsReadOn, Leaves, Left, Place, Says, left_of}
 use Rattle.aig_refutation.proofs.Known.{leaves_on, leaves_same, leaves_start, says_now, says_on, tells, tells_on}
 
 abbrev pub Reader : Type 0 → Type 0
@@ -62,8 +62,9 @@ module _ {Z : Type 0} (q : Reader Z) where
 
     module _ {X : Type 0} (view : X → Z) where
       -- what is read then is the rest of what is read
-      pub gives_after : (r : Result X RefutationError) → GoesOn q s before mid → Gives view s mid
-          after r → Gives view q before after r
+      pub gives_after : (r : Result X RefutationError) → GoesOn q s before mid
+          → GivesValue view s mid
+          after r → GivesValue view q before after r
       gives_after (Ok x) first then =
           leaves_on before.feed mid.feed (λ bytes rest. IsOn q s (left_of before bytes) (left_of
           mid rest)) first after.feed
@@ -85,7 +86,7 @@ module _ {Z : Type 0} (q : Reader Z) where
 
       -- no more is read
       pub gives_ok : (x : X) → GoesOn q s before mid → ((last : Bool) (words : List (List ℕ)) → s
-          last words ≡ Ok (view x, words)) → Gives view q before mid (Ok x)
+          last words ≡ Ok (view x, words)) → GivesValue view q before mid (Ok x)
       gives_ok x first same =
           leaves_same before.feed mid.feed (λ bytes rest. IsOn q s (left_of before bytes) (left_of
           mid rest)) first
@@ -98,7 +99,7 @@ module _ {Z : Type 0} (q : Reader Z) where
 
       -- what was read is refused
       pub gives_wrong : (e : RefutationError) → GoesOn q s before mid → ((last : Bool) (words :
-          List (List ℕ)) → s last words ≡ Err e) → Gives view q before after (Err e)
+          List (List ℕ)) → s last words ≡ Err e) → GivesValue view q before after (Err e)
       gives_wrong e first same =
           tells e (Says before.feed (Wrongs q before e))
           (says_now before.feed mid.feed (λ bytes rest. IsOn q s (left_of before bytes) (left_of
@@ -118,8 +119,9 @@ says_wrong q s before mid e first same =
 
 -- a part is refused
 pub part_wrong : {W X Y Z : Type 0} (p : Reader Y) (q : Reader Z) (before mid after : Place) (first
-    : W → Y) (view : X → Z) (e : RefutationError) → Gives first p before mid (Err e)
-    → ((last : Bool) (words : List (List ℕ)) → p last words ≡ Err e → q last words ≡ Err e) → Gives
+    : W → Y) (view : X → Z) (e : RefutationError) → GivesValue first p before mid (Err e)
+    → ((last : Bool) (words : List (List ℕ)) → p last words ≡ Err e → q last words ≡ Err e)
+    → GivesValue
     view q before after (Err e)
 part_wrong p q before mid after first view e wrong same =
     tells_on e (Says before.feed (Wrongs p before e)) (Says before.feed (Wrongs q before e))
@@ -128,11 +130,11 @@ part_wrong p q before mid after first view e wrong same =
 
 -- the same part in other words
 pub gives_same : {X Y Z : Type 0} (p : Reader Y) (q : Reader Z) (before after : Place) (first : X →
-    Y) (view : X → Z) (r : Result X RefutationError) → Gives first p before after r
+    Y) (view : X → Z) (r : Result X RefutationError) → GivesValue first p before after r
     → ((last : Bool) (words more : List (List ℕ)) (x : X) → p last words ≡ Ok (first x, more) → q
     last words ≡ Ok (view x, more))
     → ((last : Bool) (words : List (List ℕ)) (e : RefutationError) → p last words ≡ Err e → q last
-    words ≡ Err e) → Gives view q before after r
+    words ≡ Err e) → GivesValue view q before after r
 gives_same p q before after first view (Ok x) given ok err =
     leaves_same before.feed after.feed (λ bytes rest. IsReadOn p (left_of before bytes) (left_of
     after rest) (first x)) given

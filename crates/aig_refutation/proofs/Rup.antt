@@ -14,31 +14,32 @@ same_lit a b e = let lit_of : ℕ → Lit = λ n. record { code = n } in ap lit_
 
 module _ (v : ℕ → Bool) where
   -- what a reading says of the assignment
-  abbrev pub Says : Reading → Type 0
-  Says Conflict = ⊥
-  Says (Implied lit) = literal_value v lit ≡ true
-  Says Open = Unit {0}
+  abbrev pub IsTrueReading : Reading → Type 0
+  IsTrueReading Conflict = ⊥
+  IsTrueReading (Implied lit) = literal_value v lit ≡ true
+  IsTrueReading Open = Unit {0}
 
   -- every literal that is taken to be true is
   abbrev pub AreTrue : (Lit → Bool) → Type 0
   AreTrue holds = (lit : Lit) → holds lit ≡ true → literal_value v lit ≡ true
 
   -- one literal more that is true
-  says_true : (r : Reading) (lit : Lit) → literal_value v lit ≡ true → Says (with_open r lit)
+  says_true : (r : Reading) (lit : Lit) → literal_value v lit ≡ true
+      → IsTrueReading (with_open r lit)
   says_true Conflict lit is = is
   says_true (Implied other) lit is = by (is_lit other lit) (same_lit other lit)
     where
-      by : (b : Bool) → (b ≡ true → other ≡ lit) → Says (cond b (Implied other) Open)
+      by : (b : Bool) → (b ≡ true → other ≡ lit) → IsTrueReading (cond b (Implied other) Open)
       by true same = ap (literal_value v) (same refl) ∙ is
       by false same = tt
   says_true Open lit is = tt
 
   -- one literal more, whatever it is
-  says_still : (r : Reading) (lit : Lit) → Says r → Says (with_open r lit)
+  says_still : (r : Reading) (lit : Lit) → IsTrueReading r → IsTrueReading (with_open r lit)
   says_still Conflict lit s = absurd s
   says_still (Implied other) lit s = by (is_lit other lit)
     where
-      by : (b : Bool) → Says (cond b (Implied other) Open)
+      by : (b : Bool) → IsTrueReading (cond b (Implied other) Open)
       by true = s
       by false = tt
   says_still Open lit s = tt
@@ -49,20 +50,24 @@ module _ (v : ℕ → Bool) where
     falsified lit h is = false≢true (sym (not_from_true (literal_value v lit) is) ∙ sym (literal_value-inverse_lit v lit) ∙ are (inverse_lit lit) h)
 
     -- a clause with a true literal says what is so
-    pub says_clause : (r : Reading) (clause : List Lit) → Says r ⊎ (is_true_clause v clause ≡ true) → Says (fold (with_literal holds) r clause)
+    pub says_clause : (r : Reading) (clause : List Lit) → IsTrueReading r
+        ⊎ (is_true_clause v clause ≡ true) → IsTrueReading (fold (with_literal holds) r clause)
     says_clause r [] (inl s) = s
     says_clause r [] (inr t) = absurd (false≢true t)
     says_clause r (lit ∷ lits) h = by (holds (inverse_lit lit)) (λ e. says_clause r lits (skipped e h)) (says_clause (with_open r lit) lits (taken h))
       where
-        skipped : holds (inverse_lit lit) ≡ true → Says r ⊎ (is_true_clause v (lit ∷ lits) ≡ true) → Says r ⊎ (is_true_clause v lits ≡ true)
+        skipped : holds (inverse_lit lit) ≡ true → IsTrueReading r
+            ⊎ (is_true_clause v (lit ∷ lits) ≡ true) → IsTrueReading r ⊎ (is_true_clause v lits ≡ true)
         skipped e (inl s) = inl s
         skipped e (inr t) = elim (or_cases (literal_value v lit) (is_true_clause v lits) t) [ inl now ↦ absurd (falsified lit e now) | inr later ↦ inr later ]
 
-        taken : Says r ⊎ (is_true_clause v (lit ∷ lits) ≡ true) → Says (with_open r lit) ⊎ (is_true_clause v lits ≡ true)
+        taken : IsTrueReading r ⊎ (is_true_clause v (lit ∷ lits) ≡ true)
+            → IsTrueReading (with_open r lit) ⊎ (is_true_clause v lits ≡ true)
         taken (inl s) = inl (says_still r lit s)
         taken (inr t) = elim (or_cases (literal_value v lit) (is_true_clause v lits) t) [ inl now ↦ inl (says_true r lit now) | inr later ↦ inr later ]
 
-        by : (b : Bool) → (b ≡ true → Says (fold (with_literal holds) r lits)) → Says (fold (with_literal holds) (with_open r lit) lits) → Says (fold (with_literal holds) (cond b r (with_open r lit)) lits)
+        by : (b : Bool) → (b ≡ true → IsTrueReading (fold (with_literal holds) r lits))
+            → IsTrueReading (fold (with_literal holds) (with_open r lit) lits) → IsTrueReading (fold (with_literal holds) (cond b r (with_open r lit)) lits)
         by true skip take = skip refl
         by false skip take = take
 
@@ -81,7 +86,8 @@ module _ (v : ℕ → Bool) where
       ]
 
   module _ (clause_of : ℕ → Option (List Lit)) (holding : (n : ℕ) (clause : List Lit) → clause_of n ≡ Some clause → is_true_clause v clause ≡ true) where
-    says_hint : (holds : Lit → Bool) → AreTrue holds → (o : Option (List Lit)) → ((clause : List Lit) → o ≡ Some clause → is_true_clause v clause ≡ true) → Says (reading_if holds o)
+    says_hint : (holds : Lit → Bool) → AreTrue holds → (o : Option (List Lit))
+        → ((clause : List Lit) → o ≡ Some clause → is_true_clause v clause ≡ true) → IsTrueReading (reading_if holds o)
     says_hint holds are None h = tt
     says_hint holds are (Some clause) h = says_clause holds are Conflict clause (inr (h clause refl))
 
@@ -90,7 +96,8 @@ module _ (v : ℕ → Bool) where
     no_conflict [] holds are p = false≢true p
     no_conflict (hint ∷ hints) holds are p = by (reading_if holds (clause_of hint)) (says_hint holds are (clause_of hint) (holding hint)) (λ lit s. no_conflict hints (also lit holds) (also_true holds are lit s)) p
       where
-        by : (r : Reading) → Says r → ((lit : Lit) → literal_value v lit ≡ true → propagates clause_of (also lit holds) hints ≡ true → ⊥) → conflicts r (λ lit. propagates clause_of (also lit holds) hints) ≡ true → ⊥
+        by : (r : Reading) → IsTrueReading r →
+            ((lit : Lit) → literal_value v lit ≡ true → propagates clause_of (also lit holds) hints ≡ true → ⊥) → conflicts r (λ lit. propagates clause_of (also lit holds) hints) ≡ true → ⊥
         by Conflict s next e = s
         by (Implied lit) s next e = next lit s e
         by Open s next e = false≢true e

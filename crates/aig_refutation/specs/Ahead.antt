@@ -7,7 +7,7 @@ use Rattle.aig_refutation.specs.declared.error.RefutationError.TheVariants as er
 use Rattle.aig_refutation.specs.Checking.{Live, clause_at, is_used}
 use Rattle.aig_refutation.specs.Steps.{Drops, Follows, Learns, PlainStep, are_same, dropped, is_empty}
 use Rattle.aig_refutation.specs.Tables.{Holds, Table}
-use Rattle.aig_refutation.specs.Tokens.{Tells}
+use Rattle.aig_refutation.specs.Tokens.{TellsOfText}
 
 -- how many clauses have the same literals as this one
 abbrev pub copies : List Lit → List (List Lit) → ℕ
@@ -46,14 +46,14 @@ pub record IsAhead (clauses : List (List Lit)) (t : Table) : Type 0 where
 -- so it is after a step, unless memory ran out
 abbrev pub StaysAhead : {X : Type 0} → List (List Lit) → Table → Result X RefutationError → Type 0
 StaysAhead clauses new (Ok x) = IsAhead clauses new
-StaysAhead clauses new (Err e) = Tells e ⊥
+StaysAhead clauses new (Err e) = TellsOfText e ⊥
 
 -- a clause is added, or not
 abbrev pub AddsAhead : List (List Lit) → List Lit → Table → Result (Option ℕ) RefutationError
     → Type 0
 AddsAhead clauses clause new (Ok (Some n)) = IsAhead (clause ∷ clauses) new
 AddsAhead clauses clause new (Ok None) = IsAhead clauses new
-AddsAhead clauses clause new (Err e) = Tells e ⊥
+AddsAhead clauses clause new (Err e) = TellsOfText e ⊥
 
 -- A clause is added, and the proof goes on, which isn't the case after the empty clause. Or it
 -- isn't added, since it doesn't follow.
@@ -62,7 +62,7 @@ LearnsAhead clauses clause new (Ok true) = Unit {0}
 LearnsAhead clauses clause new (Ok false) =
     IsAhead (clause ∷ clauses) new × (is_empty clause ≡ false)
 LearnsAhead clauses clause new (Err e) =
-    Tells e ((e ≡ errors.Step) × (Follows clauses clause → ⊥))
+    TellsOfText e ((e ≡ errors.Step) × (Follows clauses clause → ⊥))
 
 -- the same of a step
 abbrev pub TakesPlain : List (List Lit) → PlainStep → Table → Result Bool RefutationError → Type 0

@@ -12,7 +12,7 @@ use Rattle.aig_refutation.specs.Proofs.{Line, Numbered, Plain, Script, plain_of,
 use Rattle.aig_refutation.specs.Steps.{PlainStep, Step}
 use Rattle.aig_refutation.specs.Tables.{Checked, Holds, HoldsFormula, Table, clause_by}
 use Rattle.aig_refutation.specs.Text.{lines_of}
-use Rattle.aig_refutation.specs.Tokens.{Place, Says, Tells, lines_at}
+use Rattle.aig_refutation.specs.Tokens.{Place, Says, TellsOfText, lines_at}
 
 -- the clauses are those of a formula, whose literals all have variables
 pub record IsFormula (checker : Checked) : Type 0 where
@@ -23,21 +23,21 @@ pub record IsFormula (checker : Checked) : Type 0 where
 abbrev pub RefusesFormula : {X : Type 0} → ℕ → List (List Lit) → Result X RefutationError → Type 0
 RefusesFormula variables clauses (Ok x) = Unit {0}
 RefusesFormula variables clauses (Err e) =
-    Tells e ((e ≡ errors.Variable) × (are_all_in variables clauses ≡ false))
+    TellsOfText e ((e ≡ errors.Variable) × (are_all_in variables clauses ≡ false))
 
 -- a step is taken, and whether it is the last
 abbrev pub MovesStep : Table → Result Bool RefutationError → Result Live RefutationError → Bool
     → Type 0
 MovesStep new (Ok done) said last =
     (next : Live) × (said ≡ Ok next) × Holds new next × (done ≡ last)
-MovesStep new (Err e) said last = Tells e (said ≡ Err e)
+MovesStep new (Err e) said last = TellsOfText e (said ≡ Err e)
 
 -- a step of a line is taken, which must have a number
 abbrev pub TakesStep : Live → Table → Result Bool RefutationError → Line → Type 0
 TakesStep live new result (Numbered step) =
     MovesStep new result (taken live step) (is_last_step step)
 TakesStep live new (Ok done) (Plain step) = ⊥
-TakesStep live new (Err e) (Plain step) = Tells e (e ≡ errors.Line)
+TakesStep live new (Err e) (Plain step) = TellsOfText e (e ≡ errors.Line)
 
 -- what steps show of the clauses that are there
 abbrev pub shown_of : Live → Script Step → Result (Unit {0}) RefutationError
@@ -53,14 +53,14 @@ left_outcome variables live step place bytes =
 abbrev pub Concludes : Feed → (List ℕ → Result (Unit {0}) RefutationError)
     → Result (Unit {0}) RefutationError → Type 0
 Concludes before shown (Ok done) = Says before (λ bytes. shown bytes ≡ Ok tt)
-Concludes before shown (Err e) = Tells e (Says before (λ bytes. shown bytes ≡ Err e))
+Concludes before shown (Err e) = TellsOfText e (Says before (λ bytes. shown bytes ≡ Err e))
 
 -- the same of a whole text, where its first step has a number
 abbrev pub ShowsText : Feed → (List ℕ → Option (Result (Unit {0}) RefutationError))
     → Result (Unit {0}) RefutationError → Type 0
 ShowsText before shown (Ok done) = Says before (λ bytes. IfSome (shown bytes) (λ x. x ≡ Ok tt))
 ShowsText before shown (Err e) =
-    Tells e (Says before (λ bytes. IfSome (shown bytes) (λ x. x ≡ Err e)))
+    TellsOfText e (Says before (λ bytes. IfSome (shown bytes) (λ x. x ≡ Err e)))
 
 -- what a text shows, where its first step has a number
 abbrev pub text_outcome : ℕ → Live → List ℕ → Option (Result (Unit {0}) RefutationError)
@@ -81,7 +81,7 @@ FindsConflict clauses (m ∷ n ∷ o ∷ more) = ⊥
 abbrev pub ConcludesConflict : List (List Lit) → Result Bool RefutationError → Type 0
 ConcludesConflict clauses (Ok true) = IsInConflict clauses
 ConcludesConflict clauses (Ok false) = IsInConflict clauses → ⊥
-ConcludesConflict clauses (Err e) = Tells e ⊥
+ConcludesConflict clauses (Err e) = TellsOfText e ⊥
 
 -- ---- steps without numbers
 
@@ -89,7 +89,7 @@ ConcludesConflict clauses (Err e) = Tells e ⊥
 abbrev pub TakesLine : List (List Lit) → Line → Table → Result Bool RefutationError → Type 0
 TakesLine clauses (Plain step) new result = TakesPlain clauses step new result
 TakesLine clauses (Numbered step) new (Ok done) = ⊥
-TakesLine clauses (Numbered step) new (Err e) = Tells e (e ≡ errors.Line)
+TakesLine clauses (Numbered step) new (Err e) = TellsOfText e (e ≡ errors.Line)
 
 -- the steps of a line, which may name so many variables, and those after it
 abbrev pub plain_left : ℕ → Line → Place → List ℕ → Script PlainStep
@@ -101,11 +101,11 @@ abbrev pub ConcludesPlain : Feed → List (List Lit) → (List ℕ → Script Pl
     → Result (Unit {0}) RefutationError → Type 0
 ConcludesPlain before clauses script (Ok done) = Unit {0}
 ConcludesPlain before clauses script (Err e) =
-    Tells e (Says before (λ bytes. IsRefusal clauses (script bytes) e))
+    TellsOfText e (Says before (λ bytes. IsRefusal clauses (script bytes) e))
 
 -- the same of a whole text, unless its first step has a number
 abbrev pub ShowsPlain : Feed → ℕ → List (List Lit) → Result (Unit {0}) RefutationError → Type 0
 ShowsPlain before variables clauses (Ok done) = Unit {0}
 ShowsPlain before variables clauses (Err e) =
-    Tells e (Says before (λ bytes. script_if variables (lines_of bytes) ≡ None
+    TellsOfText e (Says before (λ bytes. script_if variables (lines_of bytes) ≡ None
     → IsRefusal clauses (plain_of variables (lines_of bytes)) e))

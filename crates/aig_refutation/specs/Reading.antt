@@ -8,7 +8,7 @@ use Rattle.aig_refutation.specs.Proofs.{Line, Numbered, Plain, after_first, afte
 use Rattle.aig_refutation.specs.Steps.{Step, Adds, Deletes, PlainStep, Drops, Learns}
 use Rattle.aig_refutation.specs.Text as text
 use Rattle.aig_refutation.specs.Text.{◌>>=◌}
-use Rattle.aig_refutation.specs.Tokens.{Leaves, Place, Says, Tells, lines_at, lines_past, said_numbers}
+use Rattle.aig_refutation.specs.Tokens.{Leaves, Place, Says, TellsOfText, lines_at, lines_past, said_numbers}
 
 -- ---- parts of a line
 
@@ -109,6 +109,6 @@ GivesStep numbered variables step before after (Ok true) = Leaves before.feed af
     next_said numbered variables before bytes ≡ Some (Ok step, lines_at after.end rest))
 GivesStep numbered variables step before after (Ok false) = Says before.feed (λ bytes.
     next_said numbered variables before bytes ≡ None)
-GivesStep numbered variables step before after (Err e) = Tells e (Says before.feed (λ bytes.
+GivesStep numbered variables step before after (Err e) = TellsOfText e (Says before.feed (λ bytes.
     (lines : List (List (List ℕ))) × (next_said numbered variables before bytes
     ≡ Some (Err e, lines))))

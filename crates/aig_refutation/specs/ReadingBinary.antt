@@ -10,7 +10,7 @@ use Rattle.aig_refutation.specs.BinaryNumbered.{Adding, Begun, Deleting, Listing
 use Rattle.aig_refutation.specs.Proofs.{Script, groups_at, hints_at, widened}
 use Rattle.aig_refutation.specs.Steps.{Step}
 use Rattle.aig_refutation.specs.Text.{◌>>=◌}
-use Rattle.aig_refutation.specs.Tokens.{Leaves, Says, Tells}
+use Rattle.aig_refutation.specs.Tokens.{Leaves, Says, TellsOfText}
 
 -- ---- what bytes say
 
@@ -34,7 +34,7 @@ abbrev pub GivesCode : Feed → Feed → Result ℕ RefutationError → Type 0
 GivesCode before after (Ok code) = Leaves before after (λ bytes rest. (word : List ℕ)
     × (groups_in bytes ≡ word ∷ groups_in rest) × (code_of (parse_delta word) ≡ Ok code))
 GivesCode before after (Err e) =
-    Tells e (Says before (λ bytes. (e ≡ errors.Binary) × IsNoCode (groups_in bytes)))
+    TellsOfText e (Says before (λ bytes. (e ≡ errors.Binary) × IsNoCode (groups_in bytes)))
 
 -- the letter of a step
 abbrev pub letter_of : Bool → ℕ
@@ -51,7 +51,7 @@ GivesLetter deletes before after (Ok true) =
     Passes (λ bytes. bytes) (λ rest. letter_of deletes ∷ rest) before after
 GivesLetter deletes before after (Ok false) = IsSaid (λ bytes. bytes) [] before
 GivesLetter deletes before after (Err e) =
-    Tells e (Says before (λ bytes. (e ≡ errors.Binary) × IsNoLetter bytes))
+    TellsOfText e (Says before (λ bytes. (e ≡ errors.Binary) × IsNoLetter bytes))
 
 -- ---- lists
 
@@ -79,7 +79,8 @@ abbrev pub GivesItems : {A : Type 0} → (ℕ → Result A RefutationError) → 
     → Feed → Result (Unit {0}) RefutationError → Type 0
 GivesItems one old new before after (Ok done) =
     Passes (items_left one old) (λ rest. Ok (new, groups_in rest)) before after
-GivesItems one old new before after (Err e) = Tells e (IsSaid (items_left one old) (Err e) before)
+GivesItems one old new before after (Err e) = TellsOfText e
+    (IsSaid (items_left one old) (Err e) before)
 
 -- a list of hints is read up to its end: those for all, and the groups
 abbrev pub GivesHints : List ℕ → List (Bool × ℕ) → Feed → Feed → Result (Unit {0}) RefutationError
@@ -99,7 +100,7 @@ GivesNext left variables step before after (Ok true) =
 GivesNext left variables step before after (Ok false) =
     IsSaid (left variables) (no_step errors.Unfinished) before
 GivesNext left variables step before after (Err e) =
-    Tells e (IsSaid (left variables) (no_step e) before)
+    TellsOfText e (IsSaid (left variables) (no_step e) before)
 
 -- the step with a number that a letter begins
 abbrev pub begun_by : Bool → Begun
@@ -114,7 +115,7 @@ abbrev pub GivesNumber : ℕ → Feed → Feed → Result ℕ RefutationError �
 GivesNumber variables before after (Ok n) =
     Passes (numbered_left variables Adding) (numbered_left variables (Listing n [])) before after
 GivesNumber variables before after (Err e) =
-    Tells e (IsSaid (numbered_left variables Adding) (no_step e) before)
+    TellsOfText e (IsSaid (numbered_left variables Adding) (no_step e) before)
 
 -- a step that has begun is read up to its end
 abbrev pub EndsStep : ℕ → Begun → Step → Feed → Feed → Result (Unit {0}) RefutationError → Type 0
@@ -122,4 +123,4 @@ EndsStep variables begun step before after (Ok done) =
     Passes (numbered_left variables begun)
     (λ rest. step_before step (numbered_steps_in (widened variables) rest)) before after
 EndsStep variables begun step before after (Err e) =
-    Tells e (IsSaid (numbered_left variables begun) (no_step e) before)
+    TellsOfText e (IsSaid (numbered_left variables begun) (no_step e) before)

@@ -8,7 +8,7 @@ use Rattle.aig_refutation.specs.declared.error.RefutationError.TheVariants as er
 use Rattle.aig_refutation.specs.Checking.{Live, all_live, are_in, clause_at, is_used}
 use Rattle.aig_refutation.specs.Propagation.{reading_of}
 use Rattle.aig_refutation.specs.Rat.{is_apart}
-use Rattle.aig_refutation.specs.Tokens.{Tells}
+use Rattle.aig_refutation.specs.Tokens.{TellsOfText}
 
 -- clauses by their places, the number of each place, for each number one more than its clause's
 -- place, or 0 where it was never used, and how many were added
@@ -98,12 +98,12 @@ pub record Holds (t : Table) (live : Live) : Type 0 where
 abbrev pub HoldsNext : {X : Type 0} → Table → Result X RefutationError
     → Result Live RefutationError → Type 0
 HoldsNext new (Ok x) said = (next : Live) × (said ≡ Ok next) × Holds new next
-HoldsNext new (Err e) said = Tells e (said ≡ Err e)
+HoldsNext new (Err e) said = TellsOfText e (said ≡ Err e)
 
 -- no error but that memory ran out
 abbrev pub OnlyMemory : {X : Type 0} → Result X RefutationError → Type 0
 OnlyMemory (Ok x) = Unit {0}
-OnlyMemory (Err e) = Tells e ⊥
+OnlyMemory (Err e) = TellsOfText e ⊥
 
 -- each number of the formula's clauses is the one after the last
 pub record IsInRow (t : Table) : Type 0 where
@@ -146,4 +146,4 @@ pub record HoldsFormula (t : Table) : Type 0 where
 abbrev pub RefusesClause : ℕ → List Lit → Result (Unit {0}) RefutationError → Type 0
 RefusesClause variables clause (Ok done) = are_in variables clause ≡ true
 RefusesClause variables clause (Err e) =
-    Tells e ((e ≡ errors.Variable) × (are_in variables clause ≡ false))
+    TellsOfText e ((e ≡ errors.Variable) × (are_in variables clause ≡ false))

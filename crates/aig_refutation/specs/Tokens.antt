@@ -54,22 +54,22 @@ abbrev pub Says : Feed → (List ℕ → Type 0) → Type 0
 Says before P = (bytes : List ℕ) → before.coming ≡ Some bytes → P bytes
 
 -- an error that is neither memory's nor the stream's tells this
-abbrev pub Tells : RefutationError → Type 0 → Type 0
-Tells errors.Memory P = Unit {0}
-Tells errors.Stream P = Unit {0}
-Tells e P = P
+abbrev pub TellsOfText : RefutationError → Type 0 → Type 0
+TellsOfText errors.Memory P = Unit {0}
+TellsOfText errors.Stream P = Unit {0}
+TellsOfText e P = P
 
 -- a value that is given, or an error
-abbrev pub Answers : {X Y : Type 0} → (X → Y) → Result Y RefutationError → Result X RefutationError
+abbrev pub IsReadBy : {X Y : Type 0} → (X → Y) → Result Y RefutationError → Result X RefutationError
     → Type 0
-Answers view said (Ok x) = said ≡ Ok (view x)
-Answers view said (Err e) = said ≡ Err e
+IsReadBy view said (Ok x) = said ≡ Ok (view x)
+IsReadBy view said (Err e) = said ≡ Err e
 
 -- the same, memory aside
 abbrev pub Tries : {X Y : Type 0} → (X → Y) → Result Y RefutationError → Result X RefutationError
     → Type 0
 Tries view said (Ok x) = said ≡ Ok (view x)
-Tries view said (Err e) = Tells e (said ≡ Err e)
+Tries view said (Err e) = TellsOfText e (said ≡ Err e)
 
 -- a byte that was taken, if there was one, before those that are left
 abbrev pub front : Option ℕ → List ℕ → List ℕ
@@ -119,7 +119,8 @@ abbrev pub GivesWord : (List ℕ → Result text.Word RefutationError) → Feed 
     → Result Word RefutationError → Type 0
 GivesWord parse before after end (Ok word) = Leaves before after (λ bytes rest.
     (parse bytes >>= (λ x. Ok (held_word x)) ≡ Ok word) × (left_at end rest ≡ left_after bytes))
-GivesWord parse before after end (Err e) = Tells e (Says before (λ bytes. parse bytes ≡ Err e))
+GivesWord parse before after end (Err e) = TellsOfText e
+    (Says before (λ bytes. parse bytes ≡ Err e))
 
 -- ---- places in a text
 
@@ -144,12 +145,12 @@ IsReadOn parse before after y = (after.lines ≡ before.lines)
     × (parse (is_none before.lines) before.words ≡ Ok (y, after.words))
 
 -- a value is read on in a line, or this is what is wrong with it
-abbrev pub Gives : {X Y : Type 0} → (X → Y)
+abbrev pub GivesValue : {X Y : Type 0} → (X → Y)
     → (Bool → List (List ℕ) → Result (Y × List (List ℕ)) RefutationError) → Place → Place
     → Result X RefutationError → Type 0
-Gives view parse before after (Ok x) = Leaves before.feed after.feed (λ bytes rest.
+GivesValue view parse before after (Ok x) = Leaves before.feed after.feed (λ bytes rest.
     IsReadOn parse (left_of before bytes) (left_of after rest) (view x))
-Gives view parse before after (Err e) = Tells e (Says before.feed (λ bytes.
+GivesValue view parse before after (Err e) = TellsOfText e (Says before.feed (λ bytes.
     parse (is_none (left_of before bytes).lines) (left_of before bytes).words ≡ Err e))
 
 -- how a line ends, by whether it is the last
@@ -211,6 +212,6 @@ GivesFirst before after (Ok (Some word)) = Leaves before.feed after.feed (λ byt
     ≡ (first ∷ (left_of after rest).words) ∷ (left_of after rest).lines))
 GivesFirst before after (Ok None) = Says before.feed (λ bytes.
     lines_past (lines_at before.end bytes) ≡ [])
-GivesFirst before after (Err e) = Tells e (Says before.feed (λ bytes.
+GivesFirst before after (Err e) = TellsOfText e (Says before.feed (λ bytes.
     (first : List ℕ) × (more : List (List ℕ)) × (lines : List (List (List ℕ)))
     × (first_in first ≡ Err e) × (lines_past (lines_at before.end bytes) ≡ (first ∷ more) ∷ lines)))

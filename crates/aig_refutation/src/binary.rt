@@ -11,7 +11,7 @@ ghost use Rattle.aig_refutation.specs.Binary.{binary_steps_in, literal_by};
 ghost use Rattle.aig_refutation.specs.Checking.{are_in};
 ghost use Rattle.aig_refutation.specs.ReadingBinary.{GivesCode, GivesItems, GivesLetter, GivesNext};
 ghost use Rattle.aig_refutation.specs.Reading.{plain_by};
-ghost use Rattle.aig_refutation.specs.Tokens.{Answers};
+ghost use Rattle.aig_refutation.specs.Tokens.{IsReadBy};
 
 use crate::error::RefutationError;
 use crate::list::push;
@@ -56,7 +56,7 @@ pub(crate) fn read_code<R: Source>(
 fn literal(code: u32, variables: usize) -> Result<Lit, RefutationError>
     requires { variables ≤ 2 ^ 31 }
     ensures no_stream { IsErrOf result RefutationError.Stream → ⊥ }
-    ensures literal { Answers (λ lit. lit) (literal_by variables code) result }
+    ensures literal { IsReadBy (λ lit. lit) (literal_by variables code) result }
     ensures inside { IfOk result (λ lit. variable_of lit < variables) }
 {
     if code < 2 {

@@ -10,7 +10,7 @@ ghost use Rattle.aig_lexer.specs.Takes.{feed};
 ghost use Rattle.aig_refutation.specs.BinaryNumbered.{deleted_by, hint_by, numbered_steps_in};
 ghost use Rattle.aig_refutation.specs.ReadingBinary.{EndsStep, GivesHints, GivesItems, GivesNext, GivesNumber, begun_by};
 ghost use Rattle.aig_refutation.specs.Reading.{step_by};
-ghost use Rattle.aig_refutation.specs.Tokens.{Answers, said_number, said_numbers};
+ghost use Rattle.aig_refutation.specs.Tokens.{IsReadBy, said_number, said_numbers};
 
 use crate::binary::{read_code, read_letter, read_literals};
 use crate::error::RefutationError;
@@ -42,7 +42,7 @@ fn read_clause_number<R: Source>(
 /// The hint of a code.
 fn hint(code: u32) -> Result<Number, RefutationError>
     ensures no_stream { IsErrOf result RefutationError.Stream → ⊥ }
-    ensures hint { Answers (λ number. said_number number) (hint_by code) result }
+    ensures hint { IsReadBy (λ number. said_number number) (hint_by code) result }
 {
     if code < 2 {
         return Err(RefutationError::Binary);
@@ -56,7 +56,7 @@ fn hint(code: u32) -> Result<Number, RefutationError>
 /// The number of a clause that is deleted, of a code.
 fn deleted(code: u32) -> Result<u32, RefutationError>
     ensures no_stream { IsErrOf result RefutationError.Stream → ⊥ }
-    ensures number { Answers (λ number. number) (deleted_by code) result }
+    ensures number { IsReadBy (λ number. number) (deleted_by code) result }
 {
     let number = hint(code)?;
     if !number.positive {

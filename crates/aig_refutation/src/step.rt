@@ -6,7 +6,7 @@ ghost use Rattle.aig_refutation.specs.Checking.{are_in};
 ghost use Rattle.aig_refutation.specs.Proofs.{after_clause, clause_number, groups_at, hints_at, literal_of};
 ghost use Rattle.aig_refutation.specs.Reading.{GivesStep, reads_added, reads_after, reads_clause, reads_deleted, reads_dropped, reads_hints, reads_numbers, said_by};
 ghost use Rattle.aig_refutation.specs.Skipping.{TakesHints, TakesNumbers};
-ghost use Rattle.aig_refutation.specs.Tokens.{Answers, Gives, IsClosed, Tries, is_last, place, rest, said_number, said_numbers};
+ghost use Rattle.aig_refutation.specs.Tokens.{IsReadBy, GivesValue, IsClosed, Tries, is_last, place, rest, said_number, said_numbers};
 
 use crate::error::RefutationError;
 use crate::list::push;
@@ -48,7 +48,7 @@ impl Drop for Step {
 /// The number of a clause.
 fn clause_number(number: Number) -> Result<u32, RefutationError>
     ensures no_stream { IsErrOf result RefutationError.Stream → ⊥ }
-    ensures number { Answers (λ n. n) (clause_number (said_number number)) result }
+    ensures number { IsReadBy (λ n. n) (clause_number (said_number number)) result }
 {
     if number.positive && number.value != 0 {
         Ok(number.value)
@@ -61,7 +61,7 @@ fn clause_number(number: Number) -> Result<u32, RefutationError>
 fn literal(number: Number, variables: usize) -> Result<Lit, RefutationError>
     requires { variables ≤ 2 ^ 31 }
     ensures no_stream { IsErrOf result RefutationError.Stream → ⊥ }
-    ensures literal { Answers (λ lit. lit) (literal_of variables (said_number number)) result }
+    ensures literal { IsReadBy (λ lit. lit) (literal_of variables (said_number number)) result }
     ensures inside { IfOk result (λ lit. variable_of lit < variables) }
 {
     let Some(variable) = number.value.checked_sub(1) else {
@@ -84,7 +84,7 @@ fn read_clause<R: Source>(
     requires { variables ≤ 2 ^ 31 }
     ensures stream { IsErrOf result RefutationError.Stream → R.failed r.new ≡ true }
     ensures fewer { OnOk result (rest R.pulls words.new r.new ≤ rest R.pulls words.old r.old) }
-    ensures clause { Gives (λ done. clause.new.items)
+    ensures clause { GivesValue (λ done. clause.new.items)
         (reads_clause variables (said_number first) clause.old.items)
         (place R.left R.failed R.pulls words.old r.old)
         (place R.left R.failed R.pulls words.new r.new) result }
@@ -108,7 +108,7 @@ fn read_numbers<R: Source>(
 ) -> Result<(), RefutationError>
     ensures stream { IsErrOf result RefutationError.Stream → R.failed r.new ≡ true }
     ensures fewer { OnOk result (rest R.pulls words.new r.new ≤ rest R.pulls words.old r.old) }
-    ensures numbers { Gives (λ done. numbers.new.items)
+    ensures numbers { GivesValue (λ done. numbers.new.items)
         (reads_numbers clause_number (said_number first) numbers.old.items)
         (place R.left R.failed R.pulls words.old r.old)
         (place R.left R.failed R.pulls words.new r.new) result }
@@ -175,7 +175,7 @@ fn read_hints<R: Source>(
     ensures stream { IsErrOf result RefutationError.Stream → R.failed r.new ≡ true }
     ensures fewer { OnOk result (rest R.pulls words.new r.new ≤ rest R.pulls words.old r.old) }
     ensures hints { hints.old.items ≡ [] → groups.old.items ≡ []
-        → Gives (λ done. (hints.new.items, said_numbers groups.new.items))
+        → GivesValue (λ done. (hints.new.items, said_numbers groups.new.items))
         (reads_hints (said_number first))
         (place R.left R.failed R.pulls words.old r.old)
         (place R.left R.failed R.pulls words.new r.new) result }
@@ -243,7 +243,7 @@ impl Step {
         requires { variables ≤ 2 ^ 31 }
         ensures stream { IsErrOf result RefutationError.Stream → R.failed r.new ≡ true }
         ensures fewer { OnOk result (rest R.pulls words.new r.new ≤ rest R.pulls words.old r.old) }
-        ensures step { self.old.clause.items ≡ [] → Gives (λ done. said_by self.new)
+        ensures step { self.old.clause.items ≡ [] → GivesValue (λ done. said_by self.new)
             (reads_dropped variables)
             (place R.left R.failed R.pulls words.old r.old)
             (place R.left R.failed R.pulls words.new r.new) result }
@@ -270,7 +270,7 @@ impl Step {
         ensures stream { IsErrOf result RefutationError.Stream → R.failed r.new ≡ true }
         ensures fewer { OnOk result (rest R.pulls words.new r.new ≤ rest R.pulls words.old r.old) }
         ensures step { self.old.clause.items ≡ [] → self.old.numbers.items ≡ []
-            → self.old.groups.items ≡ [] → Gives (λ done. said_by self.new)
+            → self.old.groups.items ≡ [] → GivesValue (λ done. said_by self.new)
             (reads_after self.old.is_numbered variables (said_number first))
             (place R.left R.failed R.pulls words.old r.old)
             (place R.left R.failed R.pulls words.new r.new) result }
@@ -300,7 +300,7 @@ impl Step {
         ensures stream { IsErrOf result RefutationError.Stream → R.failed r.new ≡ true }
         ensures fewer { OnOk result (rest R.pulls words.new r.new ≤ rest R.pulls words.old r.old) }
         ensures step { self.old.numbers.items ≡ []
-            → Gives (λ done. said_by self.new) (reads_deleted (said_number number))
+            → GivesValue (λ done. said_by self.new) (reads_deleted (said_number number))
             (place R.left R.failed R.pulls words.old r.old)
             (place R.left R.failed R.pulls words.new r.new) result }
         ensures clause { self.new.clause ≡ self.old.clause }
@@ -328,7 +328,7 @@ impl Step {
         ensures fewer { OnOk result (rest R.pulls words.new r.new ≤ rest R.pulls words.old r.old) }
         ensures step { self.old.deletes ≡ false → self.old.clause.items ≡ []
             → self.old.numbers.items ≡ [] → self.old.groups.items ≡ []
-            → Gives (λ done. said_by self.new)
+            → GivesValue (λ done. said_by self.new)
             (reads_added self.old.is_numbered variables (said_number first) (said_number second))
             (place R.left R.failed R.pulls words.old r.old)
             (place R.left R.failed R.pulls words.new r.new) result }

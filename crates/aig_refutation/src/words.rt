@@ -8,7 +8,7 @@ ghost use Rattle.std.specs.Prelude.{◌≡◌, ◌+◌, ◌<◌, ◌≤◌, ◌^
 ghost use Rattle.aig_lexer.specs.Takes.{feed};
 ghost use Rattle.aig_refutation.specs.Skipping.{AreNext, EndsLine, IsNear, SkipsBlanks, TakesNumbers, end_line};
 ghost use Rattle.aig_refutation.specs.Text.{fault, number_in, signed, word_in};
-ghost use Rattle.aig_refutation.specs.Tokens.{Answers, ClosesAt, Gives, GivesFirst, GivesWord, IsAfter, IsClosed, IsWord, end_after, fault_of, is_last, next_in, next_number, place, rest, said_number};
+ghost use Rattle.aig_refutation.specs.Tokens.{IsReadBy, ClosesAt, GivesValue, GivesFirst, GivesWord, IsAfter, IsClosed, IsWord, end_after, fault_of, is_last, next_in, next_number, place, rest, said_number};
 
 use crate::error::RefutationError;
 use crate::list::push;
@@ -162,7 +162,7 @@ impl Words {
     #[inline(always)]
     fn end_word(&mut self, byte: Option<u8>) -> Result<(), RefutationError>
         ensures same { self.new.held ≡ self.old.held }
-        ensures ended { Answers (λ done. self.new.end) (end_after self.old.end byte) result }
+        ensures ended { IsReadBy (λ done. self.new.end) (end_after self.old.end byte) result }
         ensures no_stream { IsErrOf result RefutationError.Stream → ⊥ }
     {
         match byte {
@@ -244,7 +244,8 @@ impl Words {
         ensures stream { IsErrOf result RefutationError.Stream → R.failed r.new ≡ true }
         ensures fewer { IfOk result (λ word.
             IsAfter (rest R.pulls self.old r.old) word (rest R.pulls self.new r.new)) }
-        ensures word { Gives (λ word. word) next_in (place R.left R.failed R.pulls self.old r.old)
+        ensures word { GivesValue (λ word. word) next_in
+            (place R.left R.failed R.pulls self.old r.old)
             (place R.left R.failed R.pulls self.new r.new) result }
         ensures closed { IfOk result (λ word. ClosesAt word self.new.end) }
     {
@@ -275,7 +276,8 @@ impl Words {
         ensures stream { IsErrOf result RefutationError.Stream → R.failed r.new ≡ true }
         ensures fewer { IfOk result (λ word.
             IsAfter (rest R.pulls self.old r.old) word (rest R.pulls self.new r.new)) }
-        ensures word { Gives (λ word. word) next_in (place R.left R.failed R.pulls self.old r.old)
+        ensures word { GivesValue (λ word. word) next_in
+            (place R.left R.failed R.pulls self.old r.old)
             (place R.left R.failed R.pulls self.new r.new) result }
         ensures closed { IfOk result (λ word. ClosesAt word self.new.end) }
     {
@@ -294,7 +296,7 @@ impl Words {
     fn far_number<R: Source>(&mut self, r: &mut R) -> Result<Number, RefutationError>
         ensures stream { IsErrOf result RefutationError.Stream → R.failed r.new ≡ true }
         ensures fewer { OnOk result (rest R.pulls self.new r.new < rest R.pulls self.old r.old) }
-        ensures number { Gives said_number next_number
+        ensures number { GivesValue said_number next_number
             (place R.left R.failed R.pulls self.old r.old)
             (place R.left R.failed R.pulls self.new r.new) result }
     {
@@ -310,7 +312,7 @@ impl Words {
     pub(crate) fn number<R: Source>(&mut self, r: &mut R) -> Result<Number, RefutationError>
         ensures stream { IsErrOf result RefutationError.Stream → R.failed r.new ≡ true }
         ensures fewer { OnOk result (rest R.pulls self.new r.new < rest R.pulls self.old r.old) }
-        ensures number { Gives said_number next_number
+        ensures number { GivesValue said_number next_number
             (place R.left R.failed R.pulls self.old r.old)
             (place R.left R.failed R.pulls self.new r.new) result }
     {
@@ -346,7 +348,8 @@ impl Words {
     pub(crate) fn finish<R: Source>(&mut self, r: &mut R) -> Result<(), RefutationError>
         ensures stream { IsErrOf result RefutationError.Stream → R.failed r.new ≡ true }
         ensures fewer { OnOk result (rest R.pulls self.new r.new ≤ rest R.pulls self.old r.old) }
-        ensures ended { Gives (λ end. end) end_line (place R.left R.failed R.pulls self.old r.old)
+        ensures ended { GivesValue (λ end. end) end_line
+            (place R.left R.failed R.pulls self.old r.old)
             (place R.left R.failed R.pulls self.new r.new) result }
         ensures closed { OnOk result (IsClosed self.new.end) }
     {

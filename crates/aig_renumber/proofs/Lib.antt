@@ -9,3 +9,4 @@ pub mod Same
 pub mod Placed
 pub mod Tables
 pub mod Sets
+pub mod Examples

@@ -11,7 +11,7 @@ mod change;
 mod files;
 mod leaves;
 mod lists;
-mod parts;
+mod nodes;
 mod properties;
 mod script;
 mod show;
@@ -40,7 +40,7 @@ fn take_step<R: Print + Files + AllocGlobal>(
         || lists::take(rt, lists, line)
         || streams::take(rt, script, line)
         || build::take(rt, script, line)
-        || parts::take(rt, &mut script.circuit, line)
+        || nodes::take(rt, &mut script.circuit, line)
         || change::take(rt, script, line)
         || ask::take(rt, script, line)
         || simulation::take(rt, script, line)

@@ -7,7 +7,7 @@ use Rattle.aig_simulation.specs.Named.{IsFault, Shares}
 use Rattle.aig_simulated.specs.declared.claim.Claim.{Claim}
 use Rattle.aig_simulated.specs.declared.error.SimulationError.{SimulationError}
 use Rattle.aig_simulated.specs.declared.error.SimulationError.TheVariants as errors
-use Rattle.aig_simulated.specs.Parts.{MakesClaim}
+use Rattle.aig_simulated.specs.Conditions.{MakesClaim}
 use Rattle.aig_simulated.specs.Simulated.{Claims, HasBads, IsOfClaim, first_verdict, second_verdict}
 
 -- no bad edges are of no bad literals

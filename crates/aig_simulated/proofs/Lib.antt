@@ -1,3 +1,4 @@
+pub mod Examples
 pub mod Telling
 pub mod Turns
 pub mod Claiming

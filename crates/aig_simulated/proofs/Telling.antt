@@ -21,7 +21,7 @@ use Rattle.aig_simulated.specs.declared.error.ConditionError.TheVariants as cond
 use Rattle.aig_simulated.specs.declared.error.SimulationError.{SimulationError}
 use Rattle.aig_simulated.specs.declared.error.SimulationError.TheVariants as errors
 use Rattle.aig_simulated.specs.declared.obligation.Obligation.{Obligation}
-use Rattle.aig_simulated.specs.Parts.{ChecksClaim, HoldsIn, IsAsked}
+use Rattle.aig_simulated.specs.Conditions.{ChecksClaim, HoldsIn, IsAsked}
 use Rattle.aig_simulated.specs.Simulated.{Certifies, Claims, IsClaim, IsNoQuestion, IsObligation, IsOfClaim, IsOfObligation, IsOwn, IsQuestionOf, Obliges, Proofs, first_verdict, proof_for, question_in, second_verdict}
 
 -- ---- the conditions

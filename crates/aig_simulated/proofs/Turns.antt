@@ -8,7 +8,7 @@ use Rattle.aig_simulated.specs.declared.error.ConditionError.{ConditionError}
 use Rattle.aig_simulated.specs.declared.error.ConditionError.TheVariants as conditions
 use Rattle.aig_simulated.specs.declared.error.SimulationError.{SimulationError}
 use Rattle.aig_simulated.specs.declared.error.SimulationError.TheVariants as errors
-use Rattle.aig_simulated.specs.Parts.{ChecksClaim, HoldsIn, TellsAt}
+use Rattle.aig_simulated.specs.Conditions.{ChecksClaim, HoldsIn, TellsAt}
 use Rattle.aig_simulated.specs.Simulated.{LeavesProof, Proofs, TellsOfQuestion, proof_for, question_in, turn_of}
 
 -- what holds of each holds of all
@@ -57,21 +57,21 @@ earlier Step P all other low =
 module _ {P : Type 0} (left : P → Option (List ℕ)) (limit : ℕ) (optimize : Bool) (claim : Claim)
     (proofs : Proofs P) where
   -- what an answer tells of a condition's question
-  abbrev pub Tells : Condition → Result Unit ConditionError → Type 0
-  Tells condition answer =
+  abbrev pub TellsTurn : Condition → Result Unit ConditionError → Type 0
+  TellsTurn condition answer =
       TellsOfQuestion limit optimize (left (proof_for proofs condition))
       (question_in condition claim) answer
 
   -- those before it are shown, and it isn't
   pub stops : (condition : Condition) (e : SimulationError)
-      → Before condition (λ d. Tells d (Ok tt))
+      → Before condition (λ d. TellsTurn d (Ok tt))
       → TellsAt limit optimize (left (proof_for proofs condition)) claim condition (Err e)
       → ChecksClaim left limit optimize claim proofs (Err e)
   stops condition (errors.Condition failing x) before told = (
     λ other low.
-        earlier condition (λ d. Tells d (Ok tt)) before other
+        earlier condition (λ d. TellsTurn d (Ok tt)) before other
         (subst (λ (d : Condition). turn_of other < turn_of d) told.0 low),
-    subst (λ (d : Condition). Tells d (Err x)) (sym told.0) told.1,
+    subst (λ (d : Condition). TellsTurn d (Err x)) (sym told.0) told.1,
   )
   stops condition (errors.Read x) before told = absurd told
   stops condition (errors.Witness x) before told = absurd told
@@ -80,12 +80,12 @@ module _ {P : Type 0} (left : P → Option (List ℕ)) (limit : ℕ) (optimize :
 
   -- those before the last one hold and are shown
   pub ends : (result : Result Unit SimulationError) → Before Step (HoldsIn claim)
-      → Before Step (λ d. Tells d (Ok tt)) → OnOk result (HoldsIn claim Step)
+      → Before Step (λ d. TellsTurn d (Ok tt)) → OnOk result (HoldsIn claim Step)
       → TellsAt limit optimize (left (proof_for proofs Step)) claim Step result
       → ChecksClaim left limit optimize claim proofs result
   ends (Ok done) holds before last told = (
     of_each (HoldsIn claim) holds.0 holds.1 holds.2 holds.3 last,
-    of_each (λ (d : Condition). Tells d (Ok tt)) before.0 before.1 before.2 before.3 told,
+    of_each (λ (d : Condition). TellsTurn d (Ok tt)) before.0 before.1 before.2 before.3 told,
   )
   ends (Err e) holds before last told = stops Step e before told
 

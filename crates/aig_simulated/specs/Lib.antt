@@ -1,2 +1,2 @@
 pub mod Simulated
-pub mod Parts
+pub mod Conditions

@@ -3,7 +3,7 @@
 ghost use Rattle.std.specs.Prelude.{◌≡◌, ◌^◌, ◌≤◌, IsErrOf, IsTrue, OnOk};
 ghost use Rattle.aig_circuit.specs.View.{lists_circuit};
 ghost use Rattle.aig_edits.specs.Pairs.{ReadsPair};
-ghost use Rattle.aig_simulated.specs.Parts.{ChecksClaim, ChecksCondition, HoldsIn, IsUnread};
+ghost use Rattle.aig_simulated.specs.Conditions.{ChecksClaim, ChecksCondition, HoldsIn, IsUnread};
 ghost use Rattle.aig_simulated.specs.Simulated.{Certifies, IsClaim, IsOwn, LeavesProof, TellsOfQuestion, first_verdict, proof_for, proofs_of, question_in, second_verdict};
 ghost use Rattle.aig_simulated.specs.declared.error.ConditionError.TheVariants as conditions;
 ghost use Rattle.aig_simulated.specs.declared.error.SimulationError.TheVariants as errors;

@@ -5,7 +5,7 @@ ghost use Rattle.aig_circuit.specs.Circuit.{IsCircuit};
 ghost use Rattle.aig_circuit.specs.Edges.{HasConstantInit};
 ghost use Rattle.aig_circuit.specs.View.{lists_circuit};
 ghost use Rattle.aig_edits.specs.Pairs.{ReadsPair};
-ghost use Rattle.aig_simulated.specs.Parts.{MakesClaim};
+ghost use Rattle.aig_simulated.specs.Conditions.{MakesClaim};
 ghost use Rattle.aig_simulated.specs.Simulated.{Claims, IsClaim, IsOfClaim, first_verdict, second_verdict};
 
 use crate::error::SimulationError;

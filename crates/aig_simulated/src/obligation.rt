@@ -3,7 +3,7 @@
 ghost use Rattle.std.specs.Prelude.{◌^◌, ◌≤◌, IfOk, OnOk};
 ghost use Rattle.aig_answers.specs.Answers.{AreWrittenFrom};
 ghost use Rattle.aig_edits.specs.Pairs.{ReadsPair};
-ghost use Rattle.aig_simulated.specs.Parts.{AsksClaim};
+ghost use Rattle.aig_simulated.specs.Conditions.{AsksClaim};
 ghost use Rattle.aig_simulated.specs.Simulated.{IsClaim, IsOfObligation, MakesObligation, Obliges, first_verdict, question_in, second_verdict};
 
 use crate::claim::{Claim, read_simulation};

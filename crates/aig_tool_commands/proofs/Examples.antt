@@ -11,7 +11,7 @@ use Rattle.aig_format.specs.declared.FileKind.TheVariants.{Text}
 use Rattle.aig_format.proofs.Words.{File, circuit_of, text_of}
 use Rattle.aig_format.specs.Numbering.{node_of_variable, variables_in_order}
 use Rattle.aig_format.specs.Written.{file_text, line_text}
-use Rattle.aig_command_line.specs.Arguments.{Arguments, Gives, setting_words}
+use Rattle.aig_command_line.specs.Arguments.{Arguments, GivesArguments, setting_words}
 use Rattle.aig_tool_commands.specs.declared.command.Action.{Action}
 use Rattle.aig_tool_commands.specs.declared.command.Action.TheVariants as actions
 use Rattle.aig_tool_commands.specs.declared.command.Command.TheVariants as commands
@@ -48,7 +48,8 @@ no_settings true true distinct is = let not = distinct refl in cc
 no_settings d false distinct is = cc
 
 no_raw : (file steps : List ℕ) (x : Arguments) → x.optimize ≡ true
-    → ¬ Gives (codes "cnf") (form_of actions.Cnf) (codes "cnf" ∷ file ∷ steps ∷ codes "raw" ∷ []) x
+    → ¬ GivesArguments (codes "cnf") (form_of actions.Cnf)
+    (codes "cnf" ∷ file ∷ steps ∷ codes "raw" ∷ []) x
 no_raw file steps x is g =
     let settings = setting_words x.distinct x.optimize in
     let count = ap length g.spelled in
@@ -66,7 +67,8 @@ no_optimized_raw file steps k give =
     let call = give.1 in
     let is = is_cnf call.action call.arguments.step k call.arguments.optimize call.command in
     no_raw file steps call.arguments is.1
-    (subst (λ a. Gives (name_of a) (form_of a) (codes "cnf" ∷ file ∷ steps ∷ codes "raw" ∷ [])
+    (subst (λ a. GivesArguments (name_of a) (form_of a)
+    (codes "cnf" ∷ file ∷ steps ∷ codes "raw" ∷ [])
     call.arguments) is.0 call.gives)
 
 -- ---- texts

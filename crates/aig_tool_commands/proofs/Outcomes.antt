@@ -19,7 +19,7 @@ use Rattle.aig_encode.specs.Encoding.{encoded_verdict}
 use Rattle.aig_tool_commands.specs.declared.command.Command.{Command}
 use Rattle.aig_tool_commands.specs.declared.tool.ToolError.{ToolError}
 use Rattle.aig_tool_commands.specs.declared.tool.ToolError.TheVariants as errors
-use Rattle.aig_tool_commands.specs.Printing.{Prints, bytes_of}
+use Rattle.aig_tool_commands.specs.Printing.{PrintsBytes, bytes_of}
 use Rattle.aig_tool_commands.specs.Running.{AnswersFile, IsErrorOf, Runs, file_verdict, steps_of, verdict_of}
 use Rattle.aig_tool_commands.proofs.Answering.{circuit_answers}
 
@@ -107,7 +107,7 @@ module _ {R W : Type 0} (left : R → Option (List ℕ)) (read_failed : R → Bo
     pub circuit_end : (circuit : Circuit) (result : Result (Unit {0}) ToolError) → steps_of c ≡ None
         → Said (λ f. Accepted) Accepted
         → IsReadAs (λ bytes. Accepts bytes limit) IsFileCircuit (left r) (left rest) circuit
-        → Prints held write_failed c (bytes_of c circuit) w result made
+        → PrintsBytes held write_failed c (bytes_of c circuit) w result made
         → Runs left read_failed held write_failed c limit r w result rest made
     circuit_end circuit (Ok u) none said read prints = answered u (said_by None Accepted none said)
         (circuit_answers c limit (left r) (left rest) _ circuit none read prints)

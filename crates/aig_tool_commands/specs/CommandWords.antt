@@ -3,7 +3,7 @@
 use Rattle.std.specs.Prelude.{◌≡◌, ℕ, Bool, true, List, codes}
 use Rattle.aig_command_line.specs.declared.arguments.ArgumentForm.{ArgumentForm}
 use Rattle.aig_command_line.specs.declared.arguments.Step.TheVariants.{At}
-use Rattle.aig_command_line.specs.Arguments.{Arguments, Gives, of_paths}
+use Rattle.aig_command_line.specs.Arguments.{Arguments, GivesArguments, of_paths}
 use Rattle.aig_tool_commands.specs.declared.command.Action.{Action}
 use Rattle.aig_tool_commands.specs.declared.command.Action.TheVariants as actions
 use Rattle.aig_tool_commands.specs.declared.command.Command.{Command}
@@ -37,7 +37,7 @@ command_of actions.Query k optimize = commands.Query k optimize
 pub record IsCall (words : List (List ℕ)) (c : Command) (paths : List (List ℕ)) : Type 0 where
   pub action : Action
   pub arguments : Arguments
-  pub gives : Gives (name_of action) (form_of action) words arguments
+  pub gives : GivesArguments (name_of action) (form_of action) words arguments
   pub command : c ≡ command_of action arguments.step arguments.optimize
   pub on : paths ≡ arguments.paths
 

@@ -26,11 +26,11 @@ bytes_of c circuit = text_of circuit
 
 -- The bytes are held, or after a failed write a beginning of them. Before anything is written
 -- memory may run out, by an error of the command.
-abbrev pub Prints : {W : Type 0} → (W → Option (List ℕ)) → (W → Bool) → Command → List ℕ → W
+abbrev pub PrintsBytes : {W : Type 0} → (W → Option (List ℕ)) → (W → Bool) → Command → List ℕ → W
     → Result Unit ToolError → W → Type 0
-Prints held failed c bytes w (Ok done) made =
+PrintsBytes held failed c bytes w (Ok done) made =
     Appends (held w) (held made) bytes × (failed made ≡ false)
-Prints held failed c bytes w (Err e) made =
+PrintsBytes held failed c bytes w (Err e) made =
     ((e ≡ errors.Write write.Stream) × Stops (held w) (held made) (failed made) bytes)
     ⊎ ((verdict_of e ≡ Short) × IsErrorOf c e × (made ≡ w))
 

@@ -4,7 +4,7 @@ ghost use Rattle.std.specs.Prelude.{◌≡◌, None};
 ghost use Rattle.aig_format.specs.Writable.{IsWritable};
 ghost use Rattle.aig.specs.declared.aiger.WriteError.TheVariants as write;
 ghost use Rattle.aig_tool_commands.specs.declared.tool.ToolError.TheVariants as errors;
-ghost use Rattle.aig_tool_commands.specs.Printing.{Prints, bytes_of};
+ghost use Rattle.aig_tool_commands.specs.Printing.{PrintsBytes, bytes_of};
 ghost use Rattle.aig_tool_commands.specs.Running.{Runs, steps_of};
 
 use crate::clauses::{print_clauses, query_clauses, read_unrolled};
@@ -89,7 +89,7 @@ impl From<StreamFault> for ToolError {
 /// Prints a circuit: its binary form for `Binary`, after structural hashing for `Strash`, and else as it is.
 fn print_circuit<W: Sink>(circuit: &Aig, c: Command, w: &mut W) -> Result<(), ToolError>
     requires { IsWritable circuit.now }
-    ensures { Prints W.held W.failed c (bytes_of c circuit.now) w.old result w.new }
+    ensures { PrintsBytes W.held W.failed c (bytes_of c circuit.now) w.old result w.new }
 {
     match c {
         Command::Binary => Ok(circuit.write_binary(w)?),

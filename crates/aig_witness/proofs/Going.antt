@@ -64,8 +64,8 @@ abbrev then_lines : List (List Lbool) → List Lbool × List ℕ → Option (Lis
 then_lines steps x = parse_steps_after (steps ++ x.0 ∷ []) [] x.1
 
 -- a line that has begun goes on, where its next value is this one
-abbrev Joins : List (List Lbool) → Lbool → List Lbool → List ℕ → Lbool → Type 0
-Joins steps v row bs w = parse_steps_after steps (v ∷ row ++ w ∷ []) bs ≡
+abbrev GoesOnWith : List (List Lbool) → Lbool → List Lbool → List ℕ → Lbool → Type 0
+GoesOnWith steps v row bs w = parse_steps_after steps (v ∷ row ++ w ∷ []) bs ≡
     (parse_row_after (v ∷ row ++ w ∷ []) bs >>= then_lines steps)
 
 -- a line that has begun, and then the lines after it
@@ -75,13 +75,13 @@ unfolding parse_row_after parse_steps_after
 line_joins steps v row [] = refl
 line_joins steps v row (b ∷ bs) = by_end (λ w. line_joins steps v (row ++ w ∷ []) bs) (eqb b 10)
   where
-    by_value : ((w : Lbool) → Joins steps v row bs w) → (o : Option Lbool)
+    by_value : ((w : Lbool) → GoesOnWith steps v row bs w) → (o : Option Lbool)
         → (o >>= λ w. parse_steps_after steps (v ∷ row ++ w ∷ []) bs) ≡
         ((o >>= λ w. parse_row_after (v ∷ row ++ w ∷ []) bs) >>= then_lines steps)
     by_value joins None = refl
     by_value joins (Some w) = joins w
 
-    by_point : ((w : Lbool) → Joins steps v row bs w) → (t : Bool) → eqb b 46 ≡ t
+    by_point : ((w : Lbool) → GoesOnWith steps v row bs w) → (t : Bool) → eqb b 46 ≡ t
         → cond t None (value_of_letter b >>= λ w. parse_steps_after steps (v ∷ row ++ w ∷ []) bs) ≡
         ((value_of_letter b >>= λ w. parse_row_after (v ∷ row ++ w ∷ []) bs) >>= then_lines steps)
     by_point joins true is =
@@ -89,7 +89,7 @@ line_joins steps v row (b ∷ bs) = by_end (λ w. line_joins steps v (row ++ w �
         then_lines steps)) (sym (eqb-true b 46 is)) refl
     by_point joins false is = by_value joins (value_of_letter b)
 
-    by_end : ((w : Lbool) → Joins steps v row bs w) → (t : Bool)
+    by_end : ((w : Lbool) → GoesOnWith steps v row bs w) → (t : Bool)
         → cond t (parse_steps_after (steps ++ (v ∷ row) ∷ []) [] bs)
         (cond (eqb b 46) None (value_of_letter b >>= λ w. parse_steps_after steps
         (v ∷ row ++ w ∷ []) bs))

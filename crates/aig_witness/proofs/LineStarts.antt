@@ -6,7 +6,7 @@ use Rattle.aig_lexer.proofs.Feeds.{steps_byte}
 use Rattle.aig_witness.specs.declared.solutions.error.SolutionError.{SolutionError}
 use Rattle.aig_witness.specs.declared.solutions.error.SolutionError.TheVariants as errors
 use Rattle.aig_witness.specs.declared.solutions.words.End.{End}
-use Rattle.aig_witness.specs.Lines.{Answers, AnswersLast, FindsLine, GoesOnAnswered, Leaves, Says, TakesAnswer, TakesValueLine, end_of, lines_past, said_from}
+use Rattle.aig_witness.specs.Lines.{SaysAnswer, AnswersLast, FindsLine, GoesOnAnswered, Leaves, Says, TakesAnswer, TakesValueLine, end_of, lines_past, said_from}
 use Rattle.aig_witness.specs.SolverAnswers.{◌>>=◌, begins, is_passed_over, last_answer, lines_after, lines_of, solution_from, take_answer, words_from, wrong_end}
 use Rattle.aig_witness.proofs.Leaving.{leaves_byte, leaves_call, leaves_same, leaves_start, says_call, says_end, says_now}
 use Rattle.aig_witness.proofs.SignedWords.{IsRead, error-weaker, error_call, error_tells}
@@ -285,7 +285,7 @@ module _ (start now : Feed) (old : List Lbool) (answered : Bool) (values : List 
   Whole bytes = solution_from false old (lines_of bytes)
 
   pub taken_end : (e : SolutionError) → e ≡ wrong_end answered → FindsLine {E = Unit {0}} now mid
-      (Ok None) → Answers Whole start mid (Err e) values
+      (Ok None) → SaysAnswer Whole start mid (Err e) values
   taken_end e is h = error_tells start mid e (λ bytes. Whole bytes ≡ Err e)
       (subst IsRead (sym is) (end_read answered))
       (says_call start now mid Taken so_far (λ bytes. lines_past (lines_of bytes) ≡ [])
@@ -302,14 +302,14 @@ module _ (start now : Feed) (old : List Lbool) (answered : Bool) (values : List 
         (λ bytes mid rest taken line. taken ∙ solution_past answered values (lines_of mid)
         ∙ ap (solution_from answered values) line)
 
-    pub taken_answered : b ≢ 118 → answered ≡ true → Answers Whole start mid (Err errors.Line)
+    pub taken_answered : b ≢ 118 → answered ≡ true → SaysAnswer Whole start mid (Err errors.Line)
         values
     taken_answered ne is = says_now start mid (λ bytes rest. Whole bytes ≡ said_from
         (b ∷ []) answered values rest) found (λ bytes. Whole bytes ≡ Err errors.Line)
         (λ bytes rest said. said ∙ ap (λ a. said_from (b ∷ []) a values rest) is
         ∙ answered_from b rest values h.1 ne)
 
-    pub taken_other : b ≢ 118 → answered ≡ false → b ≢ 115 → Answers Whole start mid
+    pub taken_other : b ≢ 118 → answered ≡ false → b ≢ 115 → SaysAnswer Whole start mid
         (Err errors.Answer) values
     taken_other ne is other = says_now start mid (λ bytes rest. Whole bytes ≡ said_from
         (b ∷ []) answered values rest) found (λ bytes. Whole bytes ≡ Err errors.Answer)
@@ -335,7 +335,7 @@ module _ (start now : Feed) (old : List Lbool) (answered : Bool) (values : List 
           (λ bytes mid rest said next. said ∙ next values)
 
       pub wrong_answer : (e : SolutionError) → GoesOnAnswered mid after (Err e)
-          → Answers Whole start after (Err e) values
+          → SaysAnswer Whole start after (Err e) values
       wrong_answer e k = error_call start mid after AnswerFound e (λ bytes. (values : List Lbool)
           → said_from (115 ∷ []) false values bytes ≡ Err e) (λ bytes. Whole bytes ≡ Err e)
           answer_found (λ bytes mid said wrong. said ∙ wrong values) k
@@ -350,7 +350,7 @@ module _ (start now : Feed) (old : List Lbool) (answered : Bool) (values : List 
           ∙ ap (λ k. said_from (k ∷ []) answered values rest) v)
 
       pub taken_all : TakesValueLine answered mid after values (Ok true) new
-          → Answers Whole start after (Ok tt) new
+          → SaysAnswer Whole start after (Ok tt) new
       taken_all k = says_call start mid after ValuesFound values_found
           (λ bytes. said_from (118 ∷ []) answered values bytes ≡ Ok new)
           (λ bytes. Whole bytes ≡ Ok new) k (λ bytes mid said all. said ∙ all)
@@ -363,7 +363,7 @@ module _ (start now : Feed) (old : List Lbool) (answered : Bool) (values : List 
           (λ bytes mid rest said next. said ∙ next)
 
       pub wrong_values : (e : SolutionError) → TakesValueLine answered mid after values (Err e) new
-          → Answers Whole start after (Err e) new
+          → SaysAnswer Whole start after (Err e) new
       wrong_values e k = error_call start mid after ValuesFound e
           (λ bytes. said_from (118 ∷ []) answered values bytes ≡ Err e)
           (λ bytes. Whole bytes ≡ Err e) values_found (λ bytes mid said wrong. said ∙ wrong) k

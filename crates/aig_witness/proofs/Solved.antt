@@ -7,7 +7,7 @@ use Rattle.aig_base.specs.declared.logic.three.Lbool.TheVariants.{NONE}
 use Rattle.aig_lexer.specs.Takes.{Feed}
 use Rattle.aig_witness.specs.declared.solutions.error.SolutionError.{SolutionError}
 use Rattle.aig_witness.specs.declared.solutions.error.SolutionError.TheVariants as errors
-use Rattle.aig_witness.specs.Lines.{Answers}
+use Rattle.aig_witness.specs.Lines.{SaysAnswer}
 use Rattle.aig_witness.specs.SolverAnswers.{GivesSolution, lines_of, solution_from, solution_in}
 use Rattle.aig_witness.proofs.Leaving.{says_known}
 
@@ -21,12 +21,13 @@ module _ (text : Option (List ℕ)) (variables : ℕ) (before after : Feed) (old
   abbrev Whole : List ℕ → Type 0
   Whole bytes = solution_in variables bytes ≡ Ok new
 
-  pub said_values : Answers (λ bytes. solution_from false old (lines_of bytes)) before after
+  pub said_values : SaysAnswer (λ bytes. solution_from false old (lines_of bytes)) before after
       (Ok tt) new → IfSome text Whole
   said_values h = says_known text Whole (λ bytes known. ap (λ v. solution_from false v
       (lines_of bytes)) (sym none) ∙ h bytes (start ∙ known))
 
-  pub said_error : (e : SolutionError) → Answers (λ bytes. solution_from false old (lines_of bytes))
+  pub said_error : (e : SolutionError) → SaysAnswer
+      (λ bytes. solution_from false old (lines_of bytes))
       before after (Err e) new → GivesSolution text variables after.failed (Err e)
   said_error errors.Memory h = tt
   said_error errors.Stream h = h

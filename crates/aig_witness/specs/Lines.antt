@@ -207,10 +207,10 @@ TakesValueLine answered before after old (Err e) new =
     TellsError before after e (λ bytes. said_from (118 ∷ []) answered old bytes ≡ Err e)
 
 -- what bytes say, with an answer or without, is what was answered
-abbrev pub Answers : (List ℕ → Result (List Lbool) SolutionError) → Feed → Feed
+abbrev pub SaysAnswer : (List ℕ → Result (List Lbool) SolutionError) → Feed → Feed
     → Result (Unit {0}) SolutionError → List Lbool → Type 0
-Answers from before after (Ok done) new = Says before (λ bytes. from bytes ≡ Ok new)
-Answers from before after (Err e) new = TellsError before after e (λ bytes. from bytes ≡ Err e)
+SaysAnswer from before after (Ok done) new = Says before (λ bytes. from bytes ≡ Ok new)
+SaysAnswer from before after (Err e) new = TellsError before after e (λ bytes. from bytes ≡ Err e)
 
 -- the same of the answer after all values
 abbrev pub AnswersLast : Feed → Feed → Result (Unit {0}) SolutionError → Type 0

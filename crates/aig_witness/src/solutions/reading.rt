@@ -3,7 +3,7 @@
 ghost use Rattle.std.specs.Prelude.{◌≡◌, false, IfOk, replicate};
 ghost use Rattle.aig_base.specs.declared.logic.three.Lbool.TheVariants.{NONE};
 ghost use Rattle.aig_lexer.specs.Takes.{feed};
-ghost use Rattle.aig_witness.specs.Lines.{Answers, AnswersLast, FindsLine, GoesOnAnswered, TakesValueLine};
+ghost use Rattle.aig_witness.specs.Lines.{SaysAnswer, AnswersLast, FindsLine, GoesOnAnswered, TakesValueLine};
 ghost use Rattle.aig_witness.specs.SolverAnswers.{GivesSolution, lines_of, solution_from, wrong_end};
 
 use crate::solutions::answer::read_answer;
@@ -99,7 +99,7 @@ fn read_lines<R: Source>(
     r: &mut R,
     values: &mut [Lbool],
 ) -> Result<(), SolutionError>
-    ensures { Answers (λ bytes. solution_from false values.old (lines_of bytes))
+    ensures { SaysAnswer (λ bytes. solution_from false values.old (lines_of bytes))
         (feed R.left R.failed R.pulls buffer.old r.old)
         (feed R.left R.failed R.pulls buffer.new r.new) result values.new }
 {

@@ -1,6 +1,6 @@
 use Rattle.aig_base.proofs.Words.{◌≡◌, [], ◌∷◌, ◌++◌, ap, map, ◌∙◌, refl, subst, sym, same_Some}
 use Rattle.std.specs.Prelude.{Result, string_bytes}
-use Rattle.aig_command_line.specs.Ending.{Says, ended}
+use Rattle.aig_command_line.specs.Ending.{WritesLine, ended}
 use Rattle.aig_command_line.specs.Places.{in_whole}
 use Rattle.aig_edit_commands.specs.declared.acting.CommandError.{CommandError}
 use Rattle.aig_edit_commands.specs.Help.{answer_of}
@@ -14,7 +14,8 @@ returns-in-Some g c =
     let is = (c.asked.ensures c.in-Some.question).0 c.in-Some.is in
     record {
       tells = λ q are.
-          subst (λ x. (done : Result (Unit {0}) CommandError) × (c.of.result ≡ ended (in_whole done)) × Says g.W.Sink.held g.W.Sink.failed g.W.Flush.flushed refusals.Write (answer_of x ++ 10 ∷ []) c.args.w.now done c.say.new.w)
+          subst (λ x. (done : Result (Unit {0}) CommandError)
+          × (c.of.result ≡ ended (in_whole done)) × WritesLine g.W.Sink.held g.W.Sink.failed g.W.Flush.flushed refusals.Write (answer_of x ++ 10 ∷ []) c.args.w.now done c.say.new.w)
           (same_Some _ _ (sym c.in-Some.is ∙ (c.asked.ensures q).1 are)) (c.say.result, c.of.ensures ∙ ap ended c.in_whole.ensures, rw c.answer.ensures at c.say.ensures);
       none = (λ e. absurd (never_none c.in_whole.result (sym c.of.ensures ∙ e)), λ no. absurd (no.1 c.in-Some.question is));
       kept = λ e. absurd (never_none c.in_whole.result (sym c.of.ensures ∙ e));

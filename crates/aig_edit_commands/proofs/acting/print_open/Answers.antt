@@ -2,7 +2,7 @@ use Rattle.aig_base.proofs.Words.{refl, subst, sym}
 use Rattle.aig_circuit.proofs.Words.{IsCircuit}
 use Rattle.aig_format.proofs.Words.{IsWritable}
 use Rattle.aig_edits.proofs.ReadFiles.{own_of, refused_file, taken_file}
-use Rattle.aig_edit_commands.specs.Acting.{Prints}
+use Rattle.aig_edit_commands.specs.Acting.{PrintsOfFile}
 use Rattle.aig_edit_commands.proofs.Opening.{open_whole}
 use Rattle.aig_edit_commands.proofs.acting.print_open.Goals as goal
 
@@ -33,7 +33,8 @@ returns-in-Ok g c =
     let w = c.args.w.now in
     let made = c.write_flushed.new.w in
     let reads = taken_file left failed limit c.args.r told.rest
-    (Prints held write_failed limit command w made) c.in-Ok.lists done told.verdict told.circuit
+    (PrintsOfFile held write_failed limit command w made) c.in-Ok.lists done told.verdict
+    told.circuit
     written.never_read (own_of done written.never_read) (λ f fits is. written.prints f limit fits is)
     in
     rw c.in_whole.ensures (
@@ -49,7 +50,7 @@ returns-in-Err g c =
       told.rest,
       record {
         reads = refused_file g.R.Source.left g.R.Source.failed c.args.limit c.args.r told.rest
-            (Prints g.W.Sink.held g.W.Sink.failed c.args.limit c.args.command.now w w)
+            (PrintsOfFile g.W.Sink.held g.W.Sink.failed c.args.limit c.args.command.now w w)
             c.in-Err.refused.error told.verdict told.own;
         kept = λ un. refl;
         done = tt;

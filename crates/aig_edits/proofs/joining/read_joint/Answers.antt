@@ -1,6 +1,6 @@
 use Rattle.std.proofs.Common.{refl}
 use Rattle.aig_circuit.specs.View.{lists_circuit}
-use Rattle.aig_edits.specs.Joints.{IsOwn, Joins, first_verdict, second_verdict}
+use Rattle.aig_edits.specs.Joints.{IsOwn, IsJoined, first_verdict, second_verdict}
 use Rattle.aig_edits.proofs.JointFiles.{circuits_read, first_taken, join_circuit, join_own, lists_join, second_taken}
 use Rattle.aig_edits.proofs.Reading.{reads_on}
 use Rattle.aig_edits.proofs.joining.read_joint.Goals as goal
@@ -29,7 +29,8 @@ returns-clause-reads g c =
     let a = lists_circuit own in
     let b = lists_circuit other in
     reads_on g.R.Source.left g.R.Source.failed g.S.Source.left g.S.Source.failed c.args.limit
-    c.args.first.now c.args.second.now _ _ (Joins pairing) first_verdict second_verdict IsOwn made
+    c.args.first.now c.args.second.now _ _ (IsJoined pairing) first_verdict second_verdict IsOwn
+    made
     c.in_ok-own.ensures (first_taken pairing a b made told) (second_taken pairing a b made told)
     (join_own pairing a b made told)
     (λ f h bytes others is also lists. lists_join c.args.limit c.requires.few f h bytes others is

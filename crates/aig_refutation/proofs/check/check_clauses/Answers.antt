@@ -4,7 +4,7 @@ use Rattle.aig_base.specs.Formula.{IsSatisfiable, clauses_in}
 use Rattle.aig_refutation.specs.declared.error.RefutationError.TheVariants as errors
 use Rattle.aig_refutation.specs.Checking.{IsInConflict, Shows, are_all_in}
 use Rattle.aig_refutation.specs.Concluding.{ConcludesConflict}
-use Rattle.aig_refutation.specs.Tokens.{Tells}
+use Rattle.aig_refutation.specs.Tokens.{TellsOfText}
 use Rattle.aig_refutation.proofs.Formulas.{formula_inside, shows_conflict, shows_memory, shows_refused}
 use Rattle.aig_refutation.proofs.Conflicts.{conflict_fails}
 use Rattle.aig_refutation.proofs.check.check_clauses.Goals as goal
@@ -16,7 +16,7 @@ returns-in_err-number_clauses-clause-shown g c formula same fresh =
     let p = err_from_is_err_and c.from_residual.result c.from_residual.ensures.1 in
     rw (p.1, p.2)
     (shows_refused (length c.args.cnf.now) clauses (g.R.Source.left c.args.r.now) e (subst (λ (n :
-    ℕ). Tells e ((e ≡ errors.Variable) × (are_all_in n clauses ≡ false))) same
+    ℕ). TellsOfText e ((e ≡ errors.Variable) × (are_all_in n clauses ≡ false))) same
     (c.in_err-number_clauses.ensures.refused formula)))
 
 pub returns-in_err-refutes_at_once-clause-shown : goal.returns-in_err-refutes_at_once-clause-shown

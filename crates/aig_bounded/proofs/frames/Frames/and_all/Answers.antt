@@ -2,7 +2,7 @@ use Rattle.aig_base.proofs.Words.{◌≡◌, false, map, refl, ap, length, subst
 use Rattle.aig_circuit.specs.declared.edge.AigEdge.{AigEdge}
 use Rattle.aig_circuit.specs.Edge.{edge_to}
 use Rattle.aig_unroll.specs.Frame.{image_in}
-use Rattle.aig_bounded.specs.Frames.{Gives, net_of}
+use Rattle.aig_bounded.specs.Frames.{MakesEdge, net_of}
 use Rattle.aig_bounded.specs.Shared.{made_in, shared_ands}
 use Rattle.aig_bounded.proofs.Exactly.{ands-more}
 use Rattle.aig_bounded.proofs.Counted.{AddsUpTo-done, AddsUpTo-stops}
@@ -44,7 +44,8 @@ returns-clause-exact c =
 pub returns-clause-gives : goal.returns-clause-gives
 returns-clause-gives c =
     let whole = take_all c.loop-edge.edge-index c.args.edges.now c.loop-edge-test.false in
-    subst (λ es. Gives (all_true c.args.self.now c.args.images.now c.args.first es) c.args.self.now c.loop-edge.self c.loop-edge.all) whole c.loop-edge.invariant.so_far
+    subst (λ es. MakesEdge (all_true c.args.self.now c.args.images.now c.args.first es)
+    c.args.self.now c.loop-edge.self c.loop-edge.all) whole c.loop-edge.invariant.so_far
 
 pub returns-in_err-all-clause-size : goal.returns-in_err-all-clause-size
 returns-in_err-all-clause-size c =

@@ -2,7 +2,7 @@ use Rattle.aig_base.proofs.Words.{◌≡◌, false, map, ap, length, subst, arit
 use Rattle.aig_circuit.specs.declared.edge.AigEdge.{AigEdge}
 use Rattle.aig_circuit.specs.Edge.{edge_to}
 use Rattle.aig_unroll.specs.Frame.{image_in}
-use Rattle.aig_bounded.specs.Frames.{Gives, net_of}
+use Rattle.aig_bounded.specs.Frames.{MakesEdge, net_of}
 use Rattle.aig_bounded.specs.Shared.{made_in, shared_ors}
 use Rattle.aig_bounded.proofs.Exactly.{ors-more}
 use Rattle.aig_bounded.proofs.Counted.{AddsUpTo-done, AddsUpTo-stops}
@@ -44,7 +44,8 @@ returns-clause-exact c =
 pub returns-clause-gives : goal.returns-clause-gives
 returns-clause-gives c =
     let whole = take_all c.loop-edge.edge-index c.args.edges.now c.loop-edge-test.false in
-    subst (λ es. Gives (any_true c.args.self.now c.args.images.now es) c.args.self.now c.loop-edge.self c.loop-edge.any) whole c.loop-edge.invariant.so_far
+    subst (λ es. MakesEdge (any_true c.args.self.now c.args.images.now es) c.args.self.now
+    c.loop-edge.self c.loop-edge.any) whole c.loop-edge.invariant.so_far
 
 pub returns-in_err-any-clause-size : goal.returns-in_err-any-clause-size
 returns-in_err-any-clause-size c =

@@ -1,5 +1,5 @@
 -- Serves private clauses alone.
--- What the parts of an answer do.
+-- What is done for each condition, and for all.
 use Rattle.std.specs.Prelude.{◌≡◌, ◌≢◌, ℕ, ◌<◌, ◌≤◌, Bool, IsErrOf, IsTrue, List, [], OnOk, length, Option, Result, Ok, Err}
 use Rattle.aig_circuit.specs.Circuit.{Circuit}
 use Rattle.aig_circuit.specs.View.{lists_circuit}

@@ -3,7 +3,7 @@ use Rattle.aig_base.specs.Clauses.{AreBelow}
 use Rattle.aig_runs.specs.WindowClauses.{AsksWindow, induction_clauses}
 use Rattle.aig_runs.specs.declared.window.Window.TheVariants.{Plain}
 use Rattle.aig_answers.proofs.Asking.{asked_of, below_of}
-use Rattle.aig_answers.proofs.parts.window_parts.Goals as goal
+use Rattle.aig_answers.proofs.clause_parts.window_parts.Goals as goal
 
 pub returns-clause-written : goal.returns-clause-written
 returns-clause-written c =

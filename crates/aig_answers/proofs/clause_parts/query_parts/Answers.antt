@@ -3,7 +3,7 @@ use Rattle.aig_base.specs.Clauses.{AreBelow}
 use Rattle.aig_circuit.specs.Circuit.{Circuit}
 use Rattle.aig_cnf.specs.Cnf.{AreNeeded}
 use Rattle.aig_runs.specs.CircuitQueries.{AsksOfCircuit}
-use Rattle.aig_answers.proofs.parts.query_parts.Goals as goal
+use Rattle.aig_answers.proofs.clause_parts.query_parts.Goals as goal
 
 pub returns-clause-written : goal.returns-clause-written
 returns-clause-written c =

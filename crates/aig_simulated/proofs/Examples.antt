@@ -1,0 +1,163 @@
+-- Turns of conditions, the questions of a small witness circuit and what errors say, computed; and
+-- wrong answers, of which the definitions are false.
+use Rattle.aig_base.proofs.Words.{◌≡◌, ◌≢◌, ℕ, ◌<◌, ◌≤◌, Bool, true, false, None, Option, Ok, Err, List, [], ◌∷◌, length, slice_index_or, refl, ap, subst, arith, empty}
+use Rattle.aig_circuit.specs.declared.edge.AigEdge.{AigEdge}
+use Rattle.aig_circuit.specs.declared.node.AigNodeType.{AigNodeType}
+use Rattle.aig_circuit.specs.declared.node.AigNodeType.TheVariants.{False, Leaf}
+use Rattle.aig_circuit.specs.declared.node.AigNode.{AigNode}
+use Rattle.aig_circuit.proofs.Words.{Circuit, edge_to, no_properties}
+use Rattle.aig_format.specs.declared.FileKind.TheVariants.{Text}
+use Rattle.aig_format.proofs.Words.{File, circuit_of}
+use Rattle.aig_format.specs.Numbering.{node_of_variable, variables_in_order}
+use Rattle.aig_reader.specs.Verdicts.{Accepted, Refused}
+use Rattle.aig_reader.specs.declared.error.ReadError.TheVariants as read
+use Rattle.aig_refutation.specs.declared.error.RefutationError.{RefutationError}
+use Rattle.aig_refutation.specs.declared.error.RefutationError.TheVariants as refutation
+use Rattle.aig_simulation.specs.Exact.{model_leaf, question_of}
+use Rattle.aig_simulation.specs.declared.condition.Condition.{Condition}
+use Rattle.aig_simulation.specs.declared.condition.Condition.TheVariants.{Transition, Property, Base, Step}
+use Rattle.aig_simulation.specs.declared.error.QuestionError.TheVariants as questions
+use Rattle.aig_simulated.specs.declared.claim.Claim.{Claim}
+use Rattle.aig_simulated.specs.declared.error.ConditionError.{ConditionError}
+use Rattle.aig_simulated.specs.declared.error.ConditionError.TheVariants as conditions
+use Rattle.aig_simulated.specs.declared.error.SimulationError.TheVariants as errors
+use Rattle.aig_simulated.specs.Simulated.{Certifies, Claims, IsNoQuestion, IsOfObligation, IsQuestionOf, LeavesProof, Obliges, Proofs, TellsOfQuestion, first_verdict, proof_for, proofs_of, second_verdict}
+
+-- ---- errors
+
+-- a witness circuit with a bad header says nothing of the file
+witness-verdicts : (first_verdict (errors.Witness read.Header) ≡ Accepted)
+    × (second_verdict (errors.Witness read.Header) ≡ Refused)
+witness-verdicts = (refl, refl)
+
+-- the file is refused for it
+no_file_refused : first_verdict (errors.Witness read.Header) ≢ Refused
+no_file_refused is = let said : Accepted ≡ Refused = is in cc
+
+-- clauses for one condition are refused for another, or as a proof would be
+no_other_condition : ¬ IsOfObligation Base
+    (errors.Condition Step (conditions.Question questions.TooLarge))
+no_other_condition own = let same : Step ≡ Base = own.0 in cc
+
+no_proof_read : ¬ IsOfObligation Base
+    (errors.Condition Base (conditions.Refutation refutation.Line))
+no_proof_read own = own.1
+
+-- ---- proofs
+
+abbrev five : Proofs ℕ
+five = proofs_of 10 11 12 13 14
+
+-- the proofs of `base` and `step` are turned round
+base-proof : proof_for five Base ≡ 13
+base-proof = refl
+
+no_proofs_turned : proof_for five Base ≢ 14
+no_proofs_turned is = let proof : 13 ≡ 14 = is in omega (arith, proof)
+
+-- the proof of a condition without clauses stays as it is
+left-proof : LeavesProof Property
+    (Err (errors.Condition Property (conditions.Question questions.TooLarge)))
+left-proof = let turn : 2 ≤ 2 = omega arith in turn
+
+-- one that is refused stays too, or one of an earlier condition
+no_refused_left : ¬ LeavesProof Property
+    (Err (errors.Condition Property (conditions.Refutation refutation.Line)))
+no_refused_left leaves = let turn : 2 < 2 = leaves in omega (arith, turn)
+
+no_earlier_left : ¬ LeavesProof Transition
+    (Err (errors.Condition Property (conditions.Question questions.TooLarge)))
+no_earlier_left leaves = let turn : 2 ≤ 1 = leaves in omega (arith, turn)
+
+-- ---- questions
+
+-- latch 1 turns from 0, and is bad where it is 1
+abbrev toggled : File
+toggled = record {
+  kind = Text;
+  greatest = 1;
+  inputs = [];
+  latches = record { literal = 2; next = 3; reset = None } ∷ [];
+  properties = record no_properties { bads = 2 ∷ [] };
+  gates = [];
+  names = [];
+}
+
+abbrev node : ℕ → AigNodeType → AigNode
+node n kind = record { node_id = n; typ = kind }
+
+-- a question of one leaf, its latch, with this bad edge
+abbrev asking : AigEdge → Circuit
+asking bad = record {
+  nodes = node 0 False ∷ node 1 Leaf ∷ [];
+  inputs = 1 ∷ [];
+  latchs = [];
+  properties = record no_properties { bads = bad ∷ [] };
+  names = empty;
+}
+
+abbrev question : Condition → Circuit
+question condition =
+    question_of condition (model_leaf ((1, 1) ∷ [])) (circuit_of toggled) (circuit_of toggled)
+
+-- it starts in a good state, and from that it comes to a bad one
+base-question : question Base ≡ asking (edge_to 0 false)
+unfolding node_of_variable variables_in_order
+base-question = refl
+
+step-question : question Step ≡ asking (edge_to 1 true)
+unfolding node_of_variable variables_in_order
+step-question = refl
+
+-- the question for `step` is asked for `base`
+no_step_for_base : ¬ IsQuestionOf Base toggled toggled (asking (edge_to 1 true))
+unfolding node_of_variable variables_in_order
+no_step_for_base is =
+    let bad : 1 ≡ 0 =
+    ap (λ (q : Circuit). (slice_index_or q.properties.bads 0 (edge_to 0 false)).node_id) is.2 in
+    omega (arith, bad)
+
+-- two nodes don't fit where one does
+limit-passed : (optimize : Bool) (text : Option (List ℕ)) (bad : AigEdge)
+    → TellsOfQuestion 1 optimize text (asking bad) (Err (conditions.Question questions.TooLarge))
+limit-passed optimize text bad = let many : 1 < 2 = omega arith in many
+
+-- and aren't answered there, or refused where two fit
+no_answer_past_limit : (optimize : Bool) (text : Option (List ℕ)) (bad : AigEdge)
+    → ¬ TellsOfQuestion 1 optimize text (asking bad) (Ok tt)
+no_answer_past_limit optimize text bad told =
+    let few : 2 ≤ 1 = told.0 in omega (arith, few)
+
+no_limit_short : (bad : AigEdge) → ¬ IsNoQuestion 2 (asking bad) questions.TooLarge
+no_limit_short bad none = let many : 2 < 2 = none in omega (arith, many)
+
+-- ---- answers
+
+-- the file without its bad literal
+abbrev silent : File
+silent = record toggled { properties = no_properties }
+
+silent-claim : Claims silent toggled (Err errors.NoBads)
+silent-claim = refl
+
+-- it is claimed to be safe
+no_claim : (claim : Claim) → ¬ Claims silent toggled (Ok claim)
+no_claim claim told = told.0 refl
+
+-- a bad literal is passed over
+no_bads_lost : ¬ Claims toggled toggled (Err errors.NoBads)
+no_bads_lost told = let none : 1 ≡ 0 = ap length told in omega (arith, none)
+
+-- `step` isn't shown, and `base` was passed over, whose question doesn't fit
+no_base_passed : (optimize : Bool) (texts : Condition → Option (List ℕ)) (e : ConditionError)
+    → ¬ Certifies 1 optimize texts toggled toggled (Err (errors.Condition Step e))
+unfolding node_of_variable variables_in_order
+no_base_passed optimize texts e told =
+    let base = told.1 Base (omega arith) in
+    let few : 2 ≤ 1 = subst (λ (q : Circuit). length q.nodes ≤ 1) base.1.2 base.2.0 in
+    omega (arith, few)
+
+-- clauses are refused as a proof would be
+no_clauses_checked : (limit : ℕ) (optimize : Bool) (f g : File) (e : RefutationError)
+    → ¬ Obliges limit optimize Base f g (Err (errors.Condition Base (conditions.Refutation e)))
+no_clauses_checked limit optimize f g e told = told
