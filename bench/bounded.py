@@ -1,9 +1,9 @@
 #!/usr/bin/env python3
-"""Measures bounded checks by one question beside ABC's: bounded.py [STEP ..]
+"""Measures bounded checks by one question beside ABC's: bounded.py [--lrat SOLVER] [STEP ..]
 
 For the designs of tests/designs and six machines that are made (`machines.py`), up to each STEP (20, 50): processor seconds of `aigcheck
-bounded`, of cadical, which is asked about one step after the other as by aigprove, of `aigcheck refuted FILE to K` or `witness FILE to K`,
-of all three, and of ABC's `bmc3`, and what part of the last the sum is; what part of the solver's time question and check are; and what
+bounded`, of cadical, which is asked about one step after the other as by aigprove (or of SOLVER, a cadical from 1.7 on, which is asked
+once and writes LRAT), of `aigcheck refuted FILE to K` or `witness FILE to K`, of all three, and of ABC's `bmc3`, and what part of the last the sum is; what part of the solver's time question and check are; and what
 part of bmc3's the solver is alone. What makes the solver's file counts as a part of the question. Then means, also of the rows where the
 solver takes no longer than bmc3, and sums over the six machines.
 Times below 10 ms count as 10 ms. A program has 20 seconds by the clock; a row where one takes longer counts for nothing."""
@@ -28,16 +28,25 @@ def timed(words, out=os.devnull):
     return status, max(seconds, LEAST)
 
 
-def asked(file, step, folder):
+def solver_words(solver, clauses, folder):
+    """The words that ask a solver about clauses: one that writes LRAT, or else cadical, in turn."""
+    if solver:
+        return [solver, "-q", "--lrat=1", "--no-binary", clauses]
+    turns = folder / "turns"
+    turns.write_bytes(b"".join(in_turn(clauses.read_bytes())))
+    return ["cadical", "-q", "--no-binary", ASSUMING, turns]
+
+
+def asked(file, step, folder, solver):
     """What is answered, and the seconds of the question, of the solver and of the check."""
-    clauses, turns, proof, solution = (folder / name for name in ["clauses", "turns", "proof", "solution"])
+    clauses, proof, solution = (folder / name for name in ["clauses", "proof", "solution"])
     status, making = timed([CHECK, "bounded", file, step], clauses)
     if status == 20:
         return "settled", making, 0, 0
     before = time.process_time()
-    turns.write_bytes(b"".join(in_turn(clauses.read_bytes())))
+    words = solver_words(solver, clauses, folder)
     making += time.process_time() - before
-    status, solving = timed(["cadical", "-q", "--no-binary", ASSUMING, turns, proof], solution)
+    status, solving = timed([*words, proof], solution)
     if status not in (10, 20):
         return "-", making, solving, 0
     answer, command, given = ("refuted", "refuted", proof) if status == 20 else ("reached", "witness", solution)
@@ -50,11 +59,11 @@ def told(ratios):
     return f"{statistics.geometric_mean(ratios):.2f}, at most {max(ratios):.2f} (of {len(ratios)})" if ratios else "none"
 
 
-def measure(step, files, folder):
+def measure(step, files, folder, solver):
     """Prints the rows of one step, and what they come to."""
     all_to_abc, where_less, own_to_solver, sums = [], [], [], [0, 0]
     for file in files:
-        answer, making, solving, checking = asked(file, step, folder)
+        answer, making, solving, checking = asked(file, step, folder, solver)
         ended, abc = timed(["berkeley-abc", "-q", f"read_aiger {file}; logic; undc; strash; zero; fold; bmc3 -F {step + 1}"])
         total = making + solving + checking
         row(file.stem, step, answer, *(f"{seconds:.2f}" for seconds in [making, solving, checking, total, abc, total / abc]))
@@ -72,14 +81,15 @@ def measure(step, files, folder):
 def main():
     words = parser(__doc__)
     words.add_argument("steps", metavar="STEP", nargs="*", type=int, default=[20, 50])
-    steps = words.parse_args().steps
+    words.add_argument("--lrat", metavar="SOLVER")
+    options = words.parse_args()
     heads("file", "step", "answer", "question", "solver", "check", "all", "bmc3", "all / bmc3")
     with new_folder() as folder:
         made = [folder / f"{make.__name__}.aig" for make in MACHINES]
         for file, make in zip(made, MACHINES):
             file.write_bytes(make().binary())
-        for step in steps:
-            measure(step, [*sorted(DESIGNS.glob("*.aig")), *made], folder)
+        for step in options.steps:
+            measure(step, [*sorted(DESIGNS.glob("*.aig")), *made], folder, options.lrat)
 
 
 if __name__ == "__main__":

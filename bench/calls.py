@@ -73,6 +73,7 @@ def main():
     words.add_argument("files", type=pathlib.Path, nargs="*")
     given = words.parse_args()
     os.environ.setdefault("LIBAIG", str(TOP / "crates" / "aig_calls" / "out" / "libaig.so"))
+    run([TOP / "lib" / "clients.py"])
     sys.path.insert(0, str(TOP / "lib" / "python"))
     import aig
 

@@ -1,14 +1,15 @@
 #!/usr/bin/env python3
-"""Writes the clients of the library for C from include/aig.h: clients.py [--check]
+"""Writes the clients of the library for C from include/aig.h.
 
-The header's declarations and their comments are the table of the calls. Of it are made lib/rust/src/calls.rs and made.rs, what stands in
-lib/python/aig.py behind its line `# ---- made`, and tests/clients/made.h and made.rs, by which rows are run through each call that
-gives bytes or numbers or checks something. One number is returned alone, and several as what RESULTS says, which is written by hand, as
-is each call with other results. --check writes nothing, and fails where a file isn't what would be written.
+The header's declarations and their comments are the table of the calls. Of it are made lib/python/aig_calls.py, lib/rust/src/calls.rs and
+made.rs, and tests/clients/made.h and made.rs, by which rows are run through each call that gives bytes or numbers or checks something.
+One number is returned alone, and several as what RESULTS says, which is written by hand, as is each call with other results.
+
+These files are not kept by git: ./install, lib/rust/build.rs and the tests have them made. One that is as it should be stays untouched.
 """
+import os
 import pathlib
 import re
-import sys
 import textwrap
 
 TOP = pathlib.Path(__file__).resolve().parent.parent
@@ -21,6 +22,8 @@ RUST = {"const uint8_t*": "*const u8", "uint8_t*": "*mut u8", "int32_t*": "*mut 
 RUST |= {"size_t": "usize", "uint64_t": "u64", "uint32_t": "u32", "bool": "bool"}
 PYTHON = {"uint8_t*": "_U8", "int32_t*": "_I32", "size_t*": "_SIZES", "const uint8_t*": "_TEXT"}
 PYTHON |= {"size_t": "_size", "uint64_t": "_step", "uint32_t": "ctypes.c_uint32", "bool": "_bool"}
+# What the calls in Python take from lib/python/aig.py.
+SHARED = "_I32 _SIZES _TEXT _U8 _bool _bytes _declare _given _hold _number _size _step _steps _told".split()
 # What clients in Rust and Python return of several numbers, whose fields have their names.
 RESULTS = {("bad", "step"): "Shown", ("justice", "start", "last"): "Lasso"}
 
@@ -160,12 +163,12 @@ def python_call(call):
 
 
 def python_files(found):
-    path = "lib/python/aig.py"
-    head = (TOP / path).read_text(encoding="utf-8").split("# ---- made")[0]
+    head = f'"""The calls of `aig.h`, for the module aig: {WRITTEN}."""\nfrom __future__ import annotations\n\nimport ctypes\n\n'
+    head += f"from aig import {', '.join(sorted([*SHARED, *RESULTS.values()]))}\n\n"
     takes = "\n".join(f'    "{call.full}": [{", ".join(PYTHON[kind] for kind, _ in call.parameters)}],' for call in found)
     names = textwrap.fill(" ".join(call.name for call in found if call.is_plain), WIDTH - 4, initial_indent="    ", subsequent_indent="    ")
-    text = f"# ---- made: {WRITTEN}\n\n# What each call takes.\n_declare({{\n{takes}\n}})\n\n__all__ += \"\"\"\n{names}\n\"\"\".split()\n"
-    yield path, head + text + "".join("\n\n" + python_call(call) for call in found if call.is_plain)
+    text = f"# What each call takes.\n_declare({{\n{takes}\n}})\n\n__all__ = \"\"\"\n{names}\n\"\"\".split()\n"
+    yield "lib/python/aig_calls.py", head + text + "".join("\n\n" + python_call(call) for call in found if call.is_plain)
 
 
 # ---- C
@@ -193,17 +196,15 @@ def c_files(found):
 
 
 def main():
-    found, wrong = calls(), []
+    found = calls()
     for path, text in [*rust_files(found), *python_files(found), *c_files(found)]:
         file = TOP / path
         if not file.is_file() or file.read_text(encoding="utf-8") != text:
-            wrong.append(path)
-            if "--check" not in sys.argv:
-                file.write_text(text, encoding="utf-8")
-    for path in wrong:
-        print(f"{'not current' if '--check' in sys.argv else 'written'}: {path}")
-    return int("--check" in sys.argv and bool(wrong))
+            # Whoever reads it meanwhile has the old text or the new one.
+            written = file.with_name(f".{file.name}.{os.getpid()}")
+            written.write_text(text, encoding="utf-8")
+            written.replace(file)
 
 
 if __name__ == "__main__":
-    sys.exit(main())
+    main()

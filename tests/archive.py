@@ -4,6 +4,7 @@
 Puts libaig.a and libaig.so into crates/aig_calls/out, if they aren't there of this text, and into the folder. `aig_calls` is proved and
 compiled over the libraries that `rt` built of the crates below it, as they are: so a run of `rt ci` has to come before, or `rt lib` in
 crates/aig_calls. Nothing below is proved again. What C's heap takes is linked in, and both files have the names of include/aig.h alone.
+Of that header lib/clients.py makes what the clients in Python and Rust have.
 
 Needs a C compiler ($CC, cc) and binutils.
 """
@@ -61,6 +62,7 @@ def main():
     words = parser(__doc__)
     words.add_argument("folder", nargs="?", type=pathlib.Path)
     folder = words.parse_args().folder
+    run(TOP / "lib" / "clients.py")
     crate, out = kit.crate(CRATE, TOP), CRATE / "out"
     crate.out = sys.stderr
     out.mkdir(exist_ok=True)

@@ -1,5 +1,5 @@
 -- Words give one command.
-use Rattle.aig_base.proofs.Words.{◌⊎◌, Bool, true, false, length, length-append, map, map-append, inl, inr, ◌++◌, Global, ◌≡◌, ◌↔◌, ℕ, List, ◌∷◌, [], Some, refl, sym, ap, ◌∙◌, arith, same_Some, true≢false}
+use Rattle.aig_base.proofs.Words.{◌⊎◌, Bool, true, false, length, length-append, cond, map, map-append, inl, inr, ◌++◌, Global, ◌≡◌, ◌↔◌, ℕ, List, ◌∷◌, [], Some, refl, sym, ap, ◌∙◌, arith, same_Some, suc, true≢false}
 use Rattle.std.specs.Prelude.{All, Contains, Err, IfNone, None, Ok, Option, Result, String, codes, slice_index, slice_index_or, string_bytes}
 use Rattle.aig_format.specs.Text.{IsNumber, value_of}
 use Rattle.aig_command_line.specs.declared.help.Help.{Help}
@@ -8,6 +8,7 @@ use Rattle.aig_command_line.specs.Help.{word_of}
 use Rattle.aig_command_line.specs.declared.status.Ending.TheVariants as endings
 use Rattle.aig_command_line.specs.Ending.{ended}
 use Rattle.aig_command_line.specs.Arguments.{Arguments, GivesArguments, further_of}
+use Rattle.aig_command_line.specs.declared.arguments.ArgumentForm.{ArgumentForm}
 use Rattle.aig_command_line.specs.declared.arguments.Given.{Given}
 use Rattle.aig_command_line.specs.Limits.{IsLimited}
 use Rattle.aig_command_line.proofs.Apart as apart
@@ -28,24 +29,16 @@ use Rattle.aig_check_commands.specs.declared.justice.Justice.{Justice}
 use Rattle.aig_check_commands.specs.Justice.{AreJustice, IsNumbered, is_asked}
 use Rattle.aig_check_commands.specs.CommandWords.{AreCommand, FitNone, Give, IsAlone, IsCall, IsOf, IsOnWitness, IsWhole, beside_of, command_of, form_of, name_of, paths_of, raw_alone, raw_word, witness_form, witness_name}
 
+-- where a command stands in a list, by a test that computes
+abbrev place_in : {A : Type 0} → (A → List ℕ) → (A → ArgumentForm) → A → List A → ℕ
+place_in name form a [] = 0
+place_in name form a (x ∷ xs) =
+    cond (apart.exclude name form a x) (suc (place_in name form a xs)) 0
+
 -- each command is in the list
 pub among : (a : Action) → Contains ALL a
-among actions.Clauses = (0, omega arith, refl)
-among actions.Window = (1, omega arith, refl)
-among actions.Refuted = (2, omega arith, refl)
-among actions.Inductive = (3, omega arith, refl)
-among actions.Witness = (4, omega arith, refl)
-among actions.Run = (5, omega arith, refl)
-among actions.Certified = (6, omega arith, refl)
-among actions.Equal = (7, omega arith, refl)
-among actions.Obligations = (8, omega arith, refl)
-among actions.Bounded = (9, omega arith, refl)
-among actions.RefutedTo = (10, omega arith, refl)
-among actions.WitnessTo = (11, omega arith, refl)
-among actions.Safe = (12, omega arith, refl)
-among actions.AlwaysEqual = (13, omega arith, refl)
-among actions.EqualBy = (14, omega arith, refl)
-among actions.SafeBySteps = (15, omega arith, refl)
+among actions.Clauses = (place_in name_of form_of actions.Clauses ALL, omega arith, refl)
+among a = (place_in name_of form_of a ALL, omega arith, refl)
 
 -- what holds of each in the list holds of each
 pub each : (P : Action → Type 0) → All P ALL → (a : Action) → P a
@@ -178,8 +171,9 @@ one_alone words c d x y g h =
 
 -- each is in the list
 witness_among : (a : WitnessAction) → Contains on_witness.ALL a
-witness_among witness.Certified = (0, omega arith, refl)
-witness_among witness.Obligations = (1, omega arith, refl)
+witness_among witness.Certified =
+    (place_in witness_name witness_form witness.Certified on_witness.ALL, omega arith, refl)
+witness_among a = (place_in witness_name witness_form a on_witness.ALL, omega arith, refl)
 
 -- words give one of them, and one list of what it takes
 one_witness : (words : List (List ℕ)) (a b : WitnessAction) (x y : Arguments)
@@ -472,41 +466,13 @@ never_none (Err e) is = cc
 -- ---- what is given beside the files
 
 -- a command has as many paths as its form
-pub paths_fit : (a : Action) (k : ℕ) (d o : Bool) → paths_of (command_of a k d o) ≡ (form_of
-    a).paths
+pub paths_fit : (a : Action) (k : ℕ) (d o : Bool)
+    → paths_of (command_of a k d o) ≡ (form_of a).paths
 paths_fit actions.Clauses k d o = refl
-paths_fit actions.Window k d o = refl
-paths_fit actions.Refuted k d o = refl
-paths_fit actions.Inductive k d o = refl
-paths_fit actions.Witness k d o = refl
-paths_fit actions.Run k d o = refl
-paths_fit actions.Certified k d o = refl
-paths_fit actions.Equal k d o = refl
-paths_fit actions.Obligations k d o = refl
-paths_fit actions.Bounded k d o = refl
-paths_fit actions.RefutedTo k d o = refl
-paths_fit actions.WitnessTo k d o = refl
-paths_fit actions.Safe k d o = refl
-paths_fit actions.AlwaysEqual k d o = refl
-paths_fit actions.EqualBy k d o = refl
-paths_fit actions.SafeBySteps k d o = refl
+paths_fit a k d o = refl
 
 -- and as many beside them
-pub beside_fit : (a : Action) (k : ℕ) (d o : Bool) → beside_of (command_of a k d o)
-    ≡ further_of (form_of a) k
-beside_fit actions.Clauses k d o = refl
-beside_fit actions.Window k d o = refl
-beside_fit actions.Refuted k d o = refl
-beside_fit actions.Inductive k d o = refl
-beside_fit actions.Witness k d o = refl
-beside_fit actions.Run k d o = refl
-beside_fit actions.Certified k d o = refl
-beside_fit actions.Equal k d o = refl
-beside_fit actions.Obligations k d o = refl
-beside_fit actions.Bounded k d o = refl
-beside_fit actions.RefutedTo k d o = refl
-beside_fit actions.WitnessTo k d o = refl
-beside_fit actions.Safe k d o = refl
-beside_fit actions.AlwaysEqual k d o = refl
-beside_fit actions.EqualBy k d o = refl
+pub beside_fit : (a : Action) (k : ℕ) (d o : Bool)
+    → beside_of (command_of a k d o) ≡ further_of (form_of a) k
 beside_fit actions.SafeBySteps k d o = omega arith
+beside_fit a k d o = refl

@@ -40,23 +40,32 @@ EndsBy failed (Ok u) = failed ≡ false
 EndsBy failed (Err errors.Write) = IsTrue failed
 EndsBy failed (Err e) = ⊥
 
+-- what holds where it ends so either way
+by_end : (failed : Bool) (Holds : Result Unit CheckError → Type 0)
+    → ((u : Unit {0}) → failed ≡ false → Holds (Ok u))
+    → (IsTrue failed → Holds (Err errors.Write))
+    → (done : Result Unit CheckError) → EndsBy failed done → Holds done
+by_end failed Holds sound lost (Ok u) ends = sound u ends
+by_end failed Holds sound lost (Err errors.Write) ends = lost ends
+by_end failed Holds sound lost (Err e) ends = absurd ends
+
+-- both files stay taken
 accepted_by : (failed : Bool) (done : Result Unit CheckError) → EndsBy failed done
     → verdict_by verdict_of done ≡ Accepted
-accepted_by failed (Ok u) ends = refl
-accepted_by failed (Err errors.Write) ends = refl
-accepted_by failed (Err e) ends = absurd ends
+accepted_by failed done ends =
+    by_end failed (λ x. verdict_by verdict_of x ≡ Accepted) (λ u sound. refl) (λ lost. refl) done ends
 
 other_accepted_by : (failed : Bool) (done : Result Unit CheckError) → EndsBy failed done
     → verdict_by other_verdict_of done ≡ Accepted
-other_accepted_by failed (Ok u) ends = refl
-other_accepted_by failed (Err errors.Write) ends = refl
-other_accepted_by failed (Err e) ends = absurd ends
+other_accepted_by failed done ends =
+    by_end failed (λ x. verdict_by other_verdict_of x ≡ Accepted) (λ u sound. refl) (λ lost. refl)
+    done ends
 
-own_by : (c : PairCommand) (failed : Bool) (done : Result Unit CheckError) → EndsBy failed done
-    → IfErr done (IsErrorOfPair c)
-own_by c failed (Ok u) ends = tt
-own_by c failed (Err errors.Write) ends = tt
-own_by c failed (Err e) ends = absurd ends
+-- the error, if there is one, is that of the writer, which each command has
+own_by : (IsOwn : CheckError → Type 0) → IsOwn errors.Write → (failed : Bool)
+    (done : Result Unit CheckError) → EndsBy failed done → IfErr done IsOwn
+own_by IsOwn own failed done ends =
+    by_end failed (λ x. IfErr x IsOwn) (λ u sound. tt) (λ lost. own) done ends
 
 module _ {W : Type 0} (held : W → Option (List ℕ)) (write_failed : W → Bool) (w made flat : W) (keeps : Keeps (held made) (held flat)) where
   -- a text that could not be flushed
@@ -99,9 +108,11 @@ module _ {W : Type 0} (held : W → Option (List ℕ)) (write_failed : W → Boo
     told_ended : (limit : ℕ) (c : PairCommand) (base step bytes others : Option (List ℕ)) (f g : File) (done : Result Unit CheckError)
         → TellsOfPair held write_failed c limit base step bytes others w made f g (Ok u)
         → EndsBy (write_failed flat) done → TellsOfPair held write_failed c limit base step bytes others w flat f g done
-    told_ended limit c base step bytes others f g (Ok v) told sound = (told.0, told.1, appends_kept (held w) (held made) (held flat) told.0 told.2 keeps, sound)
-    told_ended limit c base step bytes others f g (Err errors.Write) told lost = (told.0, told.1, stops told.0 told.2 lost)
-    told_ended limit c base step bytes others f g (Err e) told never = absurd never
+    told_ended limit c base step bytes others f g done told ends =
+        by_end (write_failed flat)
+        (TellsOfPair held write_failed c limit base step bytes others w flat f g)
+        (λ v sound. (told.0, told.1, appends_kept (held w) (held made) (held flat) told.0 told.2 keeps, sound))
+        (λ lost. (told.0, told.1, stops told.0 told.2 lost)) done ends
 
     pair_ended : {R S P Q : Type 0} (left : R → Option (List ℕ)) (failed : R → Bool)
         (left_of : S → Option (List ℕ)) (failed_of : S → Bool) (base_left : P → Option (List ℕ))
@@ -111,17 +122,13 @@ module _ {W : Type 0} (held : W → Option (List ℕ)) (write_failed : W → Boo
         → RunsPair left failed left_of failed_of base_left base_failed step_left step_failed held write_failed c limit r s p q w (Ok u) rest other used spent made
         → EndsBy (write_failed flat) done → RunsPair left failed left_of failed_of base_left base_failed step_left step_failed held write_failed c limit r s p q w done rest other used spent flat
     pair_ended left failed left_of failed_of base_left base_failed step_left step_failed limit c r rest s other p used q spent done runs ends =
-        let reads =
-        reads_on left failed left_of failed_of limit r s rest other (TellsOfPair held write_failed c limit (base_left p) (step_left q) (left r) (left_of s) w flat) verdict_of other_verdict_of (IsErrorOfPair c) done runs.reads (accepted_by _ done ends) (other_accepted_by _ done ends) (own_by c _ done ends)
-        (λ f g bytes others fits also told. told_ended limit c (base_left p) (step_left q) (left r) (left_of s) f g done told ends) in
-        end done ends reads
-      where
-        end : (x : Result Unit CheckError) → EndsBy (write_failed flat) x
-            → ReadsPair left failed left_of failed_of limit (TellsOfPair held write_failed c limit (base_left p) (step_left q) (left r) (left_of s) w flat) verdict_of other_verdict_of (IsErrorOfPair c) r s x rest other
-            → RunsPair left failed left_of failed_of base_left base_failed step_left step_failed held write_failed c limit r s p q w x rest other used spent flat
-        end (Ok v) sound reads = record { reads = reads; kept = tt; base_unread = tt; step_unread = tt; base_stream = λ is. cc; step_stream = λ is. cc; miter_base_stream = λ is. cc; miter_step_stream = λ is. cc }
-        end (Err errors.Write) lost reads = record { reads = reads; kept = λ not. absurd (not refl); base_unread = λ no. absurd no; step_unread = λ no. absurd no; base_stream = λ is. cc; step_stream = λ is. cc; miter_base_stream = λ is. cc; miter_step_stream = λ is. cc }
-        end (Err e) never reads = absurd never
+        by_end (write_failed flat) (λ x. ReadsPair left failed left_of failed_of limit (TellsOfPair held write_failed c limit (base_left p) (step_left q) (left r) (left_of s) w flat) verdict_of other_verdict_of (IsErrorOfPair c) r s x rest other
+        → RunsPair left failed left_of failed_of base_left base_failed step_left step_failed held write_failed c limit r s p q w x rest other used spent flat)
+        (λ v sound reads. record { reads = reads; kept = tt; base_unread = tt; step_unread = tt; base_stream = λ is. cc; step_stream = λ is. cc; miter_base_stream = λ is. cc; miter_step_stream = λ is. cc })
+        (λ lost reads. record { reads = reads; kept = λ not. absurd (not refl); base_unread = λ no. absurd no; step_unread = λ no. absurd no; base_stream = λ is. cc; step_stream = λ is. cc; miter_base_stream = λ is. cc; miter_step_stream = λ is. cc })
+        done ends
+        (reads_on left failed left_of failed_of limit r s rest other (TellsOfPair held write_failed c limit (base_left p) (step_left q) (left r) (left_of s) w flat) verdict_of other_verdict_of (IsErrorOfPair c) done runs.reads (accepted_by _ done ends) (other_accepted_by _ done ends) (own_by (IsErrorOfPair c) tt _ done ends)
+        (λ f g bytes others fits also told. told_ended limit c (base_left p) (step_left q) (left r) (left_of s) f g done told ends))
 
     safe_ended : {R P Q : Type 0} (left : R → Option (List ℕ)) (failed : R → Bool)
         (base_left : P → Option (List ℕ)) (base_failed : P → Bool)
@@ -219,16 +226,14 @@ module _ {W : Type 0} (held : W → Option (List ℕ)) (write_failed : W → Boo
 
       compared_ended : (f g : File) (done : Result Unit CheckError) → Compares made f g (Ok u)
           → EndsBy (write_failed flat) done → Compares flat f g done
-      compared_ended f g (Ok v) told sound =
-          (told.0, appends_kept (held w) (held made) (held flat) always_line told.1 keeps, sound)
-      compared_ended f g (Err errors.Write) told lost = (told.0, stops always_line told.1 lost)
-      compared_ended f g (Err e) told never = absurd never
-
-      compare_own : (done : Result Unit CheckError) → EndsBy (write_failed flat) done
-          → IfErr done IsErrorOfComparing
-      compare_own (Ok v) ends = tt
-      compare_own (Err errors.Write) ends = tt
-      compare_own (Err e) ends = absurd ends
+      compared_ended f g done told ends =
+          by_end (write_failed flat) (Compares flat f g)
+          (λ v sound. (
+            told.0,
+            appends_kept (held w) (held made) (held flat) always_line told.1 keeps,
+            sound,
+          ))
+          (λ lost. (told.0, stops always_line told.1 lost)) done ends
 
       abbrev Runs_to : W → Result Unit CheckError → Type 0
       Runs_to x done =
@@ -239,18 +244,10 @@ module _ {W : Type 0} (held : W → Option (List ℕ)) (write_failed : W → Boo
       compare_ended : (done : Result Unit CheckError) → Runs_to made (Ok u)
           → EndsBy (write_failed flat) done → Runs_to flat done
       compare_ended done runs ends =
-          let reads =
-          reads_on left failed left_of failed_of limit r s rest other (Compares flat) verdict_of
-          other_verdict_of IsErrorOfComparing done runs.reads (accepted_by _ done ends)
-          (other_accepted_by _ done ends) (compare_own done ends)
-          (λ f g bytes others fits also told. compared_ended f g done told ends) in
-          end done ends reads
-        where
-          end : (x : Result Unit CheckError) → EndsBy (write_failed flat) x
-              → ReadsPair left failed left_of failed_of limit (Compares flat) verdict_of
-              other_verdict_of IsErrorOfComparing r s x rest other
-              → Runs_to flat x
-          end (Ok v) sound reads = record {
+          by_end (write_failed flat)
+          (λ x. ReadsPair left failed left_of failed_of limit (Compares flat) verdict_of
+          other_verdict_of IsErrorOfComparing r s x rest other → Runs_to flat x)
+          (λ v sound reads. record {
             reads = reads;
             kept = tt;
             certificate_unread = tt;
@@ -258,8 +255,8 @@ module _ {W : Type 0} (held : W → Option (List ℕ)) (write_failed : W → Boo
             step_unread = tt;
             base_stream = λ is. cc;
             step_stream = λ is. cc;
-          }
-          end (Err errors.Write) lost reads = record {
+          })
+          (λ lost reads. record {
             reads = reads;
             kept = λ not. absurd (not refl);
             certificate_unread = λ no. absurd no;
@@ -267,8 +264,12 @@ module _ {W : Type 0} (held : W → Option (List ℕ)) (write_failed : W → Boo
             step_unread = λ no. absurd no;
             base_stream = λ is. cc;
             step_stream = λ is. cc;
-          }
-          end (Err e) never reads = absurd never
+          })
+          done ends
+          (reads_on left failed left_of failed_of limit r s rest other (Compares flat) verdict_of
+          other_verdict_of IsErrorOfComparing done runs.reads (accepted_by _ done ends)
+          (other_accepted_by _ done ends) (own_by IsErrorOfComparing tt _ done ends)
+          (λ f g bytes others fits also told. compared_ended f g done told ends))
 
     module _ {R S P : Type 0} (left : R → Option (List ℕ)) (failed : R → Bool)
         (left_of : S → Option (List ℕ)) (failed_of : S → Bool) (given : P → Option (List ℕ))
@@ -282,16 +283,14 @@ module _ {W : Type 0} (held : W → Option (List ℕ)) (write_failed : W → Boo
 
       simulates_ended : (f g : File) (done : Result Unit CheckError) → Simulates made f g (Ok u)
           → EndsBy (write_failed flat) done → Simulates flat f g done
-      simulates_ended f g (Ok v) told sound =
-          (told.0, appends_kept (held w) (held made) (held flat) safe_line told.1 keeps, sound)
-      simulates_ended f g (Err errors.Write) told lost = (told.0, stops safe_line told.1 lost)
-      simulates_ended f g (Err e) told never = absurd never
-
-      simulated_own : (done : Result Unit CheckError) → EndsBy (write_failed flat) done
-          → IfErr done IsErrorOfSimulated
-      simulated_own (Ok v) ends = tt
-      simulated_own (Err errors.Write) ends = tt
-      simulated_own (Err e) ends = absurd ends
+      simulates_ended f g done told ends =
+          by_end (write_failed flat) (Simulates flat f g)
+          (λ v sound. (
+            told.0,
+            appends_kept (held w) (held made) (held flat) safe_line told.1 keeps,
+            sound,
+          ))
+          (λ lost. (told.0, stops safe_line told.1 lost)) done ends
 
       abbrev Simulated_to : W → Result Unit CheckError → Type 0
       Simulated_to x done =
@@ -301,26 +300,26 @@ module _ {W : Type 0} (held : W → Option (List ℕ)) (write_failed : W → Boo
       simulated_ended : (done : Result Unit CheckError) → Simulated_to made (Ok u)
           → EndsBy (write_failed flat) done → Simulated_to flat done
       simulated_ended done runs ends =
-          let reads =
-          reads_on left failed left_of failed_of limit r s rest other (Simulates flat) verdict_of
-          other_verdict_of IsErrorOfSimulated done runs.reads (accepted_by _ done ends)
-          (other_accepted_by _ done ends) (simulated_own done ends)
-          (λ f g bytes others fits also told. simulates_ended f g done told ends) in
-          end done ends reads
-        where
-          end : (x : Result Unit CheckError) → EndsBy (write_failed flat) x
-              → ReadsPair left failed left_of failed_of limit (Simulates flat) verdict_of
-              other_verdict_of IsErrorOfSimulated r s x rest other
-              → Simulated_to flat x
-          end (Ok v) sound reads =
-              record { reads = reads; kept = tt; unread = tt; stream = λ condition is. cc }
-          end (Err errors.Write) lost reads = record {
+          by_end (write_failed flat)
+          (λ x. ReadsPair left failed left_of failed_of limit (Simulates flat) verdict_of
+          other_verdict_of IsErrorOfSimulated r s x rest other → Simulated_to flat x)
+          (λ v sound reads. record {
+            reads = reads;
+            kept = tt;
+            unread = tt;
+            stream = λ condition is. cc;
+          })
+          (λ lost reads. record {
             reads = reads;
             kept = λ not. absurd (not refl);
             unread = λ condition no. absurd no;
             stream = λ condition is. cc;
-          }
-          end (Err e) never reads = absurd never
+          })
+          done ends
+          (reads_on left failed left_of failed_of limit r s rest other (Simulates flat) verdict_of
+          other_verdict_of IsErrorOfSimulated done runs.reads (accepted_by _ done ends)
+          (other_accepted_by _ done ends) (own_by IsErrorOfSimulated tt _ done ends)
+          (λ f g bytes others fits also told. simulates_ended f g done told ends))
 
     module _ {R S : Type 0} (left : R → Option (List ℕ)) (failed : R → Bool)
         (left_of : S → Option (List ℕ)) (failed_of : S → Bool) (condition : Condition)
@@ -332,22 +331,15 @@ module _ {W : Type 0} (held : W → Option (List ℕ)) (write_failed : W → Boo
 
       obliges_ended : (f g : File) (done : Result Unit CheckError) → Obliges made f g (Ok u)
           → EndsBy (write_failed flat) done → Obliges flat f g done
-      obliges_ended f g (Ok v) told sound =
-          (told.0, told.1, appends_kept (held w) (held made) (held flat) told.0 told.2 keeps, sound)
-      obliges_ended f g (Err errors.Write) told lost = (told.0, told.1, stops told.0 told.2 lost)
-      obliges_ended f g (Err e) told never = absurd never
-
-      obligation_own : (done : Result Unit CheckError) → EndsBy (write_failed flat) done
-          → IfErr done (IsErrorOfObligation condition)
-      obligation_own (Ok v) ends = tt
-      obligation_own (Err errors.Write) ends = tt
-      obligation_own (Err e) ends = absurd ends
-
-      obligation_kept : (done : Result Unit CheckError) → EndsBy (write_failed flat) done
-          → IfErr done (λ e. e ≢ errors.Write → flat ≡ w)
-      obligation_kept (Ok v) ends = tt
-      obligation_kept (Err errors.Write) ends = λ not. absurd (not refl)
-      obligation_kept (Err e) ends = absurd ends
+      obliges_ended f g done told ends =
+          by_end (write_failed flat) (Obliges flat f g)
+          (λ v sound. (
+            told.0,
+            told.1,
+            appends_kept (held w) (held made) (held flat) told.0 told.2 keeps,
+            sound,
+          ))
+          (λ lost. (told.0, told.1, stops told.0 told.2 lost)) done ends
 
       obligation_ended : (done : Result Unit CheckError)
           → RunsObligation left failed left_of failed_of held write_failed condition optimize limit
@@ -358,9 +350,11 @@ module _ {W : Type 0} (held : W → Option (List ℕ)) (write_failed : W → Boo
       obligation_ended done runs ends = record {
         reads = reads_on left failed left_of failed_of limit r s rest other (Obliges flat) verdict_of
             other_verdict_of (IsErrorOfObligation condition) done runs.reads
-            (accepted_by _ done ends) (other_accepted_by _ done ends) (obligation_own done ends)
+            (accepted_by _ done ends) (other_accepted_by _ done ends)
+            (own_by (IsErrorOfObligation condition) tt _ done ends)
             (λ f g bytes others fits also told. obliges_ended f g done told ends);
-        kept = obligation_kept done ends;
+        kept = by_end (write_failed flat) (λ x. IfErr x (λ e. e ≢ errors.Write → flat ≡ w))
+            (λ v sound. tt) (λ lost not. absurd (not refl)) done ends;
       }
 
 -- ---- what is made of a file
@@ -371,26 +365,10 @@ module _ {R : Type 0} (left : R → Option (List ℕ)) (failed : R → Bool) (li
   tells_ended : (done : Result Unit CheckError) → EndsBy lost done
       → ((f : File) (text : List ℕ) → Means f text (Ok u) → Also f text done)
       → (f : File) → TellsMade a Means f (Ok u) → TellsMade a Also f done
-  tells_ended (Ok v) ends on f told = (told.0, told.1, on f _ told.2)
-  tells_ended (Err errors.Write) ends on f told = (told.0, told.1, on f _ told.2)
-  tells_ended (Err e) ends on f told = absurd ends
-
-  made_accepted : (done : Result Unit CheckError) → EndsBy lost done
-      → verdict_by made_verdict done ≡ Accepted
-  made_accepted (Ok v) ends = refl
-  made_accepted (Err errors.Write) ends = refl
-  made_accepted (Err e) ends = absurd ends
-
-  made_own : (done : Result Unit CheckError) → EndsBy lost done → IfErr done IsMadeOwn
-  made_own (Ok v) ends = tt
-  made_own (Err errors.Write) ends = tt
-  made_own (Err e) ends = absurd ends
-
-  made_unread : (done : Result Unit CheckError) → EndsBy lost done
-      → IfErr done (λ e. IsOfMaking e → Other)
-  made_unread (Ok v) ends = tt
-  made_unread (Err errors.Write) ends = λ no. absurd no
-  made_unread (Err e) ends = absurd ends
+  tells_ended done ends on f told =
+      by_end lost (λ x. ((text : List ℕ) → Means f text (Ok u) → Also f text x)
+      → TellsMade a Also f x) (λ v sound so. (told.0, told.1, so _ told.2))
+      (λ fails so. (told.0, told.1, so _ told.2)) done ends (on f)
 
   -- a command that was run on it, once more is written
   made_ended : (done : Result Unit CheckError) → EndsBy lost done
@@ -400,8 +378,10 @@ module _ {R : Type 0} (left : R → Option (List ℕ)) (failed : R → Bool) (li
   made_ended done ends on runs = record {
     reads = file_on left failed limit r rest (TellsMade a Also) made_verdict IsMadeOwn done
         runs.reads
-        (made_accepted done ends) (made_own done ends) (λ f fits. tells_ended done ends on f);
-    unread = made_unread done ends;
+        (by_end lost (λ x. verdict_by made_verdict x ≡ Accepted) (λ v sound. refl) (λ fails. refl)
+        done ends) (own_by IsMadeOwn tt lost done ends) (λ f fits. tells_ended done ends on f);
+    unread = by_end lost (λ x. IfErr x (λ e. IsOfMaking e → Other)) (λ v sound. tt)
+        (λ fails no. absurd no) done ends;
   }
 
 module _ {W : Type 0} (held : W → Option (List ℕ)) (write_failed : W → Bool) (w made flat : W)
@@ -410,11 +390,16 @@ module _ {W : Type 0} (held : W → Option (List ℕ)) (write_failed : W → Boo
       (done : Result Unit CheckError) → EndsBy (write_failed flat) done
       → Concludes held write_failed line Shown Checks w made (Ok u)
       → Concludes held write_failed line Shown Checks w flat done
-  concludes_ended line Shown Checks (Ok v) sound told =
-      (told.0, told.1, appends_kept (held w) (held made) (held flat) line told.2 keeps, sound)
-  concludes_ended line Shown Checks (Err errors.Write) lost told =
-      (told.0, told.1, stops held write_failed w made flat keeps line told.2 lost)
-  concludes_ended line Shown Checks (Err e) never told = absurd never
+  concludes_ended line Shown Checks done ends told =
+      by_end (write_failed flat) (Concludes held write_failed line Shown Checks w flat)
+      (λ v sound. (
+        told.0,
+        told.1,
+        appends_kept (held w) (held made) (held flat) line told.2 keeps,
+        sound,
+      ))
+      (λ lost. (told.0, told.1, stops held write_failed w made flat keeps line told.2 lost)) done
+      ends
 
 module _ {W : Type 0} (held : W → Option (List ℕ)) (write_failed : W → Bool) (w made flat : W)
     (keeps : Keeps (held made) (held flat)) (u : Unit {0}) (done : Result Unit CheckError)

@@ -332,22 +332,11 @@ module _ {R : Type 0} (left : R → Option (List ℕ)) (failed : R → Bool) (li
 -- ---- which errors a command has on the text
 
 never_unmade : (c : FileCommand) (e : CheckError) → IsErrorOf c e → ¬ IsOfMaking e
-never_unmade (on_file.Clauses k o) (errors.Unmade e) own is = own
-never_unmade (on_file.Window k form o) (errors.Unmade e) own is = own
-never_unmade (on_file.Refuted k o) (errors.Unmade e) own is = own
-never_unmade (on_file.Inductive k form o) (errors.Unmade e) own is = own
-never_unmade (on_file.Witness k o) (errors.Unmade e) own is = own
-never_unmade on_file.Run (errors.Unmade e) own is = own
-never_unmade (on_file.Bounded k o) (errors.Unmade e) own is = own
-never_unmade (on_file.RefutedTo k o) (errors.Unmade e) own is = own
-never_unmade (on_file.WitnessTo k o) (errors.Unmade e) own is = own
+never_unmade c (errors.Unmade e) own is = own
 never_unmade c e own is = is
 
 pair_never_unmade : (c : PairCommand) (e : CheckError) → IsErrorOfPair c e → ¬ IsOfMaking e
-pair_never_unmade (on_pair.Certified o) (errors.Unmade e) own is = own
-pair_never_unmade (on_pair.Equal k o) (errors.Unmade e) own is = own
-pair_never_unmade (on_pair.Obligations o) (errors.Unmade e) own is = own
-pair_never_unmade (on_pair.AlwaysEqual k form o p) (errors.Unmade e) own is = own
+pair_never_unmade c (errors.Unmade e) own is = own
 pair_never_unmade c e own is = is
 
 compare_never_unmade : (e : CheckError) → IsErrorOfComparing e → ¬ IsOfMaking e

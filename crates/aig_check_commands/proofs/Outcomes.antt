@@ -6,7 +6,7 @@ use Rattle.aig_format.specs.File.{File}
 use Rattle.aig_reader.specs.Reading.{IsReadAs}
 use Rattle.aig_reader.specs.Verdicts.{Accepted, IsOfFile, Judges, Verdict}
 use Rattle.aig_reader.proofs.Verdicts.{of_no_file, short_of}
-use Rattle.aig_output.specs.Sinks.{Stops}
+use Rattle.aig_output.specs.Sinks.{Stops, WritesOrStops}
 use Rattle.aig_encode.specs.declared.encoding.Encoded.{Encoded}
 use Rattle.aig_encode.specs.declared.error.EncodeError.TheVariants as encode
 use Rattle.aig_refutation.specs.declared.error.RefutationError.TheVariants as refutation
@@ -28,7 +28,7 @@ use Rattle.aig_check_commands.specs.declared.command.FileCommand.{FileCommand}
 use Rattle.aig_check_commands.specs.declared.command.FileCommand.TheVariants as commands
 use Rattle.aig_check_commands.specs.declared.error.CheckError.{CheckError}
 use Rattle.aig_check_commands.specs.declared.error.CheckError.TheVariants as errors
-use Rattle.aig_check_commands.specs.Printing.{IsOfSolution, IsOfText, PrintsSuch}
+use Rattle.aig_check_commands.specs.Printing.{IsOfSolution, IsOfText, PrintsSuch, after_writing}
 use Rattle.aig_check_commands.specs.Running.{Answers, IsAskedBy, IsErrorOf, IsOfFileAlone, Runs, TakesProof, TellsOfGiven, TellsOfQuestion, TellsOfSolution, file_verdict, verdict_of}
 
 pub is_error : (T E : Type 0) (e x : E) → IsErrOf {T = T} (Err e) x → e ≡ x
@@ -153,6 +153,18 @@ module _ {R P W : Type 0} {left : R → Option (List ℕ)} {read_failed : R → 
         unread = λ alone. absurd alone;
         refusal = tt;
       }
+
+  -- it was written, or a beginning of it
+  pub answer_ends : {E : Type 0} (x : Result (Unit {0}) E) (text : List ℕ)
+      → TakesProof c limit (left r) (left rest) (given p)
+      → Judges (file_verdict c limit) limit (left r) (left rest) (read_failed rest) Accepted
+      → IsReadAs (IsAskedBy c limit) (Answers c (given p) (left r)) (left r) (left rest) text
+      → WritesOrStops held write_failed w x text made
+      → Runs left read_failed given given_failed held write_failed c limit r p w (after_writing x)
+      rest used made
+  answer_ends (Ok u) text takes said answers writes =
+      answered u text takes said answers writes.ok writes.sound
+  answer_ends (Err e) text takes said answers writes = stopped text takes said answers writes.err
 
   -- a query's text was printed, or memory ran out before
   pub text_ends : (result : Result Unit CheckError) (IsSuch : List ℕ → Type 0) → TakesProof c limit

@@ -1,5 +1,6 @@
 -- What a command on two files does, at each way out of it.
 use Rattle.aig_base.proofs.Words.{◌≡◌, ◌≢◌, ℕ, Bool, false, Option, Some, Ok, Err, List, [], ◌∷◌, ◌++◌, length, refl, ap, subst, ◌∙◌, Appends, Appends-trans, on_err_weaker, on_ok_weaker}
+use Rattle.std.specs.Io.KnownBytes.{IsAtEnd}
 use Rattle.std.specs.Prelude.{IsTrue, Result, codes}
 use Rattle.aig_answers.specs.declared.error.AnswerError.{AnswerError}
 use Rattle.aig_answers.specs.declared.windows.WindowClauses.{WindowClauses}
@@ -40,9 +41,9 @@ use Rattle.aig_check_commands.specs.declared.error.CheckError.{CheckError}
 use Rattle.aig_check_commands.specs.declared.error.CheckError.TheVariants as errors
 use Rattle.aig_check_commands.specs.Pairs.{IsErrorOfPair, IsObligationsText, LeavesBase, LeavesStep, PairAnswers, RefusesPair, RunsPair, TellsOfPair, formula_of, other_verdict_of, part_text}
 use Rattle.aig_check_commands.specs.Running.{verdict_of}
-use Rattle.aig_check_commands.specs.Printing.{clauses_with}
+use Rattle.aig_check_commands.specs.Printing.{after_writing, clauses_with}
 use Rattle.aig_check_commands.specs.Titling.{pair_title}
-use Rattle.aig_check_commands.proofs.Outcomes.{is_error}
+use Rattle.aig_check_commands.proofs.Outcomes.{is_error, summed}
 
 module _ {R S P Q W : Type 0} {left : R → Option (List ℕ)} {failed : R → Bool} {left_of : S → Option (List ℕ)} {failed_of : S → Bool} {base_left : P → Option (List ℕ)} {base_failed : P → Bool} {step_left : Q → Option (List ℕ)} {step_failed : Q → Bool} {held : W → Option (List ℕ)} {write_failed : W → Bool} {c : PairCommand} {limit : ℕ} {r rest : R} {s other : S} {p used : P} {q spent : Q} {w made : W} {T E : Type 0} (Means : File → File → Result T E → Type 0) {first second : E → Verdict} {Own : E → Type 0} where
   -- a file is refused, or a proof
@@ -99,6 +100,16 @@ module _ {R S P Q W : Type 0} {left : R → Option (List ℕ)} {failed : R → B
     miter_step_stream = λ is. absurd cc;
   }
 
+  -- it was written, or a beginning of it
+  pub pair_ends : {F : Type 0} (u : T) (x : Result (Unit {0}) F) (text : List ℕ)
+      → ReadsPair left failed left_of failed_of limit Means first second Own r s (Ok u) rest other
+      → ((f g : File) → Means f g (Ok u) → PairAnswers c limit (base_left p) (step_left q) (left r) (left_of s) f g text)
+      → WritesOrStops held write_failed w x text made
+      → RunsPair left failed left_of failed_of base_left base_failed step_left step_failed held write_failed c limit r s p q w (after_writing x) rest other used spent made
+  pair_ends u (Ok v) text reads means writes =
+      pair_answered u v text reads means writes.ok writes.sound
+  pair_ends u (Err e) text reads means writes = pair_stopped u text reads means writes.err
+
 -- what is said of sources is said of those under them
 pub reads_under : {A B R S T E : Type 0} {Means : File → File → Result T E → Type 0}
     {first second : E → Verdict} {Own : E → Type 0} {limit : ℕ} {r rest : A} {s other : B}
@@ -115,6 +126,29 @@ reads_under left failed left_of failed_of under under_of told = record {
   answer = told.answer;
   own = told.own;
 }
+
+-- and where both were read under sources that sum, these are the sums of their bytes
+pub summed_under : {A B R S T E : Type 0} {Means : File → File → Result T E → Type 0}
+    {first second : E → Verdict} {Own : E → Type 0} {limit : ℕ} {r rest : A} {s other : B} {u : T}
+    (left : R → Option (List ℕ)) (failed : R → Bool)
+    (left_of : S → Option (List ℕ)) (failed_of : S → Bool) (under : A → R) (under_of : B → S)
+    (start start_of : Option (List ℕ)) (sum beside : List ℕ)
+    → ReadsPair (λ x. left (under x)) (λ x. failed (under x)) (λ y. left_of (under_of y))
+    (λ y. failed_of (under_of y)) limit Means first second Own r s (Ok u) rest other
+    → left (under r) ≡ start → left_of (under_of s) ≡ start_of
+    → (failed (under rest) ≡ false → IsAtEnd (left (under rest)) → IsSum start sum)
+    → (failed_of (under_of other) ≡ false → IsAtEnd (left_of (under_of other))
+    → IsSum start_of beside)
+    → ReadsPair left failed left_of failed_of limit Means first second Own (under r) (under_of s)
+    (Ok u) (under rest) (under_of other)
+    × IsSum (left (under r)) sum × IsSum (left_of (under_of s)) beside
+summed_under left failed left_of failed_of under under_of start start_of sum beside told is is_of
+    sums sums_of =
+    let read = reads_under left failed left_of failed_of under under_of told in (
+      read,
+      summed start sum read.verdict is sums,
+      summed start_of beside (read.other_verdict refl) is_of sums_of,
+    )
 
 inner_error : (x y : CertificateError) → errors.Certificate x ≡ errors.Certificate y → x ≡ y
 inner_error x y is = cc

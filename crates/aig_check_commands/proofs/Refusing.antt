@@ -1,5 +1,5 @@
 -- What is asked is refused again, of which one input is counted.
-use Rattle.aig_base.proofs.Words.{◌≡◌, ◌+◌, ◌<◌, ℕ, zero, suc, Bool, List, [], ◌∷◌, Option, Some, Ok, Err, ap, arith, get_or, length, map, map-map, refl, subst, sym, ◌∙◌}
+use Rattle.aig_base.proofs.Words.{◌≡◌, ◌+◌, ◌<◌, ℕ, zero, suc, Bool, List, [], ◌∷◌, ◌++◌, Option, Some, Ok, Err, ap, arith, get_or, length, map, map-map, refl, subst, sym, ◌∙◌}
 use Rattle.std.specs.Prelude.{IfOk, Result, slice_get}
 use Rattle.std.specs.List.{insert, remove}
 use Rattle.aig_command_line.specs.declared.discarded.Discarded.{Discarded}
@@ -32,6 +32,12 @@ module _ {X Y Z : Type 0} (plain : X → Y) (left : Y → Z) (of : X → Z)
   put_back (z ∷ xs) (suc i) x y low at same =
       ap (λ h. h ∷ map left (insert (map plain (remove xs i)) i y)) (seen z)
       ∙ ap (λ zs. of z ∷ zs) (put_back xs i x y (omega (arith, low)) at same)
+
+-- the last of a list as it is seen
+pub seen_last : {A B : Type 0} (on : A → B) (last : A) (front : List A)
+    → slice_get (map on (front ++ last ∷ [])) (length front) ≡ Some (on last)
+seen_last on last [] = refl
+seen_last on last (x ∷ front) = seen_last on last front
 
 -- files that are opened again are opened
 pub opened_again : {F : Type 0} (opens : List ℕ → Result F OpenError → Type 0)

@@ -1,6 +1,6 @@
 -- What the commands on a witness circuit do, at each way out of them.
 use Rattle.aig_base.proofs.Words.{◌≡◌, ℕ, Bool, false, Option, Ok, Err, List, ◌++◌, length, refl, Appends}
-use Rattle.std.specs.Prelude.{IsErrOf, IsTrue}
+use Rattle.std.specs.Prelude.{IsErrOf, IsTrue, Result}
 use Rattle.aig_answers.specs.Answers.{query_with}
 use Rattle.aig_base.specs.Formula.{clauses_in}
 use Rattle.aig_base.specs.declared.logic.literal.Lit.{Lit}
@@ -9,7 +9,7 @@ use Rattle.aig_dimacs.specs.Text.{IsFormula, dimacs_of}
 use Rattle.aig_edits.proofs.Reading.{reads_on}
 use Rattle.aig_edits.specs.Pairs.{ReadsPair}
 use Rattle.aig_format.specs.File.{File}
-use Rattle.aig_output.specs.Sinks.{Stops}
+use Rattle.aig_output.specs.Sinks.{Stops, WritesOrStops}
 use Rattle.aig_refutation.specs.declared.error.RefutationError.TheVariants as refutation
 use Rattle.aig_simulated.specs.Simulated as simulated
 use Rattle.aig_simulated.specs.Simulated.{Certifies, IsOfObligation, IsOwn, Obliges, Proofs, first_verdict, proof_for, second_verdict}
@@ -19,7 +19,7 @@ use Rattle.aig_simulated.specs.declared.error.SimulationError.TheVariants as sim
 use Rattle.aig_simulated.specs.declared.obligation.Obligation.{Obligation}
 use Rattle.aig_simulation.specs.declared.condition.Condition.{Condition}
 use Rattle.aig_check_commands.specs.Pairs.{other_verdict_of, safe_line}
-use Rattle.aig_check_commands.specs.Printing.{clauses_with}
+use Rattle.aig_check_commands.specs.Printing.{after_writing, clauses_with}
 use Rattle.aig_check_commands.specs.Running.{verdict_of}
 use Rattle.aig_check_commands.specs.Simulating.{IsErrorOfObligation, IsErrorOfSimulated, IsObligationText, RunsObligation, RunsSimulated, TellsOfObligation, TellsOfSimulated}
 use Rattle.aig_check_commands.specs.Sums.{IsSum}
@@ -159,37 +159,28 @@ module _ {R S W : Type 0} {left : R → Option (List ℕ)} {failed : R → Bool}
     kept = λ not. same;
   }
 
-  -- they were written
-  pub obligation_answered : (o : Obligation) (v : Unit {0}) (text : List ℕ)
+  -- they were written, or a beginning of them
+  pub obligation_ends : {E : Type 0} (o : Obligation) (x : Result (Unit {0}) E) (text : List ℕ)
       → ReadsPair left failed left_of failed_of limit (Obliges limit optimize condition)
       first_verdict second_verdict (IsOfObligation condition) r s (Ok o) rest other
       → ((f g : File) → Obliges limit optimize condition f g (Ok o)
       → IsObligationText condition optimize (left r) (left_of s) f g text)
-      → Appends (held w) (held made) text → write_failed made ≡ false
+      → WritesOrStops held write_failed w x text made
       → RunsObligation left failed left_of failed_of held write_failed condition optimize limit r s
-      w (Ok v) rest other made
-  obligation_answered o v text told means written sound = record {
+      w (after_writing x) rest other made
+  obligation_ends o (Ok v) text told means writes = record {
     reads = reads_on left failed left_of failed_of limit r s rest other
         (TellsOfObligation held write_failed condition optimize limit (left r) (left_of s) w made)
         verdict_of other_verdict_of (IsErrorOfObligation condition) (Ok v) told refl refl tt
-        (λ f g bytes others fits also asked. (text, means f g asked, written, sound));
+        (λ f g bytes others fits also asked.
+        (text, means f g asked, writes.ok, writes.sound));
     kept = tt;
   }
-
-  -- the writer failed after a beginning of them
-  pub obligation_stopped : (o : Obligation) (text : List ℕ)
-      → ReadsPair left failed left_of failed_of limit (Obliges limit optimize condition)
-      first_verdict second_verdict (IsOfObligation condition) r s (Ok o) rest other
-      → ((f g : File) → Obliges limit optimize condition f g (Ok o)
-      → IsObligationText condition optimize (left r) (left_of s) f g text)
-      → Stops (held w) (held made) (write_failed made) text
-      → RunsObligation left failed left_of failed_of held write_failed condition optimize limit r s
-      w (Err errors.Write) rest other made
-  obligation_stopped o text told means stops = record {
+  obligation_ends o (Err e) text told means writes = record {
     reads = reads_on left failed left_of failed_of limit r s rest other
         (TellsOfObligation held write_failed condition optimize limit (left r) (left_of s) w made)
         verdict_of other_verdict_of (IsErrorOfObligation condition) (Err errors.Write)
         told refl refl tt
-        (λ f g bytes others fits also asked. (text, means f g asked, stops));
+        (λ f g bytes others fits also asked. (text, means f g asked, writes.err));
     kept = λ not. absurd (not refl);
   }

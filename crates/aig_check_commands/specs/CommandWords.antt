@@ -21,25 +21,6 @@ use Rattle.aig_check_commands.specs.Justice.{AreJustice, is_asked}
 use Rattle.aig_simulation.specs.Names.{condition_name}
 use Rattle.aig_simulation.specs.declared.condition.Condition.{Condition}
 
--- the word that names a command
-abbrev pub name_of : Action → List ℕ
-name_of actions.Clauses = codes "clauses"
-name_of actions.Window = codes "window"
-name_of actions.Refuted = codes "refuted"
-name_of actions.Inductive = codes "inductive"
-name_of actions.Witness = codes "witness"
-name_of actions.Run = codes "run"
-name_of actions.Certified = codes "certified"
-name_of actions.Equal = codes "equal"
-name_of actions.Obligations = codes "obligations"
-name_of actions.Bounded = codes "bounded"
-name_of actions.RefutedTo = codes "refuted"
-name_of actions.WitnessTo = codes "witness"
-name_of actions.Safe = codes "safe"
-name_of actions.AlwaysEqual = codes "equal"
-name_of actions.EqualBy = codes "equal"
-name_of actions.SafeBySteps = codes "safe"
-
 -- so many paths and a step, so many further paths, `distinct` or nothing where it may be there, and
 -- `raw` or nothing
 abbrev pub on_step : ℕ → Step → ℕ → Bool → ArgumentForm
@@ -51,26 +32,35 @@ abbrev pub on_certificate : ℕ → ArgumentForm
 on_certificate further =
     record { paths = 2; step = Absent; further = further; distinct = false; raw = true }
 
--- What comes after it: the paths are FILE, and CERT or OTHER; the further ones are PROOF, SOLUTION
--- or WITNESS, or BASE and STEP, behind CERT where that comes after OTHER; or P0 to PK and STEP.
+-- The word that names a command, and what comes after it: the paths are FILE, and CERT or OTHER;
+-- the further ones are PROOF, SOLUTION or WITNESS, or BASE and STEP, behind CERT where that comes
+-- after OTHER; or P0 to PK and STEP.
+abbrev pub row_of : Action → List ℕ × ArgumentForm
+row_of actions.Clauses = (codes "clauses", on_step 1 At 0 false)
+row_of actions.Window = (codes "window", on_step 1 At 0 true)
+row_of actions.Refuted = (codes "refuted", on_step 1 At 1 false)
+row_of actions.Inductive = (codes "inductive", on_step 1 At 1 true)
+row_of actions.Witness = (codes "witness", on_step 1 At 1 false)
+row_of actions.Run =
+    (codes "run", record { paths = 1; step = Absent; further = 1; distinct = false; raw = false })
+row_of actions.Certified = (codes "certified", on_certificate 2)
+row_of actions.Equal = (codes "equal", on_step 2 At 1 false)
+row_of actions.Obligations = (codes "obligations", on_certificate 0)
+row_of actions.Bounded = (codes "bounded", on_step 1 At 0 false)
+row_of actions.RefutedTo = (codes "refuted", on_step 1 UpTo 1 false)
+row_of actions.WitnessTo = (codes "witness", on_step 1 UpTo 1 false)
+row_of actions.Safe = (codes "safe", on_step 1 UpTo 2 true)
+row_of actions.AlwaysEqual = (codes "equal", on_step 2 UpTo 2 true)
+row_of actions.EqualBy = (codes "equal", on_step 2 By 3 false)
+row_of actions.SafeBySteps = (codes "safe", on_step 1 Each 1 true)
+
+-- the word
+abbrev pub name_of : Action → List ℕ
+name_of a = (row_of a).0
+
+-- what comes after it
 abbrev pub form_of : Action → ArgumentForm
-form_of actions.Clauses = on_step 1 At 0 false
-form_of actions.Window = on_step 1 At 0 true
-form_of actions.Refuted = on_step 1 At 1 false
-form_of actions.Inductive = on_step 1 At 1 true
-form_of actions.Witness = on_step 1 At 1 false
-form_of actions.Run =
-    record { paths = 1; step = Absent; further = 1; distinct = false; raw = false }
-form_of actions.Certified = on_certificate 2
-form_of actions.Equal = on_step 2 At 1 false
-form_of actions.Obligations = on_certificate 0
-form_of actions.Bounded = on_step 1 At 0 false
-form_of actions.RefutedTo = on_step 1 UpTo 1 false
-form_of actions.WitnessTo = on_step 1 UpTo 1 false
-form_of actions.Safe = on_step 1 UpTo 2 true
-form_of actions.AlwaysEqual = on_step 2 UpTo 2 true
-form_of actions.EqualBy = on_step 2 By 3 false
-form_of actions.SafeBySteps = on_step 1 Each 1 true
+form_of a = (row_of a).1
 
 -- the form of windows
 abbrev pub window_of : Bool → Window

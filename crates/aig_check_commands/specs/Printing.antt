@@ -1,8 +1,7 @@
 -- Serves private clauses alone.
 -- What is printed of what was read: a text, or a beginning of it.
-use Rattle.std.specs.Prelude.{◌≡◌, ◌≢◌, ℕ, ◌+◌, Bool, false, List, [], ◌++◌, length, replicate, Option, Result, IfErr, IsErrOf, OnOk, codes}
+use Rattle.std.specs.Prelude.{◌≡◌, ◌≢◌, ℕ, ◌+◌, Bool, false, List, [], ◌++◌, length, replicate, Option, Result, Ok, Err, IfErr, IsErrOf, OnOk, codes}
 use Rattle.std.specs.Io.KnownBytes.{Appends}
-use Rattle.aig_answers.specs.declared.windows.UnrolledWindow.{UnrolledWindow}
 use Rattle.aig_answers.specs.declared.windows.WindowClauses.{WindowClauses}
 use Rattle.aig_base.specs.Formula.{clauses_in}
 use Rattle.aig_base.specs.declared.logic.literal.Lit.{Lit}
@@ -22,6 +21,8 @@ use Rattle.aig_witness.specs.Witness.{Witness, witness_text}
 use Rattle.aig_witness.specs.Shown.{IsKnownWitness}
 use Rattle.aig_check_commands.specs.Comments.{comments_of}
 use Rattle.aig_check_commands.specs.Pairs.{part_text}
+use Rattle.aig_check_commands.specs.Running.{Runs, nothing_fails, nothing_given}
+use Rattle.aig_check_commands.specs.declared.command.FileCommand.{FileCommand}
 use Rattle.aig_check_commands.specs.declared.error.CheckError.{CheckError}
 use Rattle.aig_check_commands.specs.declared.error.CheckError.TheVariants as errors
 
@@ -100,17 +101,23 @@ pub record WritesBoth {W T E : Type 0} (held : W → Option (List ℕ)) (failed 
       (title_text title ++ part_text (codes "c base") (clauses_with base o.base.extra)
       ++ part_text (codes "c step") (clauses_with step o.step.extra)) new
 
--- so is that of the clauses of a window, behind its title
-pub record WritesWindow {W T E : Type 0} (held : W → Option (List ℕ)) (failed : W → Bool)
-    (title : Title) (o : UnrolledWindow) (optimize : Bool) (old : W) (result : Result T E)
-    (new : W) : Type 0 where
+-- so is that of a circuit's clauses and further ones, which may be of so many free variables behind
+-- those of the nodes, behind a title
+pub record WritesFree {W T E : Type 0} (held : W → Option (List ℕ)) (failed : W → Bool)
+    (title : Title) (c : Circuit) (free : ℕ) (optimize : Bool) (extra : List (List Lit)) (old : W)
+    (result : Result T E) (new : W) : Type 0 where
   pub lists : List (List (List Lit))
-  pub has : HasClauses (lists_circuit o.unrolled) optimize lists
-  pub formula : let all = lists ++ replicate o.free [] in
-      IsFormula (length all) (clauses_in all ++ o.extra)
-  pub writes : let all = lists ++ replicate o.free [] in
+  pub has : HasClauses c optimize lists
+  pub formula : let all = lists ++ replicate free [] in
+      IsFormula (length all) (clauses_in all ++ extra)
+  pub writes : let all = lists ++ replicate free [] in
       WritesOrStops held failed old result
-      (title_text title ++ dimacs_of (length all) (clauses_in all ++ o.extra)) new
+      (title_text title ++ dimacs_of (length all) (clauses_in all ++ extra)) new
+
+-- how a command ends whose answer was written so
+abbrev pub after_writing : {E : Type 0} → Result Unit E → Result Unit CheckError
+after_writing (Ok done) = Ok done
+after_writing (Err e) = Err errors.Write
 
 -- the text of a witness of k + 1 steps that a solver's answer says and that was checked in three
 -- values
@@ -131,6 +138,15 @@ pub record PrintsSuch {W : Type 0} (held : W → Option (List ℕ)) (failed : W 
   pub stopped : IsErrOf result errors.Write
       → (text : List ℕ) × IsSuch text × Stops (held w) (held made) (failed made) text
   pub kept : IfErr result (λ e. e ≢ errors.Write → made ≡ w)
+
+-- a command was run that takes nothing beside its file: r is the file's reader before it, and rest
+-- after it
+pub record RunsAlone {R W : Type 0} (left : R → Option (List ℕ)) (failed : R → Bool)
+    (held : W → Option (List ℕ)) (write_failed : W → Bool) (c : FileCommand) (limit : ℕ) (r : R)
+    (w : W) (result : Result Unit CheckError) (made : W) : Type 0 where
+  pub rest : R
+  pub runs : Runs left failed nothing_given nothing_fails held write_failed c limit r tt w result
+      rest tt made
 
 -- the errors of a query's text
 abbrev pub IsOfText : CheckError → Type 0

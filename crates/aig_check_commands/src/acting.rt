@@ -8,7 +8,7 @@ ghost use Rattle.aig_check_commands.specs.Help.{answer_of};
 ghost use Rattle.aig_check_commands.specs.Fits.{Fits};
 ghost use Rattle.aig_check_commands.specs.Opening.{unopened};
 
-use crate::command::{Call, call_of};
+use crate::command::{Call, USAGE, call_of};
 use crate::error::CheckError;
 use crate::inputs::open_all;
 use crate::running::run;
@@ -16,19 +16,7 @@ use aig_base::{MemoryError, Sink};
 use aig_command_line::{Ending, Flush, Help, OpenError, Opens, asked, write_text};
 use std::alloc::Global;
 
-/// How the program is used.
-pub const USAGE: &str =
-    "usage: aigcheck [--limit N] [--justice J [--rounds N]] clauses FILE K [raw], window FILE K [distinct] [raw], \
-    refuted FILE K PROOF [raw], inductive FILE K PROOF [distinct] [raw], witness FILE K SOLUTION [raw], run FILE WITNESS, \
-    certified FILE CERT BASE STEP [raw], equal FILE OTHER K PROOF [raw], obligations FILE CERT [raw], \
-    bounded FILE K [raw], refuted FILE to K PROOF [raw], witness FILE to K SOLUTION [raw], \
-    safe FILE to K BASE STEP [distinct] [raw | raw-base | raw-step], \
-    safe FILE each K P0 .. PK STEP [distinct] [raw | raw-base | raw-step], \
-    equal FILE OTHER to K BASE STEP [distinct] [raw | raw-base | raw-step], \
-    equal FILE OTHER by CERT BASE STEP [raw], \
-    certified FILE WITNESS RESET TRANSITION PROPERTY BASE STEP [raw], obligations FILE WITNESS CONDITION [raw]";
-
-/// Its version.
+/// The program's version.
 pub const VERSION: &str = "aigcheck 0.1.0";
 
 /// What a file that isn't opened is refused for.

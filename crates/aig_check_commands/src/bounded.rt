@@ -14,7 +14,7 @@ ghost use Rattle.aig_check_commands.specs.Running.{Runs, nothing_fails, nothing_
 use crate::command::FileCommand;
 use crate::comments::buffer_literal;
 use crate::error::CheckError;
-use crate::printing::{tell_formula, write_line};
+use crate::printing::{after_writing, tell_formula, write_line};
 use crate::titles::{Question, Summed, Title, write_title};
 use aig_answers::{
     BoundedClauses, Named, bounded, bounded_witness, check_bounded, refuted_questions_are_safe,
@@ -119,7 +119,7 @@ fn print_bounded_of<R: Source + Drop, B: Origin, W: Sink>(
         sum: file.finish(),
         beside: None,
     };
-    Ok(write_bounded(w, &title, &made)?)
+    after_writing(write_bounded(w, &title, &made))
 }
 
 /// Prints the clauses of one question: whether a bad state is reached at a step up to `k`. Before them stand their title, and comments

@@ -81,6 +81,23 @@ pub enum FileCommand {
     },
 }
 
+/// The step that a command on a file names, and 0 where it names none.
+pub(crate) fn step_of(command: FileCommand) -> usize
+    ensures { result ≡ step_of (Command.File command) }
+{
+    match command {
+        FileCommand::Clauses { k, .. }
+        | FileCommand::Window { k, .. }
+        | FileCommand::Refuted { k, .. }
+        | FileCommand::Inductive { k, .. }
+        | FileCommand::Witness { k, .. }
+        | FileCommand::Bounded { k, .. }
+        | FileCommand::RefutedTo { k, .. }
+        | FileCommand::WitnessTo { k, .. } => k,
+        _ => 0,
+    }
+}
+
 /// What the program is asked to do with two files.
 #[derive(Clone, Copy)]
 pub enum PairCommand {
@@ -172,6 +189,18 @@ pub struct Asked {
     pub command: Command,
 }
 
+/// How the program is used.
+pub const USAGE: &str =
+    "usage: aigcheck [--limit N] [--justice J [--rounds N]] clauses FILE K [raw], window FILE K [distinct] [raw], \
+    refuted FILE K PROOF [raw], inductive FILE K PROOF [distinct] [raw], witness FILE K SOLUTION [raw], run FILE WITNESS, \
+    certified FILE CERT BASE STEP [raw], equal FILE OTHER K PROOF [raw], obligations FILE CERT [raw], \
+    bounded FILE K [raw], refuted FILE to K PROOF [raw], witness FILE to K SOLUTION [raw], \
+    safe FILE to K BASE STEP [distinct] [raw | raw-base | raw-step], \
+    safe FILE each K P0 .. PK STEP [distinct] [raw | raw-base | raw-step], \
+    equal FILE OTHER to K BASE STEP [distinct] [raw | raw-base | raw-step], \
+    equal FILE OTHER by CERT BASE STEP [raw], \
+    certified FILE WITNESS RESET TRANSITION PROPERTY BASE STEP [raw], obligations FILE WITNESS CONDITION [raw]";
+
 /// A command without K and its settings.
 #[derive(Clone, Copy)]
 pub enum Action {
@@ -250,46 +279,11 @@ impl HasArguments for Action {
     ghost form = { form_of };
 
     fn name(&self) -> &'static str {
-        match self {
-            Action::Clauses => "clauses",
-            Action::Window => "window",
-            Action::Refuted => "refuted",
-            Action::Inductive => "inductive",
-            Action::Witness => "witness",
-            Action::Run => "run",
-            Action::Certified => "certified",
-            Action::Equal => "equal",
-            Action::Obligations => "obligations",
-            Action::Bounded => "bounded",
-            Action::RefutedTo => "refuted",
-            Action::WitnessTo => "witness",
-            Action::Safe | Action::SafeBySteps => "safe",
-            Action::AlwaysEqual | Action::EqualBy => "equal",
-        }
+        self.row().0
     }
 
     fn form(&self) -> ArgumentForm {
-        match self {
-            Action::Clauses | Action::Bounded => on_step(1, Step::At, 0, false),
-            Action::Window => on_step(1, Step::At, 0, true),
-            Action::Refuted | Action::Witness => on_step(1, Step::At, 1, false),
-            Action::RefutedTo | Action::WitnessTo => on_step(1, Step::UpTo, 1, false),
-            Action::Inductive => on_step(1, Step::At, 1, true),
-            Action::Safe => on_step(1, Step::UpTo, 2, true),
-            Action::SafeBySteps => on_step(1, Step::Each, 1, true),
-            Action::Equal => on_step(2, Step::At, 1, false),
-            Action::AlwaysEqual => on_step(2, Step::UpTo, 2, true),
-            Action::EqualBy => on_step(2, Step::By, 3, false),
-            Action::Run => ArgumentForm {
-                paths: 1,
-                step: Step::Absent,
-                further: 1,
-                distinct: false,
-                raw: false,
-            },
-            Action::Certified => on_certificate(2),
-            Action::Obligations => on_certificate(0),
-        }
+        self.row().1
     }
 }
 
@@ -299,23 +293,28 @@ impl HasArguments for WitnessAction {
     ghost form = { witness_form };
 
     fn name(&self) -> &'static str {
-        match self {
-            WitnessAction::Certified => "certified",
-            WitnessAction::Obligations => "obligations",
-        }
+        self.row().0
     }
 
     fn form(&self) -> ArgumentForm {
-        match self {
-            WitnessAction::Certified => on_certificate(5),
-            WitnessAction::Obligations => on_certificate(1),
-        }
+        self.row().1
     }
 }
 
 impl WitnessAction {
     /// Each of them.
     const ALL: [WitnessAction; 2] = [WitnessAction::Certified, WitnessAction::Obligations];
+
+    /// The word that names it, and what it takes.
+    fn row(self) -> (&'static str, ArgumentForm)
+        ensures name { result.0.now ≡ witness_name self }
+        ensures form { result.1 ≡ witness_form self }
+    {
+        match self {
+            WitnessAction::Certified => ("certified", on_certificate(5)),
+            WitnessAction::Obligations => ("obligations", on_certificate(1)),
+        }
+    }
 }
 
 /// The form of windows.
@@ -349,6 +348,40 @@ impl Action {
         Action::EqualBy,
         Action::SafeBySteps,
     ];
+
+    /// The word that names it, and what it takes.
+    fn row(self) -> (&'static str, ArgumentForm)
+        ensures name { result.0.now ≡ name_of self }
+        ensures form { result.1 ≡ form_of self }
+    {
+        match self {
+            Action::Clauses => ("clauses", on_step(1, Step::At, 0, false)),
+            Action::Window => ("window", on_step(1, Step::At, 0, true)),
+            Action::Refuted => ("refuted", on_step(1, Step::At, 1, false)),
+            Action::Inductive => ("inductive", on_step(1, Step::At, 1, true)),
+            Action::Witness => ("witness", on_step(1, Step::At, 1, false)),
+            Action::Run => (
+                "run",
+                ArgumentForm {
+                    paths: 1,
+                    step: Step::Absent,
+                    further: 1,
+                    distinct: false,
+                    raw: false,
+                },
+            ),
+            Action::Certified => ("certified", on_certificate(2)),
+            Action::Equal => ("equal", on_step(2, Step::At, 1, false)),
+            Action::Obligations => ("obligations", on_certificate(0)),
+            Action::Bounded => ("bounded", on_step(1, Step::At, 0, false)),
+            Action::RefutedTo => ("refuted", on_step(1, Step::UpTo, 1, false)),
+            Action::WitnessTo => ("witness", on_step(1, Step::UpTo, 1, false)),
+            Action::Safe => ("safe", on_step(1, Step::UpTo, 2, true)),
+            Action::AlwaysEqual => ("equal", on_step(2, Step::UpTo, 2, true)),
+            Action::EqualBy => ("equal", on_step(2, Step::By, 3, false)),
+            Action::SafeBySteps => ("safe", on_step(1, Step::Each, 1, true)),
+        }
+    }
 
     /// The command, with K and the settings that its words give to each of its proofs.
     fn command(self, k: usize, distinct: bool, optimize: bool) -> Command

@@ -1,6 +1,6 @@
 //! The files that a command reads, in the order of the words that name them.
 
-ghost use Rattle.std.specs.Prelude.{◌≡◌, ◌⊎◌, ◌+◌, ◌<◌, ◌≤◌, ◌++◌, ◌∷◌, [], Err, IfOk, IsErr, IsTrue, Ok, length, map, string_bytes};
+ghost use Rattle.std.specs.Prelude.{◌≡◌, ◌⊎◌, ◌+◌, ◌<◌, ◌≤◌, ◌++◌, ◌∷◌, [], Err, IfNone, IfOk, IfSome, IsErr, IsTrue, Ok, false, length, map, string_bytes};
 ghost use Rattle.aig_check_commands.specs.Fits.{AreFor, Fits, is_list, room_of};
 ghost use Rattle.aig_check_commands.specs.Inputs.{listed};
 ghost use Rattle.aig_check_commands.specs.Opening.{OpensAll};
@@ -50,7 +50,7 @@ impl<S: Drop> Inputs<S> {
     }
 
     /// These files, and another one behind them.
-    fn with(self, source: S) -> Self
+    pub(crate) fn with(self, source: S) -> Self
         requires { length (listed self) < room_of self }
         ensures listed { listed result ≡ listed self ++ source ∷ [] }
         ensures form { is_list result ≡ is_list self }
@@ -72,6 +72,48 @@ impl<S: Drop> Inputs<S> {
                 all.push_reserved(source);
                 Inputs::Each(all)
             }
+        }
+    }
+
+    /// The files before the last one, and that, of those that aren't in a list.
+    pub(crate) fn split_last(self) -> Option<(Self, S)>
+        requires { is_list self ≡ false }
+        ensures some { IfSome result (λ p. listed self ≡ listed p.0 ++ p.1 ∷ []) }
+        ensures few { IfSome result (λ p. is_list p.0 ≡ false) }
+        ensures room { IfSome result (λ p. length (listed p.0) < 6) }
+        ensures none { IfNone result (listed self ≡ []) }
+    {
+        match self {
+            Inputs::Empty => None,
+            Inputs::One(last) => Some((Inputs::Empty, last)),
+            Inputs::Two(first, last) => Some((Inputs::One(first), last)),
+            Inputs::Three(first, second, last) => Some((Inputs::Two(first, second), last)),
+            Inputs::Four(first, second, third, last) => {
+                Some((Inputs::Three(first, second, third), last))
+            }
+            Inputs::Five(first, second, third, fourth, last) => {
+                Some((Inputs::Four(first, second, third, fourth), last))
+            }
+            Inputs::Six(first, second, third, fourth, fifth, last) => {
+                Some((Inputs::Five(first, second, third, fourth, fifth), last))
+            }
+            Inputs::Each(_) => unreachable!(),
+        }
+    }
+
+    /// How many there are.
+    pub(crate) fn count(&self) -> usize
+        ensures { result ≡ length (listed self.now) }
+    {
+        match self {
+            Inputs::Empty => 0,
+            Inputs::One(..) => 1,
+            Inputs::Two(..) => 2,
+            Inputs::Three(..) => 3,
+            Inputs::Four(..) => 4,
+            Inputs::Five(..) => 5,
+            Inputs::Six(..) => 6,
+            Inputs::Each(all) => all.len(),
         }
     }
 }

@@ -88,15 +88,16 @@ pub(crate) fn is_asked(justice: Option<Justice>, command: Command) -> bool
         return true;
     };
     match command {
-        Command::File(FileCommand::Witness { .. } | FileCommand::Run) => false,
-        Command::File(FileCommand::WitnessTo { .. }) => false,
+        Command::File(
+            FileCommand::Clauses { .. } | FileCommand::Window { .. } | FileCommand::Bounded { .. },
+        ) => true,
         Command::File(
             FileCommand::Refuted { .. }
             | FileCommand::RefutedTo { .. }
             | FileCommand::Inductive { .. },
         ) => justice.rounds.is_none(),
-        Command::Pair(PairCommand::Equal { .. } | PairCommand::AlwaysEqual { .. }) => false,
-        Command::EqualBy { .. } | Command::SafeBySteps { .. } => false,
-        _ => true,
+        Command::Pair(PairCommand::Certified { .. } | PairCommand::Obligations { .. }) => true,
+        Command::Safe { .. } | Command::Simulated { .. } | Command::Obligation { .. } => true,
+        _ => false,
     }
 }

@@ -26,10 +26,10 @@ mod simulated;
 mod subjects;
 mod titles;
 
-pub use acting::{USAGE, act};
+pub use acting::act;
 pub use advising::advise;
 pub use bounded::{print_bounded, print_refuted_to, print_witness_to};
-pub use command::{Asked, Command, FileCommand, PairCommand, parse};
+pub use command::{Asked, Command, FileCommand, PairCommand, USAGE, parse};
 pub use compared::print_equal_by;
 pub use equality::print_always_equal;
 pub use error::CheckError;

@@ -9,7 +9,7 @@ ghost use Rattle.aig_check_commands.specs.LivingParts.{MakesText, WritesMade, te
 ghost use Rattle.aig_check_commands.specs.CommandWords.{step_of};
 ghost use Rattle.aig_check_commands.specs.declared.command.Command.TheVariants as commands;
 
-use crate::command::{Command, FileCommand};
+use crate::command::{Command, FileCommand, step_of};
 use crate::justice::Justice;
 use crate::printing::write_line;
 use aig_base::{Sink, Source, StreamFault, ToWrite};
@@ -120,23 +120,6 @@ fn buffer_lasso_text<W: Sink>(
             b" if no fair lasso of at most ",
         ),
         _ => buffer.write_bytes(w, b""),
-    }
-}
-
-/// The step that a command on a file names, and 0 where it names none.
-fn step_of(command: FileCommand) -> usize
-    ensures { result ≡ step_of (commands.File command) }
-{
-    match command {
-        FileCommand::Clauses { k, .. }
-        | FileCommand::Window { k, .. }
-        | FileCommand::Refuted { k, .. }
-        | FileCommand::Inductive { k, .. }
-        | FileCommand::Witness { k, .. }
-        | FileCommand::Bounded { k, .. }
-        | FileCommand::RefutedTo { k, .. }
-        | FileCommand::WitnessTo { k, .. } => k,
-        FileCommand::Run => 0,
     }
 }
 

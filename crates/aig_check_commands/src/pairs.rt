@@ -11,7 +11,7 @@ ghost use Rattle.aig_check_commands.specs.Running.{nothing_fails, nothing_given}
 
 use crate::command::PairCommand;
 use crate::error::CheckError;
-use crate::printing::{tell_circuit, write_line};
+use crate::printing::{after_writing, tell_circuit, write_line};
 use crate::titles::{Question, Summed, Title, write_title};
 use aig_answers::{ClauseParts, Obligations, check_certified, check_equal, obligations_of};
 use aig_base::{Sink, Source, StreamFault};
@@ -144,7 +144,7 @@ fn print_obligations_of<R: Source + Drop, S: Source + Drop, A: Origin, B: Origin
         sum: first.finish(),
         beside: Some(second.finish()),
     };
-    Ok(write_obligations(w, &title, &asked, optimize)?)
+    after_writing(write_obligations(w, &title, &asked, optimize))
 }
 
 /// Prints the clauses that the proofs of `print_certified` are of, behind their title: after the line `c base` those of which BASE is a

@@ -1,10 +1,10 @@
 //! The place where what is given beside a file is refused, found by running the command again.
 
-ghost use Rattle.std.specs.Prelude.{◌≡◌, ◌+◌, ◌<◌, ◌⊎◌, ◌∷◌, IfOk, IsTrue, Some, length, map, slice_get, string_bytes, true};
+ghost use Rattle.std.specs.Prelude.{◌≡◌, ◌+◌, ◌<◌, ◌⊎◌, ◌∷◌, ℕ, IfOk, IsTrue, List, Option, Some, false, length, map, slice_get, string_bytes, true};
 ghost use Rattle.aig_command_line.specs.declared.tally.Place.TheVariants as places;
 ghost use Rattle.aig_command_line.specs.Came.{IsPlaceIn};
 ghost use Rattle.aig_check_commands.specs.Explaining.{IsRefusedIn, IsRunPlace};
-ghost use Rattle.aig_check_commands.specs.Fits.{AreFor, Fits, is_list};
+ghost use Rattle.aig_check_commands.specs.Fits.{AreFor, Fits, is_list, room_of};
 ghost use Rattle.aig_check_commands.specs.Inputs.{listed};
 ghost use Rattle.aig_check_commands.specs.CommandWords.{beside_of};
 
@@ -263,6 +263,29 @@ fn trace_each<R: Source + Drop, B: Origin>(
     Ok(traced)
 }
 
+/// Few inputs, of which the one of this number, the first of which is 0, is counted, if there is one.
+fn trace_few<R: Source + Drop, B: Origin>(
+    alloc: Global,
+    inputs: Inputs<R>,
+    which: usize,
+) -> Result<Inputs<Trace<R, B>>, MemoryError>
+    requires few { is_list inputs ≡ false }
+    requires origin { (known : Option (List ℕ))
+        → slice_get (map R.left (listed inputs)) which ≡ Some known → known ≡ B.bytes }
+    ensures listed { IfOk result (λ traced. map ⟦<Traced<R, Counted<R, B>> as Source>⟧.left
+        (listed traced) ≡ map R.left (listed inputs)) }
+    ensures few { IfOk result (λ traced. is_list traced ≡ false) }
+    ensures room { IfOk result (λ traced. room_of traced ≡ 6) }
+{
+    let Some((front, last)) = inputs.split_last() else {
+        return Ok(Inputs::Empty);
+    };
+    let is_counted = which == front.count();
+    let traced = trace_few(alloc, front, which)?;
+    let last = counted_if(alloc, last, is_counted)?;
+    Ok(traced.with(last))
+}
+
 /// The inputs, of which the one of this number, the first of which is 0, is counted.
 fn trace<R: Source + Drop, B: Origin>(
     alloc: Global,
@@ -274,41 +297,10 @@ fn trace<R: Source + Drop, B: Origin>(
         (listed traced) ≡ map R.left (listed inputs)) }
     ensures form { IfOk result (λ traced. is_list traced ≡ is_list inputs) }
 {
-    Ok(match inputs {
-        Inputs::Empty => Inputs::Empty,
-        Inputs::One(first) => Inputs::One(counted_if(alloc, first, which == 0)?),
-        Inputs::Two(first, second) => Inputs::Two(
-            counted_if(alloc, first, which == 0)?,
-            counted_if(alloc, second, which == 1)?,
-        ),
-        Inputs::Three(first, second, third) => Inputs::Three(
-            counted_if(alloc, first, which == 0)?,
-            counted_if(alloc, second, which == 1)?,
-            counted_if(alloc, third, which == 2)?,
-        ),
-        Inputs::Four(first, second, third, fourth) => Inputs::Four(
-            counted_if(alloc, first, which == 0)?,
-            counted_if(alloc, second, which == 1)?,
-            counted_if(alloc, third, which == 2)?,
-            counted_if(alloc, fourth, which == 3)?,
-        ),
-        Inputs::Five(first, second, third, fourth, fifth) => Inputs::Five(
-            counted_if(alloc, first, which == 0)?,
-            counted_if(alloc, second, which == 1)?,
-            counted_if(alloc, third, which == 2)?,
-            counted_if(alloc, fourth, which == 3)?,
-            counted_if(alloc, fifth, which == 4)?,
-        ),
-        Inputs::Six(first, second, third, fourth, fifth, sixth) => Inputs::Six(
-            counted_if(alloc, first, which == 0)?,
-            counted_if(alloc, second, which == 1)?,
-            counted_if(alloc, third, which == 2)?,
-            counted_if(alloc, fourth, which == 3)?,
-            counted_if(alloc, fifth, which == 4)?,
-            counted_if(alloc, sixth, which == 5)?,
-        ),
-        Inputs::Each(all) => Inputs::Each(trace_each(alloc, all, which)?),
-    })
+    match inputs {
+        Inputs::Each(all) => Ok(Inputs::Each(trace_each(alloc, all, which)?)),
+        few => trace_few(alloc, few, which),
+    }
 }
 
 /// The place that is told of the counted one of a list of inputs.

@@ -6,6 +6,7 @@ ghost use Rattle.aig_base.specs.declared.logic.literal.Lit.{Lit};
 ghost use Rattle.aig_base.specs.Clauses.{AreBelow};
 ghost use Rattle.aig_base.specs.Formula.{clauses_in};
 ghost use Rattle.aig_circuit.specs.Circuit.{Circuit};
+ghost use Rattle.aig_circuit.specs.View.{lists_circuit};
 ghost use Rattle.aig_cnf.specs.Cnf.{AreNeeded, HasClauses};
 ghost use Rattle.aig_command_line.specs.Limits.{IsLimit};
 ghost use Rattle.aig_dimacs.specs.Text.{IsFormula};
@@ -13,7 +14,7 @@ ghost use Rattle.aig_output.specs.Sinks.{BuffersOrStops, WritesOrStops};
 ghost use Rattle.aig_check_commands.specs.Titles.{title_text};
 ghost use Rattle.aig_unroll.specs.Unroll.{UnrollsTo};
 ghost use Rattle.aig_check_commands.specs.Comments.{comments_of};
-ghost use Rattle.aig_check_commands.specs.Printing.{IsKnownText, IsOfSolution, IsOfText, IsQueryText, PrintsSuch, WritesQuery, WritesWindow};
+ghost use Rattle.aig_check_commands.specs.Printing.{IsKnownText, IsOfSolution, IsOfText, IsQueryText, PrintsSuch, WritesFree, WritesQuery, after_writing};
 ghost use Rattle.aig_check_commands.specs.Running.{Runs, nothing_fails, nothing_given};
 ghost use Rattle.aig_check_commands.specs.Titling.{is_distinct};
 
@@ -70,6 +71,37 @@ fn is_distinct(form: Window) -> bool
     }
 }
 
+/// How a command ends whose answer was written so.
+pub(crate) fn after_writing(written: Result<(), StreamFault>) -> Result<(), CheckError>
+    ensures { result ≡ after_writing written }
+{
+    match written {
+        Ok(done) => Ok(done),
+        Err(_) => Err(CheckError::Write),
+    }
+}
+
+/// Writes the clauses of a circuit and further ones, which may be of so many free variables behind those of the nodes, behind their title.
+fn write_free<W: Sink>(
+    w: &mut W,
+    title: &Title,
+    circuit: &CircuitView<'_>,
+    free: usize,
+    optimize: bool,
+    needed: &NeededGates,
+    extra: &LitVvec,
+) -> Result<(), StreamFault>
+    requires few { length circuit.now.nodes + free ≤ 2 ^ 31 }
+    requires needed { AreNeeded circuit.now optimize needed.now.marks.items needed.now.clauses }
+    requires below { AreBelow (length circuit.now.nodes + free) extra.now }
+    ensures { WritesFree W.held W.failed title.now circuit.now free optimize extra.now w.old result
+        w.new }
+{
+    tell_circuit_with(circuit, free, optimize, needed, extra);
+    write_title(w, title)?;
+    write_circuit_with(w, circuit, free, optimize, needed, extra)
+}
+
 /// Writes the clauses of a window behind their title. They are written from the circuit, and no list of those of gates is made.
 fn write_window<W: Sink>(
     w: &mut W,
@@ -79,13 +111,19 @@ fn write_window<W: Sink>(
 ) -> Result<(), StreamFault>
     requires { (form : Window) × (c : Circuit) × (k : ℕ)
         × IsUnrolledWindow form c k optimize window.now }
-    ensures { WritesWindow W.held W.failed title.now window.now optimize w.old result w.new }
+    ensures { WritesFree W.held W.failed title.now (lists_circuit window.now.unrolled)
+        window.now.free optimize window.now.extra w.old result w.new }
 {
     let unrolled = CircuitView::new(&window.unrolled);
-    let free = window.free;
-    tell_circuit_with(&unrolled, free, optimize, &window.needed, &window.extra);
-    write_title(w, title)?;
-    write_circuit_with(w, &unrolled, free, optimize, &window.needed, &window.extra)
+    write_free(
+        w,
+        title,
+        &unrolled,
+        window.free,
+        optimize,
+        &window.needed,
+        &window.extra,
+    )
 }
 
 /// Prints the clauses of a window of the file whose bytes are the origin.
@@ -116,7 +154,7 @@ fn print_window_of<R: Source + Drop, B: Origin, W: Sink>(
         sum: file.finish(),
         beside: None,
     };
-    Ok(write_window(w, &title, &asked, optimize)?)
+    after_writing(write_window(w, &title, &asked, optimize))
 }
 
 /// Prints the clauses that ask for a window of a file's machine, behind their title. Requires that `k` is below 2^32.

@@ -8,7 +8,8 @@ ghost use Rattle.aig_check_commands.specs.Inputs.{Ran, listed};
 ghost use Rattle.aig_check_commands.specs.Justice.{is_asked};
 ghost use Rattle.aig_check_commands.specs.Living.{ChecksMade, PrintsMade, RunsMade};
 ghost use Rattle.aig_check_commands.specs.Pairs.{RunsPair};
-ghost use Rattle.aig_check_commands.specs.Running.{Runs, nothing_fails, nothing_given};
+ghost use Rattle.aig_check_commands.specs.Running.{Runs};
+ghost use Rattle.aig_check_commands.specs.Printing.{RunsAlone};
 ghost use Rattle.aig_check_commands.specs.SafeBySteps.{RunsOnProofs};
 ghost use Rattle.aig_check_commands.specs.CommandWords.{beside_of, prints, step_of};
 
@@ -64,9 +65,7 @@ fn check_given<R: Source, P: Source, W: Sink>(
         FileCommand::WitnessTo { k, optimize } => {
             print_witness_to(alloc, limit, k, optimize, r, given, w)
         }
-        FileCommand::Clauses { .. } | FileCommand::Window { .. } | FileCommand::Bounded { .. } => {
-            unreachable!()
-        }
+        _ => unreachable!(),
     }
 }
 
@@ -110,7 +109,7 @@ fn check_proofs<R: Source, S: Source, W: Sink>(
             step,
             w,
         ),
-        PairCommand::Equal { .. } | PairCommand::Obligations { .. } => unreachable!(),
+        _ => unreachable!(),
     }
 }
 
@@ -261,8 +260,7 @@ fn print_file<R: Source + Drop, W: Sink>(
     requires limit { IsLimit limit }
     requires prints { beside_of (Command.File command) ≡ 0 }
     requires small { step_of (Command.File command) < 2 ^ 32 }
-    ensures { (rest : R) × Runs R.left R.failed nothing_given nothing_fails W.held W.failed command
-        limit file tt w.old result rest tt w.new }
+    ensures { RunsAlone R.left R.failed W.held W.failed command limit file w.old result w.new }
 {
     match command {
         FileCommand::Clauses { k, optimize } => print_clauses(alloc, limit, k, optimize, file, w),

@@ -8,7 +8,7 @@ ghost use Rattle.aig_check_commands.specs.Simulating.{RunsObligation, RunsSimula
 ghost use Rattle.std.specs.Prelude.{◌≡◌};
 
 use crate::error::CheckError;
-use crate::printing::tell_circuit;
+use crate::printing::{after_writing, tell_circuit};
 use crate::titles::{Question, Summed, Title, write_title};
 use aig_base::{Sink, Source, StreamFault};
 use aig_command_line::{Origin, write_text};
@@ -93,7 +93,7 @@ fn print_obligation_of<R: Source + Drop, S: Source + Drop, A: Origin, B: Origin,
         sum: first.finish(),
         beside: Some(second.finish()),
     };
-    Ok(write_obligation(w, &title, &asked, optimize)?)
+    after_writing(write_obligation(w, &title, &asked, optimize))
 }
 
 /// Prints the clauses that the proof of `print_simulated` for a condition is of, behind their title.

@@ -1,7 +1,6 @@
 -- Pieces that follow each other, and the counts of what came before the last one.
-use Rattle.aig_base.proofs.Words.{◌≡◌, ◌≢◌, ◌⊎◌, ℕ, ◌+◌, ◌-◌, ◌^◌, ◌≤◌, Bool, true, false, List, [], ◌++◌, length, take, drop, refl, sym, ap, subst, ◌∙◌, inl, inr, arith, length-append, length-drop, length-take, length-take-le, take-take, take_all, drop-drop, false_from_ne_true, same_Some, Consumes}
+use Rattle.aig_base.proofs.Words.{◌≡◌, ℕ, ◌+◌, ◌^◌, ◌≤◌, Bool, true, false, List, ◌++◌, length, take, drop, refl, sym, ap, subst, ◌∙◌, inl, inr, arith, length-append, length-drop, length-take, length-take-le, take-take, take_all, drop-drop, false_from_ne_true, same_Some, Consumes}
 use Rattle.std.specs.Prelude.{Option, Some, None, IsTrue}
-use Rattle.std.specs.Option.{ForNone, ForSome}
 use Rattle.std.proofs.Math.Seq.{take-append-add, take-append_seam, drop-append_seam}
 use Rattle.std.proofs.lemmas.List.{take-append-drop}
 use Rattle.aig_command_line.specs.Came.{ComesIn, Follows, IsPlaceOf, StopsIn}

@@ -1,8 +1,8 @@
 -- What holds of a circuit whose text is a file again.
-use Rattle.aig_base.proofs.Words.{ℕ, All, subst, arith, length}
+use Rattle.aig_base.proofs.Words.{All, subst, arith, length}
 use Rattle.aig_circuit.specs.Circuit.{Circuit, IsClosed}
 use Rattle.aig_circuit.specs.Edges.{HasConstantInit}
-use Rattle.aig_format.proofs.Words.{file_of, File, Fits}
+use Rattle.aig_format.proofs.Words.{file_of, Fits}
 use Rattle.aig_format.specs.Circuit.{IsReadAgain}
 use Rattle.aig_format.specs.declared.FileKind.TheVariants.{Text}
 use Rattle.aig_format_laws.proofs.Closed.{IsClosed-of_file}

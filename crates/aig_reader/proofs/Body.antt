@@ -4,8 +4,10 @@ use Rattle.aig_circuit.specs.Properties.{Properties}
 use Rattle.aig_format.specs.declared.FileKind.{FileKind}
 use Rattle.aig_format.specs.declared.FileKind.TheVariants.{Text, Binary}
 use Rattle.aig_format.proofs.Words.{LatchLine, GateLine, HeaderNumbers, ◌>>=◌, Parts, parse_map}
-use Rattle.aig_format.specs.ParseTested.{parse_fitting_gates, parse_fitting_inputs, parse_fitting_latches, parse_fitting_properties, parse_section_lines, parse_literal_justice, parse_literals}
+use Rattle.aig_format.specs.ParseTested.{parse_fitting_gates, parse_fitting_inputs, parse_fitting_properties, parse_literal_justice, parse_literals}
 use Rattle.aig_reader.specs.declared.error.Section.{Section}
+use Rattle.aig_reader.specs.declared.latches.Resets.{Resets}
+use Rattle.aig_reader.specs.Rules.{parse_latches_by, parse_lines_by}
 use Rattle.aig_lexer.specs.declared.error.LineError.{LineError}
 use Rattle.aig_lexer.specs.declared.error.LineError.TheVariants.{Memory, Stream, Syntax, Literal}
 use Rattle.aig_reader.specs.declared.error.ReadError.{ReadError}
@@ -142,7 +144,7 @@ module _ (ns : HeaderNumbers) where
 
 -- ---- all sections
 
-module _ (kind : FileKind) (ns : HeaderNumbers) where
+module _ (resets : Resets) (kind : FileKind) (ns : HeaderNumbers) where
   abbrev gates : List ℕ → List LatchLine → List ℕ → Option (List GateLine × List ℕ)
   gates inputs latches = parse_fitting_gates kind ns (inputs ++ map (λ l. l.literal) latches)
 
@@ -154,44 +156,61 @@ module _ (kind : FileKind) (ns : HeaderNumbers) where
   following_latches inputs latches bytes = parse_fitting_properties ns bytes >>= λ x. following_properties inputs latches x.0 x.1
 
   abbrev following_inputs : List ℕ → List ℕ → Option (Parts × List ℕ)
-  following_inputs inputs bytes = parse_fitting_latches kind ns inputs bytes >>= λ l. following_latches inputs l.0 l.1
+  following_inputs inputs bytes = parse_latches_by resets kind ns inputs bytes >>= λ l.
+      following_latches inputs l.0 l.1
 
   pub misses_inputs : (b : Feed) → Misses (parse_fitting_inputs kind ns) b
-      → Misses (parse_section_lines kind ns) b
+      → Misses (parse_lines_by resets kind ns) b
   misses_inputs b h = misses_first (parse_fitting_inputs kind ns) (λ i. following_inputs i.0 i.1) b h
 
   module _ (b i : Feed) (inputs : List ℕ) (hi : Takes (parse_fitting_inputs kind ns) b i inputs) where
-    after_inputs : Misses (following_inputs inputs) i → Misses (parse_section_lines kind ns) b
+    after_inputs : Misses (following_inputs inputs) i → Misses (parse_lines_by resets kind ns) b
     after_inputs h = misses_next (parse_fitting_inputs kind ns) (λ i. following_inputs i.0 i.1) b i inputs hi h
 
-    pub misses_latches : Misses (parse_fitting_latches kind ns inputs) i
-        → Misses (parse_section_lines kind ns) b
-    misses_latches h = after_inputs (misses_first (parse_fitting_latches kind ns inputs) (λ l. following_latches inputs l.0 l.1) i h)
+    pub misses_latches : Misses (parse_latches_by resets kind ns inputs) i
+        → Misses (parse_lines_by resets kind ns) b
+    misses_latches h = after_inputs (misses_first (parse_latches_by resets kind ns inputs)
+        (λ l. following_latches inputs l.0 l.1) i h)
 
-    module _ (l : Feed) (latches : List LatchLine) (hl : Takes (parse_fitting_latches kind ns inputs) i l latches) where
+    module _ (l : Feed) (latches : List LatchLine)
+        (hl : Takes (parse_latches_by resets kind ns inputs) i l latches) where
       after_latches : Misses (following_latches inputs latches) l
-          → Misses (parse_section_lines kind ns) b
-      after_latches h = after_inputs (misses_next (parse_fitting_latches kind ns inputs) (λ l. following_latches inputs l.0 l.1) i l latches hl h)
+          → Misses (parse_lines_by resets kind ns) b
+      after_latches h = after_inputs (misses_next (parse_latches_by resets kind ns inputs)
+          (λ l. following_latches inputs l.0 l.1) i l latches hl h)
 
       pub misses_properties : Misses (parse_fitting_properties ns) l
-          → Misses (parse_section_lines kind ns) b
+          → Misses (parse_lines_by resets kind ns) b
       misses_properties h = after_latches (misses_first (parse_fitting_properties ns) (λ x. following_properties inputs latches x.0 x.1) l h)
 
       module _ (p : Feed) (x : Properties ℕ) (hp : Takes (parse_fitting_properties ns) l p x) where
-        misses_gates : Misses (gates inputs latches) p → Misses (parse_section_lines kind ns) b
+        misses_gates : Misses (gates inputs latches) p → Misses (parse_lines_by resets kind ns) b
         misses_gates h = after_latches (misses_next (parse_fitting_properties ns) (λ x. following_properties inputs latches x.0 x.1) l p x hp (misses_mapped _ (gates inputs latches) p h))
 
         takes_sections : (a : Feed) (gs : List GateLine) → Takes (gates inputs latches) p a gs
-            → Takes (parse_section_lines kind ns) b a (record { inputs = inputs; latches = latches; properties = x; gates = gs })
+            → Takes (parse_lines_by resets kind ns) b a
+            (record { inputs = inputs; latches = latches; properties = x; gates = gs })
         takes_sections a gs h =
             takes_bind (parse_fitting_inputs kind ns) (λ i. following_inputs i.0 i.1) b i a inputs _ hi
-            (takes_bind (parse_fitting_latches kind ns inputs) (λ l. following_latches inputs l.0 l.1) i l a latches _ hl
+            (takes_bind (parse_latches_by resets kind ns inputs)
+            (λ l. following_latches inputs l.0 l.1) i l a latches _ hl
             (takes_bind (parse_fitting_properties ns) (λ x. following_properties inputs latches x.0 x.1) l p a x _ hp
             (takes_mapped _ (gates inputs latches) p a gs h)))
 
         -- the last of them is read
         pub makes_sections : {X : Type 0} (IsOf : X → Parts → Type 0) (Are : X → List GateLine → Type 0) (a : Feed)
-            → ((y : X) (gs : List GateLine) → Are y gs → Takes (parse_section_lines kind ns) b a (record { inputs = inputs; latches = latches; properties = x; gates = gs }) → IsOf y (record { inputs = inputs; latches = latches; properties = x; gates = gs }))
-            → (result : Result X ReadError) → Makes section_cause Are p a result (gates inputs latches) → Makes section_cause IsOf b a result (parse_section_lines kind ns)
+            → ((y : X) (gs : List GateLine) → Are y gs
+            → Takes (parse_lines_by resets kind ns) b a
+            (record { inputs = inputs; latches = latches; properties = x; gates = gs })
+            → IsOf y (record {
+              inputs = inputs;
+              latches = latches;
+              properties = x;
+              gates =
+                  gs;
+            }))
+            → (result : Result X ReadError) → Makes section_cause Are p a result
+            (gates inputs latches) → Makes section_cause IsOf b a result
+            (parse_lines_by resets kind ns)
         makes_sections IsOf Are a made (Ok y) h = let taken = takes_sections a h.0 h.2 in (record { inputs = inputs; latches = latches; properties = x; gates = h.0 }, made y h.0 h.1 taken, taken)
         makes_sections IsOf Are a made (Err e) h = tells-weaker (section_cause e) _ _ a.failed misses_gates h

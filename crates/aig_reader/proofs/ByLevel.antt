@@ -1,5 +1,5 @@
 -- The numbers of variables by level, and lists under them.
-use Rattle.aig_base.proofs.Words.{◌≡◌, ℕ, zero, suc, ◌+◌, ◌/◌, ◌%◌, ◌<◌, ◌≤◌, Bool, true, false, cond, eqb, ltb, ◌||◌, ◌&&◌, List, [], ◌∷◌, ◌++◌, length, map, Option, Some, None, Vec, refl, sym, ap, subst, ◌∙◌, arith, inl, inr, ◌==◌, All, IfSome, is_some, nat_lt, option_map, unwrap_or, AllByRecursion, list_all, flat_map, and_assoc, ltb-true, ltb-false, ne_eqb, false≢true, or_right, and_parts, All-from_recursion, All-map}
+use Rattle.aig_base.proofs.Words.{◌≡◌, ℕ, zero, suc, ◌+◌, ◌/◌, ◌%◌, ◌<◌, ◌≤◌, Bool, true, false, cond, eqb, ltb, ◌||◌, ◌&&◌, List, [], ◌∷◌, ◌++◌, length, map, Option, Some, None, Vec, refl, sym, ap, subst, ◌∙◌, arith, inl, inr, ◌==◌, All, IfSome, is_some, option_map, unwrap_or, AllByRecursion, list_all, flat_map, and_assoc, eqb-true, ltb-true, ltb-false, ne_eqb, false≢true, or_right, and_parts, All-from_recursion, All-map}
 use Rattle.std.specs.declared.alloc.Global.{Global}
 use Rattle.std.proofs.lemmas.List.{get_or_past}
 use Rattle.std.proofs.lemmas.List.Folds.{list_all-append, list_all-map}
@@ -10,13 +10,13 @@ use Rattle.aig_circuit.specs.declared.node.AigNodeType.TheVariants.{False}
 use Rattle.aig_circuit.specs.declared.node.AigLatch.{AigLatch}
 use Rattle.aig_circuit.proofs.Words.{edge_to, and_of, AllProperties, Properties, map_properties, position_of, renumbered_edge, renumbered_kind, renumbered_latch, properties_of}
 use Rattle.aig_circuit.proofs.Building.{and_of-cases, and_of-turned}
-use Rattle.aig_format.proofs.Words.{LatchLine, GateLine, File, defined, is_defined, is_known, IsKnown, gate_of_variable, has_level, HasLevel, is_compact, node_of_variable, variables_by_level, variables_in_order, circuit_of, edge_of, kind_of, latch_of, nodes_from, IsDefinable}
+use Rattle.aig_format.proofs.Words.{LatchLine, GateLine, File, defined, is_defined, is_known, IsKnown, gate_of_variable, has_level, HasLevel, is_compact, node_of_variable, variables_by_level, variables_in_order, circuit_of, edge_of, kind_of, nodes_from, IsDefinable}
 use Rattle.aig_format.proofs.Circuits.{defined_known, differ_from}
 use Rattle.aig_format.proofs.Entries.{rec_both, rec_parts, rec_unmap, rec_weaker}
 use Rattle.aig_format.proofs.Found.{found_all}
 use Rattle.aig_format.proofs.Levels.{levelled}
 use Rattle.aig_format.proofs.Members.{has, rec_has}
-use Rattle.aig_format.proofs.Numbers.{any_within, node_of_variable-place, node_of_variable-zero, order-well_founded}
+use Rattle.aig_format.proofs.Numbers.{any_within, node_of_variable-place, order-well_founded}
 use Rattle.aig_format.proofs.Orders.{defined-by_level, has-by_level}
 use Rattle.aig_format.proofs.Searches.{find_some}
 use Rattle.aig_format.proofs.Rules.{all_pass, definable_told, even_literal}
@@ -24,12 +24,14 @@ use Rattle.aig_ordering.specs.declared.gates.Operands.{Operands}
 use Rattle.aig_ordering.specs.Lists as lists
 use Rattle.aig_format.specs.Circuit as of_file
 use Rattle.aig_ordering.specs.Gates.{kind_of_operands, nodes_in, nodes_in_from}
-use Rattle.aig_ordering.specs.Lists.{edge_from, kind_among, latch_of_line, variable_of_literal}
+use Rattle.aig_ordering.specs.Lists.{edge_from, kind_among, variable_of_literal}
 use Rattle.aig_ordering.specs.Tables.{entry_value}
 use Rattle.aig_ordering.specs.Numbers.{has_number, has_operands, number_at, number_in, place_in, with_numbers}
 use Rattle.aig_renumber.specs.Numbers.{IsEdgeIn, IsLatchIn}
 use Rattle.aig_reader.specs.declared.sections.Lists.{Lists}
-use Rattle.aig_reader.specs.Numbered.{AreListsByNumber, AreNumbersOf, AreRenumbered, HasNumber, HaveNumbers, edges_pass, have_operands, knows, knows_lists, knows_properties, lists_pass, properties_pass}
+use Rattle.aig_reader.specs.Numbered.{AreListsByNumber, AreNumbersOf, AreRenumbered, HasNumber, HaveNumbers, edges_pass, have_operands, init_passes, knows, knows_lists, knows_properties, lists_pass, properties_pass, resets_pass}
+use Rattle.aig_reader.specs.Resets.{knows_resets, latch_with_reset, reset_in}
+use Rattle.aig_reader.specs.Rules.{edge_of_reset, latch_from}
 use Rattle.aig_reader.specs.Sections.{AreListsByVariable, HasGoodLines}
 use Rattle.aig_reader.proofs.Numbered.{knows_properties-is}
 
@@ -158,45 +160,75 @@ module _ (f : File) (table : List ℕ) (are : AreNumbersOf f table) where
   abbrev knows_next : LatchLine → Bool
   knows_next l = knows_one l.next
 
-  -- what is known of a latch whose next edge has a number
+  abbrev knows_reset : LatchLine → Bool
+  knows_reset l = knows_one (reset_in l)
+
+  -- what is known of a latch whose edges have numbers
   abbrev IsKnownLatch : LatchLine → Type 0
-  IsKnownLatch l = IsKnown f l.literal × (knows_next l ≡ true)
+  IsKnownLatch l = IsKnown f l.literal × ((knows_next l ≡ true) × (knows_reset l ≡ true))
 
-  latches_known : knows f (map (λ (l : LatchLine). l.next) f.latches) ≡ true → AllByRecursion IsKnownLatch f.latches
-  latches_known known =
+  latches_known : knows f (map (λ (l : LatchLine). l.next) f.latches) ≡ true → knows_resets f ≡ true
+      → AllByRecursion IsKnownLatch f.latches
+  latches_known known resets =
       let nexts = (all_pass knows_next f.latches).0 (sym (list_all-map knows_one (λ (l : LatchLine). l.next) f.latches) ∙ known) in
-      rec_both (λ (l : LatchLine). IsKnown f l.literal) (λ l. knows_next l ≡ true) f.latches leaves_known.1 nexts
+      rec_both (λ (l : LatchLine). IsKnown f l.literal) (λ l. (knows_next l ≡ true)
+      × (knows_reset l ≡ true)) f.latches leaves_known.1
+      (rec_both (λ l. knows_next l ≡ true) (λ l. knows_reset l ≡ true) f.latches nexts
+      ((all_pass knows_reset f.latches).0 resets))
 
-  nexts_known : list_all (λ (l : AigLatch). has_number table l.next.node_id) (map latch_of_line f.latches) ≡ knows f (map (λ (l : LatchLine). l.next) f.latches)
+  nexts_known : list_all (λ (l : AigLatch). has_number table l.next.node_id)
+      (map latch_from f.latches) ≡ knows f (map (λ (l : LatchLine). l.next) f.latches)
   nexts_known =
-      list_all-map (λ (l : AigLatch). has_number table l.next.node_id) latch_of_line f.latches ∙ ap (λ (test : ℕ → Bool). list_all (λ (l : LatchLine). test (l.next / 2)) f.latches) has_same
+      list_all-map (λ (l : AigLatch). has_number table l.next.node_id) latch_from f.latches
+      ∙ ap (λ (test : ℕ → Bool). list_all (λ (l : LatchLine). test (l.next / 2)) f.latches)
+      has_same
       ∙ sym (list_all-map knows_one (λ (l : LatchLine). l.next) f.latches)
 
-  -- an initial edge is to node 0, which keeps its number
-  zero_is : number 0 ≡ 0
-  zero_is = number_is 0 refl ∙ node_of_variable-zero f
+  -- the initial edge of a latch has a number where its variable is known
+  init_known : (l : LatchLine) → IsKnown f l.literal
+      → init_passes (has_number table) (edge_of_reset l) ≡ knows_reset l
+  init_known l own = by_own (reset_in l == l.literal) refl
+    where
+      by_own : (b : Bool) → (reset_in l == l.literal) ≡ b
+          → init_passes (has_number table) (cond b None (Some (edge_from (reset_in l)))) ≡
+          knows_reset l
+      by_own true is = sym (subst (IsKnown f) (sym (eqb-true (reset_in l) l.literal is)) own)
+      by_own false is = has_is (reset_in l / 2)
 
-  latch_is : (l : LatchLine) → IsKnownLatch l → renumbered_latch number (latch_of_line l) ≡ latch_of f l
+  inits_known : (ls : List LatchLine) → AllByRecursion (λ (l : LatchLine). IsKnown f l.literal) ls
+      → list_all (λ (l : AigLatch). init_passes (has_number table) l.init) (map latch_from ls) ≡
+      list_all knows_reset ls
+  inits_known [] all = refl
+  inits_known (l ∷ ls) all =
+      let one = init_known l all.0 in
+      let others = inits_known ls all.1 in
+      λ i. one i && others i
+
+  latch_is : (l : LatchLine) → IsKnownLatch l
+      → renumbered_latch number (latch_from l) ≡ latch_with_reset f l
   latch_is l known =
       let leaf = number_is (l.literal / 2) known.0 in
-      let next = edge_is l.next known.1 in
-      let init = by_reset (nat_lt (unwrap_or l.reset 0) 2) (unwrap_or l.reset 0 == 1) in
+      let next = edge_is l.next known.1.0 in
+      let init = by_own (reset_in l == l.literal) in
       λ i. record { input = leaf i; next = next i; init = init i }
     where
-      by_reset : (t b : Bool) → option_map (renumbered_edge number) (cond t (Some (edge_to 0 b)) None) ≡ cond t (Some (edge_to 0 b)) None
-      by_reset true b = ap (λ n. Some (edge_to n b)) zero_is
-      by_reset false b = refl
+      by_own : (b : Bool) → option_map (renumbered_edge number)
+          (cond b None (Some (edge_from (reset_in l)))) ≡ cond b None
+          (Some (edge_of f (reset_in l)))
+      by_own true = refl
+      by_own false = ap (λ (e : AigEdge). Some e) (edge_is (reset_in l) known.1.1)
 
-  latch_has : (l : LatchLine) → IsKnownLatch l → IsLatchIn (HasNumber table) (latch_of_line l)
+  latch_has : (l : LatchLine) → IsKnownLatch l → IsLatchIn (HasNumber table) (latch_from l)
   latch_has l known = record {
     leaf = has_is (l.literal / 2) ∙ known.0;
-    next = has_is (l.next / 2) ∙ known.1;
-    init = by_reset (nat_lt (unwrap_or l.reset 0) 2) (unwrap_or l.reset 0 == 1);
+    next = has_is (l.next / 2) ∙ known.1.0;
+    init = by_own (reset_in l == l.literal);
   }
     where
-      by_reset : (t b : Bool) → IfSome (cond t (Some (edge_to 0 b)) None) (IsEdgeIn (HasNumber table))
-      by_reset true b = has_is 0
-      by_reset false b = tt
+      by_own : (b : Bool) → IfSome (cond b None (Some (edge_from (reset_in l))))
+          (IsEdgeIn (HasNumber table))
+      by_own true = tt
+      by_own false = has_is (reset_in l / 2) ∙ known.1.1
 
   -- ---- the lists of a file
 
@@ -219,7 +251,12 @@ module _ (f : File) (table : List ℕ) (are : AreNumbersOf f table) where
         let nexts = ap (list_all (λ (l : AigLatch). has_number table l.next.node_id)) made.latchs ∙ nexts_known in
         λ i. nexts i && properties_known i
 
-    module _ (known : knows_lists f ≡ true) where
+    -- and those of initial edges
+    pub resets_known : resets_pass (has_number table) old ≡ knows_resets f
+    resets_known = ap (list_all (λ (l : AigLatch). init_passes (has_number table) l.init))
+        made.latchs ∙ inits_known f.latches leaves_known.1
+
+    module _ (known : knows_lists f ≡ true) (resets : knows_resets f ≡ true) where
       parts : (knows f (map (λ (l : LatchLine). l.next) f.latches) ≡ true) × (knows_properties f ≡ true)
       parts = and_parts (knows f (map (λ (l : LatchLine). l.next) f.latches)) (knows_properties f) known
 
@@ -231,7 +268,10 @@ module _ (f : File) (table : List ℕ) (are : AreNumbersOf f table) where
             (All-map (HasNumber table) variable_of_literal f.inputs (All-from_recursion (λ e. HasNumber table (e / 2)) f.inputs (rec_weaker (IsKnown f) (λ e. HasNumber table (e / 2)) (λ e h. has_is (e / 2) ∙ h) f.inputs leaves_known.0)));
         latchs =
             subst (All (IsLatchIn (HasNumber table))) (sym made.latchs)
-            (All-map (IsLatchIn (HasNumber table)) latch_of_line f.latches (All-from_recursion (λ l. IsLatchIn (HasNumber table) (latch_of_line l)) f.latches (rec_weaker IsKnownLatch (λ l. IsLatchIn (HasNumber table) (latch_of_line l)) latch_has f.latches (latches_known parts.0))));
+            (All-map (IsLatchIn (HasNumber table)) latch_from f.latches
+            (All-from_recursion (λ l. IsLatchIn (HasNumber table) (latch_from l)) f.latches
+            (rec_weaker IsKnownLatch (λ l. IsLatchIn (HasNumber table) (latch_from l)) latch_has
+            f.latches (latches_known parts.0 resets))));
         properties = properties_have;
       }
         where
@@ -267,7 +307,9 @@ module _ (f : File) (table : List ℕ) (are : AreNumbersOf f table) where
             ∙ map_twice number variable_of_literal (λ e. node_of_variable f (e / 2)) f.inputs (rec_weaker (IsKnown f) (λ e. number (e / 2) ≡ node_of_variable f (e / 2)) (λ e h. number_is (e / 2) h) f.inputs leaves_known.0);
         latchs =
             moved.latchs ∙ ap (map (renumbered_latch number)) made.latchs
-            ∙ map_twice (renumbered_latch number) latch_of_line (latch_of f) f.latches (rec_weaker IsKnownLatch (λ l. renumbered_latch number (latch_of_line l) ≡ latch_of f l) latch_is f.latches (latches_known parts.0));
+            ∙ map_twice (renumbered_latch number) latch_from (latch_with_reset f) f.latches
+            (rec_weaker IsKnownLatch (λ l. renumbered_latch number (latch_from l) ≡
+            latch_with_reset f l) latch_is f.latches (latches_known parts.0 resets));
         properties = moved.properties ∙ ap (map_properties (renumbered_edge number)) made.properties ∙ properties_are;
       }
         where

@@ -8,21 +8,24 @@ use Rattle.aig_circuit.specs.declared.node.AigNodeType.{AigNodeType}
 use Rattle.aig_circuit.specs.declared.node.AigNodeType.TheVariants.{False}
 use Rattle.aig_circuit.specs.declared.edge.AigEdge.{AigEdge}
 use Rattle.aig_circuit.specs.declared.node.AigNode.{AigNode}
-use Rattle.aig_circuit.specs.declared.node.AigLatch.{AigLatch}
 use Rattle.aig_circuit.proofs.Listed.{AllProperties-weaker, map_properties-agree}
-use Rattle.aig_format.proofs.Words.{Parts, file_from, circuit_of, edge_of, initial_of, kind_of, latch_of, named_node, nodes_from, LatchLine, GateLine, NameLine, File, defined, used, HeaderNumbers, Fits, IsDefinable, is_literal, gate_of_variable}
+use Rattle.aig_format.proofs.Words.{Parts, file_from, circuit_of, edge_of, kind_of, named_node, nodes_from, LatchLine, GateLine, NameLine, File, defined, used, HeaderNumbers, IsDefinable, is_literal, gate_of_variable}
 use Rattle.aig_format.specs.Circuit as of_file
 use Rattle.aig_format.specs.declared.FileKind.{FileKind}
 use Rattle.aig_format.specs.Numbering.{is_compact, node_of_variable, numbers_from, variables_in_order}
-use Rattle.aig_format.proofs.Circuits.{UsedHave, distinct_pairs, leaves_distinct, leaves_of_latches, numbers, used_by_section}
+use Rattle.aig_format.proofs.Circuits.{UsedHave, distinct_pairs, numbers, used_by_section}
 use Rattle.aig_format.proofs.Entries.{rec_both, rec_flat_map, rec_parts, rec_unmap, rec_weaker}
 use Rattle.aig_format.proofs.Numbers.{node_of_variable-compact, node_of_variable-zero, order-compact}
 use Rattle.aig_format.proofs.Rules.{compact_exact, definable_told}
 use Rattle.aig_format.proofs.Searches.{find_some}
-use Rattle.aig_ordering.specs.Lists.{edge_from, kind_of_line, kind_among, latch_of_line, nodes_in_row, nodes_of_variables, variable_of_literal}
+use Rattle.aig_ordering.specs.Lists.{edge_from, kind_of_line, kind_among, nodes_in_row, nodes_of_variables, variable_of_literal}
 use Rattle.aig_symbols.specs.Names.{kept_name, kept_names}
 use Rattle.aig_reader.specs.declared.sections.Sections.{Sections}
 use Rattle.aig_reader.specs.Numbered.{IsCircuitOf}
+use Rattle.aig_reader.specs.Resets.{circuit_with_resets, latch_with_reset, reset_edge, reset_in}
+use Rattle.aig_reader.specs.Rules.{AcceptsBy, edge_of_reset, latch_from}
+use Rattle.aig_reader.specs.declared.latches.Resets.{Resets}
+use Rattle.aig_reader.proofs.Resets.{accepted_distinct}
 use Rattle.aig_reader.specs.Sections.{AreListsByVariable, HasGoodLines, circuit_with}
 
 same_kept : (h k : NameLine → Option (ℕ × List ℕ)) → ((n : NameLine) → h n ≡ k n) → (names : List NameLine) → filter_map h names ≡ filter_map k names
@@ -60,18 +63,40 @@ module _ (f : File) (good : HasGoodLines f) (compact : is_compact f ≡ true) wh
   numbers_are [] all = refl
   numbers_are (e ∷ es) all = ap (λ n. n ∷ map variable_of_literal es) (number_is e all.0) ∙ ap (λ (ns : List ℕ). node_of_variable f (e / 2) ∷ ns) (numbers_are es all.1)
 
-  latches_are : (ls : List LatchLine) → AllByRecursion (λ (l : LatchLine). IsWithin l.literal × IsWithin l.next) ls → map latch_of_line ls ≡ map (latch_of f) ls
+  -- a latch has its three literals within
+  abbrev IsLatchWithin : LatchLine → Type 0
+  IsLatchWithin l = IsWithin l.literal × (IsWithin l.next × IsWithin (reset_in l))
+
+  reset_is : (l : LatchLine) → IsWithin (reset_in l) → edge_of_reset l ≡ reset_edge f l
+  reset_is l h = ap (λ (e : AigEdge). cond (reset_in l == l.literal) None (Some e))
+      (edge_is (reset_in l) h)
+
+  latch_is : (l : LatchLine) → IsLatchWithin l → latch_from l ≡ latch_with_reset f l
+  latch_is l h =
+      let leaf = number_is l.literal h.0 in
+      let next = edge_is l.next h.1.0 in
+      let init = reset_is l h.1.1 in
+      λ i. record { input = leaf i; next = next i; init = init i }
+
+  latches_are : (ls : List LatchLine) → AllByRecursion IsLatchWithin ls
+      → map latch_from ls ≡ map (latch_with_reset f) ls
   latches_are [] all = refl
   latches_are (l ∷ ls) all =
-      let made = λ (n : ℕ) (e : AigEdge). let latch : AigLatch = record { input = n; next = e; init = initial_of l } in latch in
-      ap (λ n. made n (edge_from l.next) ∷ map latch_of_line ls) (number_is l.literal all.0.0)
-      ∙ ap (λ e. made (node_of_variable f (l.literal / 2)) e ∷ map latch_of_line ls) (edge_is l.next all.0.1)
-      ∙ ap (λ (latches : List AigLatch). latch_of f l ∷ latches) (latches_are ls all.1)
+      let one = latch_is l all.0 in
+      let others = latches_are ls all.1 in
+      λ i. one i ∷ others i
 
-  latches_within : AllByRecursion (λ (l : LatchLine). IsWithin l.literal × IsWithin l.next) f.latches
+  latches_within : AllByRecursion IsLatchWithin f.latches
   latches_within =
-      rec_both (λ (l : LatchLine). IsWithin l.literal) (λ (l : LatchLine). IsWithin l.next) f.latches
-      (rec_unmap IsWithin (λ (l : LatchLine). l.literal) f.latches leaves_within.1) (rec_unmap IsWithin (λ (l : LatchLine). l.next) f.latches sections_within.nexts)
+      rec_both (λ (l : LatchLine). IsWithin l.literal) (λ (l : LatchLine). IsWithin l.next
+      × IsWithin (reset_in l)) f.latches
+      (rec_unmap IsWithin (λ (l : LatchLine). l.literal) f.latches leaves_within.1)
+      (rec_both (λ (l : LatchLine). IsWithin l.next) (λ (l : LatchLine). IsWithin (reset_in l))
+      f.latches
+      (rec_unmap IsWithin (λ (l : LatchLine). l.next) f.latches sections_within.nexts)
+      (rec_weaker (λ (l : LatchLine). is_literal f.greatest (reset_in l) ≡ true)
+      (λ (l : LatchLine). IsWithin (reset_in l)) (λ l h. let high =
+      leb-true (reset_in l) (2 * f.greatest + 1) h in omega arith) f.latches good.resets))
 
   -- ---- nodes
 
@@ -114,6 +139,14 @@ module _ (f : File) (good : HasGoodLines f) (compact : is_compact f ≡ true) wh
 
 -- ---- the circuit with names
 
+-- the leaves of latches, whatever their resets are
+pub leaves_by_line : (f : File) (latches : List LatchLine)
+    → latch_leaves (map (latch_with_reset f) latches) ≡ numbers f
+    (map (λ (l : LatchLine). l.literal) latches)
+leaves_by_line f [] = refl
+leaves_by_line f (l ∷ latches) = ap (λ (ns : List ℕ). node_of_variable f (l.literal / 2) ∷ ns)
+    (leaves_by_line f latches)
+
 module _ (f : File) where
   input_is : (es : List ℕ) (n : ℕ) → slice_index (numbers f es) n ≡ node_of_variable f (slice_index es n / 2)
   input_is [] n = sym (node_of_variable-zero f)
@@ -137,29 +170,37 @@ module _ (f : File) where
 
   module _ (sections : Sections) (is : IsCircuitOf f sections) where
     pub inputs_is : sections.lists.inputs.items ≡ numbers f f.inputs
-    inputs_is = ap (λ (c : Circuit). c.inputs) (is (circuit_of f).names)
+    inputs_is = ap (λ (c : Circuit). c.inputs) (is (circuit_with_resets f).names)
 
-    pub latchs_is : sections.lists.latchs.items ≡ map (latch_of f) f.latches
-    latchs_is = ap (λ (c : Circuit). c.latchs) (is (circuit_of f).names)
+    pub latchs_is : sections.lists.latchs.items ≡ map (latch_with_reset f) f.latches
+    latchs_is = ap (λ (c : Circuit). c.latchs) (is (circuit_with_resets f).names)
 
     leaves_is : latch_leaves sections.lists.latchs.items ≡ numbers f (map (λ (l : LatchLine). l.literal) f.latches)
-    leaves_is = ap latch_leaves latchs_is ∙ leaves_of_latches f f.latches
+    leaves_is = ap latch_leaves latchs_is ∙ leaves_by_line f f.latches
 
     names_is : (lines : List NameLine) → kept_names sections.lists.inputs.items (latch_leaves sections.lists.latchs.items) lines ≡ from_entries (filter_map (named_node f) lines)
     names_is lines = rw (inputs_is, leaves_is) (ap (λ (es : List (ℕ × List ℕ)). from_entries es) (same_kept (kept_name (numbers f f.inputs) (numbers f (map (λ (l : LatchLine). l.literal) f.latches))) (named_node f) name_is lines))
 
     -- the nodes of inputs and latches are distinct
-    pub nodes_distinct : (limit : ℕ) → Fits f limit → AllPairs (λ m n. m ≢ n) (sections.lists.inputs.items ++ latch_leaves sections.lists.latchs.items)
-    nodes_distinct limit fits = rw (inputs_is, leaves_is) (distinct_pairs _ (leaves_distinct f limit fits))
+    pub nodes_distinct : (resets : Resets) (limit : ℕ) (bytes : List ℕ)
+        → AcceptsBy resets limit bytes f → AllPairs (λ m n. m ≢ n)
+        (sections.lists.inputs.items ++ latch_leaves sections.lists.latchs.items)
+    nodes_distinct resets limit bytes is =
+        rw (inputs_is, leaves_is) (distinct_pairs _ (accepted_distinct resets limit bytes f is))
 
 -- a file's circuit has its names alone from the names
-circuit_named : (b : (FileKind × HeaderNumbers) × Parts) (lines : List NameLine) → circuit_of (file_from b lines) ≡ record (circuit_of (file_from b [])) { names = from_entries (filter_map (named_node (file_from b [])) lines) }
+circuit_named : (b : (FileKind × HeaderNumbers) × Parts) (lines : List NameLine)
+    → circuit_with_resets (file_from b lines) ≡ record (circuit_with_resets (file_from b []))
+    { names = from_entries (filter_map (named_node (file_from b [])) lines) }
 unfolding node_of_variable variables_in_order
 circuit_named b lines = refl
 
 -- the sections with the names that are kept are the file's circuit
 pub circuit_is : (b : (FileKind × HeaderNumbers) × Parts) (lines : List NameLine) (sections : Sections) (names : FinMap nat_cmp (List ℕ)) → IsCircuitOf (file_from b []) sections
-    → names ≡ kept_names sections.lists.inputs.items (latch_leaves sections.lists.latchs.items) lines → circuit_with sections names ≡ circuit_of (file_from b lines)
+    → names ≡ kept_names sections.lists.inputs.items (latch_leaves sections.lists.latchs.items)
+    lines → circuit_with sections names ≡ circuit_with_resets (file_from b lines)
 circuit_is b lines sections names is kept =
     let f = file_from b [] in
-    is names ∙ ap (λ (ns : FinMap nat_cmp (List ℕ)). let c : Circuit = record (circuit_of f) { names = ns } in c) (kept ∙ names_is f sections is lines) ∙ sym (circuit_named b lines)
+    is names ∙ ap (λ (ns : FinMap nat_cmp (List ℕ)). let c : Circuit =
+    record (circuit_with_resets f) { names = ns } in c) (kept ∙ names_is f sections is lines)
+    ∙ sym (circuit_named b lines)

@@ -49,6 +49,18 @@ fits_read limit x rest y h = by_test (fits_header limit y.0) refl h
     by_test true is h = let same = same_Some y (x, rest) h in (same, subst (λ (z : Read). fits_header limit z.0 ≡ true) same is)
     by_test false is h = absurd cc
 
+-- it doesn't pass the limit
+pub header_read : (limit : ℕ) (bytes : List ℕ) (x : Read)
+    → parse_fitting_header limit bytes ≡ Some x
+    → too_many_at limit bytes ≡ false
+header_read limit bytes x read =
+    let y = bind_some (parse_header bytes) (passes limit) x read in
+    let is = fits_read limit x.0 x.1 y.0 y.2 in
+    let fits = and_parts (has_enough x.0.0 x.0.1) (leb (x.0.1.greatest + 1) limit) is.1 in
+    let high = leb-true (x.0.1.greatest + 1) limit fits.1 in
+    ap (too_many_of limit) (y.1 ∙ ap (λ (z : Read). Some z) is.0)
+    ∙ rw (fits.0, le-ltb limit (x.0.1.greatest + 1) high) refl
+
 module _ (limit : ℕ) (before after : Feed) (x : FileKind × HeaderNumbers) (taken : Takes (parse_fitting_header limit) before after x) where
   fits : (has_enough x.0 x.1 ≡ true) × (leb (x.1.greatest + 1) limit ≡ true)
   fits =
@@ -61,10 +73,7 @@ module _ (limit : ℕ) (before after : Feed) (x : FileKind × HeaderNumbers) (ta
   pub header_within : x.1.greatest + 1 ≤ limit
   header_within = leb-true (x.1.greatest + 1) limit fits.1
 
-  -- it doesn't pass the limit
   pub header_small : IfSome before.coming (λ bytes. too_many_at limit bytes ≡ false)
   header_small =
       known_after before.coming after.coming taken.taken (λ bytes. too_many_at limit bytes ≡ false) taken.advances.consumed
-      (λ rest.
-      let y = bind_some (parse_header (taken.taken ++ rest)) (passes limit) (x, rest) (taken.reads rest) in
-      ap (too_many_of limit) (y.1 ∙ ap (λ (z : Read). Some z) (fits_read limit x rest y.0 y.2).0) ∙ rw (header_good, le-ltb limit (x.1.greatest + 1) header_within) refl)
+      (λ rest. header_read limit (taken.taken ++ rest) (x, rest) (taken.reads rest))

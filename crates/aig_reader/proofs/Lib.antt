@@ -12,9 +12,11 @@ pub mod Numbered
 pub mod Body
 pub mod HeaderLines
 pub mod Verdicts
+pub mod Resets
 pub mod Accepting
 pub mod FileCircuit
 pub mod Steps
 pub mod ReadNames
+pub mod ResetCircuits
 pub mod ReadLeaves
 mod Refuted

@@ -72,3 +72,8 @@ pub no_nodes : (levels a o : Bool) → (levels && o) ≡ false → ((a && o) && 
 no_nodes true true o h = ap (λ b. b && true) h
 no_nodes true false o h = refl
 no_nodes false a o h = and_right (a && o) false refl
+
+-- a test of lists and resets that fails
+pub no_lists : (l o levels r : Bool) → (l && r) ≡ false → (((l && o) && levels) && r) ≡ false
+no_lists true o levels r h = and_right (o && levels) r h
+no_lists false o levels r h = refl

@@ -1,7 +1,7 @@
 -- What is known once the inputs and the latches were read.
 use Rattle.aig_base.proofs.Words.{◌≡◌, ◌++◌, ◌+◌, [], ℕ, List, Result, Ok, length, map, ap, length-append, ◌∙◌, length-map}
 use Rattle.aig_circuit.specs.declared.node.AigLatch.{AigLatch}
-use Rattle.aig_format.proofs.Words.{parse_entries, parse_input_entry, parse_latch_entry, LatchLine}
+use Rattle.aig_format.proofs.Words.{parse_entries, parse_input_entry, LatchLine}
 use Rattle.aig_lexer.specs.declared.header.Header.{Header}
 use Rattle.aig_lexer.specs.Faults.{line_cause}
 use Rattle.aig_lexer.specs.Takes.{Feed, Makes, Takes}
@@ -9,8 +9,10 @@ use Rattle.aig_lexer.specs.declared.error.LineError.{LineError}
 use Rattle.aig_reader.specs.declared.error.ReadError.{ReadError}
 use Rattle.aig_reader.specs.declared.error.Section.TheVariants.{Inputs, Latches}
 use Rattle.aig_reader.specs.declared.variables.DefinedVariables.{DefinedVariables}
+use Rattle.aig_reader.specs.declared.latches.Resets.{Resets}
+use Rattle.aig_reader.specs.Rules.{latch_from, parse_latch_by}
 use Rattle.aig_reader.specs.Faults.{error_in, result_by}
-use Rattle.aig_ordering.specs.Lists.{variable_of_literal, latch_of_line}
+use Rattle.aig_ordering.specs.Lists.{variable_of_literal}
 use Rattle.aig_reader.specs.Variables.{AreDefined}
 use Rattle.aig_reader.proofs.Body.{in_section, made_in}
 use Rattle.aig_reader.proofs.Entries.{takes_count}
@@ -29,12 +31,13 @@ pub record InputsRead (header : Header) (before after : Feed) (variables : Defin
   pub count : length literals ≡ header.inputs
 
 -- those of the latches after them
-pub record LatchesRead (header : Header) (inputs : List ℕ) (before after : Feed) (variables : DefinedVariables) (latchs : List AigLatch) : Type 0 where
+pub record LatchesRead (resets : Resets) (header : Header) (inputs : List ℕ) (before after : Feed)
+    (variables : DefinedVariables) (latchs : List AigLatch) : Type 0 where
   pub lines : List LatchLine
-  pub are : latchs ≡ map latch_of_line lines
+  pub are : latchs ≡ map latch_from lines
   pub defined : AreDefined header.kind header.greatest variables (literals_with inputs lines)
   pub takes : Takes
-      (parse_entries (parse_latch_entry header.kind header.greatest inputs) [] header.latches)
+      (parse_entries (parse_latch_by resets header.kind header.greatest inputs) [] header.latches)
       before after lines
   pub count : length (literals_with inputs lines) ≡ length inputs + header.latches
 
@@ -46,15 +49,23 @@ module _ (header : Header) (b a : Feed) (v : DefinedVariables) where
       let h = made_in (error_in Inputs) (in_section Inputs) _ _ _ _ lines result x is was made in
       record { literals = h.0; are = h.1.0 ∙ ap (λ (front : List ℕ). front ++ map variable_of_literal h.0) none; defined = h.1.1; takes = h.2; count = takes_count (parse_input_entry header.kind header.greatest) header.inputs b a h.0 h.2 }
 
-  pub latches_read : {X : Type 0} (inputs : List ℕ) (lines : Result X LineError) (result : Result X ReadError) (x : X) (old new : List AigLatch) → result ≡ result_by (error_in Latches) lines → result ≡ Ok x → old ≡ []
-      → Makes line_cause (λ (_ : X) ls. (new ≡ old ++ map latch_of_line ls) × AreDefined header.kind header.greatest v (literals_with inputs ls)) b a lines (parse_entries (parse_latch_entry header.kind header.greatest inputs) [] header.latches)
-      → LatchesRead header inputs b a v new
-  latches_read inputs lines result x old new is was none made =
+  pub latches_read : {X : Type 0} (resets : Resets) (inputs : List ℕ) (lines : Result X LineError)
+      (result : Result X ReadError) (x : X) (old new : List AigLatch)
+      → result ≡ result_by (error_in Latches) lines → result ≡ Ok x → old ≡ []
+      → Makes line_cause (λ (_ : X) ls. (new ≡ old ++ map latch_from ls)
+      × AreDefined header.kind header.greatest v (literals_with inputs ls)) b a lines
+      (parse_entries (parse_latch_by resets header.kind header.greatest inputs) []
+      header.latches)
+      → LatchesRead resets header inputs b a v new
+  latches_read resets inputs lines result x old new is was none made =
       let h = made_in (error_in Latches) (in_section Latches) _ _ _ _ lines result x is was made in
       record {
         lines = h.0;
-        are = h.1.0 ∙ ap (λ (front : List AigLatch). front ++ map latch_of_line h.0) none;
+        are = h.1.0 ∙ ap (λ (front : List AigLatch). front ++ map latch_from h.0) none;
         defined = h.1.1;
         takes = h.2;
-        count = length-append inputs (map (λ (l : LatchLine). l.literal) h.0) ∙ ap (λ (n : ℕ). length inputs + n) (length-map h.0 (λ (l : LatchLine). l.literal) ∙ takes_count (parse_latch_entry header.kind header.greatest inputs) header.latches b a h.0 h.2);
+        count = length-append inputs (map (λ (l : LatchLine). l.literal) h.0)
+            ∙ ap (λ (n : ℕ). length inputs + n) (length-map h.0 (λ (l : LatchLine). l.literal)
+            ∙ takes_count (parse_latch_by resets header.kind header.greatest inputs) header.latches
+            b a h.0 h.2);
       }

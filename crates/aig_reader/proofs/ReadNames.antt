@@ -1,5 +1,5 @@
 -- What reading the names gave.
-use Rattle.std.proofs.Common.{◌≡◌, ◌≢◌, ℕ, Bool, List, [], Option, Some, None, Result, Ok, Err, IfSome, refl, subst}
+use Rattle.std.proofs.Common.{◌≡◌, ℕ, Bool, List, [], Option, Some, None, Result, Ok, Err, IfSome, refl, subst}
 use Rattle.aig_format.specs.File.{HeaderNumbers}
 use Rattle.aig_lexer.specs.Takes.{Feed, Ends}
 use Rattle.aig_lexer.specs.declared.error.LineError.{LineError}
@@ -7,8 +7,8 @@ use Rattle.aig_lexer.specs.declared.error.LineError.TheVariants as line
 use Rattle.aig_lexer.specs.Faults.{Tells}
 use Rattle.aig_symbols.specs.Names.{EndsWith, name_cause, tail_of}
 use Rattle.aig_reader.specs.declared.error.ReadError.{ReadError}
-use Rattle.aig_reader.specs.declared.error.ReadError.TheVariants as errors
 use Rattle.aig_reader.specs.Faults.{name_error_of, read_cause, result_by}
+use Rattle.aig_reader.proofs.Accepting.{IsFollowing}
 use Rattle.aig_reader.proofs.Body.{ok_in, err_in}
 use Rattle.aig_format.specs.Parse.{parse_tail}
 
@@ -19,12 +19,7 @@ in_names line.Stream P failed h = h
 in_names line.Syntax P failed h = h
 in_names line.Literal P failed h = absurd h
 
--- a fault of the names is not TooMany
-abbrev IsNamesFault : ReadError → Type 0
-IsNamesFault errors.TooMany = ⊥
-IsNamesFault e = Unit {0}
-
-is_names_fault : (k : LineError) → IsNamesFault (name_error_of k)
+is_names_fault : (k : LineError) → IsFollowing (name_error_of k)
 is_names_fault line.Memory = tt
 is_names_fault line.Stream = tt
 is_names_fault line.Syntax = tt
@@ -44,10 +39,10 @@ module _ {X Y : Type 0} (IsOf : X → Y → Type 0) (b a : Feed) (read : List �
       subst (λ (d : ReadError). Tells (read_cause d) P a.failed) k.2 (in_names k.0 P a.failed (subst (λ (r : Result X LineError). EndsWith name_cause IsOf b a r read) k.1 h))
 
 pub names_fault : {X : Type 0} (lines : Result X LineError) (result : Result X ReadError)
-    (e : ReadError) → result ≡ result_by name_error_of lines → result ≡ Err e → e ≢ errors.TooMany
-names_fault lines result e is was same =
+    (e : ReadError) → result ≡ result_by name_error_of lines → result ≡ Err e → IsFollowing e
+names_fault lines result e is was =
     let k = err_in name_error_of lines result e is was in
-    subst IsNamesFault same (subst IsNamesFault k.2 (is_names_fault k.0))
+    subst IsFollowing k.2 (is_names_fault k.0)
 
 pub no_names_left : (ns : HeaderNumbers) → tail_of ns [] ≡ Some []
 unfolding parse_tail

@@ -1,5 +1,5 @@
 -- What is said of the bytes by a call that goes on from what another said.
-use Rattle.std.proofs.Common.{◌≡◌, ℕ, Bool, List, Option, Some, None, Result, Ok, Err, IfOk, IfSome, sym, ap, subst, ◌∙◌}
+use Rattle.std.proofs.Common.{◌≡◌, ℕ, Bool, List, Option, Some, None, Result, Ok, Err, IfOk, IfSome, OnOk, false, sym, ap, subst, ◌∙◌}
 use Rattle.aig_base.proofs.Words.{IsAtEnd, prepend_known, IfSome_then, same_Some, Consumes-whole}
 use Rattle.aig_format.proofs.Words.{File, Accepts}
 use Rattle.aig_format.proofs.FittingFiles.{fitting_complete}
@@ -75,18 +75,33 @@ short_of of limit old new failed told =
 
 -- ---- a source with a buffer before it, at its end
 
-module _ (of : File → Verdict) (limit : ℕ) (old : Option (List ℕ)) (held : List ℕ) (left : Option (List ℕ)) (failed : Bool) where
+module _ (old : Option (List ℕ)) (held : List ℕ) (left : Option (List ℕ)) where
   -- what was read was read of the source
-  read_through : {X : Type 0} {Means : File → X → Type 0} {x : X} → IsAtEnd (prepend_known held left)
-      → IsReadAs (λ bytes. Accepts bytes limit) Means old (prepend_known held left) x
-      → IsReadAs (λ bytes. Accepts bytes limit) Means old left x
+  read_through : {Holds : List ℕ → File → Type 0} {X : Type 0} {Means : File → X → Type 0} {x : X}
+      → IsAtEnd (prepend_known held left)
+      → IsReadAs Holds Means old (prepend_known held left) x → IsReadAs Holds Means old left x
   read_through end read = record { file = read.file; bytes = read.bytes; holds = read.holds; means = read.means; taken = took_all old held left read.bytes read.taken end }
 
+  pub taken_at_end : (Holds : List ℕ → File → Type 0) {X : Type 0} (Means : File → X → Type 0)
+      (failed : Bool) (result : Result X ReadError)
+      → OnOk result ((failed ≡ false) × IsAtEnd (prepend_known held left))
+      → IfOk result (IsReadAs Holds Means old (prepend_known held left))
+      → IfOk result (IsReadAs Holds Means old left)
+  taken_at_end Holds Means failed (Ok x) whole read = read_through whole.1 read
+  taken_at_end Holds Means failed (Err e) whole read = tt
+
+  pub whole_at_end : {X : Type 0} (failed : Bool) (result : Result X ReadError)
+      → OnOk result ((failed ≡ false) × IsAtEnd (prepend_known held left))
+      → OnOk result ((failed ≡ false) × IsAtEnd left)
+  whole_at_end failed (Ok x) whole = (whole.0, none_left held left whole.1)
+  whole_at_end failed (Err e) whole = tt
+
+module _ (of : File → Verdict) (limit : ℕ) (old : Option (List ℕ)) (held : List ℕ) (left : Option (List ℕ)) (failed : Bool) where
   pub judged_at_end : (v : Verdict) → Judges of limit old (prepend_known held left) failed v
       → Judges of limit old left failed v
   judged_at_end v told = record {
     exact = told.exact;
-    file = λ is. read_through (told.whole is).1 (told.file is);
+    file = λ is. read_through old held left (told.whole is).1 (told.file is);
     whole = λ is. ((told.whole is).0, none_left held left (told.whole is).1);
     stream = told.stream;
   }
@@ -95,5 +110,5 @@ module _ (of : File → Verdict) (limit : ℕ) (old : Option (List ℕ)) (held :
       → Judges of limit old (prepend_known held left) failed (verdict_by verdict_of result)
       → IfOk result (IsReadAs (λ bytes. Accepts bytes limit) Means old (prepend_known held left))
       → IfOk result (IsReadAs (λ bytes. Accepts bytes limit) Means old left)
-  read_at_end Means (Ok x) told read = read_through (told.whole tt).1 read
+  read_at_end Means (Ok x) told read = read_through old held left (told.whole tt).1 read
   read_at_end Means (Err e) told read = tt

@@ -2,6 +2,8 @@ pub mod Faults
 pub mod Errors
 pub mod Headers
 pub mod Reading
+pub mod Resets
+pub mod Rules
 pub mod Verdicts
 pub mod Variables
 pub mod Gates

@@ -12,7 +12,7 @@ use Rattle.aig_circuit.specs.View.{properties_of}
 use Rattle.aig_format.specs.File.{File}
 use Rattle.aig_format.specs.Variables.{is_known}
 use Rattle.aig_format.specs.Numbering.{is_compact, node_of_variable}
-use Rattle.aig_format.specs.Circuit.{circuit_of, edge_of, latch_of}
+use Rattle.aig_format.specs.Circuit.{edge_of}
 use Rattle.aig_format.specs.Parse.{Parts}
 use Rattle.aig_lexer.specs.declared.header.Header.{Header}
 use Rattle.aig_ordering.specs.declared.gates.Operands.{Operands}
@@ -20,6 +20,7 @@ use Rattle.aig_ordering.specs.Gates.{nodes_in}
 use Rattle.aig_ordering.specs.Numbers.{has_number, number_at, number_in}
 use Rattle.aig_ordering.specs.Tables.{AreMarksOf, AreNodesOf}
 use Rattle.aig_renumber.specs.Numbers.{IsEdgeIn, IsLatchIn}
+use Rattle.aig_reader.specs.Resets.{circuit_with_resets, latch_with_reset}
 use Rattle.aig_reader.specs.declared.sections.Lists.{Lists}
 use Rattle.aig_reader.specs.declared.sections.Sections.{Sections}
 use Rattle.aig_reader.specs.Sections.{AreListsByVariable, HasGoodLines, circuit_with, file_by}
@@ -59,6 +60,15 @@ abbrev pub lists_pass : (ℕ → Bool) → Lists → Bool
 lists_pass test lists =
     list_all (λ l. test l.next.node_id) lists.latchs.items && properties_pass test lists.properties
 
+-- whether the variable of an initial edge does, if there is one
+abbrev pub init_passes : (ℕ → Bool) → Option AigEdge → Bool
+init_passes test (Some e) = test e.node_id
+init_passes test None = true
+
+-- whether those of all initial edges do
+abbrev pub resets_pass : (ℕ → Bool) → Lists → Bool
+resets_pass test lists = list_all (λ l. init_passes test l.init) lists.latchs.items
+
 -- ---- tables and numbers
 
 -- the gates of a file that isn't compact, the marks of what it defines, and its lists, by variable
@@ -95,14 +105,14 @@ pub record AreRenumbered (table : List ℕ) (old new : Lists) : Type 0 where
 -- the lists of the file's circuit
 pub record AreListsByNumber (f : File) (lists : Lists) : Type 0 where
   pub inputs : lists.inputs.items ≡ map (λ e. node_of_variable f (e / 2)) f.inputs
-  pub latchs : lists.latchs.items ≡ map (latch_of f) f.latches
+  pub latchs : lists.latchs.items ≡ map (latch_with_reset f) f.latches
   pub properties : properties_of lists.properties ≡ map_properties (edge_of f) f.properties
 
 -- the sections have the file's circuit, but for its names
 abbrev pub IsCircuitOf : File → Sections → Type 0
 IsCircuitOf f sections =
     (names : FinMap nat_cmp (List ℕ))
-    → circuit_with sections names ≡ record (circuit_of f) { names = names }
+    → circuit_with sections names ≡ record (circuit_with_resets f) { names = names }
 
 -- these are the sections of a file of this header, with as many inputs and latches as it says
 pub record AreSectionsOf (header : Header) (sections : Sections) (x : Parts) : Type 0 where

@@ -14,13 +14,15 @@ use Rattle.aig_format.specs.Numbering.{is_compact}
 use Rattle.aig_format.specs.Parse.{Parts, file_from}
 use Rattle.aig_lexer.specs.declared.header.Header.{Header}
 use Rattle.aig_lexer.specs.Header.{numbers_of}
-use Rattle.aig_ordering.specs.Lists.{latch_of_line, variable_of_literal}
+use Rattle.aig_ordering.specs.Lists.{variable_of_literal}
 use Rattle.aig_reader.specs.declared.gate_store.GateStore.{GateStore}
 use Rattle.aig_reader.specs.declared.variables.DefinedVariables.{DefinedVariables}
 use Rattle.aig_reader.specs.declared.sections.Lists.{Lists}
 use Rattle.aig_reader.specs.declared.sections.Sections.{Sections}
 use Rattle.aig_reader.specs.Gates.{ArePlaced, is_in_order}
 use Rattle.aig_reader.specs.Properties.{ArePropertiesOf}
+use Rattle.aig_reader.specs.Resets.{reset_in}
+use Rattle.aig_reader.specs.Rules.{latch_from}
 use Rattle.aig_reader.specs.Variables.{AreDefined}
 
 -- the file of a header and these sections, with no names
@@ -36,7 +38,7 @@ pub record AreEmpty (lists : Lists) : Type 0 where
 -- the lists have the entries of the file's sections, each variable as its own number
 pub record AreListsByVariable (lists : Lists) (f : File) : Type 0 where
   pub inputs : lists.inputs.items ≡ map variable_of_literal f.inputs
-  pub latchs : lists.latchs.items ≡ map latch_of_line f.latches
+  pub latchs : lists.latchs.items ≡ map latch_from f.latches
   pub properties : ArePropertiesOf lists.properties f.properties
 
 -- what the lines of sections tell of their file: literals are defined once and are those of its
@@ -46,6 +48,7 @@ pub record HasGoodLines (f : File) : Type 0 where
   pub distinct : IsDistinct nat_eq (defined f)
   pub enough : length (defined f) ≤ f.greatest
   pub in_range : AllPass (is_literal f.greatest) (used f)
+  pub resets : AllPass (λ l. is_literal f.greatest (reset_in l)) f.latches
   pub binary : f.kind ≡ Binary → is_compact f ≡ true
 
 -- the lines of the file's sections were read: lists and gates by variable, what is defined, and

@@ -19,4 +19,4 @@ mod table;
 mod variables;
 
 pub use error::{ReadError, Section};
-pub use reader::{read, read_with};
+pub use reader::{read, read_with, read_with_resets};

@@ -1,19 +1,19 @@
 //! The lines of the sections.
 
 ghost use Rattle.std.specs.Prelude.{◌≡◌, ◌+◌, ◌^◌, ◌<◌, ◌≤◌, ◌==◌, [], true};
-ghost use Rattle.aig_format.specs.ParseTested.{parse_fitting_sections};
 ghost use Rattle.aig_format.specs.Fits.{has_enough};
 ghost use Rattle.aig_lexer.specs.Header.{numbers_of};
 ghost use Rattle.aig_lexer.specs.Takes.{Makes, feed};
 ghost use Rattle.aig_reader.specs.Faults.{section_cause};
 ghost use Rattle.aig_reader.specs.Numbered.{AreSectionsOf};
+ghost use Rattle.aig_reader.specs.Rules.{parse_sections_by};
 ghost use Rattle.aig_reader.specs.Sections.{AreEmpty};
 ghost use Rattle.aig_reader.specs.Variables.{AreDefined};
 
 use crate::error::{ReadError, Section, gates_result};
 use crate::gates::read_gates;
 use crate::inputs::read_inputs;
-use crate::latches::read_latches;
+use crate::latches::{Resets, read_latches};
 use crate::properties::read_properties;
 use crate::sections::Lists;
 use crate::variables::DefinedVariables;
@@ -29,6 +29,7 @@ pub fn read_lines<R: Source>(
     buffer: &mut InputBuffer,
     r: &mut R,
     header: Header,
+    resets: Resets,
     variables: &mut DefinedVariables,
     lists: &mut Lists,
 ) -> Result<Vec<AigNode>, ReadError>
@@ -41,7 +42,7 @@ pub fn read_lines<R: Source>(
         (λ nodes. AreSectionsOf header (record { nodes = nodes; lists = lists.new }))
         (feed R.left R.failed R.pulls buffer.old r.old)
         (feed R.left R.failed R.pulls buffer.new r.new) result
-        (parse_fitting_sections header.kind (numbers_of header)) }
+        (parse_sections_by resets header.kind (numbers_of header)) }
 {
     let inputs = read_inputs(buffer, r, header.inputs, variables, &mut lists.inputs);
     Section::Inputs.result_of(inputs)?;
@@ -49,6 +50,7 @@ pub fn read_lines<R: Source>(
         buffer,
         r,
         header.latches,
+        resets,
         header.greatest,
         variables,
         &mut lists.latchs,

@@ -7,20 +7,22 @@ ghost use Rattle.aig_format.specs.Circuit.{circuit_of};
 ghost use Rattle.aig_format.specs.File.{File};
 ghost use Rattle.aig_format.specs.Levels.{has_level};
 ghost use Rattle.aig_format.specs.Numbering.{is_compact};
-ghost use Rattle.aig_format.specs.Fits.{is_accepted_order, uses_known};
+ghost use Rattle.aig_format.specs.Fits.{uses_known};
 ghost use Rattle.aig_lexer.specs.Faults.{Tested};
 ghost use Rattle.aig_ordering.specs.Gates.{nodes_in};
 ghost use Rattle.aig_ordering.specs.Numbers.{has_number};
 ghost use Rattle.aig_ordering.specs.Tables.{AreMarksOf, AreNodesOf, order_cause};
 ghost use Rattle.aig_reader.specs.Faults.{section_cause};
-ghost use Rattle.aig_reader.specs.Numbered.{AreNumbersOf, AreRenumbered, AreTablesOf, HaveNumbers, IsCircuitOf, have_operands, lists_pass};
+ghost use Rattle.aig_reader.specs.Numbered.{AreNumbersOf, AreRenumbered, AreTablesOf, HaveNumbers, IsCircuitOf, have_operands, init_passes, lists_pass, resets_pass};
+ghost use Rattle.aig_reader.specs.Resets.{knows_resets};
+ghost use Rattle.aig_reader.specs.Rules.{keeps};
 ghost use Rattle.aig_reader.specs.Sections.{AreLinesOf, HasGoodLines};
 
 use crate::error::{ReadError, Section};
 use crate::gate_store::GateStore;
 use crate::sections::Lists;
 use crate::variables::DefinedVariables;
-use aig_circuit::AigNode;
+use aig_circuit::{AigLatch, AigNode};
 use aig_lexer::LineError;
 use aig_ordering::{GateEntry, Ordered, Recorded, nodes, order_by_level};
 use aig_renumber::{renumber_latches, renumber_nodes, renumber_properties};
@@ -49,10 +51,29 @@ fn number_nodes(
     Ok((nodes, numbers))
 }
 
+/// Whether the variable of the latch's initial edge has a number, if there is one.
+fn has_reset(numbers: &Recorded<'_>, latch: &AigLatch) -> bool
+    ensures { result ≡ init_passes (has_number numbers.now.table.now) latch.now.init }
+{
+    match latch.init() {
+        Some(edge) => numbers.has(edge.node_id()),
+        None => true,
+    }
+}
+
+/// Whether the variables of the initial edges of these latches have numbers.
+fn has_resets(numbers: &Recorded<'_>, latchs: &[AigLatch]) -> bool
+    ensures { result
+        ≡ list_all (λ l. init_passes (has_number numbers.now.table.now) l.init) latchs.now }
+{
+    latchs.iter().all(|l| has_reset(numbers, l))
+}
+
 impl Lists {
-    /// The first section with a variable that has no number, if there is one. Inputs and latches themselves have numbers.
+    /// The first section with a variable that has no number, if there is one, resets last. Inputs and latches themselves have numbers.
     fn unnumbered(&self, numbers: &Recorded<'_>) -> Option<Section>
-        ensures { let have = lists_pass (has_number numbers.now.table.now) self.now in
+        ensures { let have = lists_pass (has_number numbers.now.table.now) self.now
+            && resets_pass (has_number numbers.now.table.now) self.now in
             MatchOption result (have ≡ true) (λ _. have ≡ false) }
     {
         let properties = &self.properties;
@@ -73,6 +94,9 @@ impl Lists {
         }
         if !numbers.has_edges(&properties.fairness) {
             return Some(Section::Fairness);
+        }
+        if !has_resets(numbers, &self.latchs) {
+            return Some(Section::Latches);
         }
         None
     }
@@ -97,7 +121,8 @@ impl Lists {
         requires tables { (f : File) × AreTablesOf f gates.items marked.now self.old }
         requires few { vec_len gates ≤ 2 ^ 31 }
         ensures { (f : File) → AreTablesOf f gates.items marked.now self.old
-            → Tested section_cause (uses_known f && list_all (has_level f) f.gates)
+            → Tested section_cause
+            ((uses_known f && list_all (has_level f) f.gates) && knows_resets f)
             (λ nodes. IsCircuitOf f (record { nodes = nodes; lists = self.new })) result }
     {
         let numbered = number_nodes(alloc, gates, marked);
@@ -124,7 +149,7 @@ impl Lists {
             × AreLinesOf f is_complete self.old variables.now gates }
         ensures { (f : File) → greatest ≡ f.greatest
             → AreLinesOf f is_complete self.old variables.now gates
-            → Tested section_cause (is_accepted_order f.kind f)
+            → Tested section_cause (keeps f.kind f)
             (λ nodes. IsCircuitOf f (record { nodes = nodes; lists = self.new })) result }
     {
         let len = greatest as usize + 1;

@@ -1,17 +1,20 @@
 //! Reading a file.
 
-ghost use Rattle.std.specs.Prelude.{◌≡◌, ◌+◌, ◌^◌, ◌<◌, ◌≤◌, true, IfOk, IsErrOf};
-ghost use Rattle.aig_format.specs.ParseTested.{parse_fitting_sections};
+ghost use Rattle.std.specs.Io.KnownBytes.{IsAtEnd};
+ghost use Rattle.std.specs.Prelude.{◌≡◌, ◌+◌, ◌^◌, ◌<◌, ◌≤◌, false, true, IfErr, IfOk, IsErrOf, OnOk};
 ghost use Rattle.aig_format.specs.Fits.{Accepts, has_enough};
 ghost use Rattle.aig_lexer.specs.Header.{numbers_of};
 ghost use Rattle.aig_lexer.specs.Takes.{Makes, feed};
 ghost use Rattle.aig_reader.specs.Faults.{section_cause};
 ghost use Rattle.aig_reader.specs.Reading.{AreListsOf, IsReadAs};
 ghost use Rattle.aig_reader.specs.Numbered.{AreSectionsOf};
+ghost use Rattle.aig_reader.specs.Resets.{AcceptsWithResets, AreListsWithResets, SaysWhy};
+ghost use Rattle.aig_reader.specs.Rules.{AcceptsBy, AreListsBy, parse_sections_by};
 ghost use Rattle.aig_reader.specs.Verdicts.{Accepted, Judges, verdict_by, verdict_of};
 
 use crate::error::{ReadError, names_result};
 use crate::header::read_header;
+use crate::latches::Resets;
 use crate::lines::read_lines;
 use crate::sections::{Lists, Sections};
 use crate::variables::DefinedVariables;
@@ -64,8 +67,53 @@ pub fn read_with<R: Source>(
         (R.failed r.new) (verdict_by verdict_of result) }
     ensures never_open { IsErrOf result ReadError.Open → ⊥ }
 {
+    read_by(alloc, buffer, r, limit, Resets::Values)
+}
+
+/// Reads a file as `read` does, where the reset of a latch may be any literal of a variable that is defined: a function of inputs and
+/// latches, as certificates of the hardware model checking competition have it. Resets that depend on one another in a circle are taken too.
+// The frame with the buffer is not its callers'.
+#[inline(never)]
+pub fn read_with_resets<R: Source>(
+    alloc: Global,
+    r: &mut R,
+    limit: usize,
+) -> Result<CircuitLists, ReadError>
+    requires { limit ≤ 2 ^ 31 }
+    // The bytes that were read are a file that is accepted with such resets, and the lists are those of its circuit.
+    ensures circuit { IfOk result
+        (IsReadAs (AcceptsWithResets limit) AreListsWithResets (R.left r.old) (R.left r.new)) }
+    // Then no read failed, and the source was read to its end.
+    ensures whole { OnOk result ((R.failed r.new ≡ false) × IsAtEnd (R.left r.new)) }
+    // A refusal says why.
+    ensures refusal { IfErr result
+        (SaysWhy (AcceptsWithResets limit) limit (R.left r.old) (R.failed r.new)) }
+{
+    let mut buffer = InputBuffer::new();
+    read_by(alloc, &mut buffer, r, limit, Resets::Functions)
+}
+
+/// Reads a file through the caller's buffer, with the resets that the rule allows.
+fn read_by<R: Source>(
+    alloc: Global,
+    buffer: &mut InputBuffer,
+    r: &mut R,
+    limit: usize,
+    resets: Resets,
+) -> Result<CircuitLists, ReadError>
+    requires { limit ≤ 2 ^ 31 }
+    ensures circuit { IfOk result
+        (IsReadAs (AcceptsBy resets limit) (AreListsBy resets)
+        (feed R.left R.failed R.pulls buffer.old r.old).coming
+        (feed R.left R.failed R.pulls buffer.new r.new).coming) }
+    ensures whole { OnOk result ((R.failed r.new ≡ false)
+        × IsAtEnd (feed R.left R.failed R.pulls buffer.new r.new).coming) }
+    ensures refusal { IfErr result
+        (SaysWhy (AcceptsBy resets limit) limit
+        (feed R.left R.failed R.pulls buffer.old r.old).coming (R.failed r.new)) }
+{
     let header = read_header(buffer, r, limit)?;
-    let sections = read_sections(alloc, buffer, r, header)?;
+    let sections = read_sections(alloc, buffer, r, header, resets)?;
     let lists = &sections.lists;
     let names = read_names(alloc, buffer, r, &header, &lists.inputs, &lists.latchs);
     let names = names_result(names)?;
@@ -78,6 +126,7 @@ fn read_sections<R: Source>(
     buffer: &mut InputBuffer,
     r: &mut R,
     header: Header,
+    resets: Resets,
 ) -> Result<Sections, ReadError>
     requires few { header.greatest < 2 ^ 31 }
     requires good { has_enough header.kind (numbers_of header) ≡ true }
@@ -85,10 +134,10 @@ fn read_sections<R: Source>(
     ensures { Makes section_cause (AreSectionsOf header)
         (feed R.left R.failed R.pulls buffer.old r.old)
         (feed R.left R.failed R.pulls buffer.new r.new) result
-        (parse_fitting_sections header.kind (numbers_of header)) }
+        (parse_sections_by resets header.kind (numbers_of header)) }
 {
     let mut variables = DefinedVariables::new(alloc, header.kind, header.greatest);
     let mut lists = Lists::new(alloc);
-    let nodes = read_lines(alloc, buffer, r, header, &mut variables, &mut lists)?;
+    let nodes = read_lines(alloc, buffer, r, header, resets, &mut variables, &mut lists)?;
     Ok(Sections { nodes, lists })
 }

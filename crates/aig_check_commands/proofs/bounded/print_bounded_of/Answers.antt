@@ -7,7 +7,7 @@ use Rattle.aig_check_commands.specs.declared.error.CheckError.TheVariants as err
 use Rattle.aig_check_commands.specs.Bounded.{bounded_comments}
 use Rattle.aig_check_commands.specs.Titling.{title_of}
 use Rattle.aig_check_commands.proofs.Commenting.{bounded_again}
-use Rattle.aig_check_commands.proofs.Outcomes.{answered, question_refused, read_again, refused, stopped, summed}
+use Rattle.aig_check_commands.proofs.Outcomes.{answer_ends, question_refused, read_again, refused, summed}
 use Rattle.aig_check_commands.proofs.Placing.{inputs_few}
 use Rattle.aig_check_commands.proofs.bounded.print_bounded_of.Goals as goal
 
@@ -43,45 +43,17 @@ returns-then-is_settled g c =
           })),
     )
 
-pub returns-in_err-write_bounded : goal.returns-in_err-write_bounded
-returns-in_err-write_bounded g c =
-    let p = err_from_is_err_and c.from_residual-in_err-write_bounded.result
-    c.from_residual-in_err-write_bounded.ensures.1 in
-    let told = c.in_ok-made.ensures in
-    let made = c.in_ok-made.made in
-    let sum = c.finish.result in
-    let t = title_of (Bounded c.args.k) c.args.optimize sum in
-    let all = clauses_in made.clauses ++ made.extra in
-    let start = ap g.R.Source.left c.new-file.ensures ∙ c.requires.origin in
-    rw (sym c.new-file.ensures, p.1, p.2) (
-      c.bounded.new.r.source,
-      stopped
-          (title_text t ++ bounded_comments made ++ dimacs_of (length made.clauses) all) tt told.verdict
-          (read_again told.answer (λ bytes f holds asks. record {
-            sum = sum;
-            sums = summed g.B.Origin.bytes sum told.verdict start c.finish.ensures;
-            made = made;
-            asks = asks;
-            unsettled = λ settled.
-                let true_test = c.is_settled.ensures.1 settled in
-                let false_test = c.if-is_settled.false in cc;
-            exact = refl;
-            again = bounded_again t made c.tell_formula.ensures.formula;
-          })) c.in_err-write_bounded.ensures.err,
-    )
-
 pub returns : goal.returns
 returns g c =
     let told = c.in_ok-made.ensures in
     let made = c.in_ok-made.made in
-    let wrote = c.in_ok-write_bounded.ensures in
     let sum = c.finish.result in
     let t = title_of (Bounded c.args.k) c.args.optimize sum in
     let all = clauses_in made.clauses ++ made.extra in
     let start = ap g.R.Source.left c.new-file.ensures ∙ c.requires.origin in
-    rw (sym c.new-file.ensures) (
+    rw (sym c.new-file.ensures, c.after_writing.ensures) (
       c.bounded.new.r.source,
-      answered tt
+      answer_ends c.write_bounded.result
           (title_text t ++ bounded_comments made ++ dimacs_of (length made.clauses) all) tt told.verdict
           (read_again told.answer (λ bytes f holds asks. record {
             sum = sum;
@@ -93,5 +65,5 @@ returns g c =
                 let false_test = c.if-is_settled.false in cc;
             exact = refl;
             again = bounded_again t made c.tell_formula.ensures.formula;
-          })) wrote.ok wrote.sound,
+          })) c.write_bounded.ensures,
     )

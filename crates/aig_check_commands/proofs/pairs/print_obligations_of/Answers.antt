@@ -3,8 +3,7 @@ use Rattle.aig_answers.specs.Certificates.{Obliges}
 use Rattle.aig_refutation.specs.declared.error.RefutationError.TheVariants as refutation
 use Rattle.aig_check_commands.specs.Under.{source_of}
 use Rattle.aig_check_commands.specs.Titling.{pair_title}
-use Rattle.aig_check_commands.proofs.Outcomes.{summed}
-use Rattle.aig_check_commands.proofs.Pairing.{no_proof_of_clauses, obligations_text, obliged_text, pair_answered, pair_refused, pair_stopped, reads_under}
+use Rattle.aig_check_commands.proofs.Pairing.{no_proof_of_clauses, obligations_text, obliged_text, pair_ends, pair_refused, reads_under, summed_under}
 use Rattle.aig_check_commands.proofs.pairs.print_obligations_of.Goals as goal
 
 pub returns-in_err-asked : goal.returns-in_err-asked
@@ -23,48 +22,27 @@ returns-in_err-asked g c =
           (λ is. absurd (none.1 is)),
     )
 
-pub returns-in_err-write_obligations : goal.returns-in_err-write_obligations
-returns-in_err-write_obligations g c =
-    let p = err_from_is_err_and c.from_residual-in_err-write_obligations.result
-    c.from_residual-in_err-write_obligations.ensures.1 in
-    let o = c.in_ok-asked.asked in
-    let read = reads_under g.R.Source.left g.R.Source.failed g.S.Source.left g.S.Source.failed
-    source_of source_of c.in_ok-asked.ensures.reads in
-    let told = c.in_err-write_obligations.ensures in
-    let bytes = g.R.Source.left c.new-first.result.source in
-    let others = g.S.Source.left c.new-second.result.source in
-    let sums = summed g.A.Origin.bytes c.finish.result read.verdict
-    (ap g.R.Source.left c.new-first.ensures ∙ c.requires.origin) c.finish.ensures in
-    let beside = summed g.B.Origin.bytes c.finish-2.result (read.other_verdict refl)
-    (ap g.S.Source.left c.new-second.ensures ∙ c.requires.beside) c.finish-2.ensures in
-    let t = pair_title c.args.optimize c.finish.result c.finish-2.result in
-    rw (sym c.new-first.ensures, sym c.new-second.ensures, p.1, p.2) (
-      c.obligations_of.new.file.source,
-      c.obligations_of.new.certificate.source,
-      pair_stopped (Obliges c.args.limit c.args.optimize) o (obliged_text t o told.base told.step) read
-          (λ f h asked. obligations_text c.args.optimize bytes others c.finish.result c.finish-2.result
-          sums beside f h o told.base told.step asked told.base_has told.step_has told.base_formula told.step_formula) told.writes.err,
-    )
-
 pub returns : goal.returns
 returns g c =
     let o = c.in_ok-asked.asked in
-    let read = reads_under g.R.Source.left g.R.Source.failed g.S.Source.left g.S.Source.failed
-    source_of source_of c.in_ok-asked.ensures.reads in
-    let told = c.in_ok-write_obligations.ensures in
+    let optimize = c.args.optimize in
+    let sum = c.finish.result in
+    let beside = c.finish-2.result in
+    let read = summed_under g.R.Source.left g.R.Source.failed g.S.Source.left g.S.Source.failed
+    source_of source_of g.A.Origin.bytes g.B.Origin.bytes sum beside c.in_ok-asked.ensures.reads
+    (ap g.R.Source.left c.new-first.ensures ∙ c.requires.origin)
+    (ap g.S.Source.left c.new-second.ensures ∙ c.requires.beside) c.finish.ensures
+    c.finish-2.ensures in
+    let told = c.write_obligations.ensures in
     let bytes = g.R.Source.left c.new-first.result.source in
     let others = g.S.Source.left c.new-second.result.source in
-    let sums = summed g.A.Origin.bytes c.finish.result read.verdict
-    (ap g.R.Source.left c.new-first.ensures ∙ c.requires.origin) c.finish.ensures in
-    let beside = summed g.B.Origin.bytes c.finish-2.result (read.other_verdict refl)
-    (ap g.S.Source.left c.new-second.ensures ∙ c.requires.beside) c.finish-2.ensures in
-    let t = pair_title c.args.optimize c.finish.result c.finish-2.result in
-    rw (sym c.new-first.ensures, sym c.new-second.ensures) (
+    rw (sym c.new-first.ensures, sym c.new-second.ensures, c.after_writing.ensures) (
       c.obligations_of.new.file.source,
       c.obligations_of.new.certificate.source,
-      pair_answered (Obliges c.args.limit c.args.optimize) o tt (obliged_text t o told.base told.step)
-          read
-          (λ f h asked. obligations_text c.args.optimize bytes others c.finish.result c.finish-2.result
-          sums beside f h o told.base told.step asked told.base_has told.step_has told.base_formula told.step_formula) told.writes.ok
-          told.writes.sound,
+      pair_ends (Obliges c.args.limit optimize) o c.write_obligations.result
+          (obliged_text (pair_title optimize sum beside) o told.base told.step) read.0
+          (λ f h asked. obligations_text optimize bytes others sum beside read.1 read.2 f h o
+          told.base told.step asked told.base_has told.step_has told.base_formula
+          told.step_formula)
+          told.writes,
     )

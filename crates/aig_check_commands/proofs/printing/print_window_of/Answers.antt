@@ -7,7 +7,7 @@ use Rattle.aig_check_commands.specs.Titles.{title_text}
 use Rattle.aig_check_commands.specs.declared.titles.title.Question.TheVariants.{Window}
 use Rattle.aig_check_commands.specs.Titling.{is_distinct, title_of}
 use Rattle.aig_check_commands.proofs.Commenting.{titled_again}
-use Rattle.aig_check_commands.proofs.Outcomes.{answered, read_again, stopped, summed, window_refused}
+use Rattle.aig_check_commands.proofs.Outcomes.{answer_ends, read_again, summed, window_refused}
 use Rattle.aig_check_commands.proofs.printing.print_window_of.Goals as goal
 
 pub write_window-requires : goal.write_window-requires
@@ -23,46 +23,19 @@ returns-in_err-asked g c =
     rw (sym c.new-file.ensures, p.1, p.2)
     (c.read_window.new.r.source, window_refused e told.verdict told.own told.own refl refl)
 
-pub returns-in_err-write_window : goal.returns-in_err-write_window
-returns-in_err-write_window g c =
-    let p = err_from_is_err_and c.from_residual-in_err-write_window.result
-    c.from_residual-in_err-write_window.ensures.1 in
-    let read = c.in_ok-asked.ensures in
-    let made = c.in_ok-asked.asked in
-    let told = rw c.is_distinct.ensures at c.in_err-write_window.ensures in
-    let lists = told.lists ++ replicate made.free [] in
-    let all = clauses_in lists ++ made.extra in
-    let sum = c.finish.result in
-    let t = title_of (Window c.args.k (is_distinct c.args.form)) c.args.optimize sum in
-    let start = ap g.R.Source.left c.new-file.ensures ∙ c.requires.origin in
-    rw (sym c.new-file.ensures, p.1, p.2) (
-      c.read_window.new.r.source,
-      stopped (title_text t ++ dimacs_of (length lists) all) tt
-          read.verdict
-          (read_again read.answer (λ bytes f holds of. record {
-            sum = sum;
-            sums = summed g.B.Origin.bytes sum read.verdict start c.finish.ensures;
-            lists = lists;
-            extra = made.extra;
-            asks = of.asks told.lists told.has;
-            exact = refl;
-            again = titled_again t (length lists) all told.formula;
-          })) told.writes.err,
-    )
-
 pub returns : goal.returns
 returns g c =
     let read = c.in_ok-asked.ensures in
     let made = c.in_ok-asked.asked in
-    let told = rw c.is_distinct.ensures at c.in_ok-write_window.ensures in
+    let told = rw c.is_distinct.ensures at c.write_window.ensures in
     let lists = told.lists ++ replicate made.free [] in
     let all = clauses_in lists ++ made.extra in
     let sum = c.finish.result in
     let t = title_of (Window c.args.k (is_distinct c.args.form)) c.args.optimize sum in
     let start = ap g.R.Source.left c.new-file.ensures ∙ c.requires.origin in
-    rw (sym c.new-file.ensures) (
+    rw (sym c.new-file.ensures, c.after_writing.ensures) (
       c.read_window.new.r.source,
-      answered tt (title_text t ++ dimacs_of (length lists) all) tt
+      answer_ends c.write_window.result (title_text t ++ dimacs_of (length lists) all) tt
           read.verdict
           (read_again read.answer (λ bytes f holds of. record {
             sum = sum;
@@ -72,5 +45,5 @@ returns g c =
             asks = of.asks told.lists told.has;
             exact = refl;
             again = titled_again t (length lists) all told.formula;
-          })) told.writes.ok told.writes.sound,
+          })) told.writes,
     )

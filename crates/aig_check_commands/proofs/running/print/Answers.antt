@@ -4,7 +4,7 @@ use Rattle.aig_check_commands.proofs.running.print.Goals as goal
 pub returns-in-File-Empty : goal.returns-in-File-Empty
 returns-in-File-Empty g c =
     let run = c.print_file.ensures in
-    (run.0, [], search (rules, run.1))
+    (run.rest, [], search (rules, run.runs))
 
 pub returns-in-Pair-Obligations-One : goal.returns-in-Pair-Obligations-One
 returns-in-Pair-Obligations-One g c =

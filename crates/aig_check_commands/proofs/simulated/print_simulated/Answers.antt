@@ -1,6 +1,4 @@
 use Rattle.aig_base.proofs.Words.{err_from_is_err_and, refl}
-use Rattle.aig_refutation.specs.declared.error.RefutationError.TheVariants as refutation
-use Rattle.aig_simulated.specs.Simulated.{proofs_of}
 use Rattle.aig_check_commands.proofs.Simulating.{simulated_answered, simulated_refused, simulated_stopped}
 use Rattle.aig_check_commands.proofs.simulated.print_simulated.Goals as goal
 

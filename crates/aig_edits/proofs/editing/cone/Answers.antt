@@ -1,5 +1,5 @@
 use Rattle.std.proofs.Common.{◌≡◌, ap, subst, sym, ◌∙◌}
-use Rattle.aig_circuit.proofs.Words.{Circuit, IsCircuit, IsInRange, lists_circuit}
+use Rattle.aig_circuit.proofs.Words.{Circuit, IsCircuit, lists_circuit}
 use Rattle.aig_cone.specs.Refine.{AreKept, refined}
 use Rattle.aig_edit_laws.specs.Shown.{IsConeOf, output_alone}
 use Rattle.aig_edits.proofs.Edited.{circuit_output_alone, in_range_at, plain_of}

@@ -1,4 +1,4 @@
-use Rattle.aig_base.proofs.Words.{◌≡◌, ◌<◌, ◌∙◌, [], ap, arith, eqb-true, length, slice_get-get_or, sym}
+use Rattle.aig_base.proofs.Words.{◌≡◌, ◌<◌, ◌∙◌, ap, arith, eqb-true, length, slice_get-get_or, sym}
 use Rattle.std.specs.Prelude.{Some, vec_len}
 use Rattle.std.proofs.lemmas.List.{nil_from_length}
 use Rattle.aig_circuit.specs.View.{lists_circuit}

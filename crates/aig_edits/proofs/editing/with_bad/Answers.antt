@@ -1,6 +1,6 @@
-use Rattle.aig_base.proofs.Words.{◌≡◌, [], ◌∷◌, List, ap, subst, sym, ◌∙◌}
+use Rattle.aig_base.proofs.Words.{◌≡◌, List, ap, subst, sym}
 use Rattle.aig_circuit.specs.declared.edge.AigEdge.{AigEdge}
-use Rattle.aig_circuit.proofs.Words.{Circuit, IsCircuit, lists_circuit}
+use Rattle.aig_circuit.proofs.Words.{IsCircuit, lists_circuit}
 use Rattle.aig_edit_laws.specs.Plain.{IsPlain}
 use Rattle.aig_edit_laws.specs.Shown.{bad_alone}
 use Rattle.aig_edits.proofs.Edited.{circuit_bad_alone, plain_of}

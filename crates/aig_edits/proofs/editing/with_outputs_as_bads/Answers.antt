@@ -1,7 +1,6 @@
 use Rattle.aig_base.proofs.Words.{◌≡◌, [], List, ap, subst, sym, ◌∙◌}
 use Rattle.aig_circuit.specs.declared.edge.AigEdge.{AigEdge}
-use Rattle.aig_circuit.proofs.Words.{Circuit, IsCircuit, Properties, lists_circuit, properties_of}
-use Rattle.aig_circuit.specs.declared.properties.Properties.{Properties as PropertyVecs}
+use Rattle.aig_circuit.proofs.Words.{Circuit, IsCircuit, lists_circuit}
 use Rattle.aig_edit_laws.specs.Plain.{IsPlain}
 use Rattle.aig_edit_laws.specs.Shown.{outputs_as_bads}
 use Rattle.aig_edits.proofs.Edited.{circuit_outputs_as_bads, plain_of}

@@ -1,4 +1,4 @@
-use Rattle.aig_base.proofs.Words.{sym, subst, ◌∙◌, err_from_is_err_and}
+use Rattle.aig_base.proofs.Words.{err_from_is_err_and}
 use Rattle.aig_edits.specs.Info.{info_text}
 use Rattle.aig_edits.proofs.Depths.{info_of}
 use Rattle.aig_edits.proofs.info.write_info.Goals as goal

@@ -1,6 +1,6 @@
-use Rattle.aig_base.proofs.Words.{◌≤◌, ◌^◌, ap, length, length-map, subst, ◌∙◌}
-use Rattle.aig_format.specs.Circuit.{circuit_of, edge_of}
-use Rattle.aig_live.specs.Live.{IsLiveOf, live_size}
+use Rattle.aig_base.proofs.Words.{subst}
+use Rattle.aig_format.specs.Circuit.{circuit_of}
+use Rattle.aig_live.specs.Live.{IsLiveOf}
 use Rattle.aig_edits.proofs.LiveFiles.{asked_back}
 use Rattle.aig_edits.proofs.living.live_files_show.Goals as goal
 

@@ -1,4 +1,4 @@
-use Rattle.aig_base.proofs.Words.{◌≡◌, refl, sym, ◌∙◌, arith, false≢true, err_from_is_err_and}
+use Rattle.aig_base.proofs.Words.{refl, sym, ◌∙◌, arith, false≢true, err_from_is_err_and}
 use Rattle.aig_format.specs.declared.FileKind.TheVariants.{Text}
 use Rattle.aig_edits.proofs.printing_edits.write.Goals as goal
 

@@ -1,4 +1,4 @@
-use Rattle.aig_base.proofs.Words.{Err, Ok, refl, err_from_is_err_and}
+use Rattle.aig_base.proofs.Words.{Err, refl, err_from_is_err_and}
 use Rattle.aig_edits.specs.Joints.{IsOwn, PrintsJoint, first_verdict, second_verdict}
 use Rattle.aig_edits.proofs.JointFiles.{circuits_read, own_joint}
 use Rattle.aig_edits.proofs.Reading.{reads_on}

@@ -1,4 +1,4 @@
-use Rattle.aig_base.proofs.Words.{refl, err_from_is_err_and}
+use Rattle.aig_base.proofs.Words.{err_from_is_err_and}
 use Rattle.aig_circuit.specs.View.{lists_circuit}
 use Rattle.aig_edits.proofs.JointFiles.{first_taken, lists_join, second_taken}
 use Rattle.aig_edits.proofs.Printed.{refused_print}

@@ -1,4 +1,4 @@
-use Rattle.aig_base.proofs.Words.{◌≡◌, ◌==◌, ◌||◌, ◌-◌, ℕ, Bool, true, false, length, take, sym, ap, ◌∙◌, arith}
+use Rattle.aig_base.proofs.Words.{◌≡◌, ◌==◌, ◌||◌, ◌-◌, true, false, length, take, sym, ap, ◌∙◌, arith}
 use Rattle.std.specs.List.{list_any}
 use Rattle.aig_command_line.specs.Counts.{has_zero, telling}
 use Rattle.aig_command_line.proofs.Counting.{zero_append}

@@ -1,4 +1,4 @@
-use Rattle.aig_base.proofs.Words.{◌+◌, ◌∷◌, ◌++◌, [], ℕ, List, sym, arith, inl, inr, on_ok_weaker}
+use Rattle.aig_base.proofs.Words.{◌+◌, ◌∷◌, ◌++◌, [], ℕ, List, arith, inl, inr, on_ok_weaker}
 use Rattle.aig_format.specs.File.{GateLine}
 use Rattle.aig_reader.specs.declared.gate_store.GateStore.{GateStore}
 use Rattle.aig_reader.specs.declared.gate_store.GateStore.TheVariants as held
