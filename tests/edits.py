@@ -184,8 +184,8 @@ def libraries(crate):
 
 
 def hash_of(crate):
-    """A hash of the kit, the texts of a crate and of those that it stands on, and its edits with the lemmas that stand for some."""
-    made, lines = hashlib.sha256((kit.tools() / "KIT-ID").read_bytes()), harness.crates()
+    """A hash of the logic, the texts of a crate and of those that it stands on, and its edits with the lemmas that stand for some."""
+    made, lines = hashlib.sha256(kit.logic().encode()), harness.crates()
     for it in [*crate.below(), crate]:
         files = [file for part in kit.TEXTS for file in sorted(pathlib.Path(it.folder, part).rglob("*")) if file.is_file()]
         made.update(repr((lines[it.name], [(str(file.relative_to(it.folder)), file.read_bytes()) for file in files])).encode())

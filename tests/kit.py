@@ -18,6 +18,11 @@ def tools():
     return pathlib.Path(found).resolve().parent.parent if found else sys.exit("there is no rt")
 
 
+def logic():
+    """The sum of the logic that the kit proves by, which kits of several names share."""
+    return (tools() / "KIT-ID").read_text(encoding="utf-8").split()[-1]
+
+
 @functools.cache
 def rtlib():
     """The kit's own module, in which a crate's stamp, made of those below it, is made once."""
