@@ -31,7 +31,7 @@ image_in-same images others e is =
     ap (λ (image : AigEdge). edge_to image.node_id (inverted_if e.compl image.compl)) is
 
 -- the image of a node follows those of its operands
-node_image-same : (state : Option AigEdge) (images others : List AigEdge) (place : Place)
+pub node_image-same : (state : Option AigEdge) (images others : List AigEdge) (place : Place)
     (kind : Option AigNodeType) (net : Netlist)
     → ((a b : AigEdge) → kind ≡ Some (And a b)
     → (image_at images a.node_id ≡ image_at others a.node_id)

@@ -11,6 +11,8 @@ mod Cut
 mod Sharing
 mod Attained
 mod Exactly
+mod Grown
+mod Steady
 pub mod Single
 pub mod Witnesses
 pub mod Examples

@@ -56,10 +56,10 @@ Shows-constant c t f b v sound is_b = record {
 
 -- ---- gates
 
-both_same : (a b x y : Bool) → a ≡ x → b ≡ y → (a && b) ≡ (x && y)
+pub both_same : (a b x y : Bool) → a ≡ x → b ≡ y → (a && b) ≡ (x && y)
 both_same a b x y p q = ap (λ v. v && b) p ∙ ap (λ v. x && v) q
 
-either_same : (a b x y : Bool) → a ≡ x → b ≡ y → (a || b) ≡ (x || y)
+pub either_same : (a b x y : Bool) → a ≡ x → b ≡ y → (a || b) ≡ (x || y)
 either_same a b x y p q = ap (λ v. v || b) p ∙ ap (λ v. x || v) q
 
 -- two edges that are joined
@@ -138,13 +138,13 @@ Shows-gate c t id f a b e circuit kind s =
 
 -- ---- lists of edges
 
-all_same : (p q : AigEdge → Bool) (es : List AigEdge) → All (λ e. p e ≡ q e) es
+pub all_same : (p q : AigEdge → Bool) (es : List AigEdge) → All (λ e. p e ≡ q e) es
     → list_all p es ≡ list_all q es
 all_same p q [] all = refl
 all_same p q (e ∷ es) all =
     both_same _ _ _ _ (all 0 e (omega arith)) (all_same p q es (λ k d h. all (suc k) d (omega arith)))
 
-any_same : (p q : AigEdge → Bool) (es : List AigEdge) → All (λ e. p e ≡ q e) es
+pub any_same : (p q : AigEdge → Bool) (es : List AigEdge) → All (λ e. p e ≡ q e) es
     → list_any p es ≡ list_any q es
 any_same p q [] all = refl
 any_same p q (e ∷ es) all =

@@ -34,7 +34,8 @@ pub struct BoundedCircuit {
 /// The steps are made one after another, with the constants of the start folded in, and gates folded and shared over all
 /// steps. What no bad edge and no constraint reads up to step `last` isn't made, and what the output doesn't reach is
 /// dropped. Where the answer needs no search the output is often constant: false where no bad state is reached. Takes time linear
-/// in the circuit, times `last + 1`, and memory for what is made and one step.
+/// in the circuit, times the steps up to the first that changes nothing, at most `last + 1`, and memory for what is made and one
+/// step.
 ///
 /// # Requirements
 ///

@@ -1,6 +1,6 @@
 //! The steps of a circuit as nodes of a question.
 
-ghost use Rattle.std.specs.Prelude.{Bool, map, ◌^◌, ◌≡◌, ◌+◌, ◌-◌, ◌*◌, ◌<◌, ◌≤◌, ◌&&◌, ℕ, true, false, None, Some, IfOk, IfSome, IsErrOf, OnOk, List, [], All, length, min, slice_index_or};
+ghost use Rattle.std.specs.Prelude.{Bool, map, ◌^◌, ◌≡◌, ◌+◌, ◌-◌, ◌*◌, ◌<◌, ◌≤◌, ◌&&◌, ℕ, true, false, None, Some, IfOk, IfSome, IsErrOf, OnOk, List, [], All, length, min, slice_index_or, slice_set};
 ghost use Rattle.std.specs.List.{list_all, list_any};
 ghost use Rattle.aig_circuit.specs.Circuit.{AreNodes, IsCircuit, IsInRange, IsLeaf};
 ghost use Rattle.aig_circuit.specs.Edge.{edge_to};
@@ -27,7 +27,7 @@ use aig_circuit::{AigEdge, AigLatch, AigNodeType, CircuitView};
 use std::alloc::Global;
 
 /// What is known of the steps so far.
-#[derive(Clone, Copy)]
+#[derive(Clone, Copy, PartialEq, Eq)]
 pub(crate) struct Sums {
     /// Every constraint holds at each of them.
     pub(crate) within: AigEdge,
@@ -239,7 +239,8 @@ impl Frames {
         Ok(after)
     }
 
-    /// Adds the steps 0 to `last`, and returns the edge that is true where a bad state is reached.
+    /// Adds the steps 0 to `last`, and returns the edge that is true where a bad state is reached. A step that changes nothing is
+    /// the last that is made: each step after it would be that step again.
     fn add_steps(
         &mut self,
         circuit: &CircuitView<'_>,
@@ -267,25 +268,44 @@ impl Frames {
     {
         let mut sums = Sums::start();
         for step in 0..last {
-            sums = self.add_step(circuit, depths, last - step, step, images, states, sums)?;
-            advance(circuit, images, states);
+            let count = self.nodes.len();
+            let after = self.add_step(circuit, depths, last - step, step, images, states, sums)?;
+            let changed = advance(circuit, images, states);
+            if !changed && after == sums && self.nodes.len() == count {
+                return Ok(sums.reached);
+            }
+            sums = after;
         }
         let all = self.add_step(circuit, depths, 0, last, images, states, sums)?;
         Ok(all.reached)
     }
 }
 
-/// Gives each latch the image of its next edge as its state.
-fn advance(circuit: &CircuitView<'_>, images: &[AigEdge], states: &mut [Option<AigEdge>])
+/// Gives each latch the image of its next edge as its state. Returns whether some latch had another.
+fn advance(circuit: &CircuitView<'_>, images: &[AigEdge], states: &mut [Option<AigEdge>]) -> bool
     requires table { length images.now ≡ length circuit.now.nodes }
     requires states { length states.old ≡ length circuit.now.nodes }
-    ensures { SetsStates circuit.now.latchs (length circuit.now.latchs)
+    ensures sets { SetsStates circuit.now.latchs (length circuit.now.latchs)
         (λ latch. Some (image_in images.now latch.next))
         states.old states.new }
+    ensures same { result ≡ false → states.new ≡ states.old }
 {
+    let mut changed = false;
     for latch in circuit.latchs() {
-        states[latch.input()] = Some(image_of(images, latch.next()));
+        changed |= set_state(states, latch.input(), image_of(images, latch.next()));
     }
+    changed
+}
+
+/// Sets the state of a latch's leaf. Returns whether it was another.
+fn set_state(states: &mut [Option<AigEdge>], leaf: usize, state: AigEdge) -> bool
+    requires { leaf < length states.old }
+    ensures sets { states.new ≡ slice_set states.old leaf (Some state) }
+    ensures same { result ≡ false → states.new ≡ states.old }
+{
+    let before = states[leaf];
+    states[leaf] = Some(state);
+    before != Some(state)
 }
 
 /// The states of latches at the start: the constants that they have there. The others are open.
