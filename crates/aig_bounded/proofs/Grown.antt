@@ -16,8 +16,10 @@ IsSameOrLarger old new = (new ≡ old) ⊎ (length old.nodes < length new.nodes)
 larger-then : (old mid new : Netlist) → IsSameOrLarger old mid → IsSameOrLarger mid new
     → IsSameOrLarger old new
 larger-then old mid new (inl p) (inl q) = inl (q ∙ p)
-larger-then old mid new (inl p) (inr q) = inr (omega (arith, q, ap (λ (n : Netlist). length n.nodes) p))
-larger-then old mid new (inr p) (inl q) = inr (omega (arith, p, ap (λ (n : Netlist). length n.nodes) q))
+larger-then old mid new (inl p) (inr q) = inr
+    (omega (arith, q, ap (λ (n : Netlist). length n.nodes) p))
+larger-then old mid new (inr p) (inl q) = inr
+    (omega (arith, p, ap (λ (n : Netlist). length n.nodes) q))
 larger-then old mid new (inr p) (inr q) = inr (omega (arith, p, q))
 
 -- it has no fewer nodes
@@ -38,7 +40,11 @@ made_by-larger : (o : Option AigEdge) (there : Option ℕ) (kind : AigNodeType) 
 made_by-larger (Some e) there kind net = inl refl
 made_by-larger None (Some n) kind net = inl refl
 made_by-larger None None kind net =
-    inr (omega (arith, length-append net.nodes (record { node_id = length net.nodes; typ = kind } ∷ [])))
+    inr (omega (
+      arith,
+      length-append net.nodes
+          (record { node_id = length net.nodes; typ = kind } ∷ []),
+    ))
 
 shared_and-larger : (net : Netlist) (a b : AigEdge) → IsSameOrLarger net (shared_and net a b).net
 shared_and-larger net a b =
@@ -64,13 +70,21 @@ shared_ors-larger made (e ∷ es) =
 pub with_checks-larger : (c : Circuit) (images : List AigEdge) (before : Checks)
     → IsSameOrLarger before.net (with_checks c images before).net
 with_checks-larger c images before =
-    let within = shared_ands (made_in before.net before.within) (map (image_in images) c.properties.constraints) in
-    let bad = shared_ors (made_in within.net (edge_to 0 false)) (map (image_in images) c.properties.bads) in
+    let within = shared_ands (made_in before.net before.within)
+    (map (image_in images) c.properties.constraints) in
+    let bad = shared_ors (made_in within.net (edge_to 0 false))
+    (map (image_in images) c.properties.bads) in
     let now = shared_and bad.net within.edge bad.edge in
     let all = shared_or now.net before.reached now.edge in
-    let by_bad = larger-then before.net within.net bad.net (shared_ands-larger (made_in before.net before.within) (map (image_in images) c.properties.constraints)) (shared_ors-larger (made_in within.net (edge_to 0 false)) (map (image_in images) c.properties.bads)) in
-    let by_now = larger-then before.net bad.net now.net by_bad (shared_and-larger bad.net within.edge bad.edge) in
-    larger-then before.net now.net all.net by_now (shared_and-larger now.net (inverse before.reached) (inverse now.edge))
+    let by_bad = larger-then before.net within.net bad.net
+    (shared_ands-larger (made_in before.net before.within)
+    (map (image_in images) c.properties.constraints))
+    (shared_ors-larger (made_in within.net (edge_to 0 false))
+    (map (image_in images) c.properties.bads)) in
+    let by_now = larger-then before.net bad.net now.net by_bad
+    (shared_and-larger bad.net within.edge bad.edge) in
+    larger-then before.net now.net all.net by_now
+    (shared_and-larger now.net (inverse before.reached) (inverse now.edge))
 
 -- ---- images
 
@@ -78,7 +92,11 @@ leaf_image-larger : (state : Option AigEdge) (place : Place) (net : Netlist)
     → IsSameOrLarger net (leaf_image state place net).net
 leaf_image-larger (Some e) place net = inl refl
 leaf_image-larger None place net =
-    inr (omega (arith, length-append net.nodes (record { node_id = length net.nodes; typ = Leaf } ∷ [])))
+    inr (omega (
+      arith,
+      length-append net.nodes
+          (record { node_id = length net.nodes; typ = Leaf } ∷ []),
+    ))
 
 image_if-larger : (b : Bool) (state : Option AigEdge) (images : List AigEdge) (place : Place)
     (kind : Option AigNodeType) (net : Netlist)
@@ -96,11 +114,13 @@ module _ (c : Circuit) (t : ℕ) (read : ℕ → Bool) (state : ℕ → Option A
 
   frame-next : (n : ℕ) → IsSameOrLarger (frame n).net (frame (suc n)).net
   frame-next n =
-      image_if-larger (read n) (state n) (frame n).images (record { step = t; leaf = n }) (kind_at c.nodes n) (frame n).net
+      image_if-larger (read n) (state n) (frame n).images (record { step = t; leaf = n })
+      (kind_at c.nodes n) (frame n).net
 
   frame-larger : (n : ℕ) → IsSameOrLarger net (frame n).net
   frame-larger zero = inl refl
-  frame-larger (suc n) = larger-then net (frame n).net (frame (suc n)).net (frame-larger n) (frame-next n)
+  frame-larger (suc n) = larger-then net (frame n).net (frame (suc n)).net (frame-larger n)
+      (frame-next n)
 
   frame-longer : (n m : ℕ) → n ≤ m → length (frame n).net.nodes ≤ length (frame m).net.nodes
   frame-longer n zero h =
@@ -111,7 +131,12 @@ module _ (c : Circuit) (t : ℕ) (read : ℕ → Bool) (state : ℕ → Option A
           → (n ≤ m → length (frame n).net.nodes ≤ length (frame m).net.nodes)
           → length (frame n).net.nodes ≤ length (frame (suc m)).net.nodes
       by (inl low) longer =
-          omega (arith, longer (omega arith), no_fewer (frame m).net (frame (suc m)).net (frame-next m))
+          omega (
+            arith,
+            longer (omega arith),
+            no_fewer (frame m).net (frame (suc m)).net
+                (frame-next m),
+          )
       by (inr high) longer =
           let is : n ≡ suc m = omega arith in omega (arith, ap (λ k. length (frame k).net.nodes) is)
 
@@ -120,7 +145,8 @@ module _ (c : Circuit) (t : ℕ) (read : ℕ → Bool) (state : ℕ → Option A
     -- nor do those of the first ones
     pub frame_still : (n : ℕ) → n ≤ count → (frame n).net ≡ net
     frame_still n h =
-        same_netlist net (frame n).net (frame-larger n) (omega (arith, frame-longer n count h, still))
+        same_netlist net (frame n).net (frame-larger n)
+        (omega (arith, frame-longer n count h, still))
 
     -- and each leaf that is read has a state
     pub state_there : (n : ℕ) → n < count → read n ≡ true → kind_at c.nodes n ≡ Some Leaf
@@ -128,13 +154,15 @@ module _ (c : Circuit) (t : ℕ) (read : ℕ → Bool) (state : ℕ → Option A
     state_there n h r leaf none =
         let place : Place = record { step = t; leaf = n } in
         let opened : (frame (suc n)).net ≡ (leaf_image None place (frame n).net).net =
-        ap (λ b. (image_if b (state n) (frame n).images place (kind_at c.nodes n) (frame n).net).net) r
+        ap (λ b. (image_if b (state n) (frame n).images place (kind_at c.nodes n)
+        (frame n).net).net) r
         ∙ ap (λ s. (node_image s (frame n).images place (kind_at c.nodes n) (frame n).net).net) none
         ∙ ap (λ k. (node_image None (frame n).images place k (frame n).net).net) leaf in
         omega (
           arith,
           ap (λ (m : Netlist). length m.nodes) opened,
-          length-append (frame n).net.nodes (record { node_id = length (frame n).net.nodes; typ = Leaf } ∷ []),
+          length-append (frame n).net.nodes
+              (record { node_id = length (frame n).net.nodes; typ = Leaf } ∷ []),
           ap (λ (m : Netlist). length m.nodes) (frame_still n (omega arith)),
           ap (λ (m : Netlist). length m.nodes) (frame_still (suc n) (omega arith)),
         )

@@ -44,7 +44,8 @@ image_at-push images e n is =
 module _ (c : Circuit) (circuit : IsCircuit c) (last left less t u : ℕ) (depths : List ℕ)
     (are : AreDepths c last depths) (within : left ≤ last) (fewer : less ≤ left)
     (state : ℕ → Option AigEdge) (net : Netlist)
-    (still : length (frame_to c t (is_read depths left) state net (length c.nodes)).net.nodes ≤ length net.nodes) where
+    (still : length (frame_to c t (is_read depths left) state net (length c.nodes)).net.nodes ≤
+    length net.nodes) where
   abbrev first : ℕ → Frame
   first n = frame_to c t (is_read depths left) state net n
 
@@ -57,7 +58,8 @@ module _ (c : Circuit) (circuit : IsCircuit c) (last left less t u : ℕ) (depth
   -- what is read later is read first
   was_read : (n : ℕ) → is_read depths less n ≡ true → is_read depths left n ≡ true
   was_read n r =
-      le-leb (slice_index depths n) left (omega (arith, leb-true (slice_index depths n) less r, fewer))
+      le-leb (slice_index depths n) left
+      (omega (arith, leb-true (slice_index depths n) less r, fewer))
 
   -- the first n nodes add none, and have the same images
   abbrev IsAgain : ℕ → Type 0
@@ -67,8 +69,10 @@ module _ (c : Circuit) (circuit : IsCircuit c) (last left less t u : ℕ) (depth
       → image_at (later n).images m ≡ image_at (first n).images m)
 
   same_made : (n : ℕ) → n < length c.nodes → is_read depths less n ≡ true → IsAgain n
-      → image_if (is_read depths less n) (state n) (later n).images (record { step = u; leaf = n }) (kind_at c.nodes n) (later n).net
-      ≡ image_if (is_read depths left n) (state n) (first n).images (record { step = t; leaf = n }) (kind_at c.nodes n) (first n).net
+      → image_if (is_read depths less n) (state n) (later n).images (record { step = u; leaf = n })
+      (kind_at c.nodes n) (later n).net
+      ≡ image_if (is_read depths left n) (state n) (first n).images (record { step = t; leaf = n })
+      (kind_at c.nodes n) (first n).net
   same_made n h r is =
       let there : Place = record { step = u; leaf = n } in
       let here : Place = record { step = t; leaf = n } in
@@ -76,21 +80,26 @@ module _ (c : Circuit) (circuit : IsCircuit c) (last left less t u : ℕ) (depth
       ∙ ap (node_image (state n) (later n).images there (kind_at c.nodes n)) is.0
       ∙ node_image-same (state n) (later n).images (first n).images there (kind_at c.nodes n) net
       (λ a b kind.
-      let both = operands_read c less n last depths a b circuit are (omega arith) (leb-true (slice_index depths n) less r) kind in
+      let both = operands_read c less n last depths a b circuit are (omega arith)
+      (leb-true (slice_index depths n) less r) kind in
       (is.1 a.node_id both.0.0 both.0.1, is.1 b.node_id both.1.0 both.1.1))
       ∙ node_image-place (state n) (first n).images there here (kind_at c.nodes n) net
       (state_there c t (is_read depths left) state net (length c.nodes) still n h (was_read n r))
-      ∙ ap (node_image (state n) (first n).images here (kind_at c.nodes n)) (sym (first_still n (omega arith)))
-      ∙ ap (λ b. image_if b (state n) (first n).images here (kind_at c.nodes n) (first n).net) (sym (was_read n r))
+      ∙ ap (node_image (state n) (first n).images here (kind_at c.nodes n))
+      (sym (first_still n (omega arith)))
+      ∙ ap (λ b. image_if b (state n) (first n).images here (kind_at c.nodes n) (first n).net)
+      (sym (was_read n r))
 
   again-more : (n : ℕ) → n < length c.nodes → IsAgain n → (b : Bool) → is_read depths less n ≡ b
       → IsAgain (suc n)
   again-more n h is b r = (net_more b r, λ m l q. image_more m (cases_lt m n) l q)
     where
       net_more : (b : Bool) → is_read depths less n ≡ b → (later (suc n)).net ≡ net
-      net_more true r = ap (λ (m : Made). m.net) (same_made n h r is) ∙ first_still (suc n) (omega arith)
+      net_more true r = ap (λ (m : Made). m.net) (same_made n h r is)
+          ∙ first_still (suc n) (omega arith)
       net_more false r =
-          ap (λ b. (image_if b (state n) (later n).images (record { step = u; leaf = n }) (kind_at c.nodes n) (later n).net).net) r
+          ap (λ b. (image_if b (state n) (later n).images (record { step = u; leaf = n })
+          (kind_at c.nodes n) (later n).net).net) r
           ∙ is.0
 
       count_first : length (first n).images ≡ n
@@ -102,18 +111,22 @@ module _ (c : Circuit) (circuit : IsCircuit c) (last left less t u : ℕ) (depth
       image_here : is_read depths less n ≡ true
           → image_at (later (suc n)).images n ≡ image_at (first (suc n)).images n
       image_here q =
-          image_at-push (later n).images _ n count_later ∙ ap (λ (m : Made). m.edge) (same_made n h q is)
+          image_at-push (later n).images _ n count_later
+          ∙ ap (λ (m : Made). m.edge) (same_made n h q is)
           ∙ sym (image_at-push (first n).images _ n count_first)
 
       image_more : (m : ℕ) → (m < n) ⊎ (n ≤ m) → m < suc n → is_read depths less m ≡ true
           → image_at (later (suc n)).images m ≡ image_at (first (suc n)).images m
       image_more m (inl low) l q =
-          get_or_append_left (later n).images _ (edge_to 0 false) m (omega (arith, low, count_later))
+          get_or_append_left (later n).images _ (edge_to 0 false) m
+          (omega (arith, low, count_later))
           ∙ is.1 m low q
-          ∙ sym (get_or_append_left (first n).images _ (edge_to 0 false) m (omega (arith, low, count_first)))
+          ∙ sym (get_or_append_left (first n).images _ (edge_to 0 false) m
+          (omega (arith, low, count_first)))
       image_more m (inr high) l q =
           let one : m ≡ n = omega arith in
-          subst (λ k. image_at (later (suc n)).images k ≡ image_at (first (suc n)).images k) (sym one)
+          subst (λ k. image_at (later (suc n)).images k ≡ image_at (first (suc n)).images k)
+          (sym one)
           (image_here (ap (is_read depths less) (sym one) ∙ q))
 
   again : (n : ℕ) → n ≤ length c.nodes → IsAgain n
@@ -122,10 +135,12 @@ module _ (c : Circuit) (circuit : IsCircuit c) (last left less t u : ℕ) (depth
 
   -- what the properties name has the same images
   roots_again : (es : List AigEdge) → All (IsInRange c.nodes) es → HaveNoDepth es depths
-      → All (λ e. image_at (first (length c.nodes)).images e.node_id ≡ image_at (later (length c.nodes)).images e.node_id) es
+      → All (λ e. image_at (first (length c.nodes)).images e.node_id ≡ image_at
+      (later (length c.nodes)).images e.node_id) es
   roots_again es there none k d h =
       let n = (get_or es k d).node_id in
-      sym ((again (length c.nodes) (omega arith)).1 n (there k d h) (le-leb (slice_index depths n) less (omega (arith, none k d h))))
+      sym ((again (length c.nodes) (omega arith)).1 n (there k d h)
+      (le-leb (slice_index depths n) less (omega (arith, none k d h))))
 
   -- the step is made of the same images, and has the same checks
   pub MakesFrame-again : (sums : Sums) (images : List AigEdge) (checks : Checks)
@@ -133,15 +148,25 @@ module _ (c : Circuit) (circuit : IsCircuit c) (last left less t u : ℕ) (depth
       → MakesFrame (is_read depths less) (later (length c.nodes)) c sums images checks
   MakesFrame-again sums images checks step = record {
     exact =
-        step.exact ∙ ap (λ (m : Netlist). with_checks c (first (length c.nodes)).images (record { net = m; within = sums.within; reached = sums.reached })) (first_still (length c.nodes) (omega arith))
-        ∙ checks-same c (first (length c.nodes)).images (later (length c.nodes)).images (record { net = net; within = sums.within; reached = sums.reached })
+        step.exact ∙ ap (λ (m : Netlist). with_checks c (first (length c.nodes)).images
+        (record { net = m; within = sums.within; reached = sums.reached }))
+        (first_still (length c.nodes) (omega arith))
+        ∙ checks-same c (first (length c.nodes)).images (later (length c.nodes)).images
+        (record { net = net; within = sums.within; reached = sums.reached })
         (roots_again c.properties.constraints circuit.properties.constraints are.constraints)
         (roots_again c.properties.bads circuit.properties.bads are.bads)
-        ∙ ap (λ (m : Netlist). with_checks c (later (length c.nodes)).images (record { net = m; within = sums.within; reached = sums.reached })) (sym (again (length c.nodes) (omega arith)).0);
+        ∙ ap (λ (m : Netlist). with_checks c (later (length c.nodes)).images
+        (record { net = m; within = sums.within; reached = sums.reached }))
+        (sym (again (length c.nodes) (omega arith)).0);
     same = λ n h r.
         let count = frame-count c u (is_read depths less) state net (length c.nodes) in
         let low : n < length c.nodes = omega (arith, h, count) in
-        step.same n (omega (arith, low, frame-count c t (is_read depths left) state net (length c.nodes))) (was_read n r)
+        step.same n (omega (
+          arith,
+          low,
+          frame-count c t (is_read depths left) state net
+              (length c.nodes),
+        )) (was_read n r)
         ∙ sym ((again (length c.nodes) (omega arith)).1 n low r);
   }
 
@@ -150,7 +175,8 @@ module _ (c : Circuit) (circuit : IsCircuit c) (last left less t u : ℕ) (depth
 -- the images of step t as nodes
 abbrev pub frame_of : Circuit → ℕ → ℕ → List ℕ → List (Option AigEdge) → Netlist → Frame
 frame_of c last t depths states net =
-    frame_to c t (is_read depths (last - t)) (λ n. slice_index_or states n None) net (length c.nodes)
+    frame_to c t (is_read depths (last - t)) (λ n. slice_index_or states n None) net
+    (length c.nodes)
 
 -- Step t is made: of the nodes, states and sums before it those after it.
 pub record IsMade (c : Circuit) (last t : ℕ) (depths : List ℕ) (old new : Frames)
@@ -159,7 +185,8 @@ pub record IsMade (c : Circuit) (last t : ℕ) (depths : List ℕ) (old new : Fr
   pub extends : Extends old new
   pub sum : Sum c t (t + 1) new after
   pub frames : AreFrames c (t + 1) 0 new
-  pub makes : MakesFrame (is_read depths (last - t)) (frame_of c last t depths states (net_of old)) c
+  pub makes : MakesFrame (is_read depths (last - t)) (frame_of c last t depths states (net_of old))
+      c
       sums images (checks_of new after)
   pub sets : SetsStates c.latchs (length c.latchs) (λ latch. Some (image_in images latch.next))
       states next
@@ -178,18 +205,30 @@ pub AreMade-more : (c : Circuit) (circuit : IsCircuit c) (last t : ℕ) (low : t
     → AreMade c last t depths old f0 states sums
     → IsMade c last t depths f0 f states next sums after images
     → AreMade c last (t + 1) depths old f next after
-AreMade-more c circuit last t low depths are old f0 f states next sums after images before step = record {
-  so_far = StepsSoFar-more c last t depths old f0 f images states next sums after circuit low are step.has before.so_far step.extends step.sets step.count step.sum step.frames;
-  made = MadeSoFar-more c (last - t) last t depths refl f0 sums states before.made images (checks_of f after) step.makes circuit are low before.so_far.known.others next step.sets f after refl;
-}
+AreMade-more c circuit last t low depths are old f0 f states next sums after images before step
+    = record {
+      so_far = StepsSoFar-more c last t depths old f0 f images states next sums after circuit low are
+          step.has before.so_far step.extends step.sets step.count step.sum step.frames;
+      made = MadeSoFar-more c (last - t) last t depths refl f0 sums states before.made images
+          (checks_of f after) step.makes circuit are low before.so_far.known.others next step.sets f
+          after refl;
+    }
 
 -- the images of a step that adds no node add none
 images_still : (c : Circuit) (frame : Frame) (sums : Sums) (images : List AigEdge) (after : Checks)
     (read : ℕ → Bool) (net : Netlist) → MakesFrame read frame c sums images after
     → length after.net.nodes ≤ length net.nodes → length frame.net.nodes ≤ length net.nodes
 images_still c frame sums images after read net step few =
-    let before : Checks = record { net = frame.net; within = sums.within; reached = sums.reached } in
-    omega (arith, few, no_fewer frame.net (with_checks c frame.images before).net (with_checks-larger c frame.images before), ap (λ (k : Checks). length k.net.nodes) step.exact)
+    let before : Checks = record { net = frame.net; within = sums.within; reached = sums.reached }
+    in
+    omega (
+      arith,
+      few,
+      no_fewer frame.net (with_checks c frame.images before).net
+          (with_checks-larger c frame.images before),
+      ap (λ (k : Checks). length k.net.nodes)
+          step.exact,
+    )
 
 -- ---- a step that changes nothing
 
@@ -205,7 +244,8 @@ steady_still : (c : Circuit) (last t : ℕ) (depths : List ℕ) (f : Frames)
     → IsSteady c last t depths f states sums images
     → length (frame_of c last t depths states (net_of f)).net.nodes ≤ length (net_of f).nodes
 steady_still c last t depths f states sums images steady =
-    images_still c (frame_of c last t depths states (net_of f)) sums images (checks_of f sums) (is_read depths (last - t)) (net_of f) steady.step.makes (omega arith)
+    images_still c (frame_of c last t depths states (net_of f)) sums images (checks_of f sums)
+    (is_read depths (last - t)) (net_of f) steady.step.makes (omega arith)
 
 -- A later step is the same.
 module _ (c : Circuit) (circuit : IsCircuit c) (last t : ℕ) (depths : List ℕ)
@@ -229,7 +269,10 @@ module _ (c : Circuit) (circuit : IsCircuit c) (last t : ℕ) (depths : List ℕ
 
           by : (o : Option AigEdge) → slice_index_or states n None ≡ o → run u n ≡ run t n
           by None none =
-              absurd (state_there c t (is_read depths (last - t)) (λ m. slice_index_or states m None) (net_of f) (length c.nodes) (steady_still c last t depths f states sums images steady) n r.0 (le-leb (slice_index depths n) (last - t) deep) leaf none)
+              absurd (state_there c t (is_read depths (last - t))
+              (λ m. slice_index_or states m None) (net_of f) (length c.nodes)
+              (steady_still c last t depths f states sums images steady) n r.0
+              (le-leb (slice_index depths n) (last - t) deep) leaf none)
           by (Some e) set =
               sym ((known.set n e r.0 set r.1).shown y run is start reads)
               ∙ (steady.known.set n e r.0 set deep).shown y run is_before start reads
@@ -253,7 +296,8 @@ module _ (c : Circuit) (circuit : IsCircuit c) (last t : ℕ) (depths : List ℕ
           operand e at =
               let low = fanin_before c n e.node_id circuit (a, b, is, at) in
               let deep = are.settled.operands n e.node_id (a, b, is, at) (omega (arith, r.1)) in
-              ap (inverted_if e.compl) (smaller e.node_id low (omega (arith, low, r.0), omega (arith, deep, r.1)))
+              ap (inverted_if e.compl)
+              (smaller e.node_id low (omega (arith, low, r.0), omega (arith, deep, r.1)))
 
       -- and so do nodes
       value_same : (n : ℕ) → Read n → node_value c.nodes (run u) n ≡ node_value c.nodes (run t) n
@@ -273,7 +317,8 @@ module _ (c : Circuit) (circuit : IsCircuit c) (last t : ℕ) (depths : List ℕ
     images_later n h d = record {
       there = (steady.step.has n h (omega (arith, d))).there;
       shown = λ y run is start reads.
-          (steady.step.has n h (omega (arith, d))).shown y run (is_before y run is start reads) start reads
+          (steady.step.has n h (omega (arith, d))).shown y run (is_before y run is start reads)
+          start reads
           ∙ sym (value_same y run is start reads n (h, d));
     }
 
@@ -289,8 +334,11 @@ module _ (c : Circuit) (circuit : IsCircuit c) (last t : ℕ) (depths : List ℕ
         within_same y run is start reads =
             ap (within_to c run) (add-one t)
             ∙ both_same _ _ _ _
-            (sym (steady.before.within.shown y run (is_before y run is start reads) start reads) ∙ sum.within.shown y run is start reads)
-            (sym (all_same _ _ c.properties.constraints (roots_same_value y run is start reads c.properties.constraints circuit.properties.constraints are.constraints)))
+            (sym (steady.before.within.shown y run (is_before y run is start reads) start reads)
+            ∙ sum.within.shown y run is start reads)
+            (sym (all_same _ _ c.properties.constraints
+            (roots_same_value y run is start reads c.properties.constraints
+            circuit.properties.constraints are.constraints)))
             ∙ sym (ap (within_to c run) (add-one u))
 
         within_later : (y : ℕ → Bool) (run : ℕ → ℕ → Bool) → IsRun c u run → IsInitial c (run 0)
@@ -305,16 +353,23 @@ module _ (c : Circuit) (circuit : IsCircuit c) (last t : ℕ) (depths : List ℕ
             steady.step.sum.reached.shown y run (is_before y run is start reads) start reads
             ∙ ap (reached_to c run) (add-one t)
             ∙ either_same _ _ _ _
-            (sym (steady.before.reached.shown y run (is_before y run is start reads) start reads) ∙ sum.reached.shown y run is start reads)
+            (sym (steady.before.reached.shown y run (is_before y run is start reads) start reads)
+            ∙ sum.reached.shown y run is start reads)
             (both_same _ _ _ _
-            (ap (within_to c run) (sym (add-one t)) ∙ within_same y run is start reads ∙ ap (within_to c run) (add-one u))
-            (sym (any_same _ _ c.properties.bads (roots_same_value y run is start reads c.properties.bads circuit.properties.bads are.bads))))
+            (ap (within_to c run) (sym (add-one t)) ∙ within_same y run is start reads
+            ∙ ap (within_to c run) (add-one u))
+            (sym (any_same _ _ c.properties.bads
+            (roots_same_value y run is start reads c.properties.bads circuit.properties.bads
+            are.bads))))
             ∙ sym (ap (reached_to c run) (add-one u))
 
-    makes_later : MakesFrame (is_read depths (last - u)) (frame_of c last u depths states (net_of f)) c sums images (checks_of f sums)
+    makes_later : MakesFrame (is_read depths (last - u))
+        (frame_of c last u depths states (net_of f)) c sums images (checks_of f sums)
     makes_later =
-        MakesFrame-again c circuit last (last - t) (last - u) t u depths are (omega arith) (omega arith) (λ n. slice_index_or states n None) (net_of f)
-        (steady_still c last t depths f states sums images steady) sums images (checks_of f sums) steady.step.makes
+        MakesFrame-again c circuit last (last - t) (last - u) t u depths are (omega arith)
+        (omega arith) (λ n. slice_index_or states n None) (net_of f)
+        (steady_still c last t depths f states sums images steady) sums images (checks_of f sums)
+        steady.step.makes
 
     -- so it is made, and leaves all as it is, too
     IsMade-later : AreFrames c u 0 f → Sum c u u f sums
@@ -346,7 +401,9 @@ AreAllMade-last : (c : Circuit) (last : ℕ) (depths : List ℕ) (old f0 f : Fra
     → AreAllMade c last depths f after.reached
 AreAllMade-last c last depths old f0 f states next sums after images before step = record {
   shows = step.sum.reached;
-  exact = reached_made c last depths f after (checks_of f after) refl (next_checks c (last - last) last last depths refl f0 sums states before.made images (checks_of f after) step.makes);
+  exact = reached_made c last depths f after (checks_of f after) refl
+      (next_checks c (last - last) last last depths refl f0 sums states before.made images
+      (checks_of f after) step.makes);
   frames = step.frames;
 }
 
@@ -356,7 +413,8 @@ module _ (c : Circuit) (circuit : IsCircuit c) (last t : ℕ) (depths : List ℕ
   later_step : (u : ℕ) → t ≤ u → AreMade c last u depths old f states sums
       → IsMade c last u depths f f states states sums sums images
   later_step u low before =
-      IsMade-later c circuit last t depths are f states sums images steady u low before.so_far.known before.so_far.frames before.so_far.sum
+      IsMade-later c circuit last t depths are f states sums images steady u low before.so_far.known
+      before.so_far.frames before.so_far.sum
 
   steady_to : AreMade c last (t + 1) depths old f states sums → (u : ℕ) → t < u → u ≤ last
       → AreMade c last u depths old f states sums
@@ -367,7 +425,8 @@ module _ (c : Circuit) (circuit : IsCircuit c) (last t : ℕ) (depths : List ℕ
           → AreMade c last (suc u) depths old f states sums
       by (inl less) before =
           subst (λ v. AreMade c last v depths old f states sums) (add-one u)
-          (AreMade-more c circuit last u (omega arith) depths are old f f states states sums sums images (before less) (later_step u (omega arith) (before less)))
+          (AreMade-more c circuit last u (omega arith) depths are old f f states states sums sums
+          images (before less) (later_step u (omega arith) (before less)))
       by (inr more) before =
           let one : t + 1 ≡ suc u = omega arith in
           subst (λ v. AreMade c last v depths old f states sums) one next
@@ -376,7 +435,8 @@ module _ (c : Circuit) (circuit : IsCircuit c) (last t : ℕ) (depths : List ℕ
       → AreAllMade c last depths f sums.reached
   AreAllMade-steady low next =
       let all = steady_to next last low (omega arith) in
-      AreAllMade-last c last depths old f f states states sums sums images all (later_step last (omega arith) all)
+      AreAllMade-last c last depths old f f states states sums sums images all
+      (later_step last (omega arith) all)
 
 -- ---- where it is found
 
@@ -384,7 +444,8 @@ Sum-extends : (c : Circuit) (t count : ℕ) (old new : Frames) (sums : Sums) →
     → Sum c t count old sums → Sum c t count new sums
 Sum-extends c t count old new sums extends sum = record {
   within = Shows-extends c t old new sums.within (λ run. within_to c run count) extends sum.within;
-  reached = Shows-extends c t old new sums.reached (λ run. reached_to c run count) extends sum.reached;
+  reached = Shows-extends c t old new sums.reached (λ run. reached_to c run count) extends
+      sum.reached;
 }
 
 -- a step that adds no node adds nothing to the netlist
@@ -395,12 +456,25 @@ same_net : (c : Circuit) (last t : ℕ) (depths : List ℕ) (f0 f : Frames)
 same_net c last t depths f0 f states next sums after images step few =
     let net = net_of f0 in
     let frame = frame_of c last t depths states net in
-    let before : Checks = record { net = frame.net; within = sums.within; reached = sums.reached } in
-    let still = images_still c frame sums images (checks_of f after) (is_read depths (last - t)) net step.makes few in
-    let images_same : frame.net ≡ net = frame_still c t (is_read depths (last - t)) (λ n. slice_index_or states n None) net (length c.nodes) still (length c.nodes) (omega arith) in
-    let whole : net_of f ≡ (with_checks c frame.images before).net = ap (λ (k : Checks). k.net) step.makes.exact in
-    let few_checks : length (with_checks c frame.images before).net.nodes ≤ length frame.net.nodes = omega (arith, few, ap (λ (n : Netlist). length n.nodes) whole, ap (λ (n : Netlist). length n.nodes) images_same) in
-    sym (whole ∙ same_netlist frame.net (with_checks c frame.images before).net (with_checks-larger c frame.images before) few_checks ∙ images_same)
+    let before : Checks = record { net = frame.net; within = sums.within; reached = sums.reached }
+    in
+    let still = images_still c frame sums images (checks_of f after) (is_read depths (last - t)) net
+    step.makes few in
+    let images_same : frame.net ≡ net = frame_still c t (is_read depths (last - t))
+    (λ n. slice_index_or states n None) net (length c.nodes) still (length c.nodes)
+    (omega arith) in
+    let whole : net_of f ≡ (with_checks c frame.images before).net = ap (λ (k : Checks). k.net)
+    step.makes.exact in
+    let few_checks : length (with_checks c frame.images before).net.nodes ≤ length frame.net.nodes
+    = omega (
+      arith,
+      few,
+      ap (λ (n : Netlist). length n.nodes) whole,
+      ap
+          (λ (n : Netlist). length n.nodes) images_same,
+    ) in
+    sym (whole ∙ same_netlist frame.net (with_checks c frame.images before).net
+    (with_checks-larger c frame.images before) few_checks ∙ images_same)
 
 -- with a step that adds no node, and leaves the states and the sums, all steps are made
 pub AreAllMade-from : (c : Circuit) (circuit : IsCircuit c) (last t : ℕ) (low : t < last)
@@ -410,7 +484,8 @@ pub AreAllMade-from : (c : Circuit) (circuit : IsCircuit c) (last t : ℕ) (low 
     → IsMade c last t depths f0 f states next sums after images
     → length f.nodes.items ≤ length f0.nodes.items → next ≡ states → after ≡ sums
     → AreAllMade c last depths f sums.reached
-AreAllMade-from c circuit last t low depths are old f0 f states next sums after images before step few same is =
+AreAllMade-from c circuit last t low depths are old f0 f states next sums after images before step
+    few same is =
     AreAllMade-steady c circuit last t depths are old f states sums images steady low all
   where
     same_step : IsMade c last t depths f0 f states states sums sums images
@@ -419,7 +494,8 @@ AreAllMade-from c circuit last t low depths are old f0 f states next sums after 
         (subst (λ ss. IsMade c last t depths f0 f states ss sums after images) same step)
 
     all : AreMade c last (t + 1) depths old f states sums
-    all = AreMade-more c circuit last t low depths are old f0 f states states sums sums images before same_step
+    all = AreMade-more c circuit last t low depths are old f0 f states states sums sums images
+        before same_step
 
     steady : IsSteady c last t depths f states sums images
     steady = record {
@@ -428,7 +504,8 @@ AreAllMade-from c circuit last t low depths are old f0 f states next sums after 
         extends = Extends-itself f step.frames.shared.gates.sound;
         sum = same_step.sum;
         frames = step.frames;
-        makes = subst (λ net. MakesFrame (is_read depths (last - t)) (frame_of c last t depths states net) c sums images (checks_of f sums))
+        makes = subst (λ net. MakesFrame (is_read depths (last - t))
+            (frame_of c last t depths states net) c sums images (checks_of f sums))
             (same_net c last t depths f0 f states next sums after images step few) same_step.makes;
         sets = same_step.sets;
         count = refl;

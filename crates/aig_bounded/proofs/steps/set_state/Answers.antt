@@ -23,5 +23,6 @@ same_state (Some d) e h = ap Some (same_edge d e h)
 pub returns-clause-same : goal.returns-clause-same
 returns-clause-same c = λ none.
     let states = c.args.states.now in
-    let same = same_state (slice_index_or states c.args.leaf None) c.args.state (sym c.ne.ensures ∙ none) in
+    let same = same_state (slice_index_or states c.args.leaf None) c.args.state (sym c.ne.ensures
+    ∙ none) in
     ap (set states c.args.leaf) (sym same) ∙ set-get_or states c.args.leaf None
