@@ -8,10 +8,9 @@ at the goals that the lines `refused:` of its file name: of a clause, an invaria
 compile, is proved, or is refused elsewhere. One is refused for a name alone if a proof names what the body lacks and no goal speaks: it
 fails too, unless tests/edits/lemmas.tsv names the lemma that rejects what such a body gives.
 
-With no words this tries the crates whose texts, edits and crates below aren't those that tests/edits/tried.tsv has a hash of; --all
-tries all. A crate that has no row there is named and passed over. --write writes the lines
-`refused:` and the hash of each crate whose edits are all refused. --selftest tries those of tests/unfit, which have to fail as their
-lines `fails:` say.
+With no words this tries the crates that aren't those of which tests/edits/tried.tsv has a hash: of texts without comments, edits and
+crates below. --all tries all. A crate that has no row there is named and passed over. --write writes the lines `refused:` and the hash
+of each crate whose edits are all refused. --selftest tries those of tests/unfit, which have to fail as their lines `fails:` say.
 """
 import concurrent.futures
 import hashlib
@@ -33,6 +32,7 @@ HEAD = "# The hash of the texts and the edits of each crate at which tests/edits
 PAIR = re.compile(r"^(file|old|new): ?(.*)$", re.MULTILINE)
 REFUSED = re.compile(r"^refused: (\S+) ?(.*)\n", re.MULTILINE)
 NOT_APPLIED, NOT_COMPILED = "a text that it changes isn't there just once", "it doesn't compile"
+COMMENTS = ("//", "--")
 PROVED, BY_NAME, ELSEWHERE = "its function is proved", "no goal refuses it, only a name does", "it is refused elsewhere: "
 HIDDEN, UNKNOWN = "the check doesn't tell, for what it calls isn't proved", "the check names no such function"
 
@@ -183,12 +183,17 @@ def libraries(crate):
     return built
 
 
+def without_comments(file):
+    """The lines of a file but for comments, which no check reads."""
+    return [line for line in file.read_text(encoding="utf-8").splitlines() if not line.lstrip().startswith(COMMENTS)]
+
+
 def hash_of(crate):
     """A hash of the logic, the texts of a crate and of those that it stands on, and its edits with the lemmas that stand for some."""
     made, lines = hashlib.sha256(kit.logic().encode()), harness.crates()
     for it in [*crate.below(), crate]:
         files = [file for part in kit.TEXTS for file in sorted(pathlib.Path(it.folder, part).rglob("*")) if file.is_file()]
-        made.update(repr((lines[it.name], [(str(file.relative_to(it.folder)), file.read_bytes()) for file in files])).encode())
+        made.update(repr((lines[it.name], [(str(file.relative_to(it.folder)), without_comments(file)) for file in files])).encode())
     edits = [(edit.name, edit.text) for edit in edits_of(crate.name)]
     made.update(repr((edits, [row for row in harness.rows(LEMMAS) if row[0] == crate.name])).encode())
     return made.hexdigest()
