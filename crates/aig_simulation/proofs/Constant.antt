@@ -11,7 +11,7 @@ use Rattle.aig_simulation.specs.Stratified.{IsInOrder, IsIndependent, IsStratifi
 use Rattle.aig_simulation.proofs.Deciding.{filter_each, is_own, owns, passes}
 
 -- the latches have different leaves
-abbrev AreApart : List AigLatch → Type 0
+abbrev pub AreApart : List AigLatch → Type 0
 AreApart latchs = AllPairs (λ a b. a.input ≢ b.input) latchs
 
 module _ (c : Circuit) (is : IsCircuit c) where
@@ -42,13 +42,31 @@ module _ (c : Circuit) (is : IsCircuit c) where
         (All-tail HasConstantInit latch later constants),
   )
 
+-- the latches of a circuit have different leaves
+pub latches_apart : (c : Circuit) → IsCircuit c → AreApart c.latchs
+latches_apart c is i j d lt less =
+    let first : i < length c.latchs = omega (arith, lt, less) in
+    let count : length (latch_leaves c.latchs) ≡ length c.latchs =
+    length-map c.latchs (λ (l : AigLatch). l.input) in
+    let differ = is.latchs_distinct i j d.input lt (omega (arith, less, count)) in
+    λ same. differ
+    (get_or-map (λ (l : AigLatch). l.input) c.latchs i d d.input first
+    ∙ same
+    ∙ sym (get_or-map (λ (l : AigLatch). l.input) c.latchs j d d.input less))
+
+-- so have those of its own
+pub own_apart : (shared : Sharing) (c : Circuit) → IsCircuit c
+    → AreApart (own_among shared c.latchs)
+own_apart shared c is =
+    AllPairs-filter (λ (a : AigLatch) b. a.input ≢ b.input) (is_own shared) c.latchs
+    (latches_apart c is)
+
 -- latches whose resets are constant or open, in their own order
 pub constant_are_stratified : (shared : Sharing) (c : Circuit) → IsCircuit c
     → All HasConstantInit c.latchs → IsStratified shared c
 constant_are_stratified shared c is constants = record {
   order = own_among shared c.latchs;
-  in_order = in_order c is (own_among shared c.latchs)
-      (AllPairs-filter (λ (a : AigLatch) b. a.input ≢ b.input) (is_own shared) c.latchs apart)
+  in_order = in_order c is (own_among shared c.latchs) (own_apart shared c is)
       (All-filter (is_own shared) HasConstantInit c.latchs constants);
   own = λ k d h.
       owns shared (get_or (own_among shared c.latchs) k d)
@@ -58,14 +76,3 @@ constant_are_stratified shared c is constants = record {
       (λ i e l. Contains-get_or (own_among shared c.latchs) i e l) k d h
       (passes shared (get_or c.latchs k d) own);
 }
-  where
-    apart : AreApart c.latchs
-    apart i j d lt less =
-        let first : i < length c.latchs = omega (arith, lt, less) in
-        let count : length (latch_leaves c.latchs) ≡ length c.latchs =
-        length-map c.latchs (λ (l : AigLatch). l.input) in
-        let differ = is.latchs_distinct i j d.input lt (omega (arith, less, count)) in
-        λ same. differ
-        (get_or-map (λ (l : AigLatch). l.input) c.latchs i d d.input first
-        ∙ same
-        ∙ sym (get_or-map (λ (l : AigLatch). l.input) c.latchs j d d.input less))

@@ -1,10 +1,12 @@
 -- Witness circuits that are none.
-use Rattle.aig_base.proofs.Words.{◌≡◌, ℕ, ◌==◌, Bool, true, false, not, Option, Some, None, IfSome, List, [], ◌∷◌, refl, sym, arith, All, All-cons, All-nil, false≢true, ne_eqb}
+use Rattle.aig_base.proofs.Words.{◌≡◌, ℕ, zero, suc, ◌∙◌, ap, ◌==◌, Bool, true, false, not, Option, Some, None, IfSome, List, [], ◌∷◌, refl, sym, arith, All, All-cons, All-nil, false≢true, ne_eqb}
 use Rattle.aig_circuit.specs.declared.edge.AigEdge.{AigEdge}
 use Rattle.aig_circuit.specs.declared.node.AigLatch.{AigLatch}
 use Rattle.aig_circuit.specs.declared.node.AigNodeType.TheVariants.{False, Leaf}
 use Rattle.aig_circuit.proofs.Words.{Circuit, IsInitial, edge_to, edge_value, no_properties, only_false}
 use Rattle.aig_circuit.specs.Tree.{node_value, tree_of}
+use Rattle.aig_circuit.specs.Reach.{root}
+use Rattle.aig_simulation.specs.Circular.{IsCircular}
 use Rattle.aig_simulation.specs.Simulation.{Agrees, AllOwn, BaseHolds, CanStart, IsMove, IsOwn, IsSharing, TakesNext, PropertyHolds, ResetHolds, Sharing, Starts, StepHolds, TransitionHolds}
 use Rattle.aig_simulation.specs.Stratified.{IsInOrder}
 
@@ -136,3 +138,33 @@ no_order order =
     let same : true ≡ false =
     order.1 low one (λ n apart. sym (ne_eqb n 1 (λ e. apart (0, omega arith, sym e)))) in
     false≢true (sym same)
+
+-- its reset goes round in a circle
+turned_circle : IsCircular [] (one_latch leaf (Some turned) [])
+turned_circle = (
+  1,
+  turned,
+  (
+    latch leaf (Some turned),
+    (0, omega arith, refl),
+    (λ has. absurd (omega (arith, has.1))),
+    refl,
+    refl,
+  ),
+  root (0, omega arith, refl),
+)
+
+-- that of an open latch doesn't, nor that of one that is shared
+no_open_circle : ¬ IsCircular [] (one_latch leaf None [])
+no_open_circle (n, e, (l, (zero, low, is), own, same, init), walk) =
+    let none : ◌≡◌ {A = Option AigEdge} None (Some e) =
+    ap (λ (x : AigLatch). x.init) is ∙ init in
+    cc
+no_open_circle (n, e, (l, (suc k, low, is), own, same, init), walk) =
+    absurd (omega (arith, low))
+
+no_shared_circle : ¬ IsCircular shared (one_latch leaf (Some turned) [])
+no_shared_circle (n, e, (l, (zero, low, is), own, same, init), walk) =
+    own (0, omega arith, ap (λ (x : AigLatch). x.input) is)
+no_shared_circle (n, e, (l, (suc k, low, is), own, same, init), walk) =
+    absurd (omega (arith, low))

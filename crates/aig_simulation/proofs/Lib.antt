@@ -15,3 +15,7 @@ pub mod Allowed
 pub mod Found
 pub mod Saying
 pub mod Alike
+pub mod Walks
+pub mod Circular
+pub mod Descent
+pub mod Resets

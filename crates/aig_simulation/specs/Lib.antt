@@ -8,3 +8,5 @@ pub mod Exact
 pub mod Names
 pub mod Named
 pub mod Marked
+pub mod Circular
+pub mod Circles

@@ -2,6 +2,7 @@
 #![tactic(auto)]
 
 mod asking;
+mod circles;
 mod condition;
 mod copying;
 mod edges;
@@ -21,6 +22,7 @@ ghost use Rattle.aig_simulation.specs.Simulation.{Agrees, CanStart, IsCertificat
 ghost use Rattle.aig_simulation.specs.Stratified.{IsStratified};
 ghost use Rattle.aig_simulation.specs.declared.condition.Condition.{Condition};
 
+pub use circles::is_circular;
 pub use condition::Condition;
 pub use error::QuestionError;
 pub use questions::question;

@@ -1,0 +1,62 @@
+use Rattle.aig_base.proofs.Words.{◌≡◌, ◌∙◌, ◌<◌, All, All-filter, List, None, Option, ap, arith, get_or, length, length-replicate, replicate, subst, sym, take_at}
+use Rattle.aig_circuit.specs.declared.edge.AigEdge.{AigEdge}
+use Rattle.aig_circuit.specs.declared.node.AigLatch.{AigLatch}
+use Rattle.aig_circuit.specs.declared.node.AigNodeType.TheVariants.{Leaf}
+use Rattle.aig_circuit.proofs.Trees.{kind_at-within}
+use Rattle.aig_circuit.proofs.Words.{IsLatch}
+use Rattle.aig_simulation.specs.Circles.{AreResets, HoldsResets}
+use Rattle.aig_simulation.specs.Frames.{own_among}
+use Rattle.aig_simulation.proofs.Constant.{AreApart, own_apart}
+use Rattle.aig_simulation.proofs.Deciding.{is_own}
+use Rattle.aig_simulation.proofs.Giving.{none_alone}
+use Rattle.aig_simulation.proofs.Resets.{are_resets}
+use Rattle.aig_simulation.proofs.circles.own_resets.Goals as goal
+
+pub write_resets-requires-clause-leaves : goal.write_resets-requires-clause-leaves
+write_resets-requires-clause-leaves c =
+    let witness = c.args.witness.now in
+    let shared = c.args.shared.now in
+    let count = length c.nodes.result.now in
+    let none : List (Option AigEdge) = replicate count None in
+    let listed = c.deref.ensures.value ∙ c.in_ok-own.ensures in
+    let table : c.deref_mut.result.now ≡ none =
+    c.deref_mut.ensures.value ∙ c.in_ok-resets.ensures.items_if_clones_equal (none_alone _ (λ n h.
+    h)) in
+    let long : length c.deref_mut.result.now ≡ length witness.nodes =
+    ap length table ∙ length-replicate count None ∙ ap length c.nodes.ensures.value in
+    subst (All (λ (l : AigLatch). l.input < length c.deref_mut.result.now)) (sym listed)
+    (λ k d h.
+    let latch = All-filter (is_own shared) (IsLatch witness.nodes) witness.latchs
+    c.nodes.ensures.circuit.latchs k d h in
+    let own = get_or (own_among shared witness.latchs) k d in
+    omega (arith, long, kind_at-within witness.nodes own.input Leaf latch.leaf))
+
+pub write_resets-requires-clause-apart : goal.write_resets-requires-clause-apart
+write_resets-requires-clause-apart c =
+    subst AreApart (sym (c.deref.ensures.value ∙ c.in_ok-own.ensures))
+    (own_apart c.args.shared.now c.args.witness.now c.nodes.ensures.circuit)
+
+pub returns : goal.returns
+returns c =
+    let witness = c.args.witness.now in
+    let shared = c.args.shared.now in
+    let new = c.write_resets.new.resets in
+    let count = length c.nodes.result.now in
+    let none : List (Option AigEdge) = replicate count None in
+    let listed = c.deref.ensures.value ∙ c.in_ok-own.ensures in
+    let table : c.deref_mut.result.now ≡ none =
+    c.deref_mut.ensures.value ∙ c.in_ok-resets.ensures.items_if_clones_equal (none_alone _ (λ n h.
+    h)) in
+    let long : length new ≡ c.in_ok-resets.resets.len = omega (
+      arith,
+      c.write_resets.auto.resets,
+      c.in_ok-resets.resets.ok.0,
+      ap length c.deref_mut.ensures.value,
+    ) in
+    subst (AreResets shared witness) (sym (take_at new _ c.in_ok-resets.resets.len long))
+    (are_resets shared witness new
+    (subst (λ (ls : List AigLatch). HoldsResets ls new) listed c.write_resets.ensures)
+    (c.write_resets.auto.resets
+    ∙ ap length table
+    ∙ length-replicate count None
+    ∙ ap length c.nodes.ensures.value))

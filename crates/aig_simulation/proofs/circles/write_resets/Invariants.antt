@@ -1,0 +1,6 @@
+use Rattle.std.proofs.Common.{take}
+use Rattle.aig_simulation.specs.Circles.{HoldsResets}
+use Rattle.aig_simulation.proofs.circles.write_resets.Given as goal
+
+abbrev pub invariant-loop-latch : goal.invariant-loop-latch
+invariant-loop-latch l = HoldsResets (take l.latch-index l.latchs) l.resets
