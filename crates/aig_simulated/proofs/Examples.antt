@@ -1,6 +1,6 @@
 -- Turns of conditions, the questions of a small witness circuit and what errors say, computed; and
 -- wrong answers, of which the definitions are false.
-use Rattle.aig_base.proofs.Words.{◌≡◌, ◌≢◌, ℕ, ◌<◌, ◌≤◌, Bool, true, false, None, Option, Ok, Err, List, [], ◌∷◌, length, slice_index_or, refl, ap, subst, arith, empty}
+use Rattle.aig_base.proofs.Words.{◌≡◌, ◌≢◌, ℕ, ◌<◌, ◌≤◌, Bool, true, false, None, Option, Some, Ok, Err, List, [], ◌∷◌, length, slice_index_or, refl, ap, subst, arith, empty}
 use Rattle.aig_circuit.specs.declared.edge.AigEdge.{AigEdge}
 use Rattle.aig_circuit.specs.declared.node.AigNodeType.{AigNodeType}
 use Rattle.aig_circuit.specs.declared.node.AigNodeType.TheVariants.{False, Leaf}
@@ -9,6 +9,7 @@ use Rattle.aig_circuit.proofs.Words.{Circuit, edge_to, no_properties}
 use Rattle.aig_format.specs.declared.FileKind.TheVariants.{Text}
 use Rattle.aig_format.proofs.Words.{File, circuit_of}
 use Rattle.aig_format.specs.Numbering.{node_of_variable, variables_in_order}
+use Rattle.aig_reader.specs.Resets.{circuit_with_resets}
 use Rattle.aig_reader.specs.Verdicts.{Accepted, Refused}
 use Rattle.aig_reader.specs.declared.error.ReadError.TheVariants as read
 use Rattle.aig_refutation.specs.declared.error.RefutationError.{RefutationError}
@@ -21,14 +22,18 @@ use Rattle.aig_simulated.specs.declared.claim.Claim.{Claim}
 use Rattle.aig_simulated.specs.declared.error.ConditionError.{ConditionError}
 use Rattle.aig_simulated.specs.declared.error.ConditionError.TheVariants as conditions
 use Rattle.aig_simulated.specs.declared.error.SimulationError.TheVariants as errors
-use Rattle.aig_simulated.specs.Simulated.{Certifies, Claims, IsNoQuestion, IsOfObligation, IsQuestionOf, LeavesProof, Obliges, Proofs, TellsOfQuestion, first_verdict, proof_for, proofs_of, second_verdict}
+use Rattle.aig_simulated.specs.Simulated.{Certifies, Claims, IsNoQuestion, IsOfObligation, IsQuestionOf, LeavesProof, Obliges, Proofs, TellsOfQuestion, first_verdict, proof_for, proofs_of, refusal_of}
 
 -- ---- errors
 
 -- a witness circuit with a bad header says nothing of the file
-witness-verdicts : (first_verdict (errors.Witness read.Header) ≡ Accepted)
-    × (second_verdict (errors.Witness read.Header) ≡ Refused)
-witness-verdicts = (refl, refl)
+witness-refused : (first_verdict (errors.Witness read.Header) ≡ Accepted)
+    × (refusal_of (errors.Witness read.Header) ≡ Some read.Header)
+witness-refused = (refl, refl)
+
+-- one with resets that go round in a circle is read
+no_circle_unread : refusal_of errors.Circular ≢ Some read.Header
+no_circle_unread is = cc
 
 -- the file is refused for it
 no_file_refused : first_verdict (errors.Witness read.Header) ≢ Refused
@@ -98,7 +103,8 @@ asking bad = record {
 
 abbrev question : Condition → Circuit
 question condition =
-    question_of condition (model_leaf ((1, 1) ∷ [])) (circuit_of toggled) (circuit_of toggled)
+    question_of condition (model_leaf ((1, 1) ∷ [])) (circuit_of toggled)
+    (circuit_with_resets toggled)
 
 -- it starts in a good state, and from that it comes to a bad one
 base-question : question Base ≡ asking (edge_to 0 false)

@@ -2,3 +2,4 @@ pub mod Examples
 pub mod Telling
 pub mod Turns
 pub mod Claiming
+pub mod Reading

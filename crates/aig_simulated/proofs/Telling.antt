@@ -1,11 +1,12 @@
 -- What answers about the conditions of a claim tell of the two files.
-use Rattle.aig_base.proofs.Words.{◌≡◌, ℕ, ◌≤◌, Bool, List, Option, Result, Ok, Err, refl, sym, ap, subst, ◌∙◌, IfErr, fun_ext}
+use Rattle.aig_base.proofs.Words.{◌≡◌, ℕ, ◌≤◌, Bool, List, None, Option, Result, Ok, Err, refl, sym, ap, subst, ◌∙◌, IfErr, fun_ext}
 use Rattle.aig_answers.specs.Answers.{IsCircuitQuery, query_with}
 use Rattle.aig_answers.specs.declared.windows.WindowClauses.{WindowClauses}
 use Rattle.aig_circuit.specs.Circuit.{Circuit, IsCircuit}
 use Rattle.aig_circuit.specs.View.{lists_circuit}
 use Rattle.aig_format.proofs.Words.{Accepts, File, Fits, circuit_of}
 use Rattle.aig_reader.specs.Reading.{AreListsOf}
+use Rattle.aig_reader.specs.Resets.{AreListsWithResets, circuit_with_resets}
 use Rattle.aig_reader.specs.Verdicts.{Accepted, verdict_by}
 use Rattle.aig_runs.specs.Queries.{IsSafeTo}
 use Rattle.aig_runs.specs.Safety.{IsCircuitSafeAt, IsSafeAt}
@@ -22,7 +23,8 @@ use Rattle.aig_simulated.specs.declared.error.SimulationError.{SimulationError}
 use Rattle.aig_simulated.specs.declared.error.SimulationError.TheVariants as errors
 use Rattle.aig_simulated.specs.declared.obligation.Obligation.{Obligation}
 use Rattle.aig_simulated.specs.Conditions.{ChecksClaim, HoldsIn, IsAsked}
-use Rattle.aig_simulated.specs.Simulated.{Certifies, Claims, IsClaim, IsNoQuestion, IsObligation, IsOfClaim, IsOfObligation, IsOwn, IsQuestionOf, Obliges, Proofs, first_verdict, proof_for, question_in, second_verdict}
+use Rattle.aig_simulated.specs.Simulated.{Certifies, Claims, IsClaim, IsNoQuestion, IsObligation, IsOfClaim, IsOfObligation, IsOwn, IsQuestionOf, Obliges, Proofs, first_verdict, proof_for, question_in, refusal_of}
+use Rattle.aig_simulated.specs.Witnesses.{refusal_by}
 
 -- ---- the conditions
 
@@ -64,8 +66,8 @@ pub record Known : Type 0 where
 
 -- the question of a claim that was read of two files is theirs
 pub question_of_files : (condition : Condition) (f g : File) (claim : Claim)
-    → AreListsOf f claim.model → AreListsOf g claim.witness
-    → Shares (circuit_of f) (circuit_of g) claim.shared.items
+    → AreListsOf f claim.model → AreListsWithResets g claim.witness
+    → Shares (circuit_of f) (circuit_with_resets g) claim.shared.items
     → IsQuestionOf condition f g (question_in condition claim)
 question_of_files condition f g claim model witness shares = (
   claim.shared.items,
@@ -83,8 +85,8 @@ pub one_question : (condition : Condition) (f g : File) (q other : Circuit)
     → IsQuestionOf condition f g q → IsQuestionOf condition f g other → q ≡ other
 one_question condition f g q other alike is also =
     is.2
-    ∙ ap (λ leaf. question_of condition leaf (circuit_of f) (circuit_of g))
-    (fun_ext (alike (circuit_of f) (circuit_of g) is.0 also.0 is.1 also.1))
+    ∙ ap (λ leaf. question_of condition leaf (circuit_of f) (circuit_with_resets g))
+    (fun_ext (alike (circuit_of f) (circuit_with_resets g) is.0 also.0 is.1 also.1))
     ∙ sym also.2
 
 module _ {P : Type 0} (known : Known) (limit : ℕ) (optimize : Bool) (left : P → Option (List ℕ))
@@ -131,6 +133,7 @@ module _ {P : Type 0} (known : Known) (limit : ℕ) (optimize : Bool) (left : P 
   certifies (Err (errors.Witness e)) claims told = absurd told
   certifies (Err errors.NoBads) claims told = absurd told
   certifies (Err (errors.Sharing e)) claims told = absurd told
+  certifies (Err errors.Circular) claims told = absurd told
 
 -- the clauses are those of their question, or it is said why there are none
 module _ (limit : ℕ) (optimize : Bool) (condition : Condition) (f g : File) (claim : Claim)
@@ -153,7 +156,7 @@ module _ (limit : ℕ) (optimize : Bool) (condition : Condition) (f g : File) (c
 pub check_said : {P : Type 0} (limit : ℕ) (optimize : Bool) (left : P → Option (List ℕ))
     (proofs : Proofs P) (claim : Claim) (made : Result Unit SimulationError)
     → ChecksClaim left limit optimize claim proofs made
-    → (verdict_by first_verdict made ≡ Accepted) × (verdict_by second_verdict made ≡ Accepted)
+    → (verdict_by first_verdict made ≡ Accepted) × (refusal_by refusal_of made ≡ None)
     × IfErr made IsOwn
 check_said limit optimize left proofs claim (Ok done) told = (refl, refl, tt)
 check_said limit optimize left proofs claim (Err (errors.Condition failing e)) told =
@@ -162,6 +165,7 @@ check_said limit optimize left proofs claim (Err (errors.Read e)) told = absurd 
 check_said limit optimize left proofs claim (Err (errors.Witness e)) told = absurd told
 check_said limit optimize left proofs claim (Err errors.NoBads) told = absurd told
 check_said limit optimize left proofs claim (Err (errors.Sharing e)) told = absurd told
+check_said limit optimize left proofs claim (Err errors.Circular) told = absurd told
 
 -- an error of a claim is one of the check, and of an obligation
 pub own_of_claim : (e : SimulationError) → IsOfClaim e → IsOwn e
@@ -169,6 +173,7 @@ own_of_claim (errors.Read e) own = own
 own_of_claim (errors.Witness e) own = own
 own_of_claim errors.NoBads own = tt
 own_of_claim (errors.Sharing e) own = tt
+own_of_claim errors.Circular own = tt
 own_of_claim (errors.Condition failing e) own = absurd own
 
 pub obligation_of_claim : (condition : Condition) (e : SimulationError) → IsOfClaim e
@@ -177,6 +182,7 @@ obligation_of_claim condition (errors.Read e) own = own
 obligation_of_claim condition (errors.Witness e) own = own
 obligation_of_claim condition errors.NoBads own = tt
 obligation_of_claim condition (errors.Sharing e) own = tt
+obligation_of_claim condition errors.Circular own = tt
 obligation_of_claim condition (errors.Condition failing e) own = absurd own
 
 -- why there is no claim is why there is no answer, and why there are no clauses
@@ -187,6 +193,7 @@ not_certified limit optimize texts f g (errors.Read e) none = absurd none
 not_certified limit optimize texts f g (errors.Witness e) none = absurd none
 not_certified limit optimize texts f g errors.NoBads none = none
 not_certified limit optimize texts f g (errors.Sharing e) none = none
+not_certified limit optimize texts f g errors.Circular none = none
 not_certified limit optimize texts f g (errors.Condition failing e) none = absurd none
 
 pub not_obliged : (limit : ℕ) (optimize : Bool) (condition : Condition) (f g : File)
@@ -195,4 +202,5 @@ not_obliged limit optimize condition f g (errors.Read e) none = absurd none
 not_obliged limit optimize condition f g (errors.Witness e) none = absurd none
 not_obliged limit optimize condition f g errors.NoBads none = none
 not_obliged limit optimize condition f g (errors.Sharing e) none = none
+not_obliged limit optimize condition f g errors.Circular none = none
 not_obliged limit optimize condition f g (errors.Condition failing e) none = absurd none

@@ -77,6 +77,7 @@ module _ {P : Type 0} (left : P → Option (List ℕ)) (limit : ℕ) (optimize :
   stops condition (errors.Witness x) before told = absurd told
   stops condition errors.NoBads before told = absurd told
   stops condition (errors.Sharing x) before told = absurd told
+  stops condition errors.Circular before told = absurd told
 
   -- those before the last one hold and are shown
   pub ends : (result : Result Unit SimulationError) → Before Step (HoldsIn claim)
@@ -108,6 +109,7 @@ module _ (limit : ℕ) (optimize : Bool) (text : Option (List ℕ)) (claim : Cla
   was_read other (Err (errors.Witness x)) told before leaves = told
   was_read other (Err errors.NoBads) told before leaves = told
   was_read other (Err (errors.Sharing x)) told before leaves = told
+  was_read other (Err errors.Circular) told before leaves = told
 
   -- an error names the condition
   named : (other : Condition) (x : ConditionError) (result : Result Unit SimulationError)
@@ -123,6 +125,7 @@ module _ (limit : ℕ) (optimize : Bool) (text : Option (List ℕ)) (claim : Cla
   named other x (Err (errors.Witness y)) told is = absurd told
   named other x (Err errors.NoBads) told is = absurd told
   named other x (Err (errors.Sharing y)) told is = absurd told
+  named other x (Err errors.Circular) told is = absurd told
 
   -- a failed read is that of its proof
   pub fails_alone : {P : Type 0} (failed : P → Bool) (rest : Proofs P)

@@ -5,8 +5,10 @@ use Rattle.aig_circuit.specs.Circuit.{Circuit}
 use Rattle.aig_circuit.specs.View.{lists_circuit}
 use Rattle.aig_refutation.specs.declared.error.RefutationError.TheVariants as refutation
 use Rattle.aig_runs.specs.Unrolled.{UnrolledCircuit, Unrolls}
+use Rattle.aig_simulation.specs.Circular.{IsCircular}
 use Rattle.aig_simulation.specs.Named.{IsFault, Shares}
 use Rattle.aig_simulation.specs.Questions.{AsksIf, Holds}
+use Rattle.aig_simulation.specs.Simulation.{Sharing}
 use Rattle.aig_simulation.specs.declared.condition.Condition.{Condition}
 use Rattle.aig_simulation.specs.declared.error.QuestionError.{QuestionError}
 use Rattle.aig_simulated.specs.declared.claim.Claim.{Claim}
@@ -21,8 +23,11 @@ abbrev pub MakesClaim : Circuit → Circuit → Result Claim SimulationError →
 MakesClaim m w (Ok claim) =
     (m.properties.bads ≢ []) × (lists_circuit claim.model ≡ m)
     × (lists_circuit claim.witness ≡ w) × Shares m w claim.shared.items
+    × (¬ IsCircular claim.shared.items w)
 MakesClaim m w (Err errors.NoBads) = m.properties.bads ≡ []
 MakesClaim m w (Err (errors.Sharing e)) = (m.properties.bads ≢ []) × IsFault m w e
+MakesClaim m w (Err errors.Circular) =
+    (m.properties.bads ≢ []) × ((shared : Sharing) × Shares m w shared × IsCircular shared w)
 MakesClaim m w (Err e) = ⊥
 
 -- the condition holds of the claim

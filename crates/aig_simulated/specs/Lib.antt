@@ -1,2 +1,3 @@
 pub mod Simulated
 pub mod Conditions
+pub mod Witnesses

@@ -1,7 +1,7 @@
 -- Part of what is promised.
 -- What an answer says of a file and of a witness circuit that simulates it, and what its errors
 -- say. (Certificates of the hardware model checking competition.)
-use Rattle.std.specs.Prelude.{◌≡◌, ◌≢◌, ℕ, ◌<◌, ◌≤◌, Bool, List, [], length, Option, Result, Ok, Err}
+use Rattle.std.specs.Prelude.{◌≡◌, ◌≢◌, ℕ, ◌<◌, ◌≤◌, Bool, List, [], length, Option, Some, None, Result, Ok, Err}
 use Rattle.aig_answers.specs.Answers.{AskWith, IsCircuitQuery, TellsOfCircuit, query_with}
 use Rattle.aig_answers.specs.declared.error.AnswerError.TheVariants as answers
 use Rattle.aig_circuit.specs.Circuit.{Circuit, IsCircuit}
@@ -9,9 +9,12 @@ use Rattle.aig_circuit.specs.View.{lists_circuit}
 use Rattle.aig_format.specs.Circuit.{circuit_of}
 use Rattle.aig_format.specs.File.{File}
 use Rattle.aig_reader.specs.Reading.{AreListsOf}
+use Rattle.aig_reader.specs.Resets.{AreListsWithResets, circuit_with_resets}
 use Rattle.aig_reader.specs.Verdicts.{Accepted, Verdict, verdict_of}
+use Rattle.aig_reader.specs.declared.error.ReadError.{ReadError}
 use Rattle.aig_reader.specs.declared.error.ReadError.TheVariants as read
 use Rattle.aig_runs.specs.Queries.{IsSafeTo}
+use Rattle.aig_simulation.specs.Circular.{IsCircular}
 use Rattle.aig_simulation.specs.Named.{IsFault, Shares}
 use Rattle.aig_simulation.specs.Exact.{model_leaf, question_of}
 use Rattle.aig_simulation.specs.Questions.{CanShareLeaves}
@@ -34,10 +37,10 @@ abbrev pub first_verdict : SimulationError → Verdict
 first_verdict (errors.Read e) = verdict_of e
 first_verdict e = Accepted
 
--- and of the witness circuit's
-abbrev pub second_verdict : SimulationError → Verdict
-second_verdict (errors.Witness e) = verdict_of e
-second_verdict e = Accepted
+-- why the witness circuit's bytes are refused, if they are
+abbrev pub refusal_of : SimulationError → Option ReadError
+refusal_of (errors.Witness e) = Some e
+refusal_of e = None
 
 -- no path is opened
 abbrev pub IsOwn : SimulationError → Type 0
@@ -125,8 +128,8 @@ question_in condition claim =
 -- the question for a condition of the files, of which there is one (`condition_questions_are_one`)
 abbrev pub IsQuestionOf : Condition → File → File → Circuit → Type 0
 IsQuestionOf condition f g q =
-    (shared : Sharing) × Shares (circuit_of f) (circuit_of g) shared
-    × (q ≡ question_of condition (model_leaf shared) (circuit_of f) (circuit_of g))
+    (shared : Sharing) × Shares (circuit_of f) (circuit_with_resets g) shared
+    × (q ≡ question_of condition (model_leaf shared) (circuit_of f) (circuit_with_resets g))
 
 -- why there are no clauses of the question q
 abbrev pub IsNoQuestion : ℕ → Circuit → QuestionError → Type 0
@@ -149,14 +152,22 @@ TellsOfQuestion limit optimize text q (Err (conditions.Refutation e)) =
 abbrev pub HasBads : File → Type 0
 HasBads f = f.properties.bads ≢ []
 
--- the lists are those of the files' circuits and of the leaves that these share, or it is said why
--- there are none
+-- the resets of the witness circuit's own latches go round in a circle
+abbrev pub GoRound : File → File → Type 0
+GoRound f g =
+    (shared : Sharing) × Shares (circuit_of f) (circuit_with_resets g) shared
+    × IsCircular shared (circuit_with_resets g)
+
+-- the lists are those of the files' circuits and of the leaves that these share, and no resets go
+-- round in a circle, or it is said why there are none
 abbrev pub Claims : File → File → Result Claim SimulationError → Type 0
 Claims f g (Ok claim) =
-    HasBads f × AreListsOf f claim.model × AreListsOf g claim.witness
-    × Shares (circuit_of f) (circuit_of g) claim.shared.items
+    HasBads f × AreListsOf f claim.model × AreListsWithResets g claim.witness
+    × Shares (circuit_of f) (circuit_with_resets g) claim.shared.items
+    × (¬ IsCircular claim.shared.items (circuit_with_resets g))
 Claims f g (Err errors.NoBads) = f.properties.bads ≡ []
-Claims f g (Err (errors.Sharing e)) = HasBads f × IsFault (circuit_of f) (circuit_of g) e
+Claims f g (Err (errors.Sharing e)) = HasBads f × IsFault (circuit_of f) (circuit_with_resets g) e
+Claims f g (Err errors.Circular) = HasBads f × GoRound f g
 Claims f g (Err e) = ⊥
 
 -- what an answer about a condition tells of the files' question
@@ -175,7 +186,8 @@ Certifies limit optimize texts f g (Ok done) =
     × ((condition : Condition) → TellsOfCondition limit optimize texts f g condition (Ok tt))
 Certifies limit optimize texts f g (Err errors.NoBads) = f.properties.bads ≡ []
 Certifies limit optimize texts f g (Err (errors.Sharing e)) =
-    HasBads f × IsFault (circuit_of f) (circuit_of g) e
+    HasBads f × IsFault (circuit_of f) (circuit_with_resets g) e
+Certifies limit optimize texts f g (Err errors.Circular) = HasBads f × GoRound f g
 Certifies limit optimize texts f g (Err (errors.Condition failing e)) =
     HasBads f
     × ((condition : Condition) → turn_of condition < turn_of failing
@@ -205,7 +217,8 @@ Obliges limit optimize condition f g (Ok o) =
     HasBads f × ((q : Circuit) × IsQuestionOf condition f g q × IsObligation limit optimize q o)
 Obliges limit optimize condition f g (Err errors.NoBads) = f.properties.bads ≡ []
 Obliges limit optimize condition f g (Err (errors.Sharing e)) =
-    HasBads f × IsFault (circuit_of f) (circuit_of g) e
+    HasBads f × IsFault (circuit_of f) (circuit_with_resets g) e
+Obliges limit optimize condition f g (Err errors.Circular) = HasBads f × GoRound f g
 Obliges limit optimize condition f g (Err (errors.Condition asked (conditions.Question e))) =
     HasBads f × ((q : Circuit) × IsQuestionOf condition f g q × IsNoQuestion limit q e)
 Obliges limit optimize condition f g (Err e) = ⊥

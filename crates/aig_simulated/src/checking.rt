@@ -2,9 +2,9 @@
 
 ghost use Rattle.std.specs.Prelude.{◌≡◌, ◌^◌, ◌≤◌, IsErrOf, IsTrue, OnOk};
 ghost use Rattle.aig_circuit.specs.View.{lists_circuit};
-ghost use Rattle.aig_edits.specs.Pairs.{ReadsPair};
 ghost use Rattle.aig_simulated.specs.Conditions.{ChecksClaim, ChecksCondition, HoldsIn, IsUnread};
-ghost use Rattle.aig_simulated.specs.Simulated.{Certifies, IsClaim, IsOwn, LeavesProof, TellsOfQuestion, first_verdict, proof_for, proofs_of, question_in, second_verdict};
+ghost use Rattle.aig_simulated.specs.Simulated.{Certifies, IsClaim, IsOwn, LeavesProof, TellsOfQuestion, first_verdict, proof_for, proofs_of, question_in, refusal_of};
+ghost use Rattle.aig_simulated.specs.Witnesses.{ReadsWitness};
 ghost use Rattle.aig_simulated.specs.declared.error.ConditionError.TheVariants as conditions;
 ghost use Rattle.aig_simulated.specs.declared.error.SimulationError.TheVariants as errors;
 ghost use Rattle.aig_simulation.specs.declared.condition.Condition.{Condition};
@@ -117,15 +117,15 @@ fn check_claim<P: Source>(
 /// simulation, with a proof for each condition: then no run of the first one's machine from an initial state, on which every
 /// constraint holds, reaches a bad state at any step. Requires `1 <= limit <= 2^31`.
 ///
-/// The witness circuit is one of the hardware model checking competition's certificates, whose resets are constants or open. Which of its
-/// inputs and latches stand for those of the file its names say, or else their order (`aig_simulation::shared_leaves`). For each
-/// condition (`Condition`) a question is asked (`aig_simulation::question`), and the proof shows that the clauses of its
-/// query for step 0 can't be satisfied: those of `read_obligation` with the same setting. The proofs are read in order, each once,
-/// and none after one that is refused.
+/// The witness circuit is one of the hardware model checking competition's certificates, whose resets may be functions that don't go
+/// round in a circle (`aig_simulation::is_circular`). Which of its inputs and latches stand for those of the file its names say, or else
+/// their order (`aig_simulation::shared_leaves`). For each condition (`Condition`) a question is asked (`aig_simulation::question`),
+/// and the proof shows that the clauses of its query for step 0 can't be satisfied: those of `read_obligation` with the same
+/// setting. The proofs are read in order, each once, and none after one that is refused.
 ///
 /// # Errors
 ///
-/// - `Read`, `Witness`, `NoBads`, `Sharing`: as `read_simulation`. No proof is read.
+/// - `Read`, `Witness`, `NoBads`, `Sharing`, `Circular`: as `read_simulation`. No proof is read.
 /// - `Condition`: the question for the condition has more nodes than the limit, or memory ran out, or the proof for it is refused. The
 ///   proofs for later ones aren't read.
 pub fn check_simulated<R: Source, S: Source, P: Source>(
@@ -145,9 +145,9 @@ pub fn check_simulated<R: Source, S: Source, P: Source>(
     // The bytes that were read are two files, and the first one's machine reaches no bad state at any step. A refusal says why. Where
     // a proof is looked at, the answer is what its text shows of the clauses of `read_obligation`.
     ensures reads { let given = proofs_of reset.old transition.old property.old base.old step.old in
-        ReadsPair R.left R.failed S.left S.failed limit
+        ReadsWitness R.left R.failed S.left S.failed limit
         (Certifies limit optimize (λ condition. P.left (proof_for given condition)))
-        first_verdict second_verdict IsOwn file.old witness.old result file.new witness.new }
+        first_verdict refusal_of IsOwn file.old witness.old result file.new witness.new }
     ensures unread { let given = proofs_of
         reset.old transition.old property.old base.old step.old in
         let rest = proofs_of reset.new transition.new property.new base.new step.new in

@@ -1,17 +1,16 @@
 //! What is claimed by a file and a witness circuit.
 
-ghost use Rattle.std.specs.Prelude.{◌^◌, ◌≤◌, IfOk, All};
+ghost use Rattle.std.specs.Prelude.{◌^◌, ◌≤◌, IfOk};
 ghost use Rattle.aig_circuit.specs.Circuit.{IsCircuit};
-ghost use Rattle.aig_circuit.specs.Edges.{HasConstantInit};
 ghost use Rattle.aig_circuit.specs.View.{lists_circuit};
-ghost use Rattle.aig_edits.specs.Pairs.{ReadsPair};
 ghost use Rattle.aig_simulated.specs.Conditions.{MakesClaim};
-ghost use Rattle.aig_simulated.specs.Simulated.{Claims, IsClaim, IsOfClaim, first_verdict, second_verdict};
+ghost use Rattle.aig_simulated.specs.Simulated.{Claims, IsClaim, IsOfClaim, first_verdict, refusal_of};
+ghost use Rattle.aig_simulated.specs.Witnesses.{ReadsWitness};
 
 use crate::error::SimulationError;
 use aig_base::Source;
 use aig_circuit::{CircuitLists, CircuitView};
-use aig_simulation::{constant_resets_are_stratified, shared_leaves, stratified_resets_can_start};
+use aig_simulation::{is_circular, shared_leaves};
 use std::alloc::Global;
 
 /// A model and a witness circuit, and which leaves they share.
@@ -25,7 +24,7 @@ pub struct Claim {
     pub shared: Vec<(usize, usize)>,
 }
 
-/// What is claimed by two circuits, of which the second one's resets are constants or open.
+/// What is claimed by two circuits.
 fn claim_of(
     alloc: Global,
     model: CircuitLists,
@@ -33,20 +32,17 @@ fn claim_of(
 ) -> Result<Claim, SimulationError>
     requires model { IsCircuit (lists_circuit model) }
     requires witness { IsCircuit (lists_circuit witness) }
-    requires starts { All HasConstantInit (lists_circuit witness).latchs }
     ensures makes { MakesClaim (lists_circuit model) (lists_circuit witness) result }
     ensures claim { IfOk result IsClaim }
 {
-    constant_resets_are_stratified();
-    stratified_resets_can_start();
     if model.properties.bads.is_empty() {
         return Err(SimulationError::NoBads);
     }
-    let shared = shared_leaves(
-        alloc,
-        &CircuitView::new(&model),
-        &CircuitView::new(&witness),
-    )?;
+    let simulating = CircuitView::new(&witness);
+    let shared = shared_leaves(alloc, &CircuitView::new(&model), &simulating)?;
+    if is_circular(alloc, &simulating, &shared)? {
+        return Err(SimulationError::Circular);
+    }
     Ok(Claim {
         model,
         witness,
@@ -55,7 +51,8 @@ fn claim_of(
 }
 
 /// Reads two files in the AIGER format, a file and a witness circuit, and tells which leaves they share, as `aig_simulation::shared_leaves`
-/// does. The witness circuit is read only where the file is taken. Requires `1 <= limit <= 2^31`.
+/// does. The witness circuit is read only where the file is taken, and its resets may be functions (`aig_reader::read_with_resets`).
+/// Requires `1 <= limit <= 2^31`.
 ///
 /// # Errors
 ///
@@ -63,6 +60,7 @@ fn claim_of(
 /// - `Witness`: the witness circuit is refused.
 /// - `NoBads`: the file has no bad state property.
 /// - `Sharing`: it isn't told which leaves are shared.
+/// - `Circular`: the resets of the witness circuit's own latches go round in a circle.
 /// - `Condition`: never.
 pub fn read_simulation<R: Source, S: Source>(
     alloc: Global,
@@ -73,12 +71,12 @@ pub fn read_simulation<R: Source, S: Source>(
     requires some { 1 ≤ limit }
     requires few { limit ≤ 2 ^ 31 }
     // The bytes that were read are two files, and the lists are those of their circuits. A refusal says why.
-    ensures reads { ReadsPair R.left R.failed S.left S.failed limit Claims first_verdict
-        second_verdict IsOfClaim file.old witness.old result file.new witness.new }
+    ensures reads { ReadsWitness R.left R.failed S.left S.failed limit Claims first_verdict
+        refusal_of IsOfClaim file.old witness.old result file.new witness.new }
     ensures claim { IfOk result IsClaim }
 {
     let model = aig_reader::read(alloc, file, limit)?;
-    let witness = match aig_reader::read(alloc, witness, limit) {
+    let witness = match aig_reader::read_with_resets(alloc, witness, limit) {
         Ok(witness) => witness,
         Err(error) => return Err(SimulationError::Witness(error)),
     };

@@ -4,6 +4,7 @@ ghost use Rattle.std.specs.Prelude.{◌≡◌};
 ghost use Rattle.aig_simulated.specs.declared.error.ConditionError.TheVariants as conditions;
 ghost use Rattle.aig_simulated.specs.declared.error.SimulationError.TheVariants as errors;
 ghost use Rattle.aig_simulation.specs.declared.error.QuestionError.TheVariants as questions;
+ghost use Rattle.aig_simulation.specs.declared.sharing.error.SharingError.TheVariants as sharing;
 
 use aig_base::MemoryError;
 use aig_reader::ReadError;
@@ -61,6 +62,9 @@ pub enum SimulationError {
     /// It isn't told which leaves are shared.
     #[error("{0}")]
     Sharing(SharingError),
+    /// The resets of the witness circuit's own latches go round in a circle, so that these may have no values to start with.
+    #[error("resets of the witness circuit go round in a circle")]
+    Circular,
     /// The condition isn't shown.
     #[error("{0}: {1}")]
     Condition(Condition, ConditionError),
@@ -80,5 +84,13 @@ impl From<SharingError> for SimulationError {
 
     fn from(error: SharingError) -> SimulationError {
         SimulationError::Sharing(error)
+    }
+}
+
+impl From<MemoryError> for SimulationError {
+    ghost from_gives = { λ _ r. r ≡ errors.Sharing sharing.Memory };
+
+    fn from(_error: MemoryError) -> SimulationError {
+        SimulationError::Sharing(SharingError::Memory)
     }
 }

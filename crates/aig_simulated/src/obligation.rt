@@ -2,9 +2,9 @@
 
 ghost use Rattle.std.specs.Prelude.{◌^◌, ◌≤◌, IfOk, OnOk};
 ghost use Rattle.aig_answers.specs.Answers.{AreWrittenFrom};
-ghost use Rattle.aig_edits.specs.Pairs.{ReadsPair};
 ghost use Rattle.aig_simulated.specs.Conditions.{AsksClaim};
-ghost use Rattle.aig_simulated.specs.Simulated.{IsClaim, IsOfObligation, MakesObligation, Obliges, first_verdict, question_in, second_verdict};
+ghost use Rattle.aig_simulated.specs.Simulated.{IsClaim, IsOfObligation, MakesObligation, Obliges, first_verdict, question_in, refusal_of};
+ghost use Rattle.aig_simulated.specs.Witnesses.{ReadsWitness};
 
 use crate::claim::{Claim, read_simulation};
 use crate::error::{ConditionError, SimulationError};
@@ -84,7 +84,7 @@ pub fn obligation_of(
 ///
 /// # Errors
 ///
-/// - `Read`, `Witness`, `NoBads`, `Sharing`: as `read_simulation`.
+/// - `Read`, `Witness`, `NoBads`, `Sharing`, `Circular`: as `read_simulation`.
 /// - `Condition`: the question for the condition has more nodes than the limit, or memory ran out.
 pub fn read_obligation<R: Source, S: Source>(
     alloc: Global,
@@ -97,8 +97,8 @@ pub fn read_obligation<R: Source, S: Source>(
     requires some { 1 ≤ limit }
     requires few { limit ≤ 2 ^ 31 }
     // The bytes that were read are two files, and the clauses are those of their question. A refusal says why there are none.
-    ensures reads { ReadsPair R.left R.failed S.left S.failed limit
-        (Obliges limit optimize condition) first_verdict second_verdict (IsOfObligation condition)
+    ensures reads { ReadsWitness R.left R.failed S.left S.failed limit
+        (Obliges limit optimize condition) first_verdict refusal_of (IsOfObligation condition)
         file.old witness.old result file.new witness.new }
     ensures written { IfOk result (λ o. AreWrittenFrom o.question.unrolled optimize o.parts) }
 {

@@ -1,7 +1,7 @@
 use Rattle.aig_base.proofs.Words.{ℕ, Err, List, Option, err_from_is_err_and, refl}
-use Rattle.aig_edits.proofs.Reading.{reads_on}
 use Rattle.aig_simulation.specs.declared.condition.Condition.{Condition}
-use Rattle.aig_simulated.specs.Simulated.{Certifies, IsOwn, first_verdict, proof_for, proofs_of, second_verdict}
+use Rattle.aig_simulated.specs.Simulated.{Certifies, IsOwn, first_verdict, proof_for, proofs_of, refusal_of}
+use Rattle.aig_simulated.proofs.Reading.{reads_on}
 use Rattle.aig_simulated.proofs.Telling.{Known, certifies, check_said, not_certified, own_of_claim}
 use Rattle.aig_simulated.proofs.checking.check_simulated.Goals as goal
 
@@ -18,7 +18,7 @@ returns-in_err-claim-clause-reads g c =
     λ condition. g.P.Source.left (proof_for proofs condition) in
     rw (p.1, p.2) (reads_on g.R.Source.left g.R.Source.failed g.S.Source.left g.S.Source.failed
     limit c.args.file.now c.args.witness.now _ _ (Certifies limit optimize texts) first_verdict
-    second_verdict IsOwn (Err e) told refl refl (own_of_claim e told.own)
+    refusal_of IsOwn (Err e) told refl refl (own_of_claim e told.own)
     (λ f h bytes others is also none. not_certified limit optimize texts f h e none))
 
 pub returns-clause-reads : goal.returns-clause-reads
@@ -41,6 +41,6 @@ returns-clause-reads g c =
     reads_on g.R.Source.left g.R.Source.failed g.S.Source.left g.S.Source.failed limit
     c.args.file.now c.args.witness.now _ _
     (Certifies limit optimize (λ condition. left (proof_for proofs condition))) first_verdict
-    second_verdict IsOwn made c.in_ok-claim.ensures.reads said.0 said.1 said.2
+    refusal_of IsOwn made c.in_ok-claim.ensures.reads said.0 said.1 said.2
     (λ f h bytes others is also claims. certifies known limit optimize left proofs f h bytes claim
     is c.in_ok-claim.ensures.claim made claims told)

@@ -1,37 +1,58 @@
-use Rattle.aig_base.proofs.Words.{◌≡◌, ◌∙◌, ap, arith, eq-eqb, false≢true, length, refl, subst, sym, vec_len}
+use Rattle.aig_base.proofs.Words.{◌≡◌, ◌==◌, ◌∙◌, Bool, Global, Vec, [], ap, arith, eq-eqb, false, false≢true, length, refl, sym, vec_len}
+use Rattle.aig_circuit.specs.declared.edge.AigEdge.{AigEdge}
 use Rattle.aig_circuit.specs.Circuit.{Circuit}
-use Rattle.aig_circuit.specs.View.{lists_circuit}
+use Rattle.aig_simulation.specs.Circular.{IsCircular}
 use Rattle.aig_simulation.specs.Named.{Shares}
 use Rattle.aig_simulation.specs.Questions.{CanShareLeaves}
+use Rattle.aig_simulation.specs.Simulation.{CanStart}
+use Rattle.aig_simulation.proofs.Deciding.{carry2}
 use Rattle.aig_simulated.proofs.claim.claim_of.Goals as goal
+
+-- a list that isn't empty has an entry
+some_bads : (bads : Vec AigEdge Global) (empty : Bool) → empty ≡ (vec_len bads == 0)
+    → empty ≡ false → bads.items ≡ [] → ⊥
+some_bads bads empty is some none =
+    let zero : vec_len bads ≡ 0 = omega (arith, ap length none, bads.ok.0) in
+    false≢true (sym some ∙ is ∙ eq-eqb (vec_len bads) 0 zero)
+
+pub returns-then-branch-clause-makes : goal.returns-then-branch-clause-makes
+returns-then-branch-clause-makes c =
+    let shared = c.in_ok-shared.shared.items in (
+      some_bads c.args.model.properties.bads c.is_empty.result c.is_empty.ensures
+          c.if-is_empty.false,
+      (
+        shared,
+        carry2 (λ (m w : Circuit). Shares m w shared) _ _ _ _ c.new.ensures
+            c.new-simulating.ensures c.in_ok-shared.ensures.shares,
+        carry2 IsCircular _ _ _ _ c.deref.ensures.value c.new-simulating.ensures
+            (c.in_ok-is_circular.ensures.exact.0 c.if-branch.true),
+      ),
+    )
 
 pub returns-clause-makes : goal.returns-clause-makes
 returns-clause-makes c =
-    let bads = c.args.model.properties.bads in (
-      λ none.
-          let zero : vec_len bads ≡ 0 = omega (arith, ap length none, bads.ok.0) in
-          false≢true
-          (sym c.if-is_empty.false ∙ c.is_empty.ensures ∙ eq-eqb (vec_len bads) 0 zero),
+    let shared = c.in_ok-shared.shared.items in (
+      some_bads c.args.model.properties.bads c.is_empty.result c.is_empty.ensures
+          c.if-is_empty.false,
       refl,
       refl,
-      subst (λ (w : Circuit). Shares (lists_circuit c.args.model) w c.in_ok-shared.shared.items)
-          c.new-2.ensures
-          (subst (λ (m : Circuit). Shares m c.new-2.result c.in_ok-shared.shared.items)
-          c.new.ensures c.in_ok-shared.ensures.shares),
+      carry2 (λ (m w : Circuit). Shares m w shared) _ _ _ _ c.new.ensures c.new-simulating.ensures
+          c.in_ok-shared.ensures.shares,
+      λ circular. false≢true
+          (sym c.if-branch.false
+          ∙ c.in_ok-is_circular.ensures.exact.1
+          (carry2 IsCircular _ _ _ _ (sym c.deref.ensures.value) (sym c.new-simulating.ensures)
+          circular)),
     )
 
 pub returns-clause-claim : goal.returns-clause-claim
 returns-clause-claim c =
-    let witness = lists_circuit c.args.witness in
     let shared = c.in_ok-shared.shared.items in
     record {
       model = c.requires.model;
       witness = c.requires.witness;
-      shared = subst (λ (w : Circuit). CanShareLeaves shared (lists_circuit c.args.model) w)
-          c.new-2.ensures
-          (subst (λ (m : Circuit). CanShareLeaves shared m c.new-2.result) c.new.ensures
-          c.in_ok-shared.ensures.can);
-      can_start = c.stratified_resets_can_start.ensures shared witness
-          (c.constant_resets_are_stratified.ensures shared witness c.requires.witness
-          c.requires.starts);
+      shared = carry2 (λ (m w : Circuit). CanShareLeaves shared m w) _ _ _ _ c.new.ensures
+          c.new-simulating.ensures c.in_ok-shared.ensures.can;
+      can_start = carry2 CanStart _ _ _ _ c.deref.ensures.value c.new-simulating.ensures
+          (c.in_ok-is_circular.ensures.starts c.if-branch.false);
     }

@@ -1,8 +1,8 @@
 use Rattle.aig_base.proofs.Words.{Err, Ok, err_from_is_err_and, refl}
-use Rattle.aig_edits.proofs.Reading.{reads_on}
 use Rattle.aig_simulated.specs.declared.error.ConditionError.TheVariants as conditions
 use Rattle.aig_simulated.specs.declared.error.SimulationError.TheVariants as errors
-use Rattle.aig_simulated.specs.Simulated.{IsOfObligation, Obliges, first_verdict, second_verdict}
+use Rattle.aig_simulated.specs.Simulated.{IsOfObligation, Obliges, first_verdict, refusal_of}
+use Rattle.aig_simulated.proofs.Reading.{reads_on}
 use Rattle.aig_simulated.proofs.Telling.{not_obliged, obligation_of_claim, obliges, unasked}
 use Rattle.aig_simulated.proofs.obligation.read_obligation.Goals as goal
 
@@ -16,7 +16,7 @@ returns-in_err-claim-clause-reads g c =
     let condition = c.args.condition in
     rw (p.1, p.2) (reads_on g.R.Source.left g.R.Source.failed g.S.Source.left g.S.Source.failed
     limit c.args.file.now c.args.witness.now _ _ (Obliges limit optimize condition) first_verdict
-    second_verdict (IsOfObligation condition) (Err e) told refl refl
+    refusal_of (IsOfObligation condition) (Err e) told refl refl
     (obligation_of_claim condition e told.own)
     (λ f h bytes others is also none. not_obliged limit optimize condition f h e none))
 
@@ -28,7 +28,7 @@ returns-in-Ok-clause-reads g c =
     let o = c.in-Ok.obligation in
     reads_on g.R.Source.left g.R.Source.failed g.S.Source.left g.S.Source.failed limit
     c.args.file.now c.args.witness.now _ _ (Obliges limit optimize condition) first_verdict
-    second_verdict (IsOfObligation condition) (Ok o) c.in_ok-claim.ensures.reads refl refl tt
+    refusal_of (IsOfObligation condition) (Ok o) c.in_ok-claim.ensures.reads refl refl tt
     (λ f h bytes others is also claims. obliges limit optimize condition f h c.in_ok-claim.claim
     claims o c.in-Ok.ensures.makes)
 
@@ -40,7 +40,7 @@ returns-clause-reads g c =
     let e = c.in-Err.error in
     reads_on g.R.Source.left g.R.Source.failed g.S.Source.left g.S.Source.failed limit
     c.args.file.now c.args.witness.now _ _ (Obliges limit optimize condition) first_verdict
-    second_verdict (IsOfObligation condition)
+    refusal_of (IsOfObligation condition)
     (Err (errors.Condition condition (conditions.Question e))) c.in_ok-claim.ensures.reads refl refl
     (refl, tt)
     (λ f h bytes others is also claims. unasked limit optimize condition f h c.in_ok-claim.claim
