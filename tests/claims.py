@@ -101,6 +101,17 @@ class Search:
         self.beside = grouped(self.of_witness, self.shared_in)
         self.moved = grouped(self.of_witness, lambda z: (self.shared_in(z), tuple(z[latch[0]] for latch in self.own)))
 
+    def goes_round(self):
+        """Whether resets of own latches go round in a circle: whichever of them are found, some rest on others that aren't."""
+        below = {0: set(), **{leaf: {leaf} for leaf in itertools.chain(*leaves_of(self.witness))}}
+        for gate, left, right in self.witness.gates:
+            below[gate] = below[left & ~1] | below[right & ~1]
+        waiting = {latch: below[reset & ~1] for latch, _, reset in self.own if reset != latch}
+        while found := [latch for latch, leaves in waiting.items() if not leaves & waiting.keys()]:
+            for latch in found:
+                del waiting[latch]
+        return bool(waiting)
+
     def shared_in(self, y):
         return tuple(y[leaf] for leaf in self.leaves)
 
@@ -231,8 +242,8 @@ def by_steps(model, k):
         good = [*moves, *map(literal, model.constraints), *(literal(bad) ^ 1 for bad in model.bads)]
         made.bads += [made.gates.both(is_at[i], made.first_state(now[inputs:]) ^ 1)]
         made.bads += [made.gates.both(made.gates.any(is_at[i + 1:]), made.gates.all(good) ^ 1)]
-        # What is kept of no state may be anything.
-        made.latches += [[leaf, before, leaf] for leaf, before in zip(frame, now)]
+        # What is kept of no state may be anything: here it is what the state after it is.
+        made.latches += [[leaf, before, before] for leaf, before in zip(frame, now)]
         now = frame
     made.bads.append(made.gates.any(is_at) ^ 1)
     carry = is_at[k] ^ 1
@@ -244,9 +255,9 @@ def by_steps(model, k):
 
 def with_own(rng, made):
     """Gives the input and the three latches that are a copy's own a use: where the first latch is true, the model can start in the state,
-    and by a constraint the second never is true."""
+    and by a constraint the second never is true. The resets of the last two are functions of other leaves and the first."""
     (free,), (first, never, odd) = made.own_inputs, made.own
-    made.latches += [[first, 0, 1], [never, never, 0], [odd, made.equal(free, made.any_literal(rng)), odd]]
+    made.latches += [[first, 0, 1], [never, never, first ^ 1], [odd, made.equal(free, made.any_literal(rng)), made.equal(free, never)]]
     made.bads.append(made.gates.both(first, made.first_state(made.state) ^ 1))
     made.constraints.append(never ^ 1)
     return made
@@ -285,7 +296,8 @@ def random_copy(rng, model):
     made.constraints = [made.gates.any([it, made.any_literal(rng)]) if rng.random() < 0.3 else it for it in made.constraints]
     for leaf in made.own:
         is_kept = rng.random() < 0.2
-        made.latches.append([leaf, leaf, 0] if is_kept else [leaf, made.any_literal(rng), rng.choice([0, 1, leaf])])
+        resets = [0, 1, leaf, made.any_literal(rng), made.any_literal(rng)]
+        made.latches.append([leaf, leaf, 0] if is_kept else [leaf, made.any_literal(rng), rng.choice(resets)])
         made.constraints += [leaf ^ 1] * is_kept
     exclude(made, reachable(Steps(made.machine(), [])))
     return made
@@ -349,7 +361,20 @@ def other_gate(rng, witness):
 
 
 def other_reset(rng, witness):
-    return with_other(rng, witness, 2, lambda row: sorted({0, 1, row[0]} - {row[2]}))
+    made = [row[0] for row in [*witness.machine.latches, *witness.machine.gates]]
+    return with_other(rng, witness, 2, lambda row: sorted({0, 1, row[0], rng.choice(made), rng.choice(made) ^ 1} - {row[2]}))
+
+
+def going_round(rng, witness, own):
+    """Resets of some of these latches go round in a circle."""
+    leaves = rng.sample(own, rng.randint(1, min(3, len(own))))
+    resets = {leaf: after ^ (leaf == after or rng.randrange(2)) for leaf, after in zip(leaves, [*leaves[1:], leaves[0]])}
+    return witness.changed(latches=[[*row[:2], resets.get(row[0], row[2])] for row in witness.machine.latches])
+
+
+def other_circle(rng, witness):
+    """Resets of some latches, which may be shared, go round in a circle."""
+    return going_round(rng, witness, leaves_of(witness.machine)[1]) if witness.machine.latches else witness
 
 
 def other_next(rng, witness):
@@ -398,4 +423,4 @@ def other_names(rng, witness):
     return dataclasses.replace(witness, names=names)
 
 
-MANGLES = [other_gate, other_reset, other_next, other_bad, other_constraint, fewer_latches, other_order, other_names]
+MANGLES = [other_gate, other_reset, other_circle, other_next, other_bad, other_constraint, fewer_latches, other_order, other_names]

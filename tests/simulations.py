@@ -4,15 +4,16 @@
 A certificate of the hardware model checking competition is a witness circuit that meets five conditions: reset, transition, property,
 base and step. For safe designs of tests/designs some are made here: of an invariant of ABC's pdr, and of the states before, which
 latches of its own keep; with its leaves in the model's order, and in another with names that say for which they stand; and with an
-input and latches more that are its own. cadical refutes what `aigcheck obligations` prints for each condition, and by these proofs
-`aigcheck certified` takes it. It takes none with a reset that is a function.
+input and latches more that are its own. Resets of own latches are functions, too. cadical refutes what `aigcheck obligations` prints for
+each condition, and by these proofs `aigcheck certified` takes it. It takes none whose own latches' resets go round in a circle.
 
 FILES (20) small random machines, with constraints, resets of all three kinds and several bad states, have witness circuits that are
 right by construction, most often, and then mangled: a gate, a reset, a next value, a bad literal or a constraint is another, a latch
-becomes an input, leaves change places or names. A search over all values of both circuits' leaves says from the definitions which
-conditions hold, and which leaves are shared. What is printed for a condition has a solution exactly where it doesn't hold. By cadical's
-proofs a certificate is taken exactly where all five hold; else it is refused by the first that doesn't, with the proof of another. Of
-the first PROVED files aigprove says the same, or takes more: an invariant whose steps aren't the model's.
+becomes an input, leaves change places or names. Resets of these are functions, too. A search over all values of both circuits' leaves
+says from the definitions which conditions hold, which leaves are shared, and whether resets go round in a circle. What is printed for a
+condition has a solution exactly where it doesn't hold. By cadical's proofs a certificate is taken exactly where all five hold; else it is
+refused by the first that doesn't, with the proof of another. Of the first PROVED files aigprove says the same, or takes more: an
+invariant whose steps aren't the model's.
 
 It ends at the first that differs. The solver and ABC are the Debian packages cadical and berkeley-abc. It is no part of tests/run."""
 import concurrent.futures
@@ -21,7 +22,7 @@ from pathlib import Path
 
 import harness
 from aiger import machine_of
-from claims import CONDITIONS, MANGLES, Copy, Search, Untold, by_invariant, by_steps, random_claim, with_own
+from claims import CONDITIONS, MANGLES, Copy, Search, Untold, by_invariant, by_steps, going_round, random_claim, with_own
 from harness import CHECK, PROVE, TESTS, TOOL, numbers, output, rows
 from trials import Files, counted, run_files, told
 
@@ -36,7 +37,7 @@ SLOW, SECONDS = ["alu", "sorter"], 60
 SAFE = b"no bad state at any step\n"
 # The condition that a refusal names.
 NAMED = re.compile(r"^aigcheck: (?:.*: )?([a-z]+): [^:\n]*$", re.M)
-FUNCTION = "bad literal in latches"
+CIRCULAR = "resets of the witness circuit go round in a circle"
 # Of how many of the files aigprove is asked, and what it says of conditions.
 PROVED, TOLD = 10, re.compile("it doesn't meet the conditions: ([a-z, ]+)$", re.M)
 
@@ -131,15 +132,9 @@ class Design(Claims):
                 self.compare(self.pair(witness), [], self.rng.choice([[], ["raw"]]))
                 self.counts[f"taken {kind}"] += 1
             if made.own:
-                self.refuse(FUNCTION, self.pair(with_function(self.rng.choice(both))), [])
-                self.counts["refused by a reset"] += 1
+                self.refuse(CIRCULAR, self.pair(going_round(self.rng, self.rng.choice(both), made.own)), [])
+                self.counts["refused by a circle"] += 1
         return self
-
-
-def with_function(witness):
-    """The reset of the last latch is what the one before it isn't."""
-    *rows, before, last = witness.machine.latches
-    return witness.changed(latches=[*rows, before, [*last[:2], before[0] ^ 1]])
 
 
 class Trial(Claims):
@@ -150,9 +145,10 @@ class Trial(Claims):
         self.model, self.witness, is_right = random_claim(self.rng)
         self.is_safe = self.model.first_bad() is None
         self.file, self.setting = self.put("model.aag", self.model.text()), self.rng.choice([[], ["raw"]])
-        if is_right and Search(self.model, self.witness).broken():
+        search = Search(self.model, self.witness)
+        if is_right and not search.goes_round() and search.broken():
             self.pair(self.witness)
-            self.fail(f"right by construction, and a search finds broken {Search(self.model, self.witness).broken()}")
+            self.fail(f"right by construction, and a search finds broken {search.broken()}")
 
     def run(self):
         for _ in range(self.rng.choice([0, 1, 1, 2])):
@@ -164,8 +160,16 @@ class Trial(Claims):
             self.refuse(f"leaf {leaf // 2}: {why}", self.pair(self.witness), self.setting)
             self.counts["refused by a name"] += 1
         else:
-            self.compare_all(search.broken())
+            self.compare_found(search)
         return self
+
+    def compare_found(self, search):
+        """Compares what is said with what a search finds."""
+        if search.goes_round():
+            self.refuse(CIRCULAR, self.pair(self.witness), self.setting)
+            self.counts["refused by a circle"] += 1
+        else:
+            self.compare_all(search.broken())
 
     def compare_all(self, broken):
         """Compares what is said with the conditions that don't hold."""

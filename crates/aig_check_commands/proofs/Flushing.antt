@@ -26,9 +26,11 @@ use Rattle.aig_check_commands.specs.Pairs.{IsErrorOfPair, RunsPair, TellsOfPair,
 use Rattle.aig_check_commands.specs.Running.{Runs, nothing_fails, nothing_given, verdict_of}
 use Rattle.aig_check_commands.specs.Safe.{RunsSafe}
 use Rattle.aig_check_commands.specs.SafeBySteps.{RunsSafeBySteps}
-use Rattle.aig_check_commands.specs.Simulating.{IsErrorOfObligation, IsErrorOfSimulated, RunsObligation, RunsSimulated, TellsOfObligation, TellsOfSimulated}
+use Rattle.aig_check_commands.specs.Simulating.{IsErrorOfObligation, IsErrorOfSimulated, RunsObligation, RunsSimulated, TellsOfObligation, TellsOfSimulated, refusal_of}
 use Rattle.aig_check_commands.specs.CommandWords.{prints}
 use Rattle.aig_simulated.specs.Simulated.{Proofs, proof_for, proofs_of}
+use Rattle.aig_simulated.specs.Witnesses.{ReadsWitness, refusal_by}
+use Rattle.aig_simulated.proofs.Reading.{reads_on as witness_reads_on}
 use Rattle.aig_simulation.specs.declared.condition.Condition.{Condition}
 use Rattle.aig_check_commands.proofs.Opened.{opens_on}
 
@@ -54,6 +56,11 @@ accepted_by : (failed : Bool) (done : Result Unit CheckError) → EndsBy failed 
     → verdict_by verdict_of done ≡ Accepted
 accepted_by failed done ends =
     by_end failed (λ x. verdict_by verdict_of x ≡ Accepted) (λ u sound. refl) (λ lost. refl) done ends
+
+unrefused_by : (failed : Bool) (done : Result Unit CheckError) → EndsBy failed done
+    → refusal_by refusal_of done ≡ None
+unrefused_by failed done ends =
+    by_end failed (λ x. refusal_by refusal_of x ≡ None) (λ u sound. refl) (λ lost. refl) done ends
 
 other_accepted_by : (failed : Bool) (done : Result Unit CheckError) → EndsBy failed done
     → verdict_by other_verdict_of done ≡ Accepted
@@ -301,8 +308,8 @@ module _ {W : Type 0} (held : W → Option (List ℕ)) (write_failed : W → Boo
           → EndsBy (write_failed flat) done → Simulated_to flat done
       simulated_ended done runs ends =
           by_end (write_failed flat)
-          (λ x. ReadsPair left failed left_of failed_of limit (Simulates flat) verdict_of
-          other_verdict_of IsErrorOfSimulated r s x rest other → Simulated_to flat x)
+          (λ x. ReadsWitness left failed left_of failed_of limit (Simulates flat) verdict_of
+          refusal_of IsErrorOfSimulated r s x rest other → Simulated_to flat x)
           (λ v sound reads. record {
             reads = reads;
             kept = tt;
@@ -316,9 +323,9 @@ module _ {W : Type 0} (held : W → Option (List ℕ)) (write_failed : W → Boo
             stream = λ condition is. cc;
           })
           done ends
-          (reads_on left failed left_of failed_of limit r s rest other (Simulates flat) verdict_of
-          other_verdict_of IsErrorOfSimulated done runs.reads (accepted_by _ done ends)
-          (other_accepted_by _ done ends) (own_by IsErrorOfSimulated tt _ done ends)
+          (witness_reads_on left failed left_of failed_of limit r s rest other (Simulates flat)
+          verdict_of refusal_of IsErrorOfSimulated done runs.reads (accepted_by _ done ends)
+          (unrefused_by _ done ends) (own_by IsErrorOfSimulated tt _ done ends)
           (λ f g bytes others fits also told. simulates_ended f g done told ends))
 
     module _ {R S : Type 0} (left : R → Option (List ℕ)) (failed : R → Bool)
@@ -348,9 +355,9 @@ module _ {W : Type 0} (held : W → Option (List ℕ)) (write_failed : W → Boo
           → RunsObligation left failed left_of failed_of held write_failed condition optimize limit
           r s w done rest other flat
       obligation_ended done runs ends = record {
-        reads = reads_on left failed left_of failed_of limit r s rest other (Obliges flat) verdict_of
-            other_verdict_of (IsErrorOfObligation condition) done runs.reads
-            (accepted_by _ done ends) (other_accepted_by _ done ends)
+        reads = witness_reads_on left failed left_of failed_of limit r s rest other (Obliges flat)
+            verdict_of refusal_of (IsErrorOfObligation condition) done runs.reads
+            (accepted_by _ done ends) (unrefused_by _ done ends)
             (own_by (IsErrorOfObligation condition) tt _ done ends)
             (λ f g bytes others fits also told. obliges_ended f g done told ends);
         kept = by_end (write_failed flat) (λ x. IfErr x (λ e. e ≢ errors.Write → flat ≡ w))

@@ -379,8 +379,9 @@ module _ {R A : Type 0} (to : R → A) (left : A → Option (List ℕ)) (failed 
     simulated_seen p used runs = record {
       reads = record {
         verdict = runs.reads.verdict;
-        other_verdict = runs.reads.other_verdict;
+        refused = runs.reads.refused;
         unread = λ not. ap on (runs.reads.unread not);
+        whole = runs.reads.whole;
         answer = λ first second. read_as _ _ (λ f. read_as _ _ (λ g. simulates_seen on p left_of held
             write_failed optimize limit w made f g result)) (runs.reads.answer first second);
         own = runs.reads.own;
@@ -400,8 +401,9 @@ module _ {R A : Type 0} (to : R → A) (left : A → Option (List ℕ)) (failed 
     obligation_seen condition runs = record {
       reads = record {
         verdict = runs.reads.verdict;
-        other_verdict = runs.reads.other_verdict;
+        refused = runs.reads.refused;
         unread = λ not. ap on (runs.reads.unread not);
+        whole = runs.reads.whole;
         answer = runs.reads.answer;
         own = runs.reads.own;
       };

@@ -10,7 +10,6 @@ use Rattle.aig_answers.specs.declared.bounded_checks.error.BoundedAnswerError.Th
 use Rattle.aig_answers.specs.Certificates as certificates
 use Rattle.aig_answers.specs.Certificates.{AreObligations, Certifies, Equals, Obliges}
 use Rattle.aig_answers.specs.Comparing as comparing
-use Rattle.aig_simulated.specs.Simulated as simulating
 use Rattle.aig_answers.specs.declared.certificates.error.CertificateError.{CertificateError}
 use Rattle.aig_answers.specs.declared.certificates.error.CertificateError.TheVariants as certificate
 use Rattle.aig_answers.specs.declared.windows.WindowClauses.{WindowClauses}
@@ -113,7 +112,6 @@ abbrev pub other_verdict_of : CheckError → Verdict
 other_verdict_of (errors.Certificate e) = certificates.second_verdict e
 other_verdict_of (errors.Equality e) = equality.second_verdict e
 other_verdict_of (errors.Miter e) = comparing.second_verdict e
-other_verdict_of (errors.Simulation e) = simulating.second_verdict e
 other_verdict_of errors.Write = Accepted
 other_verdict_of e = Refused
 

@@ -2,7 +2,7 @@
 -- What a command does with the bytes of a file, of a witness circuit that simulates its machine,
 -- and of the proofs for the conditions of a certificate: what it puts into its writer, and why it
 -- refuses them. (Certificates of the hardware model checking competition.)
-use Rattle.std.specs.Prelude.{◌≡◌, ◌≢◌, ℕ, Bool, false, IsTrue, List, ◌++◌, length, Option, Some, Result, Ok, Err, IfErr, IsErrOf}
+use Rattle.std.specs.Prelude.{◌≡◌, ◌≢◌, ℕ, Bool, false, IsTrue, List, ◌++◌, length, Option, Some, None, Result, Ok, Err, IfErr, IsErrOf}
 use Rattle.std.specs.Io.KnownBytes.{Appends}
 use Rattle.aig_answers.specs.Answers.{IsCircuitQuery}
 use Rattle.aig_answers.specs.declared.circuits.CircuitQuery.{CircuitQuery}
@@ -10,24 +10,30 @@ use Rattle.aig_base.specs.Formula.{clauses_in}
 use Rattle.aig_circuit.specs.Circuit.{Circuit}
 use Rattle.aig_dimacs.specs.Reading.{parse_formula}
 use Rattle.aig_dimacs.specs.Text.{dimacs_of}
-use Rattle.aig_edits.specs.Pairs.{ReadsPair}
 use Rattle.aig_format.specs.File.{File}
 use Rattle.aig_output.specs.Sinks.{Stops}
+use Rattle.aig_reader.specs.declared.error.ReadError.{ReadError}
 use Rattle.aig_refutation.specs.declared.error.RefutationError.TheVariants as refutation
 use Rattle.aig_simulated.specs.Simulated as simulated
 use Rattle.aig_simulated.specs.Simulated.{Certifies, HasBads, IsOfObligation, IsOwn, IsQuestionOf, Obliges, Proofs, proof_for}
+use Rattle.aig_simulated.specs.Witnesses.{ReadsWitness}
 use Rattle.aig_simulated.specs.declared.error.ConditionError.TheVariants as conditions
 use Rattle.aig_simulated.specs.declared.error.SimulationError.TheVariants as simulation
 use Rattle.aig_simulation.specs.declared.condition.Condition.{Condition}
 use Rattle.aig_check_commands.specs.declared.error.CheckError.{CheckError}
 use Rattle.aig_check_commands.specs.declared.error.CheckError.TheVariants as errors
-use Rattle.aig_check_commands.specs.Pairs.{other_verdict_of, safe_line}
+use Rattle.aig_check_commands.specs.Pairs.{safe_line}
 use Rattle.aig_check_commands.specs.Running.{verdict_of}
 use Rattle.aig_check_commands.specs.Sums.{IsSum}
 use Rattle.aig_check_commands.specs.Titles.{title_text}
 use Rattle.aig_check_commands.specs.Titling.{condition_title}
 
 -- ---- certificates
+
+-- why the bytes of the witness circuit are refused, if they are
+abbrev pub refusal_of : CheckError → Option ReadError
+refusal_of (errors.Simulation e) = simulated.refusal_of e
+refusal_of e = None
 
 -- the command has this error
 abbrev pub IsErrorOfSimulated : CheckError → Type 0
@@ -64,10 +70,10 @@ pub record RunsSimulated {R S P W : Type 0} (left : R → Option (List ℕ)) (fa
     (result : Result Unit CheckError) (rest : R) (other : S) (used : Proofs P) (made : W) : Type 0
   where
     -- what is said of the bytes of both files, and where they are taken, of the machine
-    pub reads : ReadsPair left failed left_of failed_of limit
+    pub reads : ReadsWitness left failed left_of failed_of limit
         (TellsOfSimulated held write_failed optimize limit
         (λ condition. given (proof_for ps condition)) w made)
-        verdict_of other_verdict_of IsErrorOfSimulated r s result rest other
+        verdict_of refusal_of IsErrorOfSimulated r s result rest other
     -- every refusal but that of the writer leaves the writer as it was
     pub kept : IfErr result (λ e. e ≢ errors.Write → made ≡ w)
     -- a proof is read only where what comes before it is taken
@@ -130,8 +136,8 @@ pub record RunsObligation {R S W : Type 0} (left : R → Option (List ℕ)) (fai
     (write_failed : W → Bool) (condition : Condition) (optimize : Bool) (limit : ℕ) (r : R) (s : S)
     (w : W) (result : Result Unit CheckError) (rest : R) (other : S) (made : W) : Type 0 where
   -- what is said of the bytes of both files, and where they are taken, of their question
-  pub reads : ReadsPair left failed left_of failed_of limit
+  pub reads : ReadsWitness left failed left_of failed_of limit
       (TellsOfObligation held write_failed condition optimize limit (left r) (left_of s) w made)
-      verdict_of other_verdict_of (IsErrorOfObligation condition) r s result rest other
+      verdict_of refusal_of (IsErrorOfObligation condition) r s result rest other
   -- every refusal but that of the writer leaves the writer as it was
   pub kept : IfErr result (λ e. e ≢ errors.Write → made ≡ w)

@@ -213,6 +213,7 @@ about_simulation (simulation.Read e) = about_read subjects.File e
 about_simulation (simulation.Witness e) = about_read subjects.Other e
 about_simulation simulation.NoBads = whole subjects.File
 about_simulation (simulation.Sharing e) = about_sharing e
+about_simulation simulation.Circular = whole subjects.Other
 about_simulation (simulation.Condition condition e) = about_condition condition e
 
 -- what an error of the program is about

@@ -349,6 +349,7 @@ fn about_simulation(error: SimulationError) -> About
         SimulationError::Witness(error) => about_read(Subject::Other, error),
         SimulationError::NoBads => whole(Subject::File),
         SimulationError::Sharing(error) => about_sharing(error),
+        SimulationError::Circular => whole(Subject::Other),
         SimulationError::Condition(condition, error) => about_condition(condition, error),
     }
 }
