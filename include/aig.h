@@ -90,6 +90,7 @@ enum aig_status {
   AIG_MANY_BADS = 36,      /* There are constraints and more than one bad state property. */
   AIG_NO_BAD = 37,         /* There is no bad state property of this number. */
   AIG_NO_JUSTICE = 38,     /* There is no justice property of this number. */
+  AIG_CIRCULAR = 39,       /* Resets of a witness circuit go round in a circle. */
 
   /* A proof is refused. */
   AIG_PROOF_CLAUSES = 40,    /* A literal of the clauses has no variable. Tests have never met it. */

@@ -17,6 +17,7 @@ use Rattle.aig_check_commands.specs.Running.{IsOfFileAlone, Runs, nothing_fails,
 use Rattle.aig_check_commands.specs.Simulating as simulating
 use Rattle.aig_check_commands.specs.Simulating.{RunsSimulated, TellsOfSimulated}
 use Rattle.aig_simulated.specs.Simulated.{Proofs, proof_for, proofs_of}
+use Rattle.aig_simulated.specs.Witnesses.{ReadsWitness}
 use Rattle.aig_simulation.specs.declared.condition.Condition.{Condition}
 use Rattle.aig_simulation.specs.declared.condition.Condition.TheVariants as conditions
 use Rattle.aig_check_commands.specs.Safe as safes
@@ -36,6 +37,7 @@ use Rattle.aig_edits.specs.Info.{PrintsInfo}
 use Rattle.aig_edits.specs.Joints.{PrintsJoint}
 use Rattle.aig_edits.specs.Lives.{PrintsLive}
 use Rattle.aig_edits.specs.Pairs.{ReadsPair}
+use Rattle.aig_reader.specs.declared.error.ReadError.{ReadError}
 use Rattle.aig_edits.specs.Questions.{PrintsQuestion}
 use Rattle.aig_edits.specs.Reductions.{PrintsReduction}
 use Rattle.aig_edits.specs.Rounds.{PrintsRounds}
@@ -580,6 +582,26 @@ module _ {P : Type 0} (left : P → Option (List ℕ)) (failed : P → Bool) whe
         of_writer (Err checks.Write) told = told
         of_writer (Err e) told = told
 
+-- the bytes of a file and of a witness circuit
+witness_seen : {R S T E : Type 0} {left : R → Option (List ℕ)} {failed : R → Bool}
+    {left_of : S → Option (List ℕ)} {failed_of : S → Bool} {limit : ℕ}
+    {M N : File → File → Result T E → Type 0} {first : E → Verdict}
+    {refusal : E → Option ReadError} {Own : E → Type 0} {r rest : R} {s other : S}
+    {result : Result T E}
+    → ((f g : File) → M f g result → N f g result)
+    → ReadsWitness left failed left_of failed_of limit M first refusal Own r s result rest other
+    → ReadsWitness bytes_of has_failed bytes_of has_failed limit N first refusal Own
+    (seen left failed r) (seen left_of failed_of s) result (seen left failed rest)
+    (seen left_of failed_of other)
+witness_seen {left_of = left_of} {failed_of = failed_of} so reads = record {
+  verdict = reads.verdict;
+  refused = reads.refused;
+  unread = λ not. ap (seen left_of failed_of) (reads.unread not);
+  whole = reads.whole;
+  answer = λ first second. means_on (λ f m. means_on (so f) m) (reads.answer first second);
+  own = reads.own;
+}
+
 pub simulated_seen : {R S P W : Type 0} {left : R → Option (List ℕ)} {failed : R → Bool}
     {left_of : S → Option (List ℕ)} {failed_of : S → Bool} {given : P → Option (List ℕ)}
     {given_failed : P → Bool} {held : W → Option (List ℕ)} {write_failed : W → Bool} {limit : ℕ}
@@ -595,7 +617,7 @@ simulated_seen {given = given} {given_failed = given_failed} {held = held}
     {write_failed = write_failed} {limit = limit} {optimize = optimize} p used {w = w} {made = made}
     {result = result} runs =
     record {
-      reads = both_seen
+      reads = witness_seen
           (λ f g. simulated_of given given_failed held write_failed w made optimize limit p f g
           result)
           runs.reads;

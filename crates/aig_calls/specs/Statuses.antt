@@ -324,6 +324,7 @@ simulation_status (simulation.Read e) = read_status e
 simulation_status (simulation.Witness e) = flagged 256 (read_status e)
 simulation_status simulation.NoBads = 6
 simulation_status (simulation.Sharing e) = sharing_status e
+simulation_status simulation.Circular = 39
 simulation_status (simulation.Condition condition e) =
     flagged (condition_flag condition) (condition_status e)
 

@@ -84,6 +84,7 @@ fn words_of_file(status: u32) -> &'static [u8] {
         36 => b"constraints and several bad state properties (aigedit compress makes these one)",
         37 => b"no such bad state property",
         38 => b"no such justice property",
+        39 => b"resets of the witness circuit go round in a circle",
         _ => b"no status",
     }
 }

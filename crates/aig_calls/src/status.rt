@@ -68,6 +68,8 @@ const MANY_BADS: u32 = 36;
 const NO_BAD: u32 = 37;
 /// The file has no justice property of the number.
 const NO_JUSTICE: u32 = 38;
+/// The resets of a witness circuit go round in a circle.
+const CIRCULAR: u32 = 39;
 /// A proof is refused. The fault's number is added.
 pub(crate) const PROOF: u32 = 40;
 /// A witness is refused. The fault's number is added.
@@ -447,6 +449,7 @@ fn of_simulation(error: SimulationError) -> u32
         SimulationError::Witness(error) => flagged(OTHER, of_read(error)),
         SimulationError::NoBads => NO_BADS,
         SimulationError::Sharing(error) => of_sharing(error),
+        SimulationError::Circular => CIRCULAR,
         SimulationError::Condition(condition, error) => {
             flagged(flag_of(condition), of_condition(error))
         }

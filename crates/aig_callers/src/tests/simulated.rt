@@ -17,6 +17,12 @@ const FREE: &[u8] = b"aag 1 0 1 0 0 1\n2 2\n0\n";
 /// A latch that takes turns.
 const TURNING: &[u8] = b"aag 1 0 1 0 0 1\n2 3\n2\n";
 
+/// The latch of `STUCK`, and one that starts with its inverse.
+const FOLLOWING: &[u8] = b"aag 2 0 2 0 0 1\n2 2\n4 4 3\n2\n";
+
+/// The latch of `STUCK`, and one that starts with its own inverse.
+const CIRCULAR: &[u8] = b"aag 2 0 2 0 0 1\n2 2\n4 4 5\n2\n";
+
 /// Why empty proofs that a witness circuit is a certificate of `STUCK` are refused, if they are.
 fn simulated(alloc: Global, witness: &[u8]) -> Option<SimulationError> {
     let none: &[u8] = b"";
@@ -53,4 +59,11 @@ fn takes_conditions_that_fold_to_false(rt: HostRuntime) {
     assert!(rt; simulated(alloc, STUCK) == None);
     assert!(rt; simulated(alloc, FREE) == Some(property));
     assert!(rt; simulated(alloc, TURNING) == Some(transition));
+}
+
+#[test]
+fn takes_resets_that_are_functions_without_a_circle(rt: HostRuntime) {
+    let alloc = rt.alloc();
+    assert!(rt; simulated(alloc, FOLLOWING) == None);
+    assert!(rt; simulated(alloc, CIRCULAR) == Some(SimulationError::Circular));
 }
