@@ -8,6 +8,7 @@ use Rattle.aig_tool_commands.specs.Running as running
 use Rattle.aig_edits.specs.Pairs.{ReadsPair}
 use Rattle.aig_check_commands.specs.declared.command.FileCommand.{FileCommand}
 use Rattle.aig_check_commands.specs.Running.{Answers, IsAskedBy, Runs, file_verdict}
+use Rattle.aig_check_commands.proofs.Outcomes.{text_of_printed}
 use Rattle.aig_callers.proofs.Asking.{all_taken}
 use Rattle.aig_callers.proofs.Text.{all_held}
 
@@ -24,13 +25,14 @@ module _ {R P W : Type 0} (left : R → Option (List ℕ)) (read_failed : R → 
       × ((Accepts bytes limit f → file_verdict c limit f ≡ Accepted)
       × Answers c (given p) (Some bytes) f out)
   printed u runs is empty all =
-      let answer = runs.ok in
-      let read = answer.1 in
+      let answer = text_of_printed runs in
+      let told = answer.1 in
+      let read = told.text in
       let taken = all_taken bytes read.bytes (left r) (left rest) is read.taken
-      (runs.verdict.whole tt).1 in
-      let same : out ≡ answer.0 = all_held (held w) (held made) out answer.0 empty all answer.2.0 in
+      (told.verdict.whole tt).1 in
+      let same : out ≡ answer.0 = all_held (held w) (held made) out answer.0 empty all answer.2 in
       let on = subst (λ known. IfSome known (λ b. IsVerdictOn (file_verdict c limit) limit b
-      Accepted)) is (runs.verdict.exact tt) in (
+      Accepted)) is (told.verdict.exact tt) in (
         read.file,
         subst (λ b. IsAskedBy c limit b read.file) taken read.holds,
         (
@@ -42,12 +44,12 @@ module _ {R P W : Type 0} (left : R → Option (List ℕ)) (read_failed : R → 
 
 -- ---- two files
 
-module _ {R S E : Type 0} (left : R → Option (List ℕ)) (failed : R → Bool) (left_of : S
-    → Option (List ℕ)) (failed_of : S → Bool) (limit : ℕ) (Means : File → File → Result (Unit {0}) E
+module _ {R S T E : Type 0} (left : R → Option (List ℕ)) (failed : R → Bool) (left_of : S
+    → Option (List ℕ)) (failed_of : S → Bool) (limit : ℕ) (Means : File → File → Result T E
     → Type 0) (first second : E → Verdict) (Own : E → Type 0) (r rest : R) (s other : S)
     (bytes others : List ℕ) where
   -- the files that the bytes are, and what the answer means for these
-  pub both_read : (u : Unit {0})
+  pub both_read : (u : T)
       → ReadsPair left failed left_of failed_of limit Means first second Own r s (Ok u) rest other
       → left r ≡ Some bytes → left_of s ≡ Some others
       → (f : File) × (g : File) × Accepts bytes limit f × Accepts others limit g × Means f g (Ok u)

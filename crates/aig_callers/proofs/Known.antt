@@ -162,9 +162,17 @@ module _ {F W : Type 0} (file proof : List ℕ) (left : F → Option (List ℕ))
     refuted_ran r rest p (used ∷ []) u is ran = refuted_run r rest p used u is ran
     refuted_ran r rest p others u is ran = absurd ran
 
+    refuted_on : (r p : F) (files : List F) (u : Unit {0}) → left r ≡ Some file
+        → RanOn left read_failed held write_failed (2 ^ 24) refuted_asked (r ∷ p ∷ []) w (Ok u) files
+        made
+        → IsRefuted
+    refuted_on r p (rest ∷ others) u is ran = refuted_ran r rest p others u is ran
+    refuted_on r p [] u is ran = absurd ran
+
     -- what is meant of files that were opened
     abbrev pub IsRunOn : Unit {0} → List F → Type 0
-    IsRunOn u = RanOn left read_failed held write_failed (2 ^ 24) refuted_asked w (Ok u) made
+    IsRunOn u files = (others : List F)
+        × RanOn left read_failed held write_failed (2 ^ 24) refuted_asked files w (Ok u) others made
 
     -- and of one that was not
     abbrev pub IsUnopened : Unit {0} → CheckError → Type 0
@@ -173,7 +181,7 @@ module _ {F W : Type 0} (file proof : List ℕ) (left : F → Option (List ℕ))
     refuted_beside : (r : F) (u : Unit {0}) (second : Result F OpenError) → left r ≡ Some file
         → OnOpening (λ p. IsRunOn u (r ∷ p ∷ [])) (IsUnopened u) second
         → IsRefuted
-    refuted_beside r u (Ok p) is runs = refuted_ran r runs.0 p runs.1 u is runs.2
+    refuted_beside r u (Ok p) is runs = refuted_on r p runs.0 u is runs.1
     refuted_beside r u (Err e) is runs = let h = runs.0 in cc
 
     refuted_opened : (u : Unit {0}) (first : Result F OpenError) → OpensTwo (codes "FILE") first
@@ -189,7 +197,7 @@ module _ {F W : Type 0} (file proof : List ℕ) (left : F → Option (List ℕ))
         (codes "FILE" ∷ []) (codes "PROOF" ∷ []) w done made
         → IsRefuted
     refuted_done (Ok u) is (inl acts) = refuted_opened u acts.file acts.opened acts.leads
-    refuted_done (Ok u) is (inr short) = let no = short.1 in cc
+    refuted_done (Ok u) is (inr short) = let no = short.0 in cc
     refuted_done (Err e) is acts = cc
 
     -- the text of a circuit that has the bad edges as one

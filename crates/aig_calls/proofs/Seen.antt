@@ -3,25 +3,20 @@ use Rattle.std.proofs.Common.{Bor}
 use Rattle.aig_base.proofs.Words.{◌≡◌, ◌≢◌, ℕ, Bool, true, false, List, [], Option, None, Some, Result, Ok, Err, Vec, Global, refl, sym, ap, subst, fun_ext, ◌∙◌, IfErr}
 use Rattle.aig_base.specs.declared.std_stream.FromRead.{FromRead}
 use Rattle.aig_base.specs.declared.std_stream.ToWrite.{ToWrite}
-use Rattle.aig_answers.specs.Asking.{AnswersCircuit}
 use Rattle.aig_answers.specs.declared.bounded_checks.error.BoundedAnswerError.{BoundedAnswerError}
-use Rattle.aig_answers.specs.Comparing.{CertifiesMiter, EqualsBy}
-use Rattle.aig_answers.specs.declared.certificates.compare_error.MiterError.{MiterError}
-use Rattle.aig_answers.specs.declared.certificates.compare_error.MiterError.TheVariants as miter
-use Rattle.aig_answers.specs.declared.certificates.error.CertificateError.{CertificateError}
-use Rattle.aig_check_commands.specs.Comparing as comparing
-use Rattle.aig_check_commands.specs.Comparing.{RunsComparing, TellsOfComparing}
-use Rattle.aig_check_commands.specs.Pairs as pairs
-use Rattle.aig_check_commands.specs.Pairs.{RunsPair, TellsOfPair}
-use Rattle.aig_check_commands.specs.Running.{IsOfFileAlone, Runs, nothing_fails, nothing_given}
+use Rattle.aig_check_commands.specs.Comparing.{RunsComparing}
+use Rattle.aig_check_commands.specs.Pairs.{RunsPair}
+use Rattle.aig_check_commands.specs.Printed.{EndsWith, Printed}
+use Rattle.aig_check_commands.specs.Running.{Runs, nothing_fails, nothing_given}
 use Rattle.aig_check_commands.specs.Simulating as simulating
 use Rattle.aig_check_commands.specs.Simulating.{RunsSimulated, TellsOfSimulated}
 use Rattle.aig_simulated.specs.Simulated.{Proofs, proof_for, proofs_of}
 use Rattle.aig_simulated.specs.Witnesses.{ReadsWitness}
 use Rattle.aig_simulation.specs.declared.condition.Condition.{Condition}
 use Rattle.aig_simulation.specs.declared.condition.Condition.TheVariants as conditions
-use Rattle.aig_check_commands.specs.Safe as safes
-use Rattle.aig_check_commands.specs.Safe.{RunsSafe, TellsWhy}
+use Rattle.aig_check_commands.specs.Safe.{RunsSafe}
+use Rattle.aig_check_commands.proofs.Outcomes.{printed_on}
+use Rattle.aig_check_commands.proofs.Viewed.{base_seen, checks_seen, circuit_seen, miter_seen, proofs_seen, two_seen}
 use Rattle.aig_check_commands.specs.declared.command.FileCommand.{FileCommand}
 use Rattle.aig_check_commands.specs.declared.command.PairCommand.{PairCommand}
 use Rattle.aig_check_commands.specs.declared.error.CheckError.{CheckError}
@@ -54,11 +49,9 @@ use Rattle.aig_answers.specs.declared.liveness.error.LivenessError.TheVariants a
 use Rattle.aig_reader.specs.Reading.{IsReadAs}
 use Rattle.aig_reader.specs.Verdicts.{Accepted, Judges, Short, Verdict}
 use Rattle.aig_runs.specs.declared.window.Window.{Window}
-use Rattle.aig_answers.specs.Safety.{Shows, ShowsCircuit}
 use Rattle.aig_answers.specs.declared.safety.error.SafetyError.{SafetyError}
-use Rattle.aig_answers.specs.declared.safety.error.SafetyError.TheVariants as safety
 use Rattle.aig_calls.specs.Calls.{RunsOn}
-use Rattle.aig_calls.specs.Memory.{Into, Memory, On, bytes_of, has_failed}
+use Rattle.aig_calls.specs.Memory.{Into, Memory, On, Unseen, bytes_of, has_failed}
 
 -- what of a reader or a writer is seen
 abbrev pub seen : {R : Type 0} → (R → Option (List ℕ)) → (R → Bool) → R → Memory
@@ -218,6 +211,27 @@ pub put_into : (w made : Writer) {empty text : Vec ℕ Global} {Does : Memory �
 put_into w made same none all does =
     (wrote w, wrote made, held_nothing same none, (held_all all, does))
 
+-- so a text that was made of a file, or there is none
+module _ {limit : ℕ} {said : EditError → Verdict} {Own : EditError → Type 0}
+    {M : File → Result (Unit {0}) EditError → Type 0}
+    {Does : Memory → Memory → File → Result (Unit {0}) EditError → Type 0} {bytes : Bor (List ℕ)}
+    (r rest : Reader) (w made : Writer) where
+  pub made_into : {empty text : Vec ℕ Global} → r.inner ≡ bytes → w.inner ≡ empty
+      → empty.items ≡ [] → text ≡ made.inner
+      → ((f : File) → M f (Ok tt) → Does (wrote w) (wrote made) f (Ok tt))
+      → ReadsFile bytes_left read_failed limit M said Own r (Ok tt) rest
+      → Into text.items (λ v new. On (Some bytes.now) (λ s left.
+      ReadsFile bytes_of has_failed limit (Does v new) said Own s (Ok tt) left))
+  made_into same none empty all so reads =
+      put_into w made none empty all (on r rest same (file_seen so reads))
+
+  pub unmade : (e : EditError) → r.inner ≡ bytes
+      → ((f : File) → M f (Err e) → Does (wrote w) (wrote made) f (Err e))
+      → ReadsFile bytes_left read_failed limit M said Own r (Err e) rest
+      → Unseen (λ v new. On (Some bytes.now) (λ s left.
+      ReadsFile bytes_of has_failed limit (Does v new) said Own s (Err e) left))
+  unmade e same so reads = (wrote w, wrote made, on r rest same (file_seen so reads))
+
 -- a file that is taken, for which memory runs out then
 pub short : {of : File → Verdict} {limit : ℕ} {old new : Option (List ℕ)} {failed : Bool}
     → Judges of limit old new failed Accepted → Judges of limit old new failed Short
@@ -254,26 +268,37 @@ tool_seen {held = held} {write_failed = write_failed} {w = w} {made = made} {res
           runs.kept;
     }
 
-pub runs_seen : {R P W : Type 0} {left : R → Option (List ℕ)} {failed : R → Bool}
-    {given : P → Option (List ℕ)} {given_failed : P → Bool} {held : W → Option (List ℕ)}
-    {write_failed : W → Bool} {c : FileCommand} {limit : ℕ} {r rest : R} {p used : P} {w made : W}
+-- what is printed is seen by what its writer holds
+seen_printed : {W : Type 0} {held : W → Option (List ℕ)} {failed : W → Bool}
+    {Holds Also : Result (List ℕ) CheckError → Type 0} {w made : W}
     {result : Result (Unit {0}) CheckError}
-    → Runs left failed given given_failed held write_failed c limit r p w result rest used made
-    → Runs bytes_of has_failed bytes_of has_failed bytes_of has_failed c limit (seen left failed r)
-    (seen given given_failed p) (seen held write_failed w) result (seen left failed rest)
+    → ((x : Result (List ℕ) CheckError) → Holds x → Also x)
+    → Printed held failed Holds w result made
+    → Printed bytes_of has_failed Also (seen held failed w) result (seen held failed made)
+seen_printed {W} {held} {failed} {w = w} {made = made} {result = result} so = printed_on so (ends result)
+  where
+    ends : (y : Result (Unit {0}) CheckError) (x : Result (List ℕ) CheckError)
+        → EndsWith held failed x w y made
+        → EndsWith bytes_of has_failed x (seen held failed w) y (seen held failed made)
+    ends (Ok u) (Ok text) is = is
+    ends (Err e) (Ok text) is = is
+    ends y (Err e) is = (is.0, ap (seen held failed) is.1)
+
+-- a reader is seen
+abbrev read : Reader → Memory
+read = seen bytes_left read_failed
+
+pub runs_seen : {P W : Type 0} {given : P → Option (List ℕ)} {given_failed : P → Bool}
+    {held : W → Option (List ℕ)} {write_failed : W → Bool} {c : FileCommand} {limit : ℕ}
+    {r rest : Reader} {p used : P} {w made : W} {result : Result (Unit {0}) CheckError}
+    → Runs bytes_left read_failed given given_failed held write_failed c limit r p w result rest
+    used made
+    → Runs bytes_of has_failed bytes_of has_failed bytes_of has_failed c limit (read r)
+    (seen given given_failed p) (seen held write_failed w) result (read rest)
     (seen given given_failed used) (seen held write_failed made)
-runs_seen {given = given} {given_failed = given_failed} {held = held} {write_failed = write_failed}
-    {p = p} {used = used} {w = w} {made = made} {result = result} runs =
-    record {
-      verdict = runs.verdict;
-      own = runs.own;
-      ok = runs.ok;
-      stopped = runs.stopped;
-      taken = runs.taken;
-      kept = same_seen held write_failed w made (λ e. e ≢ checks.Write) result runs.kept;
-      unread = same_seen given given_failed p used IsOfFileAlone result runs.unread;
-      refusal = runs.refusal;
-    }
+runs_seen {given = given} {given_failed = given_failed} =
+    seen_printed (λ x. checks_seen read bytes_of has_failed x (seen given given_failed) bytes_of
+    has_failed)
 
 -- a command was run on a file alone
 pub alone : {c : FileCommand} {limit : ℕ} {bytes : Bor (List ℕ)} {w made : Writer}
@@ -285,73 +310,34 @@ alone r rest same runs = on r rest same (nobody, nobody, refl, runs_seen runs)
 
 -- ---- two files
 
-module _ {W : Type 0} (held : W → Option (List ℕ)) (write_failed : W → Bool) (w made : W) where
-  of_pair : (c : PairCommand) (limit : ℕ) (base step bytes others : Option (List ℕ)) (f g : File)
-      (r : Result (Unit {0}) CheckError)
-      → TellsOfPair held write_failed c limit base step bytes others w made f g r
-      → TellsOfPair bytes_of has_failed c limit base step bytes others (seen held write_failed w)
-      (seen held write_failed made) f g r
-  of_pair c limit base step bytes others f g (Ok done) means = means
-  of_pair c limit base step bytes others f g (Err checks.Write) means = means
-  of_pair c limit base step bytes others f g (Err x) means = means
-
-pub pair_seen : {R S P Q W : Type 0} {left : R → Option (List ℕ)} {failed : R → Bool}
-    {left_of : S → Option (List ℕ)} {failed_of : S → Bool} {base_left : P → Option (List ℕ)}
-    {base_failed : P → Bool} {step_left : Q → Option (List ℕ)} {step_failed : Q → Bool}
-    {held : W → Option (List ℕ)} {write_failed : W → Bool} {c : PairCommand} {limit : ℕ}
-    {r rest : R} {s other : S} {p used : P} {q spent : Q} {w made : W}
-    {result : Result (Unit {0}) CheckError}
-    → RunsPair left failed left_of failed_of base_left base_failed step_left step_failed held
-    write_failed c limit r s p q w result rest other used spent made
+pub pair_seen : {P Q W : Type 0} {base_left : P → Option (List ℕ)} {base_failed : P → Bool}
+    {step_left : Q → Option (List ℕ)} {step_failed : Q → Bool} {held : W → Option (List ℕ)}
+    {write_failed : W → Bool} {c : PairCommand} {limit : ℕ} {r rest s other : Reader} {p used : P}
+    {q spent : Q} {w made : W} {result : Result (Unit {0}) CheckError}
+    → RunsPair bytes_left read_failed bytes_left read_failed base_left base_failed step_left
+    step_failed held write_failed c limit r s p q w result rest other used spent made
     → RunsPair bytes_of has_failed bytes_of has_failed bytes_of has_failed bytes_of has_failed
-    bytes_of has_failed c limit (seen left failed r) (seen left_of failed_of s)
-    (seen base_left base_failed p) (seen step_left step_failed q) (seen held write_failed w)
-    result (seen left failed rest) (seen left_of failed_of other)
+    bytes_of has_failed c limit (read r) (read s) (seen base_left base_failed p)
+    (seen step_left step_failed q) (seen held write_failed w) result (read rest) (read other)
     (seen base_left base_failed used) (seen step_left step_failed spent)
     (seen held write_failed made)
-pair_seen {left = left} {left_of = left_of} {base_left = base_left} {base_failed = base_failed}
-    {step_left = step_left} {step_failed = step_failed} {held = held} {write_failed = write_failed}
-    {c = c} {limit = limit} {r = r} {s = s} {p = p} {used = used} {q = q} {spent = spent} {w = w}
-    {made = made} {result = result} runs =
-    record {
-      reads = both_seen
-          (λ f g. of_pair held write_failed w made c limit (base_left p) (step_left q) (left r)
-          (left_of s) f g result)
-          runs.reads;
-      kept = same_seen held write_failed w made (λ e. e ≢ checks.Write) result runs.kept;
-      base_unread = same_seen base_left base_failed p used pairs.LeavesBase result runs.base_unread;
-      step_unread = same_seen step_left step_failed q spent pairs.LeavesStep result
-          runs.step_unread;
-      base_stream = runs.base_stream;
-      step_stream = runs.step_stream;
-      miter_base_stream = runs.miter_base_stream;
-      miter_step_stream = runs.miter_step_stream;
-    }
+pair_seen {base_left = base_left} {base_failed = base_failed} {step_left = step_left}
+    {step_failed = step_failed} =
+    seen_printed (λ x. two_seen read bytes_of has_failed x read bytes_of has_failed
+    (seen base_left base_failed) bytes_of has_failed (seen step_left step_failed) bytes_of
+    has_failed)
 
 -- ---- first steps and a window
 
 module _ {P : Type 0} (left : P → Option (List ℕ)) (failed : P → Bool) (p used : P) (k : ℕ)
     (optimize : Bool) where
-  base_seen : (c : Circuit) (r : Result (Unit {0}) BoundedAnswerError)
-      → AnswersCircuit left k optimize p used c r
-      → AnswersCircuit bytes_of k optimize (seen left failed p) (seen left failed used) c r
-  base_seen c r told = (
-    told.0,
-    λ made asks.
-        let of = told.1 made asks in
-        record {
-          settled = λ is. ((of.settled is).0, ap (seen left failed) (of.settled is).1);
-          shown = of.shown;
-        },
-  )
-
   bounded_seen : (limit : ℕ) (c : Circuit) (r : Result (Unit {0}) BoundedAnswerError)
       → TellsOfQuestion left limit k optimize p used c r
       → TellsOfQuestion bytes_of limit k optimize (seen left failed p) (seen left failed used) c r
   bounded_seen limit c r told = record {
     said = told.said;
     large = told.large;
-    shown = λ taken. base_seen c r (told.shown taken);
+    shown = λ taken. base_seen (seen left failed) bytes_of k optimize p used c r (told.shown taken);
   }
 
   pub lassos_seen : (limit j : ℕ) (f : File) (r : Result (Unit {0}) LivenessError)
@@ -368,40 +354,6 @@ module _ {P : Type 0} (left : P → Option (List ℕ)) (failed : P → Bool) (p 
 module _ {P Q : Type 0} (left : P → Option (List ℕ)) (failed : P → Bool)
     (left_of : Q → Option (List ℕ)) (failed_of : Q → Bool) (p used : P) (q : Q) (k : ℕ)
     (base_optimize step_optimize : Bool) (form : Window) where
-  circuit_seen : (c : Circuit) (r : Result (Unit {0}) SafetyError)
-      → ShowsCircuit left left_of k base_optimize form step_optimize p used q c r
-      → ShowsCircuit bytes_of bytes_of k base_optimize form step_optimize (seen left failed p)
-      (seen left failed used) (seen left_of failed_of q) c r
-  circuit_seen c (Ok done) told = (base_seen left failed p used k base_optimize c (Ok tt) told.0, told.1)
-  circuit_seen c (Err (safety.File e)) told = absurd told
-  circuit_seen c (Err (safety.Base e)) told = base_seen left failed p used k base_optimize c (Err e) told
-  circuit_seen c (Err (safety.Step e)) told = (base_seen left failed p used k base_optimize c (Ok tt) told.0, told.1)
-
-  pub shows_seen : (f : File) (r : Result (Unit {0}) SafetyError)
-      → Shows left left_of k base_optimize form step_optimize p used q f r
-      → Shows bytes_of bytes_of k base_optimize form step_optimize (seen left failed p)
-      (seen left failed used) (seen left_of failed_of q) f r
-  shows_seen f (Ok done) told = (told.0, circuit_seen _ (Ok tt) told.1)
-  shows_seen f (Err e) told = circuit_seen _ (Err e) told
-
-  why_seen : (limit : ℕ) (old new : Option (List ℕ)) (e : CheckError)
-      → TellsWhy (Shows left left_of k base_optimize form step_optimize p used q) limit k old new e
-      → TellsWhy (Shows bytes_of bytes_of k base_optimize form step_optimize (seen left failed p)
-      (seen left failed used) (seen left_of failed_of q)) limit k old new e
-  why_seen limit old new (checks.Safe e) told = (
-    λ taken. means_on (λ f. shows_seen f (Err e)) (told.0 taken),
-    told.1,
-  )
-  why_seen limit old new e told = tt
-
-  whys_seen : (limit : ℕ) (old new : Option (List ℕ)) (r : Result (Unit {0}) CheckError)
-      → IfErr r (TellsWhy (Shows left left_of k base_optimize form step_optimize p used q) limit k
-      old new)
-      → IfErr r (TellsWhy (Shows bytes_of bytes_of k base_optimize form step_optimize
-      (seen left failed p) (seen left failed used) (seen left_of failed_of q)) limit k old new)
-  whys_seen limit old new (Ok done) told = tt
-  whys_seen limit old new (Err e) told = why_seen limit old new e told
-
   -- of a justice property
   safety_seen : (limit : ℕ) (c : Circuit) (r : Result (Unit {0}) SafetyError)
       → TellsOfSafety left left_of limit k base_optimize form step_optimize p used q c r
@@ -410,7 +362,8 @@ module _ {P Q : Type 0} (left : P → Option (List ℕ)) (failed : P → Bool)
   safety_seen limit c r told = record {
     said = told.said;
     large = told.large;
-    shown = λ taken. circuit_seen c r (told.shown taken);
+    shown = λ taken. circuit_seen (seen left failed) bytes_of (seen left_of failed_of) bytes_of k form
+        base_optimize step_optimize p used q c r (told.shown taken);
   }
 
   pub no_run_seen : (limit j : ℕ) (f : File) (r : Result (Unit {0}) LivenessError)
@@ -424,109 +377,29 @@ module _ {P Q : Type 0} (left : P → Option (List ℕ)) (failed : P → Bool)
       (told.0, told.1, safety_seen limit told.0 (Err e) told.2)
   no_run_seen limit j f (Err e) told = told
 
-pub safe_seen : {R P Q W : Type 0} {file_left : R → Option (List ℕ)} {file_failed : R → Bool}
-    {left : P → Option (List ℕ)} {failed : P → Bool} {left_of : Q → Option (List ℕ)}
-    {failed_of : Q → Bool} {held : W → Option (List ℕ)} {write_failed : W → Bool} {k : ℕ}
-    {form : Window} {base_optimize step_optimize : Bool} {limit : ℕ} {r rest : R} {p used : P}
-    {q spent : Q} {w made : W} {result : Result (Unit {0}) CheckError}
-    → RunsSafe file_left file_failed left failed left_of failed_of held write_failed k form
-    base_optimize step_optimize limit r p q w result rest used spent made
-    → RunsSafe bytes_of has_failed bytes_of has_failed bytes_of has_failed bytes_of has_failed k
-    form base_optimize step_optimize limit (seen file_left file_failed r) (seen left failed p)
-    (seen left_of failed_of q) (seen held write_failed w) result (seen file_left file_failed rest)
-    (seen left failed used) (seen left_of failed_of spent) (seen held write_failed made)
-safe_seen {file_left = file_left} {left = left} {failed = failed} {left_of = left_of}
-    {failed_of = failed_of} {held = held} {write_failed = write_failed} {k = k} {form = form}
-    {base_optimize = base_optimize} {step_optimize = step_optimize} {limit = limit} {r = r}
-    {rest = rest} {p = p} {used = used} {q = q} {spent = spent} {w = w} {made = made}
-    {result = result} runs =
-    let shows = shows_seen left failed left_of failed_of p used q k base_optimize step_optimize
-    form in
-    record {
-      verdict = runs.verdict;
-      own = runs.own;
-      safe = λ taken. means_on (λ f. shows f (Ok tt)) (runs.safe taken);
-      ok = runs.ok;
-      stopped = runs.stopped;
-      kept = same_seen held write_failed w made (λ e. e ≢ checks.Write) result runs.kept;
-      refusal = whys_seen left failed left_of failed_of p used q k base_optimize step_optimize form
-          limit (file_left r) (file_left rest) result runs.refusal;
-      base_unread = same_seen left failed p used safes.LeavesBase result runs.base_unread;
-      step_unread = same_seen left_of failed_of q spent safes.LeavesStep result runs.step_unread;
-      base_stream = runs.base_stream;
-      step_stream = runs.step_stream;
-    }
+module _ {W : Type 0} {held : W → Option (List ℕ)} {write_failed : W → Bool} {limit : ℕ} {w made : W}
+    {result : Result (Unit {0}) CheckError} where
+  pub safe_seen : {k : ℕ} {form : Window} {base_optimize step_optimize : Bool}
+      {r rest p used q spent : Reader}
+      → RunsSafe bytes_left read_failed bytes_left read_failed bytes_left read_failed held
+      write_failed k form base_optimize step_optimize limit r p q w result rest used spent made
+      → RunsSafe bytes_of has_failed bytes_of has_failed bytes_of has_failed bytes_of has_failed k
+      form base_optimize step_optimize limit (read r) (read p) (read q) (seen held write_failed w)
+      result (read rest) (read used) (read spent) (seen held write_failed made)
+  safe_seen =
+      seen_printed (λ x. proofs_seen read bytes_of has_failed x read bytes_of has_failed read bytes_of
+      has_failed)
 
--- ---- a certificate of a miter
-
-module _ {C : Type 0} (left : C → Option (List ℕ)) (failed : C → Bool) (c tried : C) (limit : ℕ)
-    (optimize : Bool) (base step : Option (List ℕ)) where
-  certifies_seen : (f g : File) (r : Result (Unit {0}) CertificateError)
-      → CertifiesMiter left failed limit optimize base step c tried f g r
-      → CertifiesMiter bytes_of has_failed limit optimize base step (seen left failed c)
-      (seen left failed tried) f g r
-  certifies_seen f g r told = (
-    told.0,
-    told.1,
-    record { verdict = told.2.verdict; answer = told.2.answer },
-  )
-
-  by_seen : (f g : File) (r : Result (Unit {0}) MiterError)
-      → EqualsBy left failed limit optimize base step c tried f g r
-      → EqualsBy bytes_of has_failed limit optimize base step (seen left failed c)
-      (seen left failed tried) f g r
-  by_seen f g (Ok done) told = (told.0, certifies_seen f g (Ok tt) told.1)
-  by_seen f g (Err (miter.Pair e)) told = told
-  by_seen f g (Err (miter.Certificate e)) told = certifies_seen f g (Err e) told
-
-  comparing_of : {W : Type 0} (held : W → Option (List ℕ)) (write_failed : W → Bool) (w made : W)
-      (f g : File) (r : Result (Unit {0}) CheckError)
-      → TellsOfComparing left failed held write_failed optimize limit base step c tried w made f g r
-      → TellsOfComparing bytes_of has_failed bytes_of has_failed optimize limit base step
-      (seen left failed c) (seen left failed tried) (seen held write_failed w)
-      (seen held write_failed made) f g r
-  comparing_of held write_failed w made f g (Ok done) told =
-      (by_seen f g (Ok tt) told.0, told.1, told.2)
-  comparing_of held write_failed w made f g (Err checks.Write) told =
-      (by_seen f g (Ok tt) told.0, told.1)
-  comparing_of held write_failed w made f g (Err (checks.Miter e)) told = by_seen f g (Err e) told
-  comparing_of held write_failed w made f g (Err e) told = told
-
-pub comparing_seen : {R S C P Q W : Type 0} {left : R → Option (List ℕ)} {failed : R → Bool}
-    {left_of : S → Option (List ℕ)} {failed_of : S → Bool} {given : C → Option (List ℕ)}
-    {given_failed : C → Bool} {base_left : P → Option (List ℕ)} {base_failed : P → Bool}
-    {step_left : Q → Option (List ℕ)} {step_failed : Q → Bool} {held : W → Option (List ℕ)}
-    {write_failed : W → Bool} {limit : ℕ} {optimize : Bool} {r rest : R} {s other : S}
-    {c tried : C} {p used : P} {q spent : Q} {w made : W} {result : Result (Unit {0}) CheckError}
-    → RunsComparing left failed left_of failed_of given given_failed base_left base_failed
-    step_left step_failed held write_failed optimize limit r s c p q w result rest other tried
-    used spent made
-    → RunsComparing bytes_of has_failed bytes_of has_failed bytes_of has_failed bytes_of
-    has_failed bytes_of has_failed bytes_of has_failed optimize limit (seen left failed r)
-    (seen left_of failed_of s) (seen given given_failed c) (seen base_left base_failed p)
-    (seen step_left step_failed q) (seen held write_failed w) result (seen left failed rest)
-    (seen left_of failed_of other) (seen given given_failed tried)
-    (seen base_left base_failed used) (seen step_left step_failed spent)
-    (seen held write_failed made)
-comparing_seen {given = given} {given_failed = given_failed} {base_left = base_left}
-    {base_failed = base_failed} {step_left = step_left} {step_failed = step_failed} {held = held}
-    {write_failed = write_failed} {limit = limit} {optimize = optimize} {c = c} {tried = tried}
-    {p = p} {used = used} {q = q} {spent = spent} {w = w} {made = made} {result = result} runs =
-    record {
-      reads = both_seen
-          (λ f g. comparing_of given given_failed c tried limit optimize (base_left p)
-          (step_left q) held write_failed w made f g result)
-          runs.reads;
-      kept = same_seen held write_failed w made (λ e. e ≢ checks.Write) result runs.kept;
-      certificate_unread = same_seen given given_failed c tried comparing.LeavesCertificate result
-          runs.certificate_unread;
-      base_unread = same_seen base_left base_failed p used comparing.LeavesBase result
-          runs.base_unread;
-      step_unread = same_seen step_left step_failed q spent comparing.LeavesStep result
-          runs.step_unread;
-      base_stream = runs.base_stream;
-      step_stream = runs.step_stream;
-    }
+  pub comparing_seen : {optimize : Bool} {r rest s other c tried p used q spent : Reader}
+      → RunsComparing bytes_left read_failed bytes_left read_failed bytes_left read_failed
+      bytes_left read_failed bytes_left read_failed held write_failed optimize limit r s c p q w
+      result rest other tried used spent made
+      → RunsComparing bytes_of has_failed bytes_of has_failed bytes_of has_failed bytes_of
+      has_failed bytes_of has_failed bytes_of has_failed optimize limit (read r) (read s) (read c)
+      (read p) (read q) (seen held write_failed w) result (read rest) (read other) (read tried)
+      (read used) (read spent) (seen held write_failed made)
+  comparing_seen =
+      seen_printed (λ x. miter_seen read bytes_of has_failed x read bytes_of has_failed)
 
 -- ---- a witness circuit
 

@@ -1,5 +1,5 @@
 -- What the command does that compares two files by a certificate, at each way out of it.
-use Rattle.aig_base.proofs.Words.{◌≡◌, ℕ, Bool, false, Option, Ok, Err, List, refl, Appends}
+use Rattle.aig_base.proofs.Words.{◌≡◌, ℕ, Bool, Option, Ok, Err, List, refl}
 use Rattle.std.specs.Prelude.{IsErrOf, IsTrue}
 use Rattle.aig_answers.specs.declared.error.AnswerError.TheVariants as answers
 use Rattle.aig_answers.specs.Comparing as comparing
@@ -9,9 +9,8 @@ use Rattle.aig_answers.specs.declared.certificates.compare_error.MiterError.TheV
 use Rattle.aig_answers.specs.declared.certificates.error.CertificateError.TheVariants as certificate
 use Rattle.aig_edits.proofs.Reading.{reads_on}
 use Rattle.aig_edits.specs.Pairs.{ReadsPair}
-use Rattle.aig_output.specs.Sinks.{Stops}
 use Rattle.aig_refutation.specs.declared.error.RefutationError.TheVariants as refutation
-use Rattle.aig_check_commands.specs.Comparing.{IsErrorOfComparing, RunsComparing, TellsOfComparing}
+use Rattle.aig_check_commands.specs.Comparing.{ChecksComparing, IsErrorOfComparing, TellsOfComparing}
 use Rattle.aig_check_commands.specs.Pairs.{always_line, other_verdict_of}
 use Rattle.aig_check_commands.specs.Running.{verdict_of}
 use Rattle.aig_check_commands.specs.declared.error.CheckError.{CheckError}
@@ -22,22 +21,20 @@ same_miter : (x y : MiterError) → errors.Miter x ≡ errors.Miter y → x ≡ 
 same_miter x y is = cc
 
 -- the error of a call is the program's, with this in it
-inner : (e x : MiterError) → IsErrOf {T = Unit {0}} (Err (errors.Miter e)) (errors.Miter x)
+inner : (e x : MiterError) → IsErrOf {T = List ℕ} (Err (errors.Miter e)) (errors.Miter x)
     → IsErrOf {T = Unit {0}} (Err e) x
-inner e x is = err_of e x (same_miter e x (is_error (Unit {0}) CheckError _ _ is))
+inner e x is = err_of e x (same_miter e x (is_error (List ℕ) CheckError _ _ is))
 
-module _ {R S C P Q W : Type 0} {left : R → Option (List ℕ)} {failed : R → Bool}
+module _ {R S C P Q : Type 0} {left : R → Option (List ℕ)} {failed : R → Bool}
     {left_of : S → Option (List ℕ)} {failed_of : S → Bool} {given : C → Option (List ℕ)}
     {given_failed : C → Bool} {base_left : P → Option (List ℕ)} {base_failed : P → Bool}
-    {step_left : Q → Option (List ℕ)} {step_failed : Q → Bool} {held : W → Option (List ℕ)}
-    {write_failed : W → Bool} {optimize : Bool} {limit : ℕ} {r rest : R} {s other : S}
-    {c tried : C} {p used : P} {q spent : Q} {w made : W} where
+    {step_left : Q → Option (List ℕ)} {step_failed : Q → Bool} {optimize : Bool} {limit : ℕ}
+    {r rest : R} {s other : S} {c tried : C} {p used : P} {q spent : Q} where
   -- a file is refused, or a proof
   pub compare_refused : (e : MiterError)
       → ReadsPair left failed left_of failed_of limit
       (EqualsBy given given_failed limit optimize (base_left p) (step_left q) c tried)
       comparing.first_verdict comparing.second_verdict comparing.IsOwn r s (Err e) rest other
-      → made ≡ w
       → (comparing.LeavesCertificate (Err e) → tried ≡ c)
       → (comparing.LeavesQuery (Err e) → used ≡ p) → (comparing.LeavesWindow (Err e) → spent ≡ q)
       → (IsErrOf {T = Unit {0}} (Err e)
@@ -46,16 +43,14 @@ module _ {R S C P Q W : Type 0} {left : R → Option (List ℕ)} {failed : R →
       → (IsErrOf {T = Unit {0}} (Err e)
       (miter.Certificate (certificate.Window (answers.Refutation refutation.Stream)))
       → IsTrue (step_failed spent))
-      → RunsComparing left failed left_of failed_of given given_failed base_left base_failed
-      step_left step_failed held write_failed optimize limit r s c p q w (Err (errors.Miter e))
-      rest other tried used spent made
-  compare_refused e told same certificate base step base_stream step_stream = record {
+      → ChecksComparing left failed left_of failed_of given given_failed base_left base_failed
+      step_left step_failed optimize limit r s c p q rest other tried used spent
+      (Err (errors.Miter e))
+  compare_refused e told certificate base step base_stream step_stream = record {
     reads = reads_on left failed left_of failed_of limit r s rest other
-        (TellsOfComparing given given_failed held write_failed optimize limit (base_left p)
-        (step_left q) c tried w made)
+        (TellsOfComparing given given_failed optimize limit (base_left p) (step_left q) c tried)
         verdict_of other_verdict_of IsErrorOfComparing (Err (errors.Miter e)) told refl refl
         told.own (λ f g bytes others fits also means. means);
-    kept = λ not. same;
     certificate_unread = certificate;
     base_unread = base;
     step_unread = step;
@@ -63,47 +58,20 @@ module _ {R S C P Q W : Type 0} {left : R → Option (List ℕ)} {failed : R →
     step_stream = λ is. step_stream (inner e _ is);
   }
 
-  -- the line was written
-  pub compare_answered : (v : Unit {0})
-      → ReadsPair left failed left_of failed_of limit
+  -- both are equal
+  pub compare_answered : ReadsPair left failed left_of failed_of limit
       (EqualsBy given given_failed limit optimize (base_left p) (step_left q) c tried)
       comparing.first_verdict comparing.second_verdict comparing.IsOwn r s (Ok tt) rest other
-      → Appends (held w) (held made) always_line → write_failed made ≡ false
-      → RunsComparing left failed left_of failed_of given given_failed base_left base_failed
-      step_left step_failed held write_failed optimize limit r s c p q w (Ok v) rest other tried used
-      spent made
-  compare_answered v told written sound = record {
+      → ChecksComparing left failed left_of failed_of given given_failed base_left base_failed
+      step_left step_failed optimize limit r s c p q rest other tried used spent (Ok always_line)
+  compare_answered told = record {
     reads = reads_on left failed left_of failed_of limit r s rest other
-        (TellsOfComparing given given_failed held write_failed optimize limit (base_left p)
-        (step_left q) c tried w made)
-        verdict_of other_verdict_of IsErrorOfComparing (Ok v) told refl refl tt
-        (λ f g bytes others fits also means. (means, written, sound));
-    kept = tt;
+        (TellsOfComparing given given_failed optimize limit (base_left p) (step_left q) c tried)
+        verdict_of other_verdict_of IsErrorOfComparing (Ok always_line) told refl refl tt
+        (λ f g bytes others fits also means. (refl, means));
     certificate_unread = tt;
     base_unread = tt;
     step_unread = tt;
-    base_stream = λ is. absurd cc;
-    step_stream = λ is. absurd cc;
-  }
-
-  -- the writer failed after a beginning of it
-  pub compare_stopped : ReadsPair left failed left_of failed_of limit
-      (EqualsBy given given_failed limit optimize (base_left p) (step_left q) c tried)
-      comparing.first_verdict comparing.second_verdict comparing.IsOwn r s (Ok tt) rest other
-      → Stops (held w) (held made) (write_failed made) always_line
-      → RunsComparing left failed left_of failed_of given given_failed base_left base_failed
-      step_left step_failed held write_failed optimize limit r s c p q w (Err errors.Write)
-      rest other tried used spent made
-  compare_stopped told stops = record {
-    reads = reads_on left failed left_of failed_of limit r s rest other
-        (TellsOfComparing given given_failed held write_failed optimize limit (base_left p)
-        (step_left q) c tried w made)
-        verdict_of other_verdict_of IsErrorOfComparing (Err errors.Write) told refl refl tt
-        (λ f g bytes others fits also means. (means, stops));
-    kept = λ not. absurd (not refl);
-    certificate_unread = λ no. absurd no;
-    base_unread = λ no. absurd no;
-    step_unread = λ no. absurd no;
     base_stream = λ is. absurd cc;
     step_stream = λ is. absurd cc;
   }

@@ -19,13 +19,11 @@ use Rattle.aig_check_commands.specs.declared.justice.Justice.{Justice}
 use Rattle.aig_check_commands.specs.declared.error.CheckError.{CheckError}
 use Rattle.aig_check_commands.specs.declared.error.CheckError.TheVariants as errors
 use Rattle.aig_check_commands.specs.Acting.{Acts, RanBy, RanOn}
-use Rattle.aig_check_commands.specs.Comparing.{IsErrorOfComparing, RunsComparing, TellsOfComparing}
+use Rattle.aig_check_commands.specs.Printed.{EndsWith, Printed}
 use Rattle.aig_check_commands.specs.Inputs.{Ran, bytes_of, has_failed}
 use Rattle.aig_check_commands.specs.Living.{ChecksText, Concludes, IsMadeOwn, IsOfMaking, MeansMade, RunsMade, ShowsFair, TellsMade, fair_line, made_verdict}
-use Rattle.aig_check_commands.specs.Pairs.{IsErrorOfPair, RunsPair, TellsOfPair, always_line, other_verdict_of, safe_line}
-use Rattle.aig_check_commands.specs.Running.{Runs, nothing_fails, nothing_given, verdict_of}
-use Rattle.aig_check_commands.specs.Safe.{RunsSafe}
-use Rattle.aig_check_commands.specs.SafeBySteps.{RunsSafeBySteps}
+use Rattle.aig_check_commands.specs.Pairs.{other_verdict_of, safe_line}
+use Rattle.aig_check_commands.specs.Running.{verdict_of}
 use Rattle.aig_check_commands.specs.Simulating.{IsErrorOfObligation, IsErrorOfSimulated, RunsObligation, RunsSimulated, TellsOfObligation, TellsOfSimulated, refusal_of}
 use Rattle.aig_check_commands.specs.CommandWords.{prints}
 use Rattle.aig_simulated.specs.Simulated.{Proofs, proof_for, proofs_of}
@@ -81,202 +79,23 @@ module _ {W : Type 0} (held : W → Option (List ℕ)) (write_failed : W → Boo
   stops text grows lost = stops_unflushed (held w) (held made) (held flat) (write_failed flat) text grows keeps lost
 
   module _ (u : Unit {0}) where
-    runs_ended : {R P : Type 0} (left : R → Option (List ℕ)) (failed : R → Bool)
-        (given : P → Option (List ℕ)) (given_failed : P → Bool) (limit : ℕ) (c : FileCommand)
-        (r rest : R) (p used : P) (done : Result Unit CheckError)
-        → Runs left failed given given_failed held write_failed c limit r p w (Ok u) rest used made
-        → EndsBy (write_failed flat) done → Runs left failed given given_failed held write_failed c limit r p w done rest used flat
-    runs_ended left failed given given_failed limit c r rest p used (Ok v) runs sound =
-        let answer = runs.ok in
-        record {
-          verdict = runs.verdict;
-          own = tt;
-          ok = (answer.0, answer.1, (appends_kept (held w) (held made) (held flat) answer.0 answer.2.0 keeps, sound));
-          stopped = λ is. cc;
-          taken = λ ok. runs.taken tt;
-          kept = tt;
-          unread = tt;
-          refusal = tt;
-        }
-    runs_ended left failed given given_failed limit c r rest p used (Err errors.Write) runs lost =
-        let answer = runs.ok in
-        record {
-          verdict = runs.verdict;
-          own = tt;
-          ok = tt;
-          stopped = λ is. (answer.0, answer.1, stops answer.0 answer.2.0 lost);
-          taken = λ is. runs.taken tt;
-          kept = λ not. absurd (not refl);
-          unread = λ no. absurd no;
-          refusal = tt;
-        }
-    runs_ended left failed given given_failed limit c r rest p used (Err e) runs never = absurd never
-
-    told_ended : (limit : ℕ) (c : PairCommand) (base step bytes others : Option (List ℕ)) (f g : File) (done : Result Unit CheckError)
-        → TellsOfPair held write_failed c limit base step bytes others w made f g (Ok u)
-        → EndsBy (write_failed flat) done → TellsOfPair held write_failed c limit base step bytes others w flat f g done
-    told_ended limit c base step bytes others f g done told ends =
-        by_end (write_failed flat)
-        (TellsOfPair held write_failed c limit base step bytes others w flat f g)
-        (λ v sound. (told.0, told.1, appends_kept (held w) (held made) (held flat) told.0 told.2 keeps, sound))
-        (λ lost. (told.0, told.1, stops told.0 told.2 lost)) done ends
-
-    pair_ended : {R S P Q : Type 0} (left : R → Option (List ℕ)) (failed : R → Bool)
-        (left_of : S → Option (List ℕ)) (failed_of : S → Bool) (base_left : P → Option (List ℕ))
-        (base_failed : P → Bool) (step_left : Q → Option (List ℕ)) (step_failed : Q → Bool)
-        (limit : ℕ) (c : PairCommand) (r rest : R) (s other : S) (p used : P) (q spent : Q)
-        (done : Result Unit CheckError)
-        → RunsPair left failed left_of failed_of base_left base_failed step_left step_failed held write_failed c limit r s p q w (Ok u) rest other used spent made
-        → EndsBy (write_failed flat) done → RunsPair left failed left_of failed_of base_left base_failed step_left step_failed held write_failed c limit r s p q w done rest other used spent flat
-    pair_ended left failed left_of failed_of base_left base_failed step_left step_failed limit c r rest s other p used q spent done runs ends =
-        by_end (write_failed flat) (λ x. ReadsPair left failed left_of failed_of limit (TellsOfPair held write_failed c limit (base_left p) (step_left q) (left r) (left_of s) w flat) verdict_of other_verdict_of (IsErrorOfPair c) r s x rest other
-        → RunsPair left failed left_of failed_of base_left base_failed step_left step_failed held write_failed c limit r s p q w x rest other used spent flat)
-        (λ v sound reads. record { reads = reads; kept = tt; base_unread = tt; step_unread = tt; base_stream = λ is. cc; step_stream = λ is. cc; miter_base_stream = λ is. cc; miter_step_stream = λ is. cc })
-        (λ lost reads. record { reads = reads; kept = λ not. absurd (not refl); base_unread = λ no. absurd no; step_unread = λ no. absurd no; base_stream = λ is. cc; step_stream = λ is. cc; miter_base_stream = λ is. cc; miter_step_stream = λ is. cc })
-        done ends
-        (reads_on left failed left_of failed_of limit r s rest other (TellsOfPair held write_failed c limit (base_left p) (step_left q) (left r) (left_of s) w flat) verdict_of other_verdict_of (IsErrorOfPair c) done runs.reads (accepted_by _ done ends) (other_accepted_by _ done ends) (own_by (IsErrorOfPair c) tt _ done ends)
-        (λ f g bytes others fits also told. told_ended limit c (base_left p) (step_left q) (left r) (left_of s) f g done told ends))
-
-    safe_ended : {R P Q : Type 0} (left : R → Option (List ℕ)) (failed : R → Bool)
-        (base_left : P → Option (List ℕ)) (base_failed : P → Bool)
-        (step_left : Q → Option (List ℕ)) (step_failed : Q → Bool) (k : ℕ) (form : Window)
-        (base_optimize step_optimize : Bool) (limit : ℕ) (r rest : R) (p used : P) (q spent : Q)
-        (done : Result Unit CheckError)
-        → RunsSafe left failed base_left base_failed step_left step_failed held write_failed k form
-        base_optimize step_optimize limit r p q w (Ok u) rest used spent made
-        → EndsBy (write_failed flat) done
-        → RunsSafe left failed base_left base_failed step_left step_failed held write_failed k form
-        base_optimize step_optimize limit r p q w done rest used spent flat
-    safe_ended left failed base_left base_failed step_left step_failed k form base_optimize
-        step_optimize limit r rest p used q spent (Ok v) runs sound = record {
-          verdict = runs.verdict;
-          own = tt;
-          safe = λ taken. runs.safe tt;
-          ok = (appends_kept (held w) (held made) (held flat) safe_line runs.ok.0 keeps, sound);
-          stopped = λ is. cc;
-          kept = tt;
-          refusal = tt;
-          base_unread = tt;
-          step_unread = tt;
-          base_stream = λ is. cc;
-          step_stream = λ is. cc;
-        }
-    safe_ended left failed base_left base_failed step_left step_failed k form base_optimize
-        step_optimize limit r rest p used q spent (Err errors.Write) runs lost = record {
-          verdict = runs.verdict;
-          own = tt;
-          safe = λ taken. runs.safe tt;
-          ok = tt;
-          stopped = λ is. stops safe_line runs.ok.0 lost;
-          kept = λ not. absurd (not refl);
-          refusal = tt;
-          base_unread = λ no. absurd no;
-          step_unread = λ no. absurd no;
-          base_stream = λ is. cc;
-          step_stream = λ is. cc;
-        }
-    safe_ended left failed base_left base_failed step_left step_failed k form base_optimize
-        step_optimize limit r rest p used q spent (Err e) runs never = absurd never
-
-    steps_ended : {R P Q : Type 0} (left : R → Option (List ℕ)) (failed : R → Bool)
-        (base_left : P → Option (List ℕ)) (base_failed : P → Bool)
-        (step_left : Q → Option (List ℕ)) (step_failed : Q → Bool) (k : ℕ) (form : Window)
-        (base_optimize step_optimize : Bool) (limit : ℕ) (r rest : R) (ps used : List P)
-        (q spent : Q)
-        (done : Result Unit CheckError)
-        → RunsSafeBySteps left failed base_left base_failed step_left step_failed held write_failed
-        k form base_optimize step_optimize limit r ps q w (Ok u) rest used spent made
-        → EndsBy (write_failed flat) done
-        → RunsSafeBySteps left failed base_left base_failed step_left step_failed held write_failed
-        k form base_optimize step_optimize limit r ps q w done rest used spent flat
-    steps_ended left failed base_left base_failed step_left step_failed k form base_optimize
-        step_optimize limit r rest ps used q spent (Ok v) runs sound = record {
-          verdict = runs.verdict;
-          own = tt;
-          safe = λ taken. runs.safe tt;
-          ok = (appends_kept (held w) (held made) (held flat) safe_line runs.ok.0 keeps, sound);
-          stopped = λ is. cc;
-          kept = tt;
-          refusal = tt;
-          base_unread = tt;
-          step_unread = tt;
-          base_stream = λ n is. cc;
-          step_stream = λ is. cc;
-        }
-    steps_ended left failed base_left base_failed step_left step_failed k form base_optimize
-        step_optimize limit r rest ps used q spent (Err errors.Write) runs lost = record {
-          verdict = runs.verdict;
-          own = tt;
-          safe = λ taken. runs.safe tt;
-          ok = tt;
-          stopped = λ is. stops safe_line runs.ok.0 lost;
-          kept = λ not. absurd (not refl);
-          refusal = tt;
-          base_unread = λ n no. absurd no;
-          step_unread = λ no. absurd no;
-          base_stream = λ n is. cc;
-          step_stream = λ is. cc;
-        }
-    steps_ended left failed base_left base_failed step_left step_failed k form base_optimize
-        step_optimize limit r rest ps used q spent (Err e) runs never = absurd never
-
-    module _ {R S C P Q : Type 0} (left : R → Option (List ℕ)) (failed : R → Bool)
-        (left_of : S → Option (List ℕ)) (failed_of : S → Bool) (given : C → Option (List ℕ))
-        (given_failed : C → Bool) (base_left : P → Option (List ℕ)) (base_failed : P → Bool)
-        (step_left : Q → Option (List ℕ)) (step_failed : Q → Bool) (optimize : Bool) (limit : ℕ)
-        (r rest : R) (s other : S) (c tried : C) (p used : P) (q spent : Q) where
-      -- what is told of both files, once more is written
-      abbrev Compares : W → File → File → Result Unit CheckError → Type 0
-      Compares x =
-          TellsOfComparing given given_failed held write_failed optimize limit (base_left p)
-          (step_left q) c tried w x
-
-      compared_ended : (f g : File) (done : Result Unit CheckError) → Compares made f g (Ok u)
-          → EndsBy (write_failed flat) done → Compares flat f g done
-      compared_ended f g done told ends =
-          by_end (write_failed flat) (Compares flat f g)
-          (λ v sound. (
-            told.0,
-            appends_kept (held w) (held made) (held flat) always_line told.1 keeps,
-            sound,
-          ))
-          (λ lost. (told.0, stops always_line told.1 lost)) done ends
-
-      abbrev Runs_to : W → Result Unit CheckError → Type 0
-      Runs_to x done =
-          RunsComparing left failed left_of failed_of given given_failed base_left base_failed
-          step_left step_failed held write_failed optimize limit r s c p q w done rest other tried
-          used spent x
-
-      compare_ended : (done : Result Unit CheckError) → Runs_to made (Ok u)
-          → EndsBy (write_failed flat) done → Runs_to flat done
-      compare_ended done runs ends =
-          by_end (write_failed flat)
-          (λ x. ReadsPair left failed left_of failed_of limit (Compares flat) verdict_of
-          other_verdict_of IsErrorOfComparing r s x rest other → Runs_to flat x)
-          (λ v sound reads. record {
-            reads = reads;
-            kept = tt;
-            certificate_unread = tt;
-            base_unread = tt;
-            step_unread = tt;
-            base_stream = λ is. cc;
-            step_stream = λ is. cc;
-          })
-          (λ lost reads. record {
-            reads = reads;
-            kept = λ not. absurd (not refl);
-            certificate_unread = λ no. absurd no;
-            base_unread = λ no. absurd no;
-            step_unread = λ no. absurd no;
-            base_stream = λ is. cc;
-            step_stream = λ is. cc;
-          })
-          done ends
-          (reads_on left failed left_of failed_of limit r s rest other (Compares flat) verdict_of
-          other_verdict_of IsErrorOfComparing done runs.reads (accepted_by _ done ends)
-          (other_accepted_by _ done ends) (own_by IsErrorOfComparing tt _ done ends)
-          (λ f g bytes others fits also told. compared_ended f g done told ends))
+    -- a text that was printed
+    printed_ended : {Holds : Result (List ℕ) CheckError → Type 0} (done : Result Unit CheckError)
+        → Printed held write_failed Holds w (Ok u) made → EndsBy (write_failed flat) done
+        → Printed held write_failed Holds w done flat
+    printed_ended done printed ends = record {
+      answer = printed.answer;
+      holds = printed.holds;
+      ends = on printed.answer printed.ends;
+    }
+      where
+        on : (x : Result (List ℕ) CheckError) → EndsWith held write_failed x w (Ok u) made
+            → EndsWith held write_failed x w done flat
+        on (Ok text) is =
+            by_end (write_failed flat) (λ y. EndsWith held write_failed (Ok text) w y flat)
+            (λ v sound. (appends_kept (held w) (held made) (held flat) text is.0 keeps, sound))
+            (λ lost. (refl, stops text is.0 lost)) done ends
+        on (Err e) is = let no = is.0 in cc
 
     module _ {R S P : Type 0} (left : R → Option (List ℕ)) (failed : R → Bool)
         (left_of : S → Option (List ℕ)) (failed_of : S → Bool) (given : P → Option (List ℕ))
@@ -411,49 +230,43 @@ module _ {W : Type 0} (held : W → Option (List ℕ)) (write_failed : W → Boo
 module _ {W : Type 0} (held : W → Option (List ℕ)) (write_failed : W → Bool) (w made flat : W)
     (keeps : Keeps (held made) (held flat)) (u : Unit {0}) (done : Result Unit CheckError)
     (ends : EndsBy (write_failed flat) done) (limit : ℕ) where
+  printed : {Holds : Result (List ℕ) CheckError → Type 0}
+      → Printed held write_failed Holds w (Ok u) made → Printed held write_failed Holds w done flat
+  printed ran = printed_ended held write_failed w made flat keeps u done ran ends
+
   ran_ended : {R S : Type 0} (left : R → Option (List ℕ)) (failed : R → Bool)
       (left_of : S → Option (List ℕ)) (failed_of : S → Bool) (c : Command) (r rest : R)
       (files others : List S)
       → Ran left failed left_of failed_of held write_failed limit c r files w (Ok u) rest others made
       → Ran left failed left_of failed_of held write_failed limit c r files w done rest others flat
-  ran_ended left failed left_of failed_of (commands.File c) r rest [] [] ran =
-      runs_ended held write_failed w made flat keeps u left failed nothing_given nothing_fails limit
-      c r rest tt tt done ran ends
+  ran_ended left failed left_of failed_of (commands.File c) r rest [] [] ran = printed ran
   ran_ended left failed left_of failed_of (commands.File c) r rest (p ∷ []) (used ∷ []) ran =
-      runs_ended held write_failed w made flat keeps u left failed left_of failed_of limit c r rest p
-      used done ran ends
+      printed ran
   ran_ended left failed left_of failed_of (commands.Pair c) r rest (s ∷ []) (other ∷ []) ran =
-      pair_ended held write_failed w made flat keeps u left failed left_of failed_of nothing_given
-      nothing_fails nothing_given nothing_fails limit c r rest s other tt tt tt tt done ran ends
+      printed ran
   ran_ended left failed left_of failed_of (commands.Pair c) r rest (s ∷ p ∷ [])
       (other ∷ used ∷ []) ran =
-      pair_ended held write_failed w made flat keeps u left failed left_of failed_of left_of
-      failed_of nothing_given nothing_fails limit c r rest s other p used tt tt done ran ends
+      printed ran
   ran_ended left failed left_of failed_of (commands.Pair c) r rest (s ∷ p ∷ q ∷ [])
       (other ∷ used ∷ spent ∷ []) ran =
-      pair_ended held write_failed w made flat keeps u left failed left_of failed_of left_of
-      failed_of left_of failed_of limit c r rest s other p used q spent done ran ends
+      printed ran
   ran_ended left failed left_of failed_of (commands.Safe k form base_optimize step_optimize) r rest
       (p ∷ q ∷ []) (used ∷ spent ∷ []) ran =
-      safe_ended held write_failed w made flat keeps u left failed left_of failed_of left_of
-      failed_of k form base_optimize step_optimize limit r rest p used q spent done ran ends
+      printed ran
   ran_ended left failed left_of failed_of
-      (commands.SafeBySteps k form base_optimize step_optimize) r rest files others ran = record {
+      (commands.SafeBySteps k form base_optimize step_optimize) r rest files others ran =
+      record {
         bases = ran.bases;
         step = ran.step;
         are = ran.are;
         used = ran.used;
         spent = ran.spent;
         become = ran.become;
-        runs = steps_ended held write_failed w made flat keeps u left failed left_of failed_of
-            left_of failed_of k form base_optimize step_optimize limit r rest ran.bases ran.used
-            ran.step ran.spent done ran.runs ends;
+        runs = printed ran.runs;
       }
   ran_ended left failed left_of failed_of (commands.EqualBy optimize) r rest (s ∷ c ∷ p ∷ q ∷ [])
       (other ∷ tried ∷ used ∷ spent ∷ []) ran =
-      compare_ended held write_failed w made flat keeps u left failed left_of failed_of left_of
-      failed_of left_of failed_of left_of failed_of optimize limit r rest s other c tried p used q
-      spent done ran ends
+      printed ran
   ran_ended left failed left_of failed_of (commands.Simulated optimize) r rest
       (s ∷ a ∷ b ∷ c ∷ d ∷ e ∷ [])
       (other ∷ a_rest ∷ b_rest ∷ c_rest ∷ d_rest ∷ e_rest ∷ []) ran =
@@ -497,19 +310,19 @@ module _ {W : Type 0} (held : W → Option (List ℕ)) (write_failed : W → Boo
 
   module _ {F : Type 0} (opens : List ℕ → Result F OpenError → Type 0)
       (left : F → Option (List ℕ)) (failed : F → Bool) (c : Asked) where
-    on_ended : (files : List F) → RanOn left failed held write_failed limit c w (Ok u) made files
-        → RanOn left failed held write_failed limit c w done flat files
-    on_ended [] ran = absurd ran
-    on_ended (r ∷ files) ran = (
-      ran.0,
-      ran.1,
-      by_ended left failed left failed c.command r ran.0 files ran.1 c.justice ran.2,
-    )
+    on_ended : (files others : List F)
+        → RanOn left failed held write_failed limit c files w (Ok u) others made
+        → RanOn left failed held write_failed limit c files w done others flat
+    on_ended (r ∷ files) (rest ∷ others) ran =
+        by_ended left failed left failed c.command r rest files others c.justice ran
+    on_ended [] others ran = absurd ran
+    on_ended (r ∷ files) [] ran = absurd ran
 
     -- what was asked was done, and what that printed is flushed
     pub acts_ended : (paths further : List (List ℕ))
         → Acts opens left failed held write_failed limit c paths further w (Ok u) made
         → Acts opens left failed held write_failed limit c paths further w done flat
     acts_ended paths further (inl acts) =
-        inl (opens_on opens (paths ++ further) _ _ _ _ on_ended (λ e no. let is = no.0 in cc) acts)
-    acts_ended paths further (inr short) = let is = short.1 in cc
+        inl (opens_on opens (paths ++ further) _ _ _ _
+        (λ files ran. (ran.0, on_ended files ran.0 ran.1)) (λ e no. let is = no.0 in cc) acts)
+    acts_ended paths further (inr short) = let is = short.0 in cc

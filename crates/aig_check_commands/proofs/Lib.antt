@@ -5,7 +5,7 @@ mod Equating
 mod Flushing
 mod Made
 mod Opened
-mod Outcomes
+pub mod Outcomes
 mod Pairing
 mod Placing
 mod Proving
@@ -13,7 +13,7 @@ mod ProvingSteps
 mod Refusing
 mod Shown
 mod Simulating
-mod Viewed
+pub mod Viewed
 mod Examples
 pub mod Passing
 pub mod Summing

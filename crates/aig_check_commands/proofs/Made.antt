@@ -1,9 +1,9 @@
 -- What the text of the file that is made for a justice property shows of the file itself.
-use Rattle.aig_base.proofs.Words.{◌≡◌, ◌≢◌, ◌==◌, ◌↔◌, ℕ, zero, suc, ◌+◌, ◌≤◌, ◌<◌, eqb-true, false_from_ne_true, sym, true≢false, Bool, true, false, List, [], ◌∷◌, Option, None, Some, Ok, Err, Vec, Global, refl, subst, arith, length, Appends, IsAtEnd, Consumes-whole}
+use Rattle.aig_base.proofs.Words.{◌≡◌, ◌≢◌, ◌==◌, ◌↔◌, ℕ, zero, suc, ◌+◌, ◌≤◌, ◌<◌, eqb-true, false_from_ne_true, sym, ◌∙◌, true≢false, Bool, true, false, List, [], ◌∷◌, Option, None, Some, Ok, Err, Vec, Global, refl, subst, arith, length, Appends, IsAtEnd, Consumes-whole}
 use mathlib.Core.List.{map-id}
 use Rattle.std.specs.Prelude.{IfErr, IsTrue, MatchOption, Result, is_none}
 use Rattle.std.proofs.lemmas.Option.{slice_get_within}
-use Rattle.aig_output.specs.Sinks.{Stops}
+use Rattle.aig_output.specs.Sinks.{WritesOrStops}
 use Rattle.aig_circuit.specs.Circuit.{Circuit}
 use Rattle.aig_edits.specs.declared.edit_error.EditError.{EditError}
 use Rattle.aig_edits.specs.declared.edit_error.EditError.TheVariants as edit
@@ -21,7 +21,6 @@ use Rattle.aig_reader.specs.Reading.{IsReadAs}
 use Rattle.aig_reader.specs.Verdicts.{Accepted, verdict_by}
 use Rattle.aig_reader.proofs.Verdicts.{one_file}
 use Rattle.aig_runs.specs.Queries.{IsSafeTo}
-use Rattle.aig_runs.specs.declared.window.Window.{Window}
 use Rattle.aig_runs.proofs.SafeSteps.{safe_is}
 use Rattle.aig_command_line.specs.declared.discarded.Discarded.{Discarded}
 use Rattle.aig_check_commands.specs.declared.command.Command.{Command}
@@ -33,20 +32,22 @@ use Rattle.aig_check_commands.specs.declared.command.PairCommand.TheVariants as 
 use Rattle.aig_check_commands.specs.declared.justice.Justice.{Justice}
 use Rattle.aig_check_commands.specs.declared.error.CheckError.{CheckError}
 use Rattle.aig_check_commands.specs.declared.error.CheckError.TheVariants as errors
-use Rattle.aig_check_commands.specs.Comparing.{IsErrorOfComparing, RunsComparing}
+use Rattle.aig_check_commands.specs.Comparing.{IsErrorOfComparing}
 use Rattle.aig_check_commands.specs.Inputs.{Ran, Stream, bytes_of, has_failed}
 use Rattle.aig_check_commands.specs.Justice.{is_asked}
 use Rattle.aig_check_commands.specs.Living.{ChecksText, Concludes, IsMadeOf, IsMadeOwn, IsOfMaking, IsUnmade, PrintsMade, RunsMade, ShowsFair, TellsMade, keeps_nothing, made_verdict, never_fails}
 use Rattle.aig_check_commands.specs.LivingParts.{MakesText, WritesMade, text_error}
-use Rattle.aig_check_commands.specs.Pairs.{IsErrorOfPair, RunsPair}
-use Rattle.aig_check_commands.specs.Running.{IsErrorOf, Runs}
-use Rattle.aig_check_commands.specs.Safe.{IsErrorOfSafe, RunsSafe}
-use Rattle.aig_check_commands.specs.SafeBySteps.{IsErrorOfSteps, RunsSafeBySteps}
+use Rattle.aig_check_commands.specs.Printed.{EndsWith, Printed}
+use Rattle.aig_check_commands.specs.Printing.{after_writing}
+use Rattle.aig_check_commands.specs.Pairs.{ChecksPair, IsErrorOfPair, safe_line}
+use Rattle.aig_check_commands.specs.Running.{ChecksFile, IsErrorOf}
+use Rattle.aig_check_commands.specs.Safe.{IsErrorOfSafe}
+use Rattle.aig_check_commands.specs.SafeBySteps.{IsErrorOfSteps}
 use Rattle.aig_check_commands.specs.Simulating.{IsErrorOfObligation, IsErrorOfSimulated, RunsObligation, RunsSimulated}
 use Rattle.aig_simulated.specs.Simulated.{Proofs, proofs_of}
 use Rattle.aig_simulation.specs.declared.condition.Condition.{Condition}
 use Rattle.aig_check_commands.specs.CommandWords.{beside_of, prints}
-use Rattle.aig_check_commands.proofs.Outcomes.{err_of}
+use Rattle.aig_check_commands.proofs.Outcomes.{printed_on, text_of_printed}
 use Rattle.aig_check_commands.proofs.Viewed.{ran_seen}
 
 -- ---- the file of a text
@@ -128,52 +129,51 @@ live_of (Some n) property f m is live = cc
 module _ (runs_are : AreLassos) (limit : ℕ) (a : Justice) (f : File) (m : Circuit)
     (made : IsMadeOf a f m) (failed : Bool) (rest : Stream) (w done : Discarded) where
   file_shows : {P : Type 0} {given : P → Option (List ℕ)} {given_failed : P → Bool} (p used : P)
-      (c : FileCommand) → 0 < beside_of (commands.File c)
+      (c : FileCommand) (text : List ℕ) → 0 < beside_of (commands.File c)
       → IsTrue (is_asked (Some a) (commands.File c))
-      → Runs bytes_of has_failed given given_failed keeps_nothing never_fails c limit
-      (Some (text_of m), failed) p w (Ok tt) rest used done
+      → ChecksFile bytes_of has_failed given given_failed c limit (Some (text_of m), failed) p rest
+      used (Ok text)
       → ShowsFair (commands.File c) a.property f
-  file_shows p used (on_file.Refuted k optimize) some asked runs =
+  file_shows p used (on_file.Refuted k optimize) text some asked runs =
       let live = live_of a.rounds a.property f m asked made in
       let answer = read_back limit m (λ bytes g is. is.0.0) live.again (runs.verdict.whole tt).1
-      runs.ok.1 in
+      runs.text in
       λ lasso. answer.1 ((live.shows k).1 lasso)
-  file_shows p used (on_file.RefutedTo k optimize) some asked runs =
+  file_shows p used (on_file.RefutedTo k optimize) text some asked runs =
       let live = live_of a.rounds a.property f m asked made in
       let answer = read_back limit m (λ bytes g is. is.0) live.again (runs.verdict.whole tt).1
-      runs.ok.1 in
+      runs.text in
       λ n low lasso. (safe_is (file_of Text m) k).1 answer.1 n low ((live.shows n).1 lasso)
-  file_shows p used (on_file.Inductive k form optimize) some asked runs =
+  file_shows p used (on_file.Inductive k form optimize) text some asked runs =
       let live = live_of a.rounds a.property f m asked made in
       let answer = read_back limit m (λ bytes g is. is.0.0) live.again (runs.verdict.whole tt).1
-      runs.ok.1 in
+      runs.text in
       let g = file_of Text m in
       λ none run.
       let lasso = (runs_are f a.property).0 run in
       let first = (safe_is g k).0 (λ n low found. none n low ((live.shows n).0 found)) in
       (safe_is g lasso.0).1 (answer.2 first lasso.0) lasso.0 (omega arith) ((live.shows lasso.0).1
       lasso.1)
-  file_shows p used (on_file.Clauses k optimize) some asked runs = absurd (omega (arith, some))
-  file_shows p used (on_file.Window k form optimize) some asked runs = absurd (omega (arith, some))
-  file_shows p used (on_file.Bounded k optimize) some asked runs = absurd (omega (arith, some))
-  file_shows p used c some asked runs = absurd (true≢false (sym asked))
+  file_shows p used (on_file.Clauses k optimize) text some asked runs = absurd (omega (arith, some))
+  file_shows p used (on_file.Window k form optimize) text some asked runs = absurd (omega (arith, some))
+  file_shows p used (on_file.Bounded k optimize) text some asked runs = absurd (omega (arith, some))
+  file_shows p used c text some asked runs = absurd (true≢false (sym asked))
 
   pair_shows : {S P Q : Type 0} {left_of : S → Option (List ℕ)} {failed_of : S → Bool}
       {base_left : P → Option (List ℕ)} {base_failed : P → Bool} {step_left : Q → Option (List ℕ)}
       {step_failed : Q → Bool} (s other : S) (p used : P) (q spent : Q) (c : PairCommand)
-      → 0 < beside_of (commands.Pair c) → IsTrue (is_asked (Some a) (commands.Pair c))
-      → RunsPair bytes_of has_failed left_of failed_of base_left base_failed step_left step_failed
-      keeps_nothing never_fails c limit (Some (text_of m), failed) s p q w (Ok tt) rest other used
-      spent done
+      (text : List ℕ) → 0 < beside_of (commands.Pair c) → IsTrue (is_asked (Some a) (commands.Pair c))
+      → ChecksPair bytes_of has_failed left_of failed_of base_left base_failed step_left step_failed
+      c limit (Some (text_of m), failed) s p q rest other used spent (Ok text)
       → ShowsFair (commands.Pair c) a.property f
-  pair_shows s other p used q spent (on_pair.Certified optimize) some asked runs =
+  pair_shows s other p used q spent (on_pair.Certified optimize) text some asked runs =
       let both = runs.reads in
       no_run runs_are a f m made
       (read_back limit m (λ bytes g is. is) (made_again a f m made) (both.verdict.whole tt).1
-      (both.answer refl refl)).means.1.1.0.1
-  pair_shows s other p used q spent (on_pair.Obligations optimize) some asked runs =
+      (both.answer refl refl)).means.1.0.1
+  pair_shows s other p used q spent (on_pair.Obligations optimize) text some asked runs =
       absurd (omega (arith, some))
-  pair_shows s other p used q spent c some asked runs = absurd (true≢false (sym asked))
+  pair_shows s other p used q spent c text some asked runs = absurd (true≢false (sym asked))
 
   ran_shows : {S : Type 0} (left_of : S → Option (List ℕ)) (failed_of : S → Bool) (c : Command)
       (files others : List S) → 0 < beside_of c → IsTrue (is_asked (Some a) c)
@@ -181,21 +181,22 @@ module _ (runs_are : AreLassos) (limit : ℕ) (a : Justice) (f : File) (m : Circ
       (Some (text_of m), failed) files w (Ok tt) rest others done
       → ShowsFair c a.property f
   ran_shows left_of failed_of (commands.File c) [] [] some asked ran =
-      file_shows tt tt c some asked ran
+      let text = text_of_printed ran in file_shows tt tt c text.0 some asked text.1
   ran_shows left_of failed_of (commands.File c) (p ∷ []) (used ∷ []) some asked ran =
-      file_shows p used c some asked ran
+      let text = text_of_printed ran in file_shows p used c text.0 some asked text.1
   ran_shows left_of failed_of (commands.Pair c) (s ∷ []) (other ∷ []) some asked ran =
-      pair_shows s other tt tt tt tt c some asked ran
+      let text = text_of_printed ran in pair_shows s other tt tt tt tt c text.0 some asked text.1
   ran_shows left_of failed_of (commands.Pair c) (s ∷ p ∷ []) (other ∷ used ∷ []) some asked ran =
-      pair_shows s other p used tt tt c some asked ran
+      let text = text_of_printed ran in pair_shows s other p used tt tt c text.0 some asked text.1
   ran_shows left_of failed_of (commands.Pair c) (s ∷ p ∷ q ∷ []) (other ∷ used ∷ spent ∷ []) some
       asked ran =
-      pair_shows s other p used q spent c some asked ran
+      let text = text_of_printed ran in pair_shows s other p used q spent c text.0 some asked text.1
   ran_shows left_of failed_of (commands.Safe k form base_optimize step_optimize) (p ∷ q ∷ [])
-      (used ∷ spent ∷ []) some asked runs =
+      (used ∷ spent ∷ []) some asked ran =
+      let told = (text_of_printed ran).1 in
       no_run runs_are a f m made
-      (read_back limit m (λ bytes g is. is.0.0) (made_again a f m made) (runs.verdict.whole tt).1
-      (runs.safe tt)).0
+      (read_back limit m (λ bytes g is. is.0.0) (made_again a f m made) (told.verdict.whole tt).1
+      told.text.1).0
   ran_shows left_of failed_of (commands.SafeBySteps k form base_optimize step_optimize) files
       others some asked ran =
       absurd (true≢false (sym asked))
@@ -331,39 +332,103 @@ module _ {R : Type 0} (left : R → Option (List ℕ)) (failed : R → Bool) (li
 
 -- ---- which errors a command has on the text
 
-never_unmade : (c : FileCommand) (e : CheckError) → IsErrorOf c e → ¬ IsOfMaking e
-never_unmade c (errors.Unmade e) own is = own
-never_unmade c e own is = is
+-- it is neither that of the writer nor one of the making
+abbrev IsApart : CheckError → Type 0
+IsApart e = (e ≢ errors.Write) × ¬ IsOfMaking e
 
-pair_never_unmade : (c : PairCommand) (e : CheckError) → IsErrorOfPair c e → ¬ IsOfMaking e
-pair_never_unmade c (errors.Unmade e) own is = own
-pair_never_unmade c e own is = is
+file_apart : (c : FileCommand) (e : CheckError) → IsErrorOf c e → IsApart e
+file_apart c errors.Write own = absurd own
+file_apart c (errors.Unmade e) own = absurd own
+file_apart c e own = (λ is. cc, λ is. is)
 
-compare_never_unmade : (e : CheckError) → IsErrorOfComparing e → ¬ IsOfMaking e
-compare_never_unmade (errors.Unmade e) own is = own
-compare_never_unmade e own is = is
+pair_apart : (c : PairCommand) (e : CheckError) → IsErrorOfPair c e → IsApart e
+pair_apart c errors.Write own = absurd own
+pair_apart c (errors.Unmade e) own = absurd own
+pair_apart c e own = (λ is. cc, λ is. is)
 
-simulated_never_unmade : (e : CheckError) → IsErrorOfSimulated e → ¬ IsOfMaking e
-simulated_never_unmade (errors.Unmade e) own is = own
-simulated_never_unmade e own is = is
+compare_apart : (e : CheckError) → IsErrorOfComparing e → IsApart e
+compare_apart (errors.Miter e) own = (λ is. cc, λ is. is)
+compare_apart e own = absurd own
 
-obligation_never_unmade : (condition : Condition) (e : CheckError)
-    → IsErrorOfObligation condition e → ¬ IsOfMaking e
-obligation_never_unmade condition (errors.Unmade e) own is = own
-obligation_never_unmade condition e own is = is
+safe_apart : (e : CheckError) → IsErrorOfSafe e → IsApart e
+safe_apart (errors.Safe e) own = (λ is. cc, λ is. is)
+safe_apart e own = absurd own
 
-safe_never_unmade : (e : CheckError) → IsErrorOfSafe e → ¬ IsOfMaking e
-safe_never_unmade (errors.Unmade e) own is = own
-safe_never_unmade e own is = is
+steps_apart : (k : ℕ) (e : CheckError) → IsErrorOfSteps k e → IsApart e
+steps_apart k (errors.Steps e) own = (λ is. cc, λ is. is)
+steps_apart k e own = absurd own
 
-steps_never_unmade : (k : ℕ) (e : CheckError) → IsErrorOfSteps k e → ¬ IsOfMaking e
-steps_never_unmade k (errors.Unmade e) own is = own
-steps_never_unmade k e own is = is
+each_error : {IsOwn IsSuch : CheckError → Type 0} → ((e : CheckError) → IsOwn e → IsSuch e)
+    → (x : Result (List ℕ) CheckError) → IfErr x IsOwn → IfErr x IsSuch
+each_error so (Ok text) own = tt
+each_error so (Err e) own = so e own
 
-each_error : (IsOwn IsSuch : CheckError → Type 0) → ((e : CheckError) → IsOwn e → IsSuch e)
-    → (result : Result (Unit {0}) CheckError) → IfErr result IsOwn → IfErr result IsSuch
-each_error IsOwn IsSuch so (Ok u) own = tt
-each_error IsOwn IsSuch so (Err e) own = so e own
+-- a text was printed, or there is such an error
+abbrev PrintedApart : {W : Type 0} → (W → Option (List ℕ)) → (W → Bool) → W
+    → Result (Unit {0}) CheckError → W → Type 0
+PrintedApart held write_failed = Printed held write_failed (λ x. IfErr x IsApart)
+
+module _ {W : Type 0} {held : W → Option (List ℕ)} {write_failed : W → Bool} {w made : W} where
+  apart_as : {Holds : Result (List ℕ) CheckError → Type 0} {result : Result (Unit {0}) CheckError}
+      → ((x : Result (List ℕ) CheckError) → Holds x → IfErr x IsApart)
+      → Printed held write_failed Holds w result made → PrintedApart held write_failed w result made
+  apart_as so = printed_on so (λ x ends. ends)
+
+  simulated_apart : {R S P : Type 0} {left : R → Option (List ℕ)} {failed : R → Bool}
+      {left_of : S → Option (List ℕ)} {failed_of : S → Bool} {given : P → Option (List ℕ)}
+      {given_failed : P → Bool} {optimize : Bool} {limit : ℕ} {r rest : R} {s other : S}
+      {ps used : Proofs P} (result : Result (Unit {0}) CheckError)
+      → RunsSimulated left failed left_of failed_of given given_failed held write_failed optimize
+      limit r s ps w result rest other used made
+      → PrintedApart held write_failed w result made
+  simulated_apart (Ok u) runs =
+      let told = (runs.reads.answer refl refl).means.means in
+      record { answer = Ok safe_line; holds = tt; ends = (told.1, told.2) }
+  simulated_apart (Err errors.Write) runs = record {
+    answer = Ok safe_line;
+    holds = tt;
+    ends = (refl, (runs.reads.answer refl refl).means.means.1);
+  }
+  simulated_apart (Err (errors.Simulation e)) runs = record {
+    answer = Err (errors.Simulation e);
+    holds = (λ is. cc, λ is. is);
+    ends = (refl, runs.kept (λ is. cc));
+  }
+  simulated_apart (Err e) runs = absurd runs.reads.own
+
+  obligation_apart : {R S : Type 0} {left : R → Option (List ℕ)} {failed : R → Bool}
+      {left_of : S → Option (List ℕ)} {failed_of : S → Bool} {condition : Condition}
+      {optimize : Bool} {limit : ℕ} {r rest : R} {s other : S}
+      (result : Result (Unit {0}) CheckError)
+      → RunsObligation left failed left_of failed_of held write_failed condition optimize limit r s
+      w result rest other made
+      → PrintedApart held write_failed w result made
+  obligation_apart (Ok u) runs =
+      let told = (runs.reads.answer refl refl).means.means in
+      record { answer = Ok told.0; holds = tt; ends = (told.2, told.3) }
+  obligation_apart (Err errors.Write) runs =
+      let told = (runs.reads.answer refl refl).means.means in
+      record { answer = Ok told.0; holds = tt; ends = (refl, told.2) }
+  obligation_apart (Err (errors.Simulation e)) runs = record {
+    answer = Err (errors.Simulation e);
+    holds = (λ is. cc, λ is. is);
+    ends = (refl, runs.kept (λ is. cc));
+  }
+  obligation_apart (Err e) runs = absurd runs.reads.own
+
+  -- so it is not of the making
+  no_making : (result : Result (Unit {0}) CheckError) → PrintedApart held write_failed w result made
+      → IfErr result (λ e. ¬ IsOfMaking e)
+  no_making (Ok u) printed = tt
+  no_making (Err e) printed = on printed.answer printed.holds printed.ends
+    where
+      on : (x : Result (List ℕ) CheckError) → IfErr x IsApart
+          → EndsWith held write_failed x w (Err e) made → ¬ IsOfMaking e
+      on (Ok text) holds ends = λ is. subst IsOfMaking ends.0 is
+      on (Err x) holds ends =
+          let same : Err e ≡ Err x = ends.0 in
+          let one : e ≡ x = cc in
+          λ is. holds.1 (subst IsOfMaking one is)
 
 -- a check that was not passed, and no line
 pub concludes_refused : {W : Type 0} (held : W → Option (List ℕ)) (write_failed : W → Bool)
@@ -374,75 +439,70 @@ concludes_refused held write_failed line Shown Checks w made errors.Write not ch
     absurd (not refl)
 concludes_refused held write_failed line Shown Checks w made e not checks same = (checks, same)
 
+-- a check that was passed, and the line was written, or a beginning of it
+pub concludes_written : {W E : Type 0} {held : W → Option (List ℕ)} {write_failed : W → Bool}
+    {line : List ℕ} {Shown : Type 0} {w made : W} (Checks : Result (Unit {0}) CheckError → Type 0)
+    (x : Result (Unit {0}) E) → Checks (Ok tt) → Shown → WritesOrStops held write_failed w x line made
+    → Concludes held write_failed line Shown Checks w made (after_writing x)
+concludes_written Checks (Ok u) checks shown writes = (checks, shown, writes.ok, writes.sound)
+concludes_written Checks (Err e) checks shown writes = (checks, shown, writes.err)
+
+pub written_no_making : {E : Type 0} (x : Result (Unit {0}) E)
+    → IfErr (after_writing x) (λ e. ¬ IsOfMaking e)
+written_no_making (Ok u) = tt
+written_no_making (Err e) = λ no. no
+
 -- where nothing is written, no write fails
-stops_never : {text : List ℕ} → ¬ Stops None None false text
-stops_never stops = let no = stops.has_failed in cc
+no_write : {w made : Discarded} (e : CheckError)
+    → PrintedApart keeps_nothing never_fails w (Err e) made → e ≢ errors.Write
+no_write {w} {made} e printed is = on printed.answer printed.holds printed.ends
+  where
+    on : (x : Result (List ℕ) CheckError) → IfErr x IsApart
+        → ¬ EndsWith keeps_nothing never_fails x w (Err e) made
+    on (Ok text) holds ends = let no = ends.1.has_failed in cc
+    on (Err x) holds ends =
+        let same : Err e ≡ Err x = ends.0 in
+        let one : e ≡ x = cc in
+        holds.0 (sym one ∙ is)
 
-runs_no_write : {R P : Type 0} {left : R → Option (List ℕ)} {failed : R → Bool}
-    {given : P → Option (List ℕ)} {given_failed : P → Bool} {c : FileCommand} {limit : ℕ}
-    {r rest : R} {p used : P} {w made : Discarded} (e : CheckError)
-    → Runs left failed given given_failed keeps_nothing never_fails c limit r p w (Err e) rest used
-    made
-    → e ≢ errors.Write
-runs_no_write e runs is = stops_never (runs.stopped (err_of e errors.Write is)).2
+module _ {R S W : Type 0} (left : R → Option (List ℕ)) (failed : R → Bool)
+    (left_of : S → Option (List ℕ)) (failed_of : S → Bool) (held : W → Option (List ℕ))
+    (write_failed : W → Bool) (limit : ℕ) (r rest : R) (w made : W) where
+  ran_apart : (result : Result (Unit {0}) CheckError) (c : Command) (files others : List S)
+      → Ran left failed left_of failed_of held write_failed limit c r files w result rest others
+      made
+      → PrintedApart held write_failed w result made
+  ran_apart result (commands.File c) [] [] ran =
+      apart_as (λ x told. each_error (file_apart c) x told.own) ran
+  ran_apart result (commands.File c) (p ∷ []) (used ∷ []) ran =
+      apart_as (λ x told. each_error (file_apart c) x told.own) ran
+  ran_apart result (commands.Pair c) (s ∷ []) (other ∷ []) ran =
+      apart_as (λ x told. each_error (pair_apart c) x told.reads.own) ran
+  ran_apart result (commands.Pair c) (s ∷ p ∷ []) (other ∷ used ∷ []) ran =
+      apart_as (λ x told. each_error (pair_apart c) x told.reads.own) ran
+  ran_apart result (commands.Pair c) (s ∷ p ∷ q ∷ []) (other ∷ used ∷ spent ∷ []) ran =
+      apart_as (λ x told. each_error (pair_apart c) x told.reads.own) ran
+  ran_apart result (commands.Safe k form o y) (p ∷ q ∷ []) (used ∷ spent ∷ []) ran =
+      apart_as (λ x told. each_error safe_apart x told.own) ran
+  ran_apart result (commands.SafeBySteps k form o y) files others ran =
+      apart_as (λ x told. each_error (steps_apart k) x told.own) ran.runs
+  ran_apart result (commands.EqualBy o) (s ∷ c ∷ p ∷ q ∷ [])
+      (other ∷ tried ∷ used ∷ spent ∷ []) ran =
+      apart_as (λ x told. each_error compare_apart x told.reads.own) ran
+  ran_apart result (commands.Simulated o) (s ∷ a ∷ b ∷ c ∷ d ∷ f ∷ [])
+      (other ∷ a_rest ∷ b_rest ∷ c_rest ∷ d_rest ∷ f_rest ∷ []) ran =
+      simulated_apart {ps = proofs_of a b c d f}
+      {used = proofs_of a_rest b_rest c_rest d_rest f_rest} result ran
+  ran_apart result (commands.Obligation condition o) (s ∷ []) (other ∷ []) ran =
+      obligation_apart result ran
+  ran_apart result c files others ran = absurd ran
 
-safe_no_write : {R P Q : Type 0} {left : R → Option (List ℕ)} {failed : R → Bool}
-    {base_left : P → Option (List ℕ)} {base_failed : P → Bool} {step_left : Q → Option (List ℕ)}
-    {step_failed : Q → Bool} {k : ℕ} {form : Window} {base_optimize step_optimize : Bool}
-    {limit : ℕ} {r rest : R} {p used : P} {q spent : Q} {w made : Discarded} (e : CheckError)
-    → RunsSafe left failed base_left base_failed step_left step_failed keeps_nothing never_fails k
-    form base_optimize step_optimize limit r p q w (Err e) rest used spent made
-    → e ≢ errors.Write
-safe_no_write e runs is = stops_never (runs.stopped (err_of e errors.Write is))
-
-steps_no_write : {R P Q : Type 0} {left : R → Option (List ℕ)} {failed : R → Bool}
-    {base_left : P → Option (List ℕ)} {base_failed : P → Bool} {step_left : Q → Option (List ℕ)}
-    {step_failed : Q → Bool} {k : ℕ} {form : Window} {base_optimize step_optimize : Bool}
-    {limit : ℕ} {r rest : R} {ps used : List P} {q spent : Q} {w made : Discarded} (e : CheckError)
-    → RunsSafeBySteps left failed base_left base_failed step_left step_failed keeps_nothing
-    never_fails k form base_optimize step_optimize limit r ps q w (Err e) rest used spent made
-    → e ≢ errors.Write
-steps_no_write e runs is = stops_never (runs.stopped (err_of e errors.Write is))
-
-pair_no_write : {R S P Q : Type 0} {left : R → Option (List ℕ)} {failed : R → Bool}
-    {left_of : S → Option (List ℕ)} {failed_of : S → Bool} {base_left : P → Option (List ℕ)}
-    {base_failed : P → Bool} {step_left : Q → Option (List ℕ)} {step_failed : Q → Bool}
-    {c : PairCommand} {limit : ℕ} {r rest : R} {s other : S} {p used : P} {q spent : Q}
-    {w made : Discarded} (e : CheckError)
-    → RunsPair left failed left_of failed_of base_left base_failed step_left step_failed
-    keeps_nothing never_fails c limit r s p q w (Err e) rest other used spent made
-    → e ≢ errors.Write
-pair_no_write errors.Write runs is = stops_never (runs.reads.answer refl refl).means.means.2
-pair_no_write e runs is = cc
-
-comparing_no_write : {R S : Type 0} {left : R → Option (List ℕ)} {failed : R → Bool}
-    {left_of : S → Option (List ℕ)} {failed_of : S → Bool} {optimize : Bool} {limit : ℕ}
-    {r rest : R} {s other c tried p used q spent : S} {w made : Discarded} (e : CheckError)
-    → RunsComparing left failed left_of failed_of left_of failed_of left_of failed_of left_of
-    failed_of keeps_nothing never_fails optimize limit r s c p q w (Err e) rest other tried used
-    spent made
-    → e ≢ errors.Write
-comparing_no_write errors.Write runs is = stops_never (runs.reads.answer refl refl).means.means.1
-comparing_no_write e runs is = cc
-
-simulated_no_write : {R S P : Type 0} {left : R → Option (List ℕ)} {failed : R → Bool}
-    {left_of : S → Option (List ℕ)} {failed_of : S → Bool} {given : P → Option (List ℕ)}
-    {given_failed : P → Bool} {optimize : Bool} {limit : ℕ} {r rest : R} {s other : S}
-    {ps used : Proofs P} {w made : Discarded} (e : CheckError)
-    → RunsSimulated left failed left_of failed_of given given_failed keeps_nothing never_fails
-    optimize limit r s ps w (Err e) rest other used made
-    → e ≢ errors.Write
-simulated_no_write errors.Write runs is = stops_never (runs.reads.answer refl refl).means.means.1
-simulated_no_write e runs is = cc
-
-obligation_no_write : {R S : Type 0} {left : R → Option (List ℕ)} {failed : R → Bool}
-    {left_of : S → Option (List ℕ)} {failed_of : S → Bool} {condition : Condition}
-    {optimize : Bool} {limit : ℕ} {r rest : R} {s other : S} {w made : Discarded} (e : CheckError)
-    → RunsObligation left failed left_of failed_of keeps_nothing never_fails condition optimize
-    limit r s w (Err e) rest other made
-    → e ≢ errors.Write
-obligation_no_write errors.Write runs is = stops_never (runs.reads.answer refl refl).means.means.2
-obligation_no_write e runs is = cc
+  pub ran_no_making : (result : Result (Unit {0}) CheckError) (c : Command) (files others : List S)
+      → Ran left failed left_of failed_of held write_failed limit c r files w result rest others
+      made
+      → IfErr result (λ e. ¬ IsOfMaking e)
+  ran_no_making result c files others ran =
+      no_making result (ran_apart result c files others ran)
 
 module _ {R S : Type 0} (left : R → Option (List ℕ)) (failed : R → Bool)
     (left_of : S → Option (List ℕ)) (failed_of : S → Bool) (limit : ℕ) (r rest : R) where
@@ -450,54 +510,12 @@ module _ {R S : Type 0} (left : R → Option (List ℕ)) (failed : R → Bool)
       → Ran left failed left_of failed_of keeps_nothing never_fails limit c r files w (Err e) rest
       others made
       → e ≢ errors.Write
-  ran_no_write w made (commands.File c) [] [] e ran = runs_no_write e ran
-  ran_no_write w made (commands.File c) (p ∷ []) (used ∷ []) e ran = runs_no_write e ran
-  ran_no_write w made (commands.Pair c) (s ∷ []) (other ∷ []) e ran = pair_no_write e ran
-  ran_no_write w made (commands.Pair c) (s ∷ p ∷ []) (other ∷ used ∷ []) e ran = pair_no_write e ran
-  ran_no_write w made (commands.Pair c) (s ∷ p ∷ q ∷ []) (other ∷ used ∷ spent ∷ []) e ran =
-      pair_no_write e ran
-  ran_no_write w made (commands.Safe k form o y) (p ∷ q ∷ []) (used ∷ spent ∷ []) e ran =
-      safe_no_write e ran
-  ran_no_write w made (commands.SafeBySteps k form o y) files others e ran =
-      steps_no_write e ran.runs
-  ran_no_write w made (commands.EqualBy o) (s ∷ c ∷ p ∷ q ∷ []) (other ∷ tried ∷ used ∷ spent ∷ []) e ran =
-      comparing_no_write e ran
-  ran_no_write w made (commands.Simulated o) (s ∷ a ∷ b ∷ c ∷ d ∷ f ∷ [])
-      (other ∷ a_rest ∷ b_rest ∷ c_rest ∷ d_rest ∷ f_rest ∷ []) e ran =
-      simulated_no_write {ps = proofs_of a b c d f}
-      {used = proofs_of a_rest b_rest c_rest d_rest f_rest} e ran
-  ran_no_write w made (commands.Obligation condition o) (s ∷ []) (other ∷ []) e ran =
-      obligation_no_write e ran
-  ran_no_write w made c files others e ran = absurd ran
+  ran_no_write w made c files others e ran =
+      no_write e (ran_apart left failed left_of failed_of keeps_nothing never_fails limit r rest w
+      made (Err e) c files others ran)
 
   module _ {W : Type 0} (held : W → Option (List ℕ)) (write_failed : W → Bool) (w made : W)
       (result : Result (Unit {0}) CheckError) where
-    pub ran_no_making : (c : Command) (files others : List S)
-        → Ran left failed left_of failed_of held write_failed limit c r files w result rest others
-        made
-        → IfErr result (λ e. ¬ IsOfMaking e)
-    ran_no_making (commands.File c) [] [] ran = each_error _ _ (never_unmade c) result ran.own
-    ran_no_making (commands.File c) (p ∷ []) (used ∷ []) ran =
-        each_error _ _ (never_unmade c) result ran.own
-    ran_no_making (commands.Pair c) (s ∷ []) (other ∷ []) ran =
-        each_error _ _ (pair_never_unmade c) result ran.reads.own
-    ran_no_making (commands.Pair c) (s ∷ p ∷ []) (other ∷ used ∷ []) ran =
-        each_error _ _ (pair_never_unmade c) result ran.reads.own
-    ran_no_making (commands.Pair c) (s ∷ p ∷ q ∷ []) (other ∷ used ∷ spent ∷ []) ran =
-        each_error _ _ (pair_never_unmade c) result ran.reads.own
-    ran_no_making (commands.Safe k form o y) (p ∷ q ∷ []) (used ∷ spent ∷ []) ran =
-        each_error _ _ safe_never_unmade result ran.own
-    ran_no_making (commands.SafeBySteps k form o y) files others ran =
-        each_error _ _ (steps_never_unmade k) result ran.runs.own
-    ran_no_making (commands.EqualBy o) (s ∷ c ∷ p ∷ q ∷ []) (other ∷ tried ∷ used ∷ spent ∷ []) ran =
-        each_error _ _ compare_never_unmade result ran.reads.own
-    ran_no_making (commands.Simulated o) (s ∷ a ∷ b ∷ c ∷ d ∷ e ∷ [])
-        (other ∷ a_rest ∷ b_rest ∷ c_rest ∷ d_rest ∷ e_rest ∷ []) ran =
-        each_error _ _ simulated_never_unmade result ran.reads.own
-    ran_no_making (commands.Obligation condition o) (s ∷ []) (other ∷ []) ran =
-        each_error _ _ (obligation_never_unmade condition) result ran.reads.own
-    ran_no_making c files others ran = absurd ran
-
     -- a command that was run on a text
     pub ran_on_text : (text : List ℕ) (c : Command) (files others : List S)
         → left r ≡ Some text

@@ -1,18 +1,13 @@
 -- Files that are opened in order.
-use Rattle.aig_base.proofs.Words.{◌≡◌, ◌<◌, ◌≤◌, ◌+◌, ◌⊎◌, false, true≢false, ℕ, zero, suc, Global, List, String, [], ◌∷◌, ◌++◌, ◌∙◌, Ok, Err, ap, arith, get_or, inl, inr, length, map, refl, string_bytes, subst, sym, take}
-use Rattle.std.specs.Prelude.{IsTrue, Result}
+use Rattle.aig_base.proofs.Words.{◌≡◌, ◌<◌, ◌≤◌, ℕ, zero, suc, Global, List, String, [], ◌∷◌, ◌++◌, Ok, Err, ap, arith, get_or, length, length-append, map, refl, string_bytes, subst, sym, take}
+use Rattle.std.specs.List.{remove}
+use Rattle.std.specs.Prelude.{Result}
 use Rattle.aig_command_line.specs.declared.files.OpenError.{OpenError}
 use Rattle.aig_check_commands.specs.declared.command.Command.{Command}
 use Rattle.aig_check_commands.specs.declared.command.Command.TheVariants as commands
-use Rattle.aig_check_commands.specs.declared.command.FileCommand.TheVariants as on_file
-use Rattle.aig_check_commands.specs.declared.command.PairCommand.TheVariants as on_pair
-use Rattle.aig_check_commands.specs.declared.inputs.Inputs.{Inputs}
-use Rattle.aig_check_commands.specs.declared.inputs.Inputs.TheVariants as inputs
 use Rattle.aig_check_commands.specs.declared.error.CheckError.{CheckError}
-use Rattle.aig_check_commands.specs.declared.error.CheckError.TheVariants as errors
-use Rattle.aig_check_commands.specs.Fits.{is_list, room_of}
-use Rattle.aig_check_commands.specs.Inputs.{listed}
-use Rattle.aig_check_commands.specs.CommandWords.{beside_of, has_list, paths_of}
+use Rattle.aig_check_commands.specs.Fits.{LacksOne}
+use Rattle.aig_check_commands.specs.CommandWords.{paths_of}
 use Rattle.aig_check_commands.specs.Opening.{AreOpened, OnOpening, OpensAll, unopened}
 
 module _ {F : Type 0} (opens : List ℕ → Result F OpenError → Type 0) where
@@ -36,22 +31,6 @@ module _ {F : Type 0} (opens : List ℕ → Result F OpenError → Type 0) where
         (λ fs. on (f ∷ fs)) off) off o.file o.leads;
   }
 
-  -- where some were opened, what holds of the others behind them
-  pub opens_then : (paths more : List (List ℕ)) {Mid : List F → Type 0}
-      {Fails : CheckError → Type 0} → OpensAll opens paths Mid Fails → (Holds : List F → Type 0)
-      (AlsoFails : CheckError → Type 0)
-      → ((fs : List F) → Mid fs → OpensAll opens more (λ gs. Holds (fs ++ gs)) AlsoFails)
-      → ((e : CheckError) → Fails e → AlsoFails e)
-      → OpensAll opens (paths ++ more) Holds AlsoFails
-  opens_then [] more o Holds AlsoFails on off = on [] o
-  opens_then (path ∷ paths) more {Mid} {Fails} o Holds AlsoFails on off = record {
-    file = o.file;
-    opened = o.opened;
-    leads = leads_on _ _ Fails AlsoFails
-        (λ f rest. opens_then paths more {Mid = λ fs. Mid (f ∷ fs)} {Fails = Fails} rest
-        (λ fs. Holds (f ∷ fs)) AlsoFails (λ fs. on (f ∷ fs)) off) off o.file o.leads;
-  }
-
   -- where all were
   pub opens_as : (paths : List (List ℕ)) (fs : List F) (Holds : List F → Type 0)
       (Fails : CheckError → Type 0) → AreOpened opens paths fs → Holds fs
@@ -65,25 +44,23 @@ module _ {F : Type 0} (opens : List ℕ → Result F OpenError → Type 0) where
   opens_as [] (f ∷ fs) Holds Fails are holds = absurd are
   opens_as (path ∷ paths) [] Holds Fails are holds = absurd are
 
-  -- where those before one were, and that was not
-  pub opens_until : (words : List (String Global)) (i : ℕ) (word : String Global) (fs : List F)
-      (Holds : List F → Type 0) (Fails : CheckError → Type 0) (o : OpenError)
-      → i < length words → word ≡ get_or words i word
+  -- those before one were opened, and that was not
+  pub lacks_at : (words : List (String Global)) (i : ℕ) (word : String Global) (fs : List F)
+      (o : OpenError) → i < length words → word ≡ get_or words i word
       → AreOpened opens (map string_bytes (take i words)) fs → opens (string_bytes word) (Err o)
-      → Fails (unopened o) → OpensAll opens (map string_bytes words) Holds Fails
-  opens_until [] i word fs Holds Fails o low at are failed fails = absurd (omega (arith, low))
-  opens_until (first ∷ words) zero word fs Holds Fails o low at are failed fails = record {
+      → LacksOne opens (map string_bytes words) (unopened o)
+  lacks_at [] i word fs o low at are failed = absurd (omega (arith, low))
+  lacks_at (first ∷ words) zero word fs o low at are failed = record {
     file = Err o;
     opened = subst (λ w. opens (string_bytes w) (Err o)) at failed;
-    leads = fails;
+    leads = refl;
   }
-  opens_until (first ∷ words) (suc i) word (f ∷ fs) Holds Fails o low at are failed fails = record {
+  lacks_at (first ∷ words) (suc i) word (f ∷ fs) o low at are failed = record {
     file = Ok f;
     opened = are.0;
-    leads = opens_until words i word fs (λ gs. Holds (f ∷ gs)) Fails o (omega (arith, low)) at are.1
-        failed fails;
+    leads = lacks_at words i word fs o (omega (arith, low)) at are.1 failed;
   }
-  opens_until (first ∷ words) (suc i) word [] Holds Fails o low at are failed fails = absurd are
+  lacks_at (first ∷ words) (suc i) word [] o low at are failed = absurd are
 
   -- they are as many
   pub opened_length : (paths : List (List ℕ)) (fs : List F) → AreOpened opens paths fs
@@ -93,153 +70,59 @@ module _ {F : Type 0} (opens : List ℕ → Result F OpenError → Type 0) where
   opened_length [] (f ∷ fs) are = absurd are
   opened_length (path ∷ paths) [] are = absurd are
 
-  -- one more was opened
-  pub opened_more : (paths : List (List ℕ)) (fs : List F) (path : List ℕ) (f : F)
-      → AreOpened opens paths fs → opens path (Ok f)
-      → AreOpened opens (paths ++ path ∷ []) (fs ++ f ∷ [])
-  opened_more [] [] path f are is = (is, tt)
-  opened_more (first ∷ paths) (g ∷ fs) path f are is = (are.0, opened_more paths fs path f are.1 is)
-  opened_more [] (g ∷ fs) path f are is = absurd are
-  opened_more (first ∷ paths) [] path f are is = absurd are
+  -- those at more paths were opened behind them
+  pub all_opened : (paths more : List (List ℕ)) (fs gs : List F) → AreOpened opens paths fs
+      → AreOpened opens more gs → AreOpened opens (paths ++ more) (fs ++ gs)
+  all_opened [] more [] gs are also = also
+  all_opened (path ∷ paths) more (f ∷ fs) gs are also =
+      (are.0, all_opened paths more fs gs are.1 also)
+  all_opened [] more (f ∷ fs) gs are also = absurd are
+  all_opened (path ∷ paths) more [] gs are also = absurd are
 
-  module _ (path : List ℕ) (Holds : F → Type 0) (Fails : CheckError → Type 0)
-      (never : (e : CheckError) → ¬ Fails e) where
-    which_of : (file : Result F OpenError) → opens path file → OnOpening Holds Fails file
-        → (f : F) × opens path (Ok f) × Holds f
-    which_of (Ok f) opened leads = (f, opened, leads)
-    which_of (Err e) opened leads = absurd (never _ leads)
+  -- one is not opened, before others or behind them
+  pub lacks_before : (paths more : List (List ℕ)) (e : CheckError) → LacksOne opens paths e
+      → LacksOne opens (paths ++ more) e
+  lacks_before [] more e lacks = absurd lacks
+  lacks_before (path ∷ paths) more e lacks = record {
+    file = lacks.file;
+    opened = lacks.opened;
+    leads = leads_on _ _ (λ x. x ≡ e) (λ x. x ≡ e) (λ f. lacks_before paths more e) (λ x is. is)
+        lacks.file lacks.leads;
+  }
 
-  -- those that were opened
-  pub which_opened : (paths : List (List ℕ)) (Holds : List F → Type 0)
-      (Fails : CheckError → Type 0) → ((e : CheckError) → ¬ Fails e)
-      → OpensAll opens paths Holds Fails
-      → (fs : List F) × AreOpened opens paths fs × Holds fs
-  which_opened [] Holds Fails never o = ([], tt, o)
-  which_opened (path ∷ paths) Holds Fails never o =
-      let first = which_of path (λ f. OpensAll opens paths (λ fs. Holds (f ∷ fs)) Fails) Fails never
-      o.file o.opened o.leads in
-      let rest = which_opened paths (λ fs. Holds (first.0 ∷ fs)) Fails never first.2 in
-      (first.0 ∷ rest.0, (first.1, rest.1), rest.2)
+  pub lacks_behind : (paths more : List (List ℕ)) (fs : List F) (e : CheckError)
+      → AreOpened opens paths fs → LacksOne opens more e → LacksOne opens (paths ++ more) e
+  lacks_behind [] more [] e are lacks = lacks
+  lacks_behind (path ∷ paths) more (f ∷ fs) e are lacks = record {
+    file = Ok f;
+    opened = are.0;
+    leads = lacks_behind paths more fs e are.1 lacks;
+  }
+  lacks_behind [] more (f ∷ fs) e are lacks = absurd are
+  lacks_behind (path ∷ paths) more [] e are lacks = absurd are
 
--- ---- FILE and the files behind it
+-- each command is on one file or two
+pub paths_few : (c : Command) → (0 < paths_of c) × (paths_of c ≤ 2)
+paths_few (commands.File c) = (omega arith, omega arith)
+paths_few (commands.Pair c) = (omega arith, omega arith)
+paths_few (commands.Safe k form o p) = (omega arith, omega arith)
+paths_few (commands.EqualBy o) = (omega arith, omega arith)
+paths_few (commands.SafeBySteps k form o p) = (omega arith, omega arith)
+paths_few (commands.Simulated o) = (omega arith, omega arith)
+paths_few (commands.Obligation condition o) = (omega arith, omega arith)
 
--- what a result tells of those that were opened behind others
-abbrev pub Behind : {F : Type 0} → Inputs F → Result (Inputs F) CheckError → List F → Type 0
-Behind {F} before result more =
-    (all : Inputs F) × (result ≡ Ok all) × (listed all ≡ listed before ++ more)
-    × (is_list all ≡ is_list before) × (room_of all ≡ room_of before)
+-- ---- few files
 
-pub opened_behind : {F : Type 0} (opens : List ℕ → Result F OpenError → Type 0)
-    (paths : List (List ℕ)) (before inputs : Inputs F) (result : Result (Inputs F) CheckError)
-    → result ≡ Ok inputs
-    → OpensAll opens paths (Behind before result) (λ e. result ≡ Err e)
-    → (more : List F) × AreOpened opens paths more × (listed inputs ≡ listed before ++ more)
-    × (is_list inputs ≡ is_list before) × (room_of inputs ≡ room_of before)
-opened_behind opens paths before inputs result was o =
-    let opened = which_opened opens paths _ _ (λ e is. let no = sym was ∙ is in cc) o in
-    let told = opened.2 in
-    let are = sym was ∙ told.1 in
-    let same : inputs ≡ told.0 = cc in (
-      opened.0,
-      opened.1,
-      ap listed same ∙ told.2,
-      ap is_list same ∙ told.3,
-      ap room_of same ∙ told.4,
-    )
+-- the last is the only one
+pub only_one : {F : Type 0} (front : List F) (file : F) (files : List F)
+    → files ≡ front ++ file ∷ [] → length files ≤ 1 → files ≡ file ∷ []
+only_one [] file files are one = are
+only_one (first ∷ front) file files are one =
+    let count = ap length are in
+    absurd (omega (arith, count, length-append front (file ∷ []), one))
 
--- what a result tells of all
-abbrev pub IsOpened : {F : Type 0} → Result (F × Inputs F) CheckError → List F → Type 0
-IsOpened {F} result opened =
-    (all : F × Inputs F) × (result ≡ Ok all) × (opened ≡ all.0 ∷ listed all.1)
-
-pub opened_are : {F : Type 0} (file : F) (inputs : Inputs F)
-    (result : Result (F × Inputs F) CheckError) → result ≡ Ok (file, inputs)
-    → (opened : List F) → IsOpened result opened → file ∷ listed inputs ≡ opened
-opened_are file inputs result was opened told =
-    let is = sym was ∙ told.1 in
-    let one : file ≡ told.0.0 = cc in
-    let others : inputs ≡ told.0.1 = cc in
-    ap (λ f. f ∷ listed inputs) one ∙ ap (λ i. told.0.0 ∷ listed i) others ∙ sym told.2
-
-pub not_refused : {F : Type 0} (all : F × Inputs F) (e : CheckError)
-    (result : Result (F × Inputs F) CheckError) → result ≡ Ok all → ¬ (result ≡ Err e)
-not_refused all e result was is = let no = sym was ∙ is in cc
-
--- memory for them did not run out
-pub was_opened : {F Opened Short : Type 0} (all : F × Inputs F)
-    (result : Result (F × Inputs F) CheckError) → result ≡ Ok all
-    → Opened ⊎ (Short × (result ≡ Err errors.Memory)) → Opened
-was_opened all result was (inl opened) = opened
-was_opened all result was (inr short) = absurd (not_refused all errors.Memory result was short.1)
-
-pub all_opened : {F Short : Type 0} (opens : List ℕ → Result F OpenError → Type 0)
-    (names : List (List ℕ)) (file : F) (inputs : Inputs F)
-    (result : Result (F × Inputs F) CheckError) → result ≡ Ok (file, inputs)
-    → OpensAll opens names (IsOpened result) (λ e. result ≡ Err e)
-    ⊎ (Short × (result ≡ Err errors.Memory))
-    → AreOpened opens names (file ∷ listed inputs)
-all_opened opens names file inputs result was o =
-    let opened = which_opened opens names _ _ (λ e. not_refused (file, inputs) e result was)
-    (was_opened (file, inputs) result was o) in
-    subst (AreOpened opens names) (sym (opened_are file inputs result was opened.0 opened.2))
-    opened.1
-
--- ---- how many there are
-
-pub some_paths : (c : Command) → 0 < paths_of c
-some_paths (commands.File c) = omega arith
-some_paths (commands.Pair c) = omega arith
-some_paths (commands.Safe k form o p) = omega arith
-some_paths (commands.EqualBy o) = omega arith
-some_paths (commands.SafeBySteps k form o p) = omega arith
-some_paths (commands.Simulated o) = omega arith
-some_paths (commands.Obligation condition o) = omega arith
-
--- without a list they are at most seven
-few_files : (c : Command) → has_list c ≡ false → paths_of c + beside_of c ≤ 7
-few_files (commands.File (on_file.Clauses k o)) few = omega arith
-few_files (commands.File (on_file.Window k form o)) few = omega arith
-few_files (commands.File (on_file.Refuted k o)) few = omega arith
-few_files (commands.File (on_file.Inductive k form o)) few = omega arith
-few_files (commands.File (on_file.Witness k o)) few = omega arith
-few_files (commands.File on_file.Run) few = omega arith
-few_files (commands.File (on_file.Bounded k o)) few = omega arith
-few_files (commands.File (on_file.RefutedTo k o)) few = omega arith
-few_files (commands.File (on_file.WitnessTo k o)) few = omega arith
-few_files (commands.Pair (on_pair.Certified o)) few = omega arith
-few_files (commands.Pair (on_pair.Equal k o)) few = omega arith
-few_files (commands.Pair (on_pair.Obligations o)) few = omega arith
-few_files (commands.Pair (on_pair.AlwaysEqual k form o p)) few = omega arith
-few_files (commands.Safe k form o p) few = omega arith
-few_files (commands.EqualBy o) few = omega arith
-few_files (commands.SafeBySteps k form o p) few = absurd (true≢false few)
-few_files (commands.Simulated o) few = omega arith
-few_files (commands.Obligation condition o) few = omega arith
-
-few_room : {F : Type 0} (i : Inputs F) → is_list i ≡ false → room_of i ≡ 6
-few_room inputs.Empty few = refl
-few_room (inputs.One a) few = refl
-few_room (inputs.Two a b) few = refl
-few_room (inputs.Three a b d) few = refl
-few_room (inputs.Four a b d e) few = refl
-few_room (inputs.Five a b d e f) few = refl
-few_room (inputs.Six a b d e f g) few = refl
-few_room (inputs.Each all) few = absurd (true≢false few)
-
--- there is room for those behind FILE
-pub has_room : {F : Type 0} (c : Command) (i : Inputs F) → is_list i ≡ has_list c
-    → (IsTrue (has_list c) → beside_of c ≤ room_of i)
-    → paths_of c + beside_of c ≤ room_of i + 1
-has_room (commands.SafeBySteps k form o p) i same room = omega (arith, room refl)
-has_room (commands.Simulated o) i same room =
-    omega (arith, few_files (commands.Simulated o) refl, few_room i same)
-has_room (commands.File c) i same room =
-    omega (arith, few_files (commands.File c) refl, few_room i same)
-has_room (commands.Pair c) i same room =
-    omega (arith, few_files (commands.Pair c) refl, few_room i same)
-has_room (commands.Safe k form o p) i same room =
-    omega (arith, few_files (commands.Safe k form o p) refl, few_room i same)
-has_room (commands.EqualBy o) i same room =
-    omega (arith, few_files (commands.EqualBy o) refl, few_room i same)
-has_room (commands.Obligation condition o) i same room =
-    omega (arith, few_files (commands.Obligation condition o) refl, few_room i same)
+-- the first, and the others
+pub first_taken : {F : Type 0} (files : List F) (file : F) → 0 < length files
+    → file ≡ get_or files 0 file → files ≡ file ∷ remove files 0
+first_taken [] file some at = absurd (omega (arith, some))
+first_taken (first ∷ files) file some at = ap (λ f. f ∷ files) (sym at)

@@ -1,12 +1,12 @@
 -- What a command does, at each way out of it.
 use Rattle.aig_base.proofs.Words.{◌≡◌, ◌≢◌, ℕ, ◌+◌, Bool, false, Option, Ok, Err, List, refl, sym, ap, subst, Appends}
-use Rattle.std.specs.Prelude.{IfErr, IsErrOf, IsTrue, Result}
+use Rattle.std.specs.Prelude.{IsErrOf, IsTrue, Result}
 use Rattle.std.specs.Io.KnownBytes.{IsAtEnd}
 use Rattle.aig_format.specs.File.{File}
 use Rattle.aig_reader.specs.Reading.{IsReadAs}
 use Rattle.aig_reader.specs.Verdicts.{Accepted, IsOfFile, Judges, Verdict}
 use Rattle.aig_reader.proofs.Verdicts.{of_no_file, short_of}
-use Rattle.aig_output.specs.Sinks.{Stops, WritesOrStops}
+use Rattle.aig_output.specs.Sinks.{WritesOrStops}
 use Rattle.aig_encode.specs.declared.encoding.Encoded.{Encoded}
 use Rattle.aig_encode.specs.declared.error.EncodeError.TheVariants as encode
 use Rattle.aig_refutation.specs.declared.error.RefutationError.TheVariants as refutation
@@ -28,8 +28,9 @@ use Rattle.aig_check_commands.specs.declared.command.FileCommand.{FileCommand}
 use Rattle.aig_check_commands.specs.declared.command.FileCommand.TheVariants as commands
 use Rattle.aig_check_commands.specs.declared.error.CheckError.{CheckError}
 use Rattle.aig_check_commands.specs.declared.error.CheckError.TheVariants as errors
-use Rattle.aig_check_commands.specs.Printing.{IsOfSolution, IsOfText, PrintsSuch, after_writing}
-use Rattle.aig_check_commands.specs.Running.{Answers, IsAskedBy, IsErrorOf, IsOfFileAlone, Runs, TakesProof, TellsOfGiven, TellsOfQuestion, TellsOfSolution, file_verdict, verdict_of}
+use Rattle.aig_check_commands.specs.Printed.{EndsWith, Printed}
+use Rattle.aig_check_commands.specs.Printing.{IsKnownText, IsSolutionOf, IsTextOf, after_writing}
+use Rattle.aig_check_commands.specs.Running.{Answers, ChecksFile, IsAskedBy, IsErrorOf, IsOfFileAlone, Runs, TakesProof, TellsOfGiven, TellsOfQuestion, TellsOfSolution, file_verdict, verdict_of}
 
 pub is_error : (T E : Type 0) (e x : E) → IsErrOf {T = T} (Err e) x → e ≡ x
 is_error T E e x is = cc
@@ -54,36 +55,96 @@ tells_of_question c limit old new given failed (bounded.Solution e) own size = a
 tells_of_question c limit old new given failed (bounded.Question e) own size = size
 tells_of_question c limit old new given failed e own size = tt
 
-module _ {R P W : Type 0} {left : R → Option (List ℕ)} {read_failed : R → Bool} {given : P → Option
-    (List ℕ)} {given_failed : P → Bool} {held : W → Option (List ℕ)} {write_failed : W → Bool} {c :
-    FileCommand} {limit : ℕ} {r rest : R} {p used : P} {w made : W} where
-  -- the file or what is given beside it is refused, or memory ran out
-  pub refused : (e : CheckError) → Judges (file_verdict c limit) limit (left r) (left rest)
-      (read_failed rest) (verdict_of e) → IsErrorOf c e → e ≢ errors.Write → made ≡ w →
-      (IsOfFileAlone e → used ≡ p)
+-- ---- what is printed
+
+-- how an answer is printed doesn't hang on what holds of it
+pub printed_on : {V W : Type 0} {held : V → Option (List ℕ)} {failed : V → Bool}
+    {held_so : W → Option (List ℕ)} {failed_so : W → Bool}
+    {Holds Also : Result (List ℕ) CheckError → Type 0} {v new : V} {w made : W}
+    {result done : Result Unit CheckError}
+    → ((x : Result (List ℕ) CheckError) → Holds x → Also x)
+    → ((x : Result (List ℕ) CheckError) → EndsWith held failed x v result new
+    → EndsWith held_so failed_so x w done made)
+    → Printed held failed Holds v result new → Printed held_so failed_so Also w done made
+printed_on so ends printed = record {
+  answer = printed.answer;
+  holds = so printed.answer printed.holds;
+  ends = ends printed.answer printed.ends;
+}
+
+module _ {W : Type 0} {held : W → Option (List ℕ)} {write_failed : W → Bool}
+    {Holds : Result (List ℕ) CheckError → Type 0} {w made : W} where
+  -- there is an error in the place of a text
+  pub error_printed : (e : CheckError) → Holds (Err e) → made ≡ w
+      → Printed held write_failed Holds w (Err e) made
+  error_printed e is same = record { answer = Err e; holds = is; ends = (refl, same) }
+
+  -- the text was written, or a beginning of it
+  pub text_printed : {E : Type 0} (x : Result (Unit {0}) E) (text : List ℕ) → Holds (Ok text)
+      → WritesOrStops held write_failed w x text made
+      → Printed held write_failed Holds w (after_writing x) made
+  text_printed (Ok u) text is writes =
+      record { answer = Ok text; holds = is; ends = (writes.ok, writes.sound) }
+  text_printed (Err e) text is writes =
+      record { answer = Ok text; holds = is; ends = (refl, writes.err) }
+
+-- a command that was done printed a text
+pub text_of_printed : {W : Type 0} {held : W → Option (List ℕ)} {failed : W → Bool}
+    {Holds : Result (List ℕ) CheckError → Type 0} {w made : W} {u : Unit {0}}
+    → Printed held failed Holds w (Ok u) made
+    → (text : List ℕ) × Holds (Ok text) × Appends (held w) (held made) text
+    × (failed made ≡ false)
+text_of_printed {W} {held} {failed} {Holds} {w} {made} {u} printed =
+    on printed.answer printed.holds printed.ends
+  where
+    on : (x : Result (List ℕ) CheckError) → Holds x → EndsWith held failed x w (Ok u) made
+        → (text : List ℕ) × Holds (Ok text) × Appends (held w) (held made) text
+        × (failed made ≡ false)
+    on (Ok text) holds ends = (text, holds, ends.0, ends.1)
+    on (Err e) holds ends = let no = ends.0 in cc
+
+module _ {R P : Type 0} {left : R → Option (List ℕ)} {read_failed : R → Bool}
+    {given : P → Option (List ℕ)} {given_failed : P → Bool} {c : FileCommand} {limit : ℕ}
+    {r rest : R} {p used : P} where
+  -- the file or what is given beside it is refused
+  checks_refused : (e : CheckError) → Judges (file_verdict c limit) limit (left r) (left rest)
+      (read_failed rest) (verdict_of e) → IsErrorOf c e → (IsOfFileAlone e → used ≡ p)
       → TellsOfGiven c limit (left r) (left rest) (given p) (given_failed used) e
-      → Runs left read_failed given given_failed held write_failed c limit r p w (Err e) rest used
-      made
-  refused e said own other same unread tells = record {
+      → ChecksFile left read_failed given given_failed c limit r p rest used (Err e)
+  checks_refused e said own unread tells = record {
     verdict = said;
     own = own;
-    ok = tt;
-    stopped = λ is. absurd (other (is_error (Unit {0}) CheckError e errors.Write is));
-    taken = λ is. absurd (other is);
-    kept = λ not. same;
+    text = tt;
+    taken = tt;
     unread = unread;
     refusal = tells;
   }
 
-  -- the file or its proof is refused
-  pub proof_refused : (e : AnswerError) → Judges (file_verdict c limit) limit (left r) (left rest)
-      (read_failed rest) (asking.verdict_of e) → IsErrorOf c (errors.Answer e) → made ≡ w →
-      (IsOfFileAlone (errors.Answer e) → used ≡ p) → TellsOfGiven c limit (left r) (left rest)
-      (given p) (given_failed used) (errors.Answer e)
-      → Runs left read_failed given given_failed held write_failed c limit r p w (Err (errors.Answer
-      e)) rest used made
-  proof_refused e said own same unread tells = refused (errors.Answer e) said own (λ is. cc) same
-      unread tells
+  -- it is answered
+  checks_answered : (text : List ℕ) → TakesProof c limit (left r) (left rest) (given p)
+      → Judges (file_verdict c limit) limit (left r) (left rest) (read_failed rest) Accepted
+      → IsReadAs (IsAskedBy c limit) (Answers c (given p) (left r)) (left r) (left rest) text
+      → ChecksFile left read_failed given given_failed c limit r p rest used (Ok text)
+  checks_answered text takes said answers = record {
+    verdict = said;
+    own = tt;
+    text = answers;
+    taken = takes;
+    unread = tt;
+    refusal = tt;
+  }
+
+module _ {R P W : Type 0} {left : R → Option (List ℕ)} {read_failed : R → Bool} {given : P → Option
+    (List ℕ)} {given_failed : P → Bool} {held : W → Option (List ℕ)} {write_failed : W → Bool} {c :
+    FileCommand} {limit : ℕ} {r rest : R} {p used : P} {w made : W} where
+  -- nothing is printed of what is refused
+  pub refused : (e : CheckError) → Judges (file_verdict c limit) limit (left r) (left rest)
+      (read_failed rest) (verdict_of e) → IsErrorOf c e → made ≡ w → (IsOfFileAlone e → used ≡ p)
+      → TellsOfGiven c limit (left r) (left rest) (given p) (given_failed used) e
+      → Runs left read_failed given given_failed held write_failed c limit r p w (Err e) rest used
+      made
+  refused e said own same unread tells =
+      error_printed e (checks_refused e said own unread tells) same
 
   -- there is no query, or no window
   pub query_refused : (e : AnswerError)
@@ -92,7 +153,8 @@ module _ {R P W : Type 0} {left : R → Option (List ℕ)} {read_failed : R → 
       → IsErrorOf c (errors.Answer e) → IsOfQuery e → made ≡ w → used ≡ p
       → Runs left read_failed given given_failed held write_failed c limit r p w
       (Err (errors.Answer e)) rest used made
-  query_refused e said own of_query same unread = proof_refused e said own same (λ alone. unread)
+  query_refused e said own of_query same unread = refused (errors.Answer e) said own same
+      (λ alone. unread)
       (tells_of_query c limit (left r) (left rest) (given p) (given_failed used) e of_query)
 
   pub window_refused : (e : AnswerError)
@@ -101,60 +163,22 @@ module _ {R P W : Type 0} {left : R → Option (List ℕ)} {read_failed : R → 
       → IsErrorOf c (errors.Answer e) → IsOfWindow e → made ≡ w → used ≡ p
       → Runs left read_failed given given_failed held write_failed c limit r p w
       (Err (errors.Answer e)) rest used made
-  window_refused e said own of_window same unread = proof_refused e said own same (λ alone. unread)
+  window_refused e said own of_window same unread = refused (errors.Answer e) said own same
+      (λ alone. unread)
       (tells_of_window c limit (left r) (left rest) (given p) (given_failed used) e of_window)
 
   -- there is no question up to a step
   pub question_refused : (e : BoundedAnswerError) → Judges (file_verdict c limit) limit (left r)
-      (left rest) (read_failed rest) (bounding.verdict_of e) → IsErrorOf c (errors.Bounded e) →
-      IsOfQuestion e → TellsOfQuestion c limit (left r) (left rest) e → made ≡ w → used ≡ p
-      → Runs left read_failed given given_failed held write_failed c limit r p w (Err
-      (errors.Bounded e)) rest used made
-  question_refused e said own of_question size same unread = refused (errors.Bounded e) said own (λ
-      is. cc) same (λ alone. unread) (tells_of_question c limit (left r) (left rest) (given p)
-      (given_failed used) e of_question size)
+      (left rest) (read_failed rest) (bounding.verdict_of e) → IsErrorOf c (errors.Bounded e)
+      → IsOfQuestion e → TellsOfQuestion c limit (left r) (left rest) e → made ≡ w → used ≡ p
+      → Runs left read_failed given given_failed held write_failed c limit r p w
+      (Err (errors.Bounded e)) rest used made
+  question_refused e said own of_question size same unread = refused (errors.Bounded e) said own
+      same (λ alone. unread)
+      (tells_of_question c limit (left r) (left rest) (given p) (given_failed used) e of_question
+      size)
 
-  -- the answer was written
-  pub answered : (u : Unit {0}) (text : List ℕ) → TakesProof c limit (left r) (left rest) (given p)
-      → Judges (file_verdict c limit) limit (left r) (left rest) (read_failed rest) Accepted
-      → IsReadAs (IsAskedBy c limit) (Answers c (given p) (left r)) (left r) (left rest) text → Appends (held
-      w) (held made) text → write_failed made ≡ false
-      → Runs left read_failed given given_failed held write_failed c limit r p w (Ok u) rest used
-      made
-  answered u text takes said answers written sound =
-      record {
-        verdict = said;
-        own = tt;
-        ok = (text, answers, (written, sound));
-        taken = λ written.
-            takes;
-        stopped = λ is. absurd cc;
-        kept = tt;
-        unread = tt;
-        refusal = tt;
-      }
-
-  -- the writer failed after a beginning of it
-  pub stopped : (text : List ℕ) → TakesProof c limit (left r) (left rest) (given p) → Judges
-      (file_verdict c limit) limit (left r) (left rest) (read_failed rest) Accepted
-      → IsReadAs (IsAskedBy c limit) (Answers c (given p) (left r)) (left r) (left rest) text → Stops (held
-      w) (held made) (write_failed made) text
-      → Runs left read_failed given given_failed held write_failed c limit r p w (Err errors.Write)
-      rest used made
-  stopped text takes said answers stops =
-      record {
-        verdict = said;
-        own = tt;
-        ok = tt;
-        stopped = λ is. (text, answers, stops);
-        taken = λ
-            is. takes;
-        kept = λ not. absurd (not refl);
-        unread = λ alone. absurd alone;
-        refusal = tt;
-      }
-
-  -- it was written, or a beginning of it
+  -- the answer was written, or a beginning of it
   pub answer_ends : {E : Type 0} (x : Result (Unit {0}) E) (text : List ℕ)
       → TakesProof c limit (left r) (left rest) (given p)
       → Judges (file_verdict c limit) limit (left r) (left rest) (read_failed rest) Accepted
@@ -162,48 +186,51 @@ module _ {R P W : Type 0} {left : R → Option (List ℕ)} {read_failed : R → 
       → WritesOrStops held write_failed w x text made
       → Runs left read_failed given given_failed held write_failed c limit r p w (after_writing x)
       rest used made
-  answer_ends (Ok u) text takes said answers writes =
-      answered u text takes said answers writes.ok writes.sound
-  answer_ends (Err e) text takes said answers writes = stopped text takes said answers writes.err
+  answer_ends x text takes said answers writes =
+      text_printed x text (checks_answered text takes said answers) writes
 
   -- a query's text was printed, or memory ran out before
-  pub text_ends : (result : Result Unit CheckError) (IsSuch : List ℕ → Type 0) → TakesProof c limit
-      (left r) (left rest) (given p) → Judges (file_verdict c limit) limit (left r) (left rest)
-      (read_failed rest) Accepted
-      → ((text : List ℕ) → IsSuch text → IsReadAs (IsAskedBy c limit) (Answers c (given p) (left r)) (left r)
-      (left rest) text) → PrintsSuch held write_failed IsSuch w result made → IfErr result IsOfText
-      → IsErrorOf c errors.Memory
+  pub text_ends : (result : Result Unit CheckError) (IsSuch : List ℕ → Type 0)
+      → TakesProof c limit (left r) (left rest) (given p)
+      → Judges (file_verdict c limit) limit (left r) (left rest) (read_failed rest) Accepted
+      → ((text : List ℕ) → IsSuch text → IsReadAs (IsAskedBy c limit) (Answers c (given p) (left r))
+      (left r) (left rest) text)
+      → Printed held write_failed (IsTextOf IsSuch) w result made → IsErrorOf c errors.Memory
       → Runs left read_failed given given_failed held write_failed c limit r p w result rest used
       made
-  text_ends (Ok u) IsSuch takes said answers prints own has = let done = prints.ok in answered u
-      done.0 takes said (answers done.0 done.1) done.2 done.3
-  text_ends (Err errors.Write) IsSuch takes said answers prints own has = let done = prints.stopped
-      refl in stopped done.0 takes said (answers done.0 done.1) done.2
-  text_ends (Err errors.Memory) IsSuch takes said answers prints own has = refused errors.Memory
-      (short_of (file_verdict c limit) limit (left r) (left rest) (read_failed rest) said) has (λ
-      is. cc) (prints.kept (λ is. cc)) (λ alone. absurd alone) tt
-  text_ends (Err e) IsSuch takes said answers prints own has = absurd own
+  text_ends result IsSuch takes said answers prints has = printed_on on (λ x ends. ends) prints
+    where
+      on : (x : Result (List ℕ) CheckError) → IsTextOf IsSuch x
+          → ChecksFile left read_failed given given_failed c limit r p rest used x
+      on (Ok text) is = checks_answered text takes said (answers text is)
+      on (Err e) is = subst (λ (y : CheckError).
+          ChecksFile left read_failed given given_failed c limit r p rest used (Err y)) (sym is)
+          (checks_refused errors.Memory
+          (short_of (file_verdict c limit) limit (left r) (left rest) (read_failed rest) said) has
+          (λ alone. absurd alone) tt)
 
   -- a witness was printed, or a solver's answer was refused before
-  pub solution_ends : (result : Result Unit CheckError) (IsSuch : List ℕ → Type 0) → TakesProof c
-      limit (left r) (left rest) (given p) → Judges (file_verdict c limit) limit (left r) (left
-      rest) (read_failed rest) Accepted
-      → ((text : List ℕ) → IsSuch text → IsReadAs (IsAskedBy c limit) (Answers c (given p) (left r)) (left r)
-      (left rest) text) → PrintsSuch held write_failed IsSuch w result made → (x : Encoded) (k : ℕ)
-      → IfErr result (IsOfSolution (given p) (given_failed used) x k) → ((e : SolutionError) →
-      IsErrorOf c (errors.Solution e)) → ((e : SolutionError) → RefusesSolution (given p) x k
-      (given_failed used) e → TellsOfSolution c limit (left r) (left rest) (given p)
-      (given_failed used) e)
+  pub solution_ends : (result : Result Unit CheckError) (x : Encoded) (k : ℕ)
+      → TakesProof c limit (left r) (left rest) (given p)
+      → Judges (file_verdict c limit) limit (left r) (left rest) (read_failed rest) Accepted
+      → ((text : List ℕ) → IsKnownText (given p) x k text
+      → IsReadAs (IsAskedBy c limit) (Answers c (given p) (left r)) (left r) (left rest) text)
+      → Printed held write_failed (IsSolutionOf (given p) (given_failed used) x k) w result made
+      → ((e : SolutionError) → IsErrorOf c (errors.Solution e))
+      → ((e : SolutionError) → RefusesSolution (given p) x k (given_failed used) e
+      → TellsOfSolution c limit (left r) (left rest) (given p) (given_failed used) e)
       → Runs left read_failed given given_failed held write_failed c limit r p w result rest used
       made
-  solution_ends (Ok u) IsSuch takes said answers prints x k own has tells = let done = prints.ok in
-      answered u done.0 takes said (answers done.0 done.1) done.2 done.3
-  solution_ends (Err errors.Write) IsSuch takes said answers prints x k own has tells = let done =
-      prints.stopped refl in stopped done.0 takes said (answers done.0 done.1) done.2
-  solution_ends (Err (errors.Solution e)) IsSuch takes said answers prints x k own has tells =
-      refused (errors.Solution e) said (has e) (λ is. cc) (prints.kept (λ is. cc)) (λ alone. absurd
-      alone) (tells e own)
-  solution_ends (Err e) IsSuch takes said answers prints x k own has tells = absurd own
+  solution_ends result x k takes said answers prints has tells =
+      printed_on on (λ y ends. ends) prints
+    where
+      on : (y : Result (List ℕ) CheckError)
+          → IsSolutionOf (given p) (given_failed used) x k y
+          → ChecksFile left read_failed given given_failed c limit r p rest used y
+      on (Ok text) is = checks_answered text takes said (answers text is)
+      on (Err (errors.Solution e)) is =
+          checks_refused (errors.Solution e) said (has e) (λ alone. absurd alone) (tells e is)
+      on (Err e) is = absurd is
 
 -- the bytes of a file that was read were summed to their end
 pub summed : {of : File → Verdict} {limit : ℕ} {first old new : Option (List ℕ)} {failed : Bool}
@@ -212,39 +239,6 @@ pub summed : {of : File → Verdict} {limit : ℕ} {first old new : Option (List
 summed start sum said same sums =
     let read = said.whole tt in
     subst (λ bytes. IsSum bytes sum) (sym same) (sums read.0 read.1)
-
--- ---- what is printed
-
-module _ {W : Type 0} {held : W → Option (List ℕ)} {failed : W → Bool} {IsSuch : List ℕ → Type 0} {w
-    made : W} where
-  pub text_printed : (u : Unit {0}) (text : List ℕ) → IsSuch text → Appends (held w) (held made)
-      text → failed made ≡ false
-      → PrintsSuch held failed IsSuch w (Ok u) made
-  text_printed u text such done sound = record {
-    ok = (text, such, done, sound);
-    stopped = λ is.
-        absurd cc;
-    kept = tt;
-  }
-
-  pub some_printed : (text : List ℕ) → IsSuch text → Stops (held w) (held made) (failed made) text →
-      PrintsSuch held failed IsSuch w (Err errors.Write) made
-  some_printed text such stops = record {
-    ok = tt;
-    stopped = λ is. (text, such, stops);
-    kept = λ
-        not. absurd (not refl);
-  }
-
-  pub nothing_printed : (e : CheckError) → e ≢ errors.Write → made ≡ w
-      → PrintsSuch held failed IsSuch w
-      (Err e) made
-  nothing_printed e other same = record {
-    ok = tt;
-    stopped = λ is. absurd (other (is_error (Unit
-        {0}) CheckError e errors.Write is));
-    kept = λ not. same;
-  }
 
 -- ---- files
 

@@ -1,7 +1,7 @@
 -- What a command on two files does, at each way out of it.
 use Rattle.aig_base.proofs.Words.{◌≡◌, ◌≢◌, ℕ, Bool, false, Option, Some, Ok, Err, List, [], ◌∷◌, ◌++◌, length, refl, ap, subst, ◌∙◌, Appends, Appends-trans, on_err_weaker, on_ok_weaker}
 use Rattle.std.specs.Io.KnownBytes.{IsAtEnd}
-use Rattle.std.specs.Prelude.{IsTrue, Result, codes}
+use Rattle.std.specs.Prelude.{IsErr, IsTrue, Result, codes}
 use Rattle.aig_answers.specs.declared.error.AnswerError.{AnswerError}
 use Rattle.aig_answers.specs.declared.windows.WindowClauses.{WindowClauses}
 use Rattle.aig_answers.specs.declared.error.AnswerError.TheVariants as answers
@@ -19,7 +19,7 @@ use Rattle.aig_cnf.specs.Cnf.{HasClauses}
 use Rattle.aig_dimacs.proofs.Comments.{ArePassed, parse_formula-passed}
 use Rattle.aig_dimacs.proofs.Reading.{parse_formula-dimacs_of}
 use Rattle.aig_dimacs.specs.Reading.{after_comments, parse_formula}
-use Rattle.aig_dimacs.specs.Text.{IsFormula, dimacs_of}
+use Rattle.aig_dimacs.specs.Text.{IsFormula, IsTextWith, dimacs_of}
 use Rattle.aig_edits.proofs.Reading.{reads_on}
 use Rattle.aig_edits.specs.Joints.{IsJointOf}
 use Rattle.aig_edits.specs.Pairs.{ReadsPair}
@@ -27,7 +27,7 @@ use Rattle.aig_edits.specs.declared.pairing.Pairing.TheVariants.{Certificate}
 use Rattle.aig_answers.specs.declared.equality.error.EqualityError.{EqualityError}
 use Rattle.aig_answers.specs.declared.equality.error.EqualityError.TheVariants as always
 use Rattle.aig_format.specs.File.{File}
-use Rattle.aig_output.proofs.Putting.{Stops-put}
+use Rattle.aig_output.proofs.Putting.{Stops-before, Stops-put, failed_put}
 use Rattle.aig_output.specs.Sinks.{Stops, WritesOrStops}
 use Rattle.aig_reader.specs.Verdicts.{Verdict}
 use Rattle.aig_refutation.specs.declared.error.RefutationError.{RefutationError}
@@ -39,76 +39,92 @@ use Rattle.aig_check_commands.specs.declared.titles.title.Title.{Title}
 use Rattle.aig_check_commands.specs.declared.command.PairCommand.{PairCommand}
 use Rattle.aig_check_commands.specs.declared.error.CheckError.{CheckError}
 use Rattle.aig_check_commands.specs.declared.error.CheckError.TheVariants as errors
-use Rattle.aig_check_commands.specs.Pairs.{IsErrorOfPair, IsObligationsText, LeavesBase, LeavesStep, PairAnswers, RefusesPair, RunsPair, TellsOfPair, formula_of, other_verdict_of, part_text}
+use Rattle.aig_check_commands.specs.Pairs.{ChecksPair, IsErrorOfPair, IsObligationsText, LeavesBase, LeavesStep, PairAnswers, RefusesPair, TellsOfPair, formula_of, other_verdict_of, part_text}
 use Rattle.aig_check_commands.specs.Running.{verdict_of}
-use Rattle.aig_check_commands.specs.Printing.{after_writing, clauses_with}
+use Rattle.aig_check_commands.specs.Printing.{WritesBehind, clauses_with}
 use Rattle.aig_check_commands.specs.Titling.{pair_title}
 use Rattle.aig_check_commands.proofs.Outcomes.{is_error, summed}
 
-module _ {R S P Q W : Type 0} {left : R → Option (List ℕ)} {failed : R → Bool} {left_of : S → Option (List ℕ)} {failed_of : S → Bool} {base_left : P → Option (List ℕ)} {base_failed : P → Bool} {step_left : Q → Option (List ℕ)} {step_failed : Q → Bool} {held : W → Option (List ℕ)} {write_failed : W → Bool} {c : PairCommand} {limit : ℕ} {r rest : R} {s other : S} {p used : P} {q spent : Q} {w made : W} {T E : Type 0} (Means : File → File → Result T E → Type 0) {first second : E → Verdict} {Own : E → Type 0} where
-  -- a file is refused, or a proof
-  pub refused_so : (e : E) (x : CheckError) → x ≢ errors.Write
-      → ReadsPair left failed left_of failed_of limit Means first second Own r s (Err e) rest other
-      → verdict_of x ≡ first e → other_verdict_of x ≡ second e → (Own e → IsErrorOfPair c x)
-      → ((f g : File) → Means f g (Err e) → TellsOfPair held write_failed c limit (base_left p) (step_left q) (left r) (left_of s) w made f g (Err x)) → made ≡ w
-      → (LeavesBase x → used ≡ p) → (LeavesStep x → spent ≡ q)
-      → (x ≡ errors.Certificate (certificate.Query (answers.Refutation refutation.Stream)) → IsTrue (base_failed used))
-      → (x ≡ errors.Certificate (certificate.Window (answers.Refutation refutation.Stream)) → IsTrue (step_failed spent))
-      → (x ≡ errors.Equality (always.Miter (proving.Base (bounded.Refutation refutation.Stream))) → IsTrue (base_failed used))
-      → (x ≡ errors.Equality (always.Miter (proving.Step (answers.Refutation refutation.Stream))) → IsTrue (step_failed spent))
-      → RunsPair left failed left_of failed_of base_left base_failed step_left step_failed held write_failed c limit r s p q w (Err x) rest other used spent made
-  refused_so e x other_error reads same also own means kept base step query_stream window_stream base_stream step_stream = record {
-    reads = reads_on left failed left_of failed_of limit r s rest other (TellsOfPair held write_failed c limit (base_left p) (step_left q) (left r) (left_of s) w made) verdict_of other_verdict_of (IsErrorOfPair c) (Err x) reads same also (own reads.own) (λ f g bytes others fits also told. means f g told);
-    kept = λ not. kept;
-    base_unread = base;
-    step_unread = step;
-    base_stream = λ is. query_stream (is_error (Unit {0}) CheckError _ _ is);
-    step_stream = λ is. window_stream (is_error (Unit {0}) CheckError _ _ is);
-    miter_base_stream = λ is. base_stream (is_error (Unit {0}) CheckError _ _ is);
-    miter_step_stream = λ is. step_stream (is_error (Unit {0}) CheckError _ _ is);
-  }
+inner_error : (x y : CertificateError) → errors.Certificate x ≡ errors.Certificate y → x ≡ y
+inner_error x y is = cc
 
-  -- the answer was written
-  pub pair_answered : (u : T) (v : Unit {0}) (text : List ℕ)
-      → ReadsPair left failed left_of failed_of limit Means first second Own r s (Ok u) rest other
-      → ((f g : File) → Means f g (Ok u) → PairAnswers c limit (base_left p) (step_left q) (left r) (left_of s) f g text) → Appends (held w) (held made) text → write_failed made ≡ false
-      → RunsPair left failed left_of failed_of base_left base_failed step_left step_failed held write_failed c limit r s p q w (Ok v) rest other used spent made
-  pair_answered u v text reads means written sound = record {
-    reads = reads_on left failed left_of failed_of limit r s rest other (TellsOfPair held write_failed c limit (base_left p) (step_left q) (left r) (left_of s) w made) verdict_of other_verdict_of (IsErrorOfPair c) (Ok v) reads refl refl tt (λ f g bytes others fits also told. (text, means f g told, written, sound));
-    kept = tt;
-    base_unread = tt;
-    step_unread = tt;
-    base_stream = λ is. absurd cc;
-    step_stream = λ is. absurd cc;
-    miter_base_stream = λ is. absurd cc;
-    miter_step_stream = λ is. absurd cc;
-  }
+no_equality : (x : CertificateError) (y : EqualityError) → errors.Certificate x ≢ errors.Equality y
+no_equality x y is = cc
 
-  -- the writer failed after a beginning of it
-  pub pair_stopped : (u : T) (text : List ℕ)
-      → ReadsPair left failed left_of failed_of limit Means first second Own r s (Ok u) rest other
-      → ((f g : File) → Means f g (Ok u) → PairAnswers c limit (base_left p) (step_left q) (left r) (left_of s) f g text) → Stops (held w) (held made) (write_failed made) text
-      → RunsPair left failed left_of failed_of base_left base_failed step_left step_failed held write_failed c limit r s p q w (Err errors.Write) rest other used spent made
-  pair_stopped u text reads means stops = record {
-    reads = reads_on left failed left_of failed_of limit r s rest other (TellsOfPair held write_failed c limit (base_left p) (step_left q) (left r) (left_of s) w made) verdict_of other_verdict_of (IsErrorOfPair c) (Err errors.Write) reads refl refl tt (λ f g bytes others fits also told. (text, means f g told, stops));
-    kept = λ not. absurd (not refl);
-    base_unread = λ no. absurd no;
-    step_unread = λ no. absurd no;
-    base_stream = λ is. absurd cc;
-    step_stream = λ is. absurd cc;
-    miter_base_stream = λ is. absurd cc;
-    miter_step_stream = λ is. absurd cc;
-  }
+module _ {R S P Q : Type 0} {left : R → Option (List ℕ)} {failed : R → Bool}
+    {left_of : S → Option (List ℕ)} {failed_of : S → Bool} {base_left : P → Option (List ℕ)}
+    {base_failed : P → Bool} {step_left : Q → Option (List ℕ)} {step_failed : Q → Bool}
+    {c : PairCommand} {limit : ℕ} {r rest : R} {s other : S} {p used : P} {q spent : Q} where
+  module _ {T E : Type 0} (Means : File → File → Result T E → Type 0) {first second : E → Verdict}
+      {Own : E → Type 0} where
+    -- a file is refused, or a proof
+    pub refused_so : (e : E) (x : CheckError)
+        → ReadsPair left failed left_of failed_of limit Means first second Own r s (Err e) rest other
+        → verdict_of x ≡ first e → other_verdict_of x ≡ second e → (Own e → IsErrorOfPair c x)
+        → ((f g : File) → Means f g (Err e)
+        → TellsOfPair c limit (base_left p) (step_left q) (left r) (left_of s) f g (Err x))
+        → (LeavesBase x → used ≡ p) → (LeavesStep x → spent ≡ q)
+        → (x ≡ errors.Certificate (certificate.Query (answers.Refutation refutation.Stream))
+        → IsTrue (base_failed used))
+        → (x ≡ errors.Certificate (certificate.Window (answers.Refutation refutation.Stream))
+        → IsTrue (step_failed spent))
+        → (x ≡ errors.Equality (always.Miter (proving.Base (bounded.Refutation refutation.Stream)))
+        → IsTrue (base_failed used))
+        → (x ≡ errors.Equality (always.Miter (proving.Step (answers.Refutation refutation.Stream)))
+        → IsTrue (step_failed spent))
+        → ChecksPair left failed left_of failed_of base_left base_failed step_left step_failed c
+        limit r s p q rest other used spent (Err x)
+    refused_so e x reads same also own means base step query_stream window_stream base_stream
+        step_stream = record {
+          reads = reads_on left failed left_of failed_of limit r s rest other
+              (TellsOfPair c limit (base_left p) (step_left q) (left r) (left_of s)) verdict_of
+              other_verdict_of (IsErrorOfPair c) (Err x) reads same also (own reads.own)
+              (λ f g bytes others fits also told. means f g told);
+          base_unread = base;
+          step_unread = step;
+          base_stream = λ is. query_stream (is_error (List ℕ) CheckError _ _ is);
+          step_stream = λ is. window_stream (is_error (List ℕ) CheckError _ _ is);
+          miter_base_stream = λ is. base_stream (is_error (List ℕ) CheckError _ _ is);
+          miter_step_stream = λ is. step_stream (is_error (List ℕ) CheckError _ _ is);
+        }
 
-  -- it was written, or a beginning of it
-  pub pair_ends : {F : Type 0} (u : T) (x : Result (Unit {0}) F) (text : List ℕ)
-      → ReadsPair left failed left_of failed_of limit Means first second Own r s (Ok u) rest other
-      → ((f g : File) → Means f g (Ok u) → PairAnswers c limit (base_left p) (step_left q) (left r) (left_of s) f g text)
-      → WritesOrStops held write_failed w x text made
-      → RunsPair left failed left_of failed_of base_left base_failed step_left step_failed held write_failed c limit r s p q w (after_writing x) rest other used spent made
-  pair_ends u (Ok v) text reads means writes =
-      pair_answered u v text reads means writes.ok writes.sound
-  pair_ends u (Err e) text reads means writes = pair_stopped u text reads means writes.err
+    -- both are answered
+    pub pair_answered : (u : T) (text : List ℕ)
+        → ReadsPair left failed left_of failed_of limit Means first second Own r s (Ok u) rest other
+        → ((f g : File) → Means f g (Ok u)
+        → PairAnswers c limit (base_left p) (step_left q) (left r) (left_of s) f g text)
+        → ChecksPair left failed left_of failed_of base_left base_failed step_left step_failed c
+        limit r s p q rest other used spent (Ok text)
+    pair_answered u text reads means = record {
+      reads = reads_on left failed left_of failed_of limit r s rest other
+          (TellsOfPair c limit (base_left p) (step_left q) (left r) (left_of s)) verdict_of
+          other_verdict_of (IsErrorOfPair c) (Ok text) reads refl refl tt
+          (λ f g bytes others fits also told. means f g told);
+      base_unread = tt;
+      step_unread = tt;
+      base_stream = λ is. absurd cc;
+      step_stream = λ is. absurd cc;
+      miter_base_stream = λ is. absurd cc;
+      miter_step_stream = λ is. absurd cc;
+    }
+
+  -- so of a certificate, and of machines at a step
+  pub pair_refused : {T : Type 0} (Means : File → File → Result T CertificateError → Type 0)
+      {Own : CertificateError → Type 0} (e : CertificateError)
+      → ReadsPair left failed left_of failed_of limit Means certificates.first_verdict
+      certificates.second_verdict Own r s (Err e) rest other
+      → (Own e → IsErrorOfPair c (errors.Certificate e))
+      → ((f g : File) → Means f g (Err e) → RefusesPair c limit (base_left p) (step_left q) f g e)
+      → (certificates.LeavesQuery (Err e) → used ≡ p)
+      → (certificates.LeavesWindow (Err e) → spent ≡ q)
+      → (e ≡ certificate.Query (answers.Refutation refutation.Stream) → IsTrue (base_failed used))
+      → (e ≡ certificate.Window (answers.Refutation refutation.Stream) → IsTrue (step_failed spent))
+      → ChecksPair left failed left_of failed_of base_left base_failed step_left step_failed c limit
+      r s p q rest other used spent (Err (errors.Certificate e))
+  pair_refused Means e reads own means base step base_stream step_stream =
+      refused_so Means e (errors.Certificate e) reads refl refl own means base step
+      (λ is. base_stream (inner_error e _ is)) (λ is. step_stream (inner_error e _ is))
+      (λ is. absurd (no_equality e _ is)) (λ is. absurd (no_equality e _ is))
 
 -- what is said of sources is said of those under them
 pub reads_under : {A B R S T E : Type 0} {Means : File → File → Result T E → Type 0}
@@ -150,28 +166,6 @@ summed_under left failed left_of failed_of under under_of start start_of sum bes
       summed start_of beside (read.other_verdict refl) is_of sums_of,
     )
 
-inner_error : (x y : CertificateError) → errors.Certificate x ≡ errors.Certificate y → x ≡ y
-inner_error x y is = cc
-
-no_equality : (x : CertificateError) (y : EqualityError) → errors.Certificate x ≢ errors.Equality y
-no_equality x y is = cc
-
-module _ {R S P Q W : Type 0} {left : R → Option (List ℕ)} {failed : R → Bool} {left_of : S → Option (List ℕ)} {failed_of : S → Bool} {base_left : P → Option (List ℕ)} {base_failed : P → Bool} {step_left : Q → Option (List ℕ)} {step_failed : Q → Bool} {held : W → Option (List ℕ)} {write_failed : W → Bool} {c : PairCommand} {limit : ℕ} {r rest : R} {s other : S} {p used : P} {q spent : Q} {w made : W} {T : Type 0} (Means : File → File → Result T CertificateError → Type 0) {Own : CertificateError → Type 0} where
-  -- so of a certificate, and of machines at a step
-  pub pair_refused : (e : CertificateError) → ReadsPair left failed left_of failed_of limit Means certificates.first_verdict certificates.second_verdict Own r s (Err e) rest other
-      → (Own e → IsErrorOfPair c (errors.Certificate e))
-      → ((f g : File) → Means f g (Err e) → RefusesPair c limit (base_left p) (step_left q) f g e)
-      → made ≡ w
-      → (certificates.LeavesQuery (Err e) → used ≡ p)
-      → (certificates.LeavesWindow (Err e) → spent ≡ q)
-      → (e ≡ certificate.Query (answers.Refutation refutation.Stream) → IsTrue (base_failed used))
-      → (e ≡ certificate.Window (answers.Refutation refutation.Stream) → IsTrue (step_failed spent))
-      → RunsPair left failed left_of failed_of base_left base_failed step_left step_failed held write_failed c limit r s p q w (Err (errors.Certificate e)) rest other used spent made
-  pair_refused e reads own means same base step base_stream step_stream =
-      refused_so Means e (errors.Certificate e) (λ is. cc) reads refl refl own means same base step
-      (λ is. base_stream (inner_error e _ is)) (λ is. step_stream (inner_error e _ is))
-      (λ is. absurd (no_equality e _ is)) (λ is. absurd (no_equality e _ is))
-
 -- equal machines have no window
 pub no_window : {R S : Type 0} {left : R → Option (List ℕ)} {failed : R → Bool} {left_of : S → Option (List ℕ)} {failed_of : S → Bool} {limit k : ℕ} {optimize : Bool} {proof : Option (List ℕ)} {r rest : R} {s other : S} (e : CertificateError) (x : AnswerError)
     → ReadsPair left failed left_of failed_of limit (Equals limit k optimize proof) certificates.first_verdict certificates.second_verdict certificates.IsOwn r s (Err e) rest other
@@ -195,6 +189,32 @@ then_written {held = held} {a = a} {b = b} {c = c} {t = t} {result = result} s f
   sound = second.sound;
   err = on_err_weaker result (Stops-put (held a) (held b) (held c) _ s t first) second.err;
 }
+
+-- a front was written, and then clauses, or a beginning of the front alone
+module _ {W T E : Type 0} {held : W → Option (List ℕ)} {failed : W → Bool} {a b : W} {c : Circuit}
+    {optimize : Bool} {extra : List (List Lit)} {result : Result T E} (front : List ℕ) where
+  pub written_behind : {new : W} → Appends (held a) (held b) front
+      → (lists : List (List (List Lit))) × HasClauses c optimize lists
+      × IsTextWith held failed b result lists extra new
+      → WritesBehind held failed front c optimize extra a result new
+  written_behind first told = record {
+    lists = told.0;
+    has = told.1;
+    formula = told.2.formula;
+    writes = then_written front first told.2.writes;
+  }
+
+  pub stopped_before : (lists : List (List (List Lit))) × HasClauses c optimize lists
+      × IsFormula (length lists) (clauses_in lists ++ extra)
+      → Stops (held a) (held b) (failed b) front → IsErr result
+      → WritesBehind held failed front c optimize extra a result b
+  stopped_before told stops is = record {
+    lists = told.0;
+    has = told.1;
+    formula = told.2;
+    writes = failed_put
+        (Stops-before (dimacs_of (length told.0) (clauses_in told.0 ++ extra)) stops) is;
+  }
 
 -- behind a line that names them, clauses are read again
 part_again : (name : List ℕ) (made : WindowClauses) → ArePassed (name ++ 10 ∷ []) → IsFormula (length made.clauses) (formula_of made)

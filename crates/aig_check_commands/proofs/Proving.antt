@@ -1,10 +1,9 @@
 -- What the command does that shows that a machine is safe, at each way out of it.
-use Rattle.aig_base.proofs.Words.{◌≡◌, ℕ, ◌+◌, Bool, false, Option, Ok, Err, List, refl, Appends}
+use Rattle.aig_base.proofs.Words.{◌≡◌, ℕ, ◌+◌, Bool, Option, Ok, Err, List, refl}
 use Rattle.std.specs.Prelude.{IsTrue}
 use Rattle.aig_answers.specs.Answers.{IsAsked, window_verdict}
 use Rattle.aig_answers.specs.declared.error.AnswerError.TheVariants as answers
 use Rattle.aig_answers.specs.declared.bounded_checks.error.BoundedAnswerError.TheVariants as bounded
-use Rattle.aig_output.specs.Sinks.{Stops}
 use Rattle.aig_reader.specs.Reading.{IsReadAs}
 use Rattle.aig_reader.specs.Verdicts.{Accepted, Judges}
 use Rattle.aig_refutation.specs.declared.error.RefutationError.TheVariants as refutation
@@ -16,18 +15,16 @@ use Rattle.aig_answers.specs.declared.safety.error.SafetyError.TheVariants as pr
 use Rattle.aig_check_commands.specs.declared.error.CheckError.{CheckError}
 use Rattle.aig_check_commands.specs.declared.error.CheckError.TheVariants as errors
 use Rattle.aig_check_commands.specs.Pairs.{safe_line}
-use Rattle.aig_check_commands.specs.Safe.{RunsSafe}
+use Rattle.aig_check_commands.specs.Safe.{ChecksSafe}
 use Rattle.aig_check_commands.proofs.Outcomes.{is_error}
 
 same_safety : (x y : SafetyError) → errors.Safe x ≡ errors.Safe y → x ≡ y
 same_safety x y is = cc
 
-module _ {R P Q W : Type 0} {left : R → Option (List ℕ)} {read_failed : R → Bool}
+module _ {R P Q : Type 0} {left : R → Option (List ℕ)} {read_failed : R → Bool}
     {base_left : P → Option (List ℕ)} {base_failed : P → Bool} {step_left : Q → Option (List ℕ)}
-    {step_failed : Q → Bool} {held : W → Option (List ℕ)} {write_failed : W → Bool} {k : ℕ}
-    {form : Window} {base_optimize step_optimize : Bool} {limit : ℕ} {r rest : R} {p used : P} {q
-    spent : Q}
-    {w made : W} where
+    {step_failed : Q → Bool} {k : ℕ} {form : Window} {base_optimize step_optimize : Bool}
+    {limit : ℕ} {r rest : R} {p used : P} {q spent : Q} where
   -- the file is refused, or a proof
   pub safe_refused : (e : SafetyError)
       → Judges (window_verdict form limit k) limit (left r) (left rest) (read_failed rest)
@@ -36,68 +33,37 @@ module _ {R P Q W : Type 0} {left : R → Option (List ℕ)} {read_failed : R �
       → (safety.verdict_of e ≡ Accepted → IsReadAs (IsAsked limit (k + 1))
       (Shows base_left step_left k base_optimize form step_optimize p used q) (left r) (left rest)
       (Err e))
-      → made ≡ w
       → (safety.LeavesBase (Err e) → used ≡ p) → (safety.LeavesStep (Err e) → spent ≡ q)
       → (e ≡ proving.Base (bounded.Refutation refutation.Stream) → IsTrue (base_failed used))
       → (e ≡ proving.Step (answers.Refutation refutation.Stream) → IsTrue (step_failed spent))
-      → RunsSafe left read_failed base_left base_failed step_left step_failed held write_failed k
-      form base_optimize step_optimize limit r p q w (Err (errors.Safe e)) rest used spent made
-  safe_refused e said own size shown same base step base_stream step_stream = record {
+      → ChecksSafe left read_failed base_left base_failed step_left step_failed k form
+      base_optimize step_optimize limit r p q rest used spent (Err (errors.Safe e))
+  safe_refused e said own size shown base step base_stream step_stream = record {
     verdict = said;
     own = own;
-    safe = λ no. absurd no;
-    ok = tt;
-    stopped = λ is. absurd cc;
-    kept = λ not. same;
+    text = tt;
     refusal = (shown, size);
     base_unread = base;
     step_unread = step;
-    base_stream = λ is. base_stream (same_safety e _ (is_error (Unit {0}) CheckError _ _ is));
-    step_stream = λ is. step_stream (same_safety e _ (is_error (Unit {0}) CheckError _ _ is));
+    base_stream = λ is. base_stream (same_safety e _ (is_error (List ℕ) CheckError _ _ is));
+    step_stream = λ is. step_stream (same_safety e _ (is_error (List ℕ) CheckError _ _ is));
   }
 
-  -- the line was written
-  pub safe_answered : (v : Unit {0}) → Judges (window_verdict form limit k) limit (left r) (left rest) (read_failed rest)
-      Accepted
+  -- the machine is safe
+  pub safe_answered : Judges (window_verdict form limit k) limit (left r) (left rest)
+      (read_failed rest) Accepted
       → IsReadAs (IsAsked limit (k + 1))
       (Shows base_left step_left k base_optimize form step_optimize p used q) (left r) (left rest)
       (Ok tt)
-      → Appends (held w) (held made) safe_line → write_failed made ≡ false
-      → RunsSafe left read_failed base_left base_failed step_left step_failed held write_failed k
-      form base_optimize step_optimize limit r p q w (Ok v) rest used spent made
-  safe_answered v said shown written sound = record {
+      → ChecksSafe left read_failed base_left base_failed step_left step_failed k form
+      base_optimize step_optimize limit r p q rest used spent (Ok safe_line)
+  safe_answered said shown = record {
     verdict = said;
     own = tt;
-    safe = λ taken. shown;
-    ok = (written, sound);
-    stopped = λ is. absurd cc;
-    kept = tt;
+    text = (refl, shown);
     refusal = tt;
     base_unread = tt;
     step_unread = tt;
-    base_stream = λ is. absurd cc;
-    step_stream = λ is. absurd cc;
-  }
-
-  -- the writer failed after a beginning of it
-  pub safe_stopped : Judges (window_verdict form limit k) limit (left r) (left rest) (read_failed rest)
-      Accepted
-      → IsReadAs (IsAsked limit (k + 1))
-      (Shows base_left step_left k base_optimize form step_optimize p used q) (left r) (left rest)
-      (Ok tt)
-      → Stops (held w) (held made) (write_failed made) safe_line
-      → RunsSafe left read_failed base_left base_failed step_left step_failed held write_failed k
-      form base_optimize step_optimize limit r p q w (Err errors.Write) rest used spent made
-  safe_stopped said shown stops = record {
-    verdict = said;
-    own = tt;
-    safe = λ taken. shown;
-    ok = tt;
-    stopped = λ is. stops;
-    kept = λ not. absurd (not refl);
-    refusal = tt;
-    base_unread = λ no. absurd no;
-    step_unread = λ no. absurd no;
     base_stream = λ is. absurd cc;
     step_stream = λ is. absurd cc;
   }

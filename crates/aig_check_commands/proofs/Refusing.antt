@@ -1,5 +1,5 @@
 -- What is asked is refused again, of which one input is counted.
-use Rattle.aig_base.proofs.Words.{◌≡◌, ◌+◌, ◌<◌, ℕ, zero, suc, Bool, List, [], ◌∷◌, ◌++◌, Option, Some, Ok, Err, ap, arith, get_or, length, map, map-map, refl, subst, sym, ◌∙◌}
+use Rattle.aig_base.proofs.Words.{◌≡◌, ◌+◌, ◌<◌, ℕ, zero, suc, Bool, List, [], ◌∷◌, Option, Some, Ok, Err, ap, arith, get_or, length, map, map-map, refl, subst, sym, ◌∙◌}
 use Rattle.std.specs.Prelude.{IfOk, Result, slice_get}
 use Rattle.std.specs.List.{insert, remove}
 use Rattle.aig_command_line.specs.declared.discarded.Discarded.{Discarded}
@@ -9,12 +9,12 @@ use Rattle.aig_command_line.specs.declared.tally.Place.{Place}
 use Rattle.aig_command_line.specs.Came.{IsPlaceIn}
 use Rattle.aig_check_commands.specs.declared.command.Asked.{Asked}
 use Rattle.aig_check_commands.specs.declared.error.CheckError.{CheckError}
-use Rattle.aig_check_commands.specs.Acting.{RanBy}
+use Rattle.aig_check_commands.specs.Acting.{RanOn}
 use Rattle.aig_check_commands.specs.Explaining.{IsRefusedIn}
 use Rattle.aig_check_commands.specs.Inputs.{Stream, bytes_of, has_failed}
 use Rattle.aig_check_commands.specs.Living.{keeps_nothing, never_fails}
 use Rattle.aig_check_commands.specs.Opening.{AreOpened}
-use Rattle.aig_check_commands.proofs.Viewed.{by_seen}
+use Rattle.aig_check_commands.proofs.Viewed.{on_seen}
 
 -- one of a list was taken out, and what is seen as it is put back among the others
 module _ {X Y Z : Type 0} (plain : X → Y) (left : Y → Z) (of : X → Z)
@@ -33,12 +33,6 @@ module _ {X Y Z : Type 0} (plain : X → Y) (left : Y → Z) (of : X → Z)
       ap (λ h. h ∷ map left (insert (map plain (remove xs i)) i y)) (seen z)
       ∙ ap (λ zs. of z ∷ zs) (put_back xs i x y (omega (arith, low)) at same)
 
--- the last of a list as it is seen
-pub seen_last : {A B : Type 0} (on : A → B) (last : A) (front : List A)
-    → slice_get (map on (front ++ last ∷ [])) (length front) ≡ Some (on last)
-seen_last on last [] = refl
-seen_last on last (x ∷ front) = seen_last on last front
-
 -- files that are opened again are opened
 pub opened_again : {F : Type 0} (opens : List ℕ → Result F OpenError → Type 0)
     (paths : List (List ℕ)) (files : List F)
@@ -50,42 +44,27 @@ opened_again opens (path ∷ paths) (file ∷ files) are =
 opened_again opens [] (file ∷ files) are = absurd are
 opened_again opens (path ∷ paths) [] are = absurd are
 
-next_of : {X : Type 0} (x : X) (xs : List X) (i : ℕ) → slice_get (x ∷ xs) (i + 1) ≡ slice_get xs i
-next_of x xs i =
-    let next : i + 1 ≡ suc i = omega arith in
-    ap (slice_get (x ∷ xs)) next
-
 -- what was asked again was refused so, and the place is that of the last byte of the counted input
-pub refused_again : {F S : Type 0} (left : F → Option (List ℕ)) (failed : F → Bool)
-    (left_of : S → Option (List ℕ)) (failed_of : S → Bool) (limit number : ℕ) (asked : Asked)
-    (file rest : F) (files others : List S) (known : List (Option (List ℕ)))
-    (told : Option (List ℕ)) (again e : CheckError) (measure : Measure) (place : Place)
-    (before after : Discarded) → map left_of files ≡ known → slice_get known number ≡ Some told
-    → IsPlaceIn told measure place → again ≡ e
-    → RanBy left failed left_of failed_of keeps_nothing never_fails limit asked.justice
-    asked.command file files before (Err again) rest others after
-    → IsRefusedIn limit asked (left file ∷ known) (number + 1) e measure place
-refused_again {F} {S} left failed left_of failed_of limit number asked file rest files others
-    known told again e measure place before after are which at same ran = record {
+pub refused_again : {S : Type 0} (left : S → Option (List ℕ)) (failed : S → Bool) (limit number : ℕ)
+    (asked : Asked) (files others : List S) (known : List (Option (List ℕ)))
+    (told : Option (List ℕ)) (e : CheckError) (measure : Measure) (place : Place)
+    (before after : Discarded) → map left files ≡ known → slice_get known number ≡ Some told
+    → IsPlaceIn told measure place
+    → RanOn left failed keeps_nothing never_fails limit asked files before (Err e) others after
+    → IsRefusedIn limit asked known number e measure place
+refused_again {S} left failed limit number asked files others known told e measure place before
+    after are which at ran = record {
       told = told;
-      which = next_of (left file) known number ∙ which;
+      which = which;
       at = at;
-      file = of_file file;
       files = map of_input files;
-      are = ap (λ l. left file ∷ l) (sym are ∙ sym (map-map bytes_of of_input files));
-      rest = of_file rest;
+      are = sym are ∙ sym (map-map bytes_of of_input files);
       others = map of_input others;
       before = before;
       after = after;
-      refused = subst (λ (x : CheckError). RanBy bytes_of has_failed bytes_of has_failed
-          keeps_nothing never_fails limit asked.justice asked.command (of_file file)
-          (map of_input files) before (Err x) (of_file rest) (map of_input others) after) same
-          (by_seen of_input bytes_of has_failed keeps_nothing never_fails limit asked.command files
-          others before after of_file bytes_of has_failed asked.justice file rest (Err again) ran);
+      refused = on_seen of_input bytes_of has_failed keeps_nothing never_fails limit asked before
+          after (Err e) files others ran;
     }
   where
-    of_file : F → Stream
-    of_file x = (left x, failed x)
-
     of_input : S → Stream
-    of_input x = (left_of x, failed_of x)
+    of_input x = (left x, failed x)

@@ -57,7 +57,7 @@ module _ {R P W : Type 0} {left : R → Option (List ℕ)} {read_failed : R → 
       → Runs left read_failed given given_failed held write_failed commands.Run limit r p w
       (Err (error_of_claim e)) rest used made
   claim_refused (claims.Show e) said never unread same tells =
-      refused (errors.Show e) said (λ is. never (of_show e read.Open is)) (λ is. cc) same
+      refused (errors.Show e) said (λ is. never (of_show e read.Open is)) same
       (file_alone e (used ≡ p) (λ x is. unread x (of_show e x is))) tells
   claim_refused (claims.Lasso e) said never unread same tells =
-      refused (errors.Lasso e) said tt (λ is. cc) same (λ alone. absurd alone) tells
+      refused (errors.Lasso e) said tt same (λ alone. absurd alone) tells

@@ -1,6 +1,6 @@
 -- What a command does is so of what is seen of its files: of their bytes alone.
 use Rattle.aig_base.proofs.Words.{◌≡◌, ℕ, ◌+◌, Bool, true, false, List, [], ◌∷◌, Option, None, Some, Ok, Err, ap, fun_ext, map, map-append, refl, subst, sym, ◌∙◌}
-use Rattle.std.specs.Prelude.{IfErr, IsTrue, Result, option_map, slice_get}
+use Rattle.std.specs.Prelude.{IfErr, IfOk, IsTrue, Result, option_map, slice_get}
 use Rattle.std.proofs.lemmas.Option.{slice_get-map}
 use Rattle.aig_answers.specs.Answers.{TellsOfStep, TellsOfWindow}
 use Rattle.aig_answers.specs.Asking.{AnswersCircuit}
@@ -19,27 +19,31 @@ use Rattle.aig_answers.specs.Steps.{AreTaken, HasAt, Show, ShowEach, Told}
 use Rattle.aig_answers.specs.declared.safety.error.SafetyError.TheVariants as proving
 use Rattle.aig_answers.specs.declared.safety.error.StepsError.{StepsError}
 use Rattle.aig_answers.specs.declared.safety.error.StepsError.TheVariants as stepping
+use Rattle.aig_check_commands.specs.declared.command.Asked.{Asked}
 use Rattle.aig_check_commands.specs.declared.command.Command.{Command}
 use Rattle.aig_check_commands.specs.declared.command.Command.TheVariants as commands
 use Rattle.aig_check_commands.specs.declared.command.FileCommand.{FileCommand}
 use Rattle.aig_check_commands.specs.declared.command.PairCommand.{PairCommand}
 use Rattle.aig_check_commands.specs.declared.error.CheckError.{CheckError}
 use Rattle.aig_check_commands.specs.declared.error.CheckError.TheVariants as errors
-use Rattle.aig_check_commands.specs.Comparing.{RunsComparing, TellsOfComparing}
-use Rattle.aig_check_commands.specs.Acting.{RanBy}
+use Rattle.aig_check_commands.specs.Comparing.{ChecksComparing, TellsOfComparing}
+use Rattle.aig_check_commands.specs.Acting.{RanBy, RanOn}
 use Rattle.aig_check_commands.specs.declared.justice.Justice.{Justice}
 use Rattle.aig_check_commands.specs.Inputs.{Ran, bytes_of, has_failed}
 use Rattle.aig_check_commands.specs.Living.{ChecksText, Concludes, MeansMade, PrintsMade, ShowsFair, TellsMade, fair_line}
 use Rattle.aig_check_commands.specs.CommandWords.{prints}
-use Rattle.aig_check_commands.specs.Pairs.{RunsPair}
-use Rattle.aig_check_commands.specs.Running.{Runs, nothing_fails, nothing_given}
-use Rattle.aig_check_commands.specs.Safe.{RunsSafe, TellsWhy}
+use Rattle.aig_check_commands.specs.Printed.{Printed}
+use Rattle.aig_check_commands.specs.Pairs.{ChecksPair}
+use Rattle.aig_check_commands.specs.Running.{ChecksFile, nothing_fails, nothing_given}
+use Rattle.aig_check_commands.specs.Safe.{ChecksSafe, TellsWhy}
 use Rattle.aig_check_commands.specs.Simulating.{LeavesProof, RunsObligation, RunsSimulated, TellsOfSimulated}
 use Rattle.aig_simulated.specs.Simulated.{Proofs, proof_for, proofs_of}
 use Rattle.aig_simulation.specs.declared.condition.Condition.{Condition}
 use Rattle.aig_simulation.specs.declared.condition.Condition.TheVariants as conditions
+use Rattle.aig_check_commands.proofs.Outcomes.{printed_on}
+use Rattle.aig_check_commands.proofs.Pairing.{reads_under}
 use Rattle.aig_check_commands.specs.SafeBySteps as by_steps
-use Rattle.aig_check_commands.specs.SafeBySteps.{RunsOnProofs, RunsSafeBySteps}
+use Rattle.aig_check_commands.specs.SafeBySteps.{ChecksSteps}
 
 -- a value of the same file, with another meaning
 pub read_as : {T U : Type 0} {Holds : List ℕ → File → Type 0} (Means : File → T → Type 0)
@@ -54,19 +58,32 @@ read_as Means Other so was = record {
   taken = was.taken;
 }
 
+-- what holds of a text may be another thing that follows
+if_ok : {P Q : List ℕ → Type 0} (x : Result (List ℕ) CheckError) → ((text : List ℕ) → P text → Q text)
+    → IfOk x P → IfOk x Q
+if_ok (Ok text) so is = so text is
+if_ok (Err e) so is = tt
+
+-- it is printed as before
+still_printed : {W : Type 0} {held : W → Option (List ℕ)} {failed : W → Bool}
+    {Holds Also : Result (List ℕ) CheckError → Type 0} {w made : W}
+    {result : Result (Unit {0}) CheckError}
+    → ((x : Result (List ℕ) CheckError) → Holds x → Also x)
+    → Printed held failed Holds w result made → Printed held failed Also w result made
+still_printed so = printed_on so (λ x ends. ends)
+
 -- what isn't read stays as it is seen
 left_as : {P Q : Type 0} (on : P → Q) (Leaves : CheckError → Type 0) (p used : P)
-    (result : Result (Unit {0}) CheckError) → IfErr result (λ e. Leaves e → used ≡ p)
+    (result : Result (List ℕ) CheckError) → IfErr result (λ e. Leaves e → used ≡ p)
     → IfErr result (λ e. Leaves e → on used ≡ on p)
 left_as on Leaves p used (Ok u) unread = tt
 left_as on Leaves p used (Err e) unread = λ is. ap on (unread is)
 
-module _ {P Q B C : Type 0} (by : P → B) (base_left : B → Option (List ℕ)) (at : Q → C)
-    (step_left : C → Option (List ℕ)) (k : ℕ) (form : Window) (base_optimize step_optimize : Bool)
-    (p used : P) (q : Q) where
-  base_seen : (c : Circuit) (x : Result (Unit {0}) BoundedAnswerError)
-      → AnswersCircuit (λ y. base_left (by y)) k base_optimize p used c x
-      → AnswersCircuit base_left k base_optimize (by p) (by used) c x
+module _ {P B : Type 0} (by : P → B) (base_left : B → Option (List ℕ)) (k : ℕ) (optimize : Bool)
+    (p used : P) where
+  pub base_seen : (c : Circuit) (x : Result (Unit {0}) BoundedAnswerError)
+      → AnswersCircuit (λ y. base_left (by y)) k optimize p used c x
+      → AnswersCircuit base_left k optimize (by p) (by used) c x
   base_seen c x told = (
     told.0,
     λ made asks.
@@ -77,15 +94,21 @@ module _ {P Q B C : Type 0} (by : P → B) (base_left : B → Option (List ℕ))
         },
   )
 
-  circuit_seen : (c : Circuit) (x : Result (Unit {0}) SafetyError)
+module _ {P Q B C : Type 0} (by : P → B) (base_left : B → Option (List ℕ)) (at : Q → C)
+    (step_left : C → Option (List ℕ)) (k : ℕ) (form : Window) (base_optimize step_optimize : Bool)
+    (p used : P) (q : Q) where
+  pub circuit_seen : (c : Circuit) (x : Result (Unit {0}) SafetyError)
       → ShowsCircuit (λ y. base_left (by y)) (λ y. step_left (at y)) k base_optimize form
       step_optimize p used q c x
       → ShowsCircuit base_left step_left k base_optimize form step_optimize (by p) (by used)
       (at q) c x
-  circuit_seen c (Ok u) told = (base_seen c (Ok tt) told.0, told.1)
+  circuit_seen c (Ok u) told =
+      (base_seen by base_left k base_optimize p used c (Ok tt) told.0, told.1)
   circuit_seen c (Err (proving.File e)) told = absurd told
-  circuit_seen c (Err (proving.Base e)) told = base_seen c (Err e) told
-  circuit_seen c (Err (proving.Step e)) told = (base_seen c (Ok tt) told.0, told.1)
+  circuit_seen c (Err (proving.Base e)) told =
+      base_seen by base_left k base_optimize p used c (Err e) told
+  circuit_seen c (Err (proving.Step e)) told =
+      (base_seen by base_left k base_optimize p used c (Ok tt) told.0, told.1)
 
   shown_seen : (f : File) (x : Result (Unit {0}) SafetyError)
       → Shows (λ y. base_left (by y)) (λ y. step_left (at y)) k base_optimize form step_optimize p
@@ -94,7 +117,7 @@ module _ {P Q B C : Type 0} (by : P → B) (base_left : B → Option (List ℕ))
   shown_seen f (Ok u) told = (told.0, circuit_seen _ (Ok tt) told.1)
   shown_seen f (Err e) told = circuit_seen _ (Err e) told
 
-  why_seen : (limit : ℕ) (old new : Option (List ℕ)) (x : Result (Unit {0}) CheckError)
+  why_seen : (limit : ℕ) (old new : Option (List ℕ)) (x : Result (List ℕ) CheckError)
       → IfErr x (TellsWhy (Shows (λ y. base_left (by y)) (λ y. step_left (at y)) k base_optimize
       form step_optimize p used q) limit k old new)
       → IfErr x (TellsWhy (Shows base_left step_left k base_optimize form step_optimize (by p)
@@ -136,7 +159,7 @@ module _ {S B : Type 0} (on : S → B) (left_of : B → Option (List ℕ)) (k : 
         (λ text. TellsOfWindow form k step_optimize text f) x told.1,
   )
 
-  tells_seen : (limit : ℕ) (old new : Option (List ℕ)) (x : Result (Unit {0}) CheckError)
+  tells_seen : (limit : ℕ) (old new : Option (List ℕ)) (x : Result (List ℕ) CheckError)
       → IfErr x (by_steps.TellsWhy (Show (λ y. left_of (on y)) (λ y. left_of (on y)) k
       base_optimize form step_optimize bases step) limit k old new)
       → IfErr x (by_steps.TellsWhy (Show left_of left_of k base_optimize form step_optimize
@@ -147,7 +170,7 @@ module _ {S B : Type 0} (on : S → B) (left_of : B → Option (List ℕ)) (k : 
   tells_seen limit old new (Err e) told = told
 
   -- so are those that aren't read
-  bases_left : (used : List S) (x : Result (Unit {0}) CheckError)
+  bases_left : (used : List S) (x : Result (List ℕ) CheckError)
       → IfErr x (λ e. (n : ℕ) → by_steps.LeavesBase n e → slice_get used n ≡ slice_get bases n)
       → IfErr x (λ e. (n : ℕ) → by_steps.LeavesBase n e
       → slice_get (map on used) n ≡ slice_get (map on bases) n)
@@ -158,31 +181,29 @@ module _ {S B : Type 0} (on : S → B) (left_of : B → Option (List ℕ)) (k : 
 
 module _ {S B : Type 0} (on : S → B) (left_of : B → Option (List ℕ)) (failed_of : B → Bool)
     (optimize : Bool) (limit : ℕ) (base step : Option (List ℕ)) (c tried : S) where
-  miter_seen : (f g : File) (x : Result (Unit {0}) CertificateError)
+  certifies_seen : (f g : File) (x : Result (Unit {0}) CertificateError)
       → CertifiesMiter (λ y. left_of (on y)) (λ y. failed_of (on y)) limit optimize
       base step c tried f g x
       → CertifiesMiter left_of failed_of limit optimize base step (on c)
       (on tried) f g x
-  miter_seen f g x told =
+  certifies_seen f g x told =
       (told.0, told.1, record { verdict = told.2.verdict; answer = told.2.answer })
 
   equals_seen : (f g : File) (x : Result (Unit {0}) MiterError)
       → EqualsBy (λ y. left_of (on y)) (λ y. failed_of (on y)) limit optimize base step c tried f g x
       → EqualsBy left_of failed_of limit optimize base step (on c)
       (on tried) f g x
-  equals_seen f g (Ok u) told = (told.0, miter_seen f g (Ok tt) told.1)
+  equals_seen f g (Ok u) told = (told.0, certifies_seen f g (Ok tt) told.1)
   equals_seen f g (Err (miter.Pair e)) told = told
-  equals_seen f g (Err (miter.Certificate e)) told = miter_seen f g (Err e) told
+  equals_seen f g (Err (miter.Certificate e)) told = certifies_seen f g (Err e) told
 
-  told_seen : {W : Type 0} (held : W → Option (List ℕ)) (write_failed : W → Bool) (w made : W)
-      (f g : File) (x : Result (Unit {0}) CheckError)
-      → TellsOfComparing (λ y. left_of (on y)) (λ y. failed_of (on y)) held write_failed optimize
-      limit base step c tried w made f g x
-      → TellsOfComparing left_of failed_of held write_failed optimize limit base step (on c) (on tried) w made f g x
-  told_seen held write_failed w made f g (Ok u) told = (equals_seen f g (Ok tt) told.0, told.1, told.2)
-  told_seen held write_failed w made f g (Err errors.Write) told = (equals_seen f g (Ok tt) told.0, told.1)
-  told_seen held write_failed w made f g (Err (errors.Miter e)) told = equals_seen f g (Err e) told
-  told_seen held write_failed w made f g (Err e) told = absurd told
+  told_seen : (f g : File) (x : Result (List ℕ) CheckError)
+      → TellsOfComparing (λ y. left_of (on y)) (λ y. failed_of (on y)) optimize limit base step c
+      tried f g x
+      → TellsOfComparing left_of failed_of optimize limit base step (on c) (on tried) f g x
+  told_seen f g (Ok text) told = (told.0, equals_seen f g (Ok tt) told.1)
+  told_seen f g (Err (errors.Miter e)) told = equals_seen f g (Err e) told
+  told_seen f g (Err e) told = absurd told
 
 -- proofs as they are seen
 abbrev proofs_seen_as : {S B : Type 0} → (S → B) → Proofs S → Proofs B
@@ -222,151 +243,131 @@ proofs_left on p used (Err e) unread =
     λ condition is. sym (for_seen on used condition) ∙ ap on (unread condition is)
     ∙ for_seen on p condition
 
-module _ {R A : Type 0} (to : R → A) (left : A → Option (List ℕ)) (failed : A → Bool) {W : Type 0}
-    (held : W → Option (List ℕ)) (write_failed : W → Bool) (limit : ℕ) (r rest : R) (w made : W)
-    (result : Result (Unit {0}) CheckError) where
-  runs_seen : {P B : Type 0} (on : P → B) (given : B → Option (List ℕ)) (given_failed : B → Bool)
-      {c : FileCommand} {p used : P}
-      → Runs (λ x. left (to x)) (λ x. failed (to x)) (λ x. given (on x)) (λ x. given_failed (on x))
-      held write_failed c limit r p w result rest used made
-      → Runs left failed given given_failed held write_failed c limit (to r) (on p) w result
-      (to rest) (on used) made
-  runs_seen on given given_failed {p = p} {used = used} runs = record {
-    verdict = runs.verdict;
-    own = runs.own;
-    ok = runs.ok;
-    stopped = runs.stopped;
-    taken = runs.taken;
-    kept = runs.kept;
-    unread = left_as on _ p used result runs.unread;
-    refusal = runs.refusal;
+-- ---- what is made of files
+
+module _ {R A : Type 0} (to : R → A) (left : A → Option (List ℕ)) (failed : A → Bool) {limit : ℕ}
+    {r rest : R} (x : Result (List ℕ) CheckError) where
+  pub checks_seen : {P B : Type 0} (on : P → B) (given : B → Option (List ℕ))
+      (given_failed : B → Bool) {c : FileCommand} {p used : P}
+      → ChecksFile (λ y. left (to y)) (λ y. failed (to y)) (λ y. given (on y)) (λ y. given_failed (on y))
+      c limit r p rest used x
+      → ChecksFile left failed given given_failed c limit (to r) (on p) (to rest) (on used) x
+  checks_seen on given given_failed {p = p} {used = used} told = record {
+    verdict = told.verdict;
+    own = told.own;
+    text = told.text;
+    taken = told.taken;
+    unread = left_as on _ p used x told.unread;
+    refusal = told.refusal;
   }
 
-  pair_seen : {S P Q B C D : Type 0} (on : S → B) (left_of : B → Option (List ℕ))
+  pub two_seen : {S P Q B C D : Type 0} (on : S → B) (left_of : B → Option (List ℕ))
       (failed_of : B → Bool) (by : P → C) (base_left : C → Option (List ℕ)) (base_failed : C → Bool)
       (at : Q → D) (step_left : D → Option (List ℕ)) (step_failed : D → Bool)
       {c : PairCommand} {s other : S} {p used : P} {q spent : Q}
-      → RunsPair (λ x. left (to x)) (λ x. failed (to x)) (λ x. left_of (on x))
-      (λ x. failed_of (on x)) (λ x. base_left (by x)) (λ x. base_failed (by x))
-      (λ x. step_left (at x)) (λ x. step_failed (at x)) held write_failed c limit r s p q w result
-      rest other used spent made
-      → RunsPair left failed left_of failed_of base_left base_failed step_left step_failed held
-      write_failed c limit (to r) (on s) (by p) (at q) w result (to rest) (on other) (by used)
-      (at spent) made
-  pair_seen on left_of failed_of by base_left base_failed at step_left step_failed {p = p}
-      {used = used} {q = q} {spent = spent} runs = record {
-        reads = record {
-          verdict = runs.reads.verdict;
-          other_verdict = runs.reads.other_verdict;
-          unread = λ not. ap on (runs.reads.unread not);
-          answer = runs.reads.answer;
-          own = runs.reads.own;
-        };
-        kept = runs.kept;
-        base_unread = left_as by _ p used result runs.base_unread;
-        step_unread = left_as at _ q spent result runs.step_unread;
-        base_stream = runs.base_stream;
-        step_stream = runs.step_stream;
-        miter_base_stream = runs.miter_base_stream;
-        miter_step_stream = runs.miter_step_stream;
+      → ChecksPair (λ y. left (to y)) (λ y. failed (to y)) (λ y. left_of (on y))
+      (λ y. failed_of (on y)) (λ y. base_left (by y)) (λ y. base_failed (by y))
+      (λ y. step_left (at y)) (λ y. step_failed (at y)) c limit r s p q rest other used spent x
+      → ChecksPair left failed left_of failed_of base_left base_failed step_left step_failed c limit
+      (to r) (on s) (by p) (at q) (to rest) (on other) (by used) (at spent) x
+  two_seen on left_of failed_of by base_left base_failed at step_left step_failed {p = p}
+      {used = used} {q = q} {spent = spent} told = record {
+        reads = reads_under left failed left_of failed_of to on told.reads;
+        base_unread = left_as by _ p used x told.base_unread;
+        step_unread = left_as at _ q spent x told.step_unread;
+        base_stream = told.base_stream;
+        step_stream = told.step_stream;
+        miter_base_stream = told.miter_base_stream;
+        miter_step_stream = told.miter_step_stream;
       }
 
   module _ {P Q B C : Type 0} (by : P → B) (base_left : B → Option (List ℕ))
       (base_failed : B → Bool) (at : Q → C) (step_left : C → Option (List ℕ))
-      (step_failed : C → Bool) (k : ℕ) (form : Window) (base_optimize step_optimize : Bool)
-      (p used : P) (q spent : Q) where
-    safe_seen : RunsSafe (λ x. left (to x)) (λ x. failed (to x)) (λ x. base_left (by x))
-        (λ x. base_failed (by x)) (λ x. step_left (at x)) (λ x. step_failed (at x)) held
-        write_failed k form base_optimize step_optimize limit r p q w result rest used spent made
-        → RunsSafe left failed base_left base_failed step_left step_failed held write_failed k form
-        base_optimize step_optimize limit (to r) (by p) (at q) w result (to rest) (by used)
-        (at spent) made
-    safe_seen runs = record {
-      verdict = runs.verdict;
-      own = runs.own;
-      safe = λ taken. read_as _ _ (λ f. shown_seen by base_left at step_left k form base_optimize
-          step_optimize p used q f (Ok tt)) (runs.safe taken);
-      ok = runs.ok;
-      stopped = runs.stopped;
-      kept = runs.kept;
+      (step_failed : C → Bool) {k : ℕ} {form : Window} {base_optimize step_optimize : Bool}
+      {p used : P} {q spent : Q} where
+    pub proofs_seen : ChecksSafe (λ y. left (to y)) (λ y. failed (to y)) (λ y. base_left (by y))
+        (λ y. base_failed (by y)) (λ y. step_left (at y)) (λ y. step_failed (at y)) k form
+        base_optimize step_optimize limit r p q rest used spent x
+        → ChecksSafe left failed base_left base_failed step_left step_failed k form base_optimize
+        step_optimize limit (to r) (by p) (at q) (to rest) (by used) (at spent) x
+    proofs_seen told = record {
+      verdict = told.verdict;
+      own = told.own;
+      text = if_ok x (λ text is. (
+        is.0,
+        read_as _ _ (λ f. shown_seen by base_left at step_left k form
+            base_optimize step_optimize p used q f (Ok tt)) is.1,
+      )) told.text;
       refusal = why_seen by base_left at step_left k form base_optimize step_optimize p used q limit
-          (left (to r)) (left (to rest)) result runs.refusal;
-      base_unread = left_as by _ p used result runs.base_unread;
-      step_unread = left_as at _ q spent result runs.step_unread;
-      base_stream = runs.base_stream;
-      step_stream = runs.step_stream;
+          (left (to r)) (left (to rest)) x told.refusal;
+      base_unread = left_as by _ p used x told.base_unread;
+      step_unread = left_as at _ q spent x told.step_unread;
+      base_stream = told.base_stream;
+      step_stream = told.step_stream;
     }
 
-  module _ {S B : Type 0} (on : S → B) (left_of : B → Option (List ℕ)) (failed_of : B → Bool)
-      (k : ℕ) (form : Window) (base_optimize step_optimize : Bool) where
-    steps_seen : (bases used : List S) (step spent : S)
-        → RunsSafeBySteps (λ x. left (to x)) (λ x. failed (to x)) (λ x. left_of (on x))
-        (λ x. failed_of (on x)) (λ x. left_of (on x)) (λ x. failed_of (on x)) held write_failed k
-        form base_optimize step_optimize limit r bases step w result rest used spent made
-        → RunsSafeBySteps left failed left_of failed_of left_of failed_of held write_failed k form
-        base_optimize step_optimize limit (to r) (map on bases) (on step) w result (to rest)
-        (map on used) (on spent) made
-    steps_seen bases used step spent runs = record {
-      verdict = runs.verdict;
-      own = runs.own;
-      safe = λ taken. read_as _ _ (λ f. show_seen on left_of k form base_optimize step_optimize bases
-          step f (Ok tt)) (runs.safe taken);
-      ok = runs.ok;
-      stopped = runs.stopped;
-      kept = runs.kept;
-      refusal = tells_seen on left_of k form base_optimize step_optimize bases step limit
-          (left (to r)) (left (to rest)) result runs.refusal;
-      base_unread = bases_left on left_of k form base_optimize step_optimize bases step used result
-          runs.base_unread;
-      step_unread = left_as on _ step spent result runs.step_unread;
-      base_stream = λ n is.
-          at_seen on used n (λ p. IsTrue (failed_of p)) (runs.base_stream n is);
-      step_stream = runs.step_stream;
-    }
+  module _ {S B : Type 0} (on : S → B) (left_of : B → Option (List ℕ)) (failed_of : B → Bool) where
+    steps_seen : {k : ℕ} {form : Window} {base_optimize step_optimize : Bool} {bases used : List S}
+        {step spent : S}
+        → ChecksSteps (λ y. left (to y)) (λ y. failed (to y)) (λ y. left_of (on y))
+        (λ y. failed_of (on y)) (λ y. left_of (on y)) (λ y. failed_of (on y)) k form base_optimize
+        step_optimize limit r bases step rest used spent x
+        → ChecksSteps left failed left_of failed_of left_of failed_of k form base_optimize
+        step_optimize limit (to r) (map on bases) (on step) (to rest) (map on used) (on spent) x
+    steps_seen {k = k} {form = form} {base_optimize = base} {step_optimize = window} {bases = bases}
+        {used = used} {step = step} {spent = spent} told = record {
+          verdict = told.verdict;
+          own = told.own;
+          text = if_ok x (λ text is. (
+            is.0,
+            read_as _ _ (λ f. show_seen on left_of k form base window
+                bases step f (Ok tt)) is.1,
+          )) told.text;
+          refusal = tells_seen on left_of k form base window bases step limit (left (to r))
+              (left (to rest)) x told.refusal;
+          base_unread = bases_left on left_of k form base window bases step used x told.base_unread;
+          step_unread = left_as on _ step spent x told.step_unread;
+          base_stream = λ n is.
+              at_seen on used n (λ p. IsTrue (failed_of p)) (told.base_stream n is);
+          step_stream = told.step_stream;
+        }
 
-    proofs_seen : (proofs others : List S)
-        → RunsOnProofs (λ x. left (to x)) (λ x. failed (to x)) (λ x. left_of (on x))
-        (λ x. failed_of (on x)) held write_failed k form base_optimize step_optimize limit r proofs w
-        result rest others made
-        → RunsOnProofs left failed left_of failed_of held write_failed k form base_optimize
-        step_optimize limit (to r) (map on proofs) w result (to rest) (map on others) made
-    proofs_seen proofs others ran = record {
-      bases = map on ran.bases;
-      step = on ran.step;
-      are = ap (λ (l : List S). map on l) ran.are ∙ map-append on ran.bases (ran.step ∷ []);
-      used = map on ran.used;
-      spent = on ran.spent;
-      become = ap (λ (l : List S). map on l) ran.become ∙ map-append on ran.used (ran.spent ∷ []);
-      runs = steps_seen ran.bases ran.used ran.step ran.spent ran.runs;
-    }
+    pub miter_seen : {optimize : Bool} {s other c tried p used q spent : S}
+        → ChecksComparing (λ y. left (to y)) (λ y. failed (to y)) (λ y. left_of (on y))
+        (λ y. failed_of (on y)) (λ y. left_of (on y)) (λ y. failed_of (on y)) (λ y. left_of (on y))
+        (λ y. failed_of (on y)) (λ y. left_of (on y)) (λ y. failed_of (on y)) optimize limit r s c p
+        q rest other tried used spent x
+        → ChecksComparing left failed left_of failed_of left_of failed_of left_of failed_of left_of
+        failed_of optimize limit (to r) (on s) (on c) (on p) (on q) (to rest) (on other) (on tried)
+        (on used) (on spent) x
+    miter_seen {optimize = optimize} {c = c} {tried = tried} {p = p} {used = used} {q = q}
+        {spent = spent} told =
+        let reads = reads_under left failed left_of failed_of to on told.reads in
+        record {
+          reads = record {
+            verdict = reads.verdict;
+            other_verdict = reads.other_verdict;
+            unread = reads.unread;
+            own = reads.own;
+            answer = λ first second. read_as _ _ (λ f. read_as _ _ (λ g. told_seen on left_of
+                failed_of optimize limit (left_of (on p)) (left_of (on q)) c tried f g x))
+                (reads.answer first second);
+          };
+          certificate_unread = left_as on _ c tried x told.certificate_unread;
+          base_unread = left_as on _ p used x told.base_unread;
+          step_unread = left_as on _ q spent x told.step_unread;
+          base_stream = told.base_stream;
+          step_stream = told.step_stream;
+        }
 
-  module _ {S B : Type 0} (on : S → B) (left_of : B → Option (List ℕ)) (failed_of : B → Bool)
-      (optimize : Bool) (s other c tried p used q spent : S) where
-    comparing_seen : RunsComparing (λ x. left (to x)) (λ x. failed (to x)) (λ x. left_of (on x))
-        (λ x. failed_of (on x)) (λ x. left_of (on x)) (λ x. failed_of (on x)) (λ x. left_of (on x))
-        (λ x. failed_of (on x)) (λ x. left_of (on x)) (λ x. failed_of (on x)) held write_failed
-        optimize limit r s c p q w result rest other tried used spent made
-        → RunsComparing left failed left_of failed_of left_of failed_of left_of failed_of left_of
-        failed_of held write_failed optimize limit (to r) (on s) (on c) (on p) (on q) w result
-        (to rest) (on other) (on tried) (on used) (on spent) made
-    comparing_seen runs = record {
-      reads = record {
-        verdict = runs.reads.verdict;
-        other_verdict = runs.reads.other_verdict;
-        unread = λ not. ap on (runs.reads.unread not);
-        answer = λ first second. read_as _ _ (λ f. read_as _ _ (λ g. told_seen on left_of failed_of
-            optimize limit (left_of (on p)) (left_of (on q)) c tried held write_failed w made f g result))
-            (runs.reads.answer first second);
-        own = runs.reads.own;
-      };
-      kept = runs.kept;
-      certificate_unread = left_as on _ c tried result runs.certificate_unread;
-      base_unread = left_as on _ p used result runs.base_unread;
-      step_unread = left_as on _ q spent result runs.step_unread;
-      base_stream = runs.base_stream;
-      step_stream = runs.step_stream;
-    }
+-- ---- what is done
 
+same : Unit {0} → Unit {0}
+same x = x
+
+module _ {R A : Type 0} (to : R → A) (left : A → Option (List ℕ)) (failed : A → Bool) {W : Type 0}
+    (held : W → Option (List ℕ)) (write_failed : W → Bool) (limit : ℕ) (r rest : R) (w made : W)
+    (result : Result (Unit {0}) CheckError) where
   module _ {S B : Type 0} (on : S → B) (left_of : B → Option (List ℕ)) (failed_of : B → Bool)
       (optimize : Bool) (s other : S) where
     simulated_seen : (p used : Proofs S)
@@ -410,9 +411,6 @@ module _ {R A : Type 0} (to : R → A) (left : A → Option (List ℕ)) (failed 
       kept = runs.kept;
     }
 
-  same : Unit {0} → Unit {0}
-  same x = x
-
   -- a command is seen so
   pub ran_seen : {S B : Type 0} (on : S → B) (left_of : B → Option (List ℕ)) (failed_of : B → Bool)
       (c : Command) (files others : List S)
@@ -421,26 +419,35 @@ module _ {R A : Type 0} (to : R → A) (left : A → Option (List ℕ)) (failed 
       → Ran left failed left_of failed_of held write_failed limit c (to r) (map on files) w result
       (to rest) (map on others) made
   ran_seen on left_of failed_of (commands.File c) [] [] ran =
-      runs_seen same nothing_given nothing_fails ran
+      still_printed (λ x. checks_seen to left failed x same nothing_given nothing_fails) ran
   ran_seen on left_of failed_of (commands.File c) (p ∷ []) (used ∷ []) ran =
-      runs_seen on left_of failed_of ran
+      still_printed (λ x. checks_seen to left failed x on left_of failed_of) ran
   ran_seen on left_of failed_of (commands.Pair c) (s ∷ []) (other ∷ []) ran =
-      pair_seen on left_of failed_of same nothing_given nothing_fails same nothing_given
-      nothing_fails ran
+      still_printed (λ x. two_seen to left failed x on left_of failed_of same nothing_given
+      nothing_fails same nothing_given nothing_fails) ran
   ran_seen on left_of failed_of (commands.Pair c) (s ∷ p ∷ []) (other ∷ used ∷ []) ran =
-      pair_seen on left_of failed_of on left_of failed_of same nothing_given nothing_fails ran
+      still_printed (λ x. two_seen to left failed x on left_of failed_of on left_of failed_of same
+      nothing_given nothing_fails) ran
   ran_seen on left_of failed_of (commands.Pair c) (s ∷ p ∷ q ∷ []) (other ∷ used ∷ spent ∷ []) ran =
-      pair_seen on left_of failed_of on left_of failed_of on left_of failed_of ran
+      still_printed (λ x. two_seen to left failed x on left_of failed_of on left_of failed_of on
+      left_of failed_of) ran
   ran_seen on left_of failed_of (commands.Safe k form base_optimize step_optimize) (p ∷ q ∷ [])
       (used ∷ spent ∷ []) ran =
-      safe_seen on left_of failed_of on left_of failed_of k form base_optimize step_optimize p used
-      q spent ran
+      still_printed (λ x. proofs_seen to left failed x on left_of failed_of on left_of failed_of) ran
   ran_seen on left_of failed_of (commands.SafeBySteps k form base_optimize step_optimize) proofs
-      others ran =
-      proofs_seen on left_of failed_of k form base_optimize step_optimize proofs others ran
+      others ran = record {
+        bases = map on ran.bases;
+        step = on ran.step;
+        are = ap (λ (l : List _). map on l) ran.are ∙ map-append on ran.bases (ran.step ∷ []);
+        used = map on ran.used;
+        spent = on ran.spent;
+        become = ap (λ (l : List _). map on l) ran.become
+            ∙ map-append on ran.used (ran.spent ∷ []);
+        runs = still_printed (λ x. steps_seen to left failed x on left_of failed_of) ran.runs;
+      }
   ran_seen on left_of failed_of (commands.EqualBy optimize) (s ∷ c ∷ p ∷ q ∷ [])
       (other ∷ tried ∷ used ∷ spent ∷ []) ran =
-      comparing_seen on left_of failed_of optimize s other c tried p used q spent ran
+      still_printed (λ x. miter_seen to left failed x on left_of failed_of) ran
   ran_seen on left_of failed_of (commands.Simulated optimize) (s ∷ a ∷ b ∷ c ∷ d ∷ e ∷ [])
       (other ∷ a_rest ∷ b_rest ∷ c_rest ∷ d_rest ∷ e_rest ∷ []) ran =
       simulated_seen on left_of failed_of optimize s other (proofs_of a b c d e)
@@ -516,7 +523,7 @@ module _ {S B : Type 0} (on : S → B) (left_of : B → Option (List ℕ)) (fail
       λ is. (ap (λ (xs : List S). map on xs) (unread is).0, (unread is).1)
 
   -- what is asked is seen so
-  pub by_seen : {R A : Type 0} (to : R → A) (left : A → Option (List ℕ)) (failed : A → Bool)
+  by_seen : {R A : Type 0} (to : R → A) (left : A → Option (List ℕ)) (failed : A → Bool)
       (asked : Option Justice) (r rest : R) (x : Result (Unit {0}) CheckError)
       → RanBy (λ y. left (to y)) (λ y. failed (to y)) (λ y. left_of (on y)) (λ y. failed_of (on y))
       held write_failed limit asked c r files w x rest others made
@@ -537,3 +544,16 @@ module _ {S B : Type 0} (on : S → B) (left_of : B → Option (List ℕ)) (fail
     };
     unread = made_unread _ x ran.unread;
   }
+
+-- so on files
+pub on_seen : {S B : Type 0} (on : S → B) (left : B → Option (List ℕ)) (failed : B → Bool)
+    {W : Type 0} (held : W → Option (List ℕ)) (write_failed : W → Bool) (limit : ℕ) (asked : Asked)
+    (w made : W) (x : Result (Unit {0}) CheckError) (files others : List S)
+    → RanOn (λ y. left (on y)) (λ y. failed (on y)) held write_failed limit asked files w x others
+    made
+    → RanOn left failed held write_failed limit asked (map on files) w x (map on others) made
+on_seen on left failed held write_failed limit asked w made x (r ∷ files) (rest ∷ others) ran =
+    by_seen on left failed held write_failed limit asked.command files others w made on left failed
+    asked.justice r rest x ran
+on_seen on left failed held write_failed limit asked w made x [] others ran = absurd ran
+on_seen on left failed held write_failed limit asked w made x (r ∷ files) [] ran = absurd ran

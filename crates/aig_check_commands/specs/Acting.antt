@@ -17,7 +17,7 @@ use Rattle.aig_check_commands.specs.declared.error.CheckError.TheVariants as err
 use Rattle.aig_check_commands.specs.Inputs.{Ran}
 use Rattle.aig_check_commands.specs.Living.{RanMade}
 use Rattle.aig_check_commands.specs.Opening.{OpensAll}
-use Rattle.aig_check_commands.specs.CommandWords.{Give, IsCall, has_list}
+use Rattle.aig_check_commands.specs.CommandWords.{Give, IsCall}
 
 -- the command was run on FILE and on the files behind it, or on what is made of FILE for the
 -- justice property
@@ -29,14 +29,13 @@ RanBy left failed left_of failed_of held write_failed limit None =
 RanBy left failed left_of failed_of held write_failed limit (Some a) =
     RanMade left failed left_of failed_of held write_failed limit a
 
--- so it was on the files that were opened
+-- so it was on files, of which the first is FILE
 abbrev pub RanOn : {F W : Type 0} → (F → Option (List ℕ)) → (F → Bool) → (W → Option (List ℕ))
-    → (W → Bool) → ℕ → Asked → W → Result Unit CheckError → W → List F → Type 0
-RanOn {F} left failed held write_failed limit c w result made (r ∷ files) =
-    (rest : F) × (others : List F)
-    × RanBy left failed left failed held write_failed limit c.justice c.command r files w result
-    rest others made
-RanOn left failed held write_failed limit c w result made [] = ⊥
+    → (W → Bool) → ℕ → Asked → List F → W → Result Unit CheckError → List F → W → Type 0
+RanOn left failed held write_failed limit c (r ∷ files) w result (rest ∷ others) made =
+    RanBy left failed left failed held write_failed limit c.justice c.command r files w result rest
+    others made
+RanOn left failed held write_failed limit c files w result others made = ⊥
 
 -- What is done with the files at the paths, which are opened first, in order: FILE, the file beside
 -- it, and what the words name beside these. Where one isn't opened, or memory for a list of them
@@ -44,10 +43,12 @@ RanOn left failed held write_failed limit c w result made [] = ⊥
 abbrev pub Acts : {F W : Type 0} → (List ℕ → Result F OpenError → Type 0)
     → (F → Option (List ℕ)) → (F → Bool) → (W → Option (List ℕ)) → (W → Bool) → ℕ → Asked
     → List (List ℕ) → List (List ℕ) → W → Result Unit CheckError → W → Type 0
-Acts opens left failed held write_failed limit c paths further w result made =
-    OpensAll opens (paths ++ further) (RanOn left failed held write_failed limit c w result made)
+Acts {F} opens left failed held write_failed limit c paths further w result made =
+    OpensAll opens (paths ++ further)
+    (λ files. (others : List F)
+    × RanOn left failed held write_failed limit c files w result others made)
     (λ e. (result ≡ Err e) × (made ≡ w))
-    ⊎ (IsTrue (has_list c.command) × (result ≡ Err errors.Memory) × (made ≡ w))
+    ⊎ ((result ≡ Err errors.Memory) × (made ≡ w))
 
 -- what the words ask for was done, and how the program ends by it
 pub record Obeys {F W : Type 0} (opens : List ℕ → Result F OpenError → Type 0)

@@ -223,11 +223,6 @@ beside_of (commands.Simulated optimize) = 5
 beside_of (commands.Obligation condition optimize) = 0
 beside_of c = 1
 
--- its proofs are a list, as long as its words say
-abbrev pub has_list : Command → Bool
-has_list (commands.SafeBySteps k form base_optimize step_optimize) = true
-has_list c = false
-
 -- it prints clauses, and takes nothing beside its files
 abbrev pub prints : Command → Bool
 prints c = beside_of c == 0

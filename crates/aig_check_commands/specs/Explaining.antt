@@ -1,7 +1,7 @@
 -- Part of what is promised.
 -- What is told of an error: the path of the file that it is about, and the place where reading that
 -- file stopped.
-use Rattle.std.specs.Prelude.{◌≡◌, ℕ, ◌+◌, ◌-◌, ◌⊎◌, List, ◌∷◌, ◌++◌, Contains, Option, None, Some, Result, Err, IfSome, length, map, slice_get}
+use Rattle.std.specs.Prelude.{◌≡◌, ℕ, ◌+◌, ◌-◌, ◌⊎◌, List, ◌++◌, Contains, Option, None, Some, Result, Err, IfSome, length, map, slice_get}
 use Rattle.aig_command_line.specs.Came.{IsPlaceIn}
 use Rattle.aig_command_line.specs.Faults.{error_of, path_of, place_in}
 use Rattle.aig_command_line.specs.Places.{IsPlaced}
@@ -19,7 +19,7 @@ use Rattle.aig_check_commands.specs.declared.subjects.Subject.TheVariants as sub
 use Rattle.aig_check_commands.specs.declared.command.Asked.{Asked}
 use Rattle.aig_check_commands.specs.declared.error.CheckError.{CheckError}
 use Rattle.aig_check_commands.specs.Subjects.{about_error}
-use Rattle.aig_check_commands.specs.Acting.{RanBy}
+use Rattle.aig_check_commands.specs.Acting.{RanOn}
 use Rattle.aig_check_commands.specs.Inputs.{Stream, bytes_of, has_failed}
 use Rattle.aig_check_commands.specs.Living.{keeps_nothing, never_fails}
 use Rattle.aig_check_commands.specs.Opening.{AreOpened}
@@ -60,15 +60,13 @@ pub record IsRefusedIn (limit : ℕ) (c : Asked) (known : List (Option (List ℕ
   pub told : Option (List ℕ)
   pub which : slice_get known number ≡ Some told
   pub at : IsPlaceIn told measure place
-  pub file : Stream
   pub files : List Stream
-  pub are : known ≡ map bytes_of (file ∷ files)
-  pub rest : Stream
+  pub are : known ≡ map bytes_of files
   pub others : List Stream
   pub before : Discarded
   pub after : Discarded
-  pub refused : RanBy bytes_of has_failed bytes_of has_failed keeps_nothing never_fails limit
-      c.justice c.command file files before (Err e) rest others after
+  pub refused : RanOn bytes_of has_failed keeps_nothing never_fails limit c files before (Err e)
+      others after
 
 -- the files at the paths were opened again, and it is refused so of them
 pub record IsRunAgain {F : Type 0} (opens : List ℕ → Result F OpenError → Type 0)

@@ -1,14 +1,14 @@
 -- Serves private clauses alone.
 -- What words that were read hold, and the files that they name.
-use Rattle.std.specs.Prelude.{◌≡◌, ◌<◌, ◌^◌, ℕ, ◌+◌, Bool, true, false, IsTrue, length, vec_capacity}
+use Rattle.std.specs.Prelude.{◌≡◌, ◌<◌, ◌^◌, ℕ, ◌+◌, IsTrue, List, Result, length}
+use Rattle.aig_command_line.specs.declared.files.OpenError.{OpenError}
 use Rattle.aig_command_line.specs.Limits.{IsLimit}
 use Rattle.aig_check_commands.specs.declared.command.Call.{Call}
 use Rattle.aig_check_commands.specs.declared.command.Command.{Command}
-use Rattle.aig_check_commands.specs.declared.inputs.Inputs.{Inputs}
-use Rattle.aig_check_commands.specs.declared.inputs.Inputs.TheVariants as inputs
-use Rattle.aig_check_commands.specs.Inputs.{listed}
+use Rattle.aig_check_commands.specs.declared.error.CheckError.{CheckError}
 use Rattle.aig_check_commands.specs.Justice.{is_asked}
-use Rattle.aig_check_commands.specs.CommandWords.{beside_of, has_list, paths_of, step_of}
+use Rattle.aig_check_commands.specs.CommandWords.{beside_of, paths_of, step_of}
+use Rattle.aig_check_commands.specs.Opening.{OpensAll}
 
 -- there is such a command, as many files as it reads, and a step within the bound
 pub record Fits (c : Call) : Type 0 where
@@ -18,19 +18,11 @@ pub record Fits (c : Call) : Type 0 where
   pub further : length c.further.now ≡ beside_of c.asked.command
   pub small : step_of c.asked.command < 2 ^ 32
 
--- ---- the files behind FILE
+-- the files are those of the command: as many as it reads
+abbrev pub AreFor : {S : Type 0} → Command → List S → Type 0
+AreFor c files = length files ≡ paths_of c + beside_of c
 
--- they lie in a list
-abbrev pub is_list : {S : Type 0} → Inputs S → Bool
-is_list (inputs.Each all) = true
-is_list few = false
-
--- so many fit in without further memory
-abbrev pub room_of : {S : Type 0} → Inputs S → ℕ
-room_of (inputs.Each all) = vec_capacity all
-room_of few = 6
-
--- they are those of the command: as many as it reads, in a list where it has one
-pub record AreFor {S : Type 0} (c : Command) (i : Inputs S) : Type 0 where
-  pub count : length (listed i) + 1 ≡ paths_of c + beside_of c
-  pub form : is_list i ≡ has_list c
+-- one of the files at the paths isn't opened, and is refused so
+abbrev pub LacksOne : {F : Type 0} → (List ℕ → Result F OpenError → Type 0) → List (List ℕ)
+    → CheckError → Type 0
+LacksOne opens paths e = OpensAll opens paths (λ files. ⊥) (λ x. x ≡ e)

@@ -4,8 +4,6 @@
 use Rattle.std.specs.Prelude.{ℕ, Bool, List, [], ◌∷◌, Option, Result}
 use Rattle.aig_check_commands.specs.declared.command.Command.{Command}
 use Rattle.aig_check_commands.specs.declared.command.Command.TheVariants as commands
-use Rattle.aig_check_commands.specs.declared.inputs.Inputs.{Inputs}
-use Rattle.aig_check_commands.specs.declared.inputs.Inputs.TheVariants as inputs
 use Rattle.aig_check_commands.specs.declared.error.CheckError.{CheckError}
 use Rattle.aig_check_commands.specs.Comparing.{RunsComparing}
 use Rattle.aig_check_commands.specs.Pairs.{RunsPair}
@@ -14,17 +12,6 @@ use Rattle.aig_check_commands.specs.Safe.{RunsSafe}
 use Rattle.aig_check_commands.specs.SafeBySteps.{RunsOnProofs}
 use Rattle.aig_check_commands.specs.Simulating.{RunsObligation, RunsSimulated}
 use Rattle.aig_simulated.specs.Simulated.{proofs_of}
-
--- the files, in order
-abbrev pub listed : {S : Type 0} → Inputs S → List S
-listed inputs.Empty = []
-listed (inputs.One a) = a ∷ []
-listed (inputs.Two a b) = a ∷ b ∷ []
-listed (inputs.Three a b c) = a ∷ b ∷ c ∷ []
-listed (inputs.Four a b c d) = a ∷ b ∷ c ∷ d ∷ []
-listed (inputs.Five a b c d e) = a ∷ b ∷ c ∷ d ∷ e ∷ []
-listed (inputs.Six a b c d e f) = a ∷ b ∷ c ∷ d ∷ e ∷ f ∷ []
-listed (inputs.Each all) = all.items
 
 -- The command was run on FILE and on the files behind it: r, inputs and w are these and the writer
 -- before it; rest, others and made are they after it.

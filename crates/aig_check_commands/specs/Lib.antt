@@ -3,6 +3,7 @@ pub mod Justice
 pub mod CommandWords
 pub mod Comments
 pub mod Titling
+pub mod Printed
 pub mod Running
 pub mod Safe
 pub mod Pairs

@@ -1,8 +1,7 @@
 -- Part of what is promised.
 -- What a command does with the bytes of two files and of proofs about them: what it puts into its
 -- writer, and why it refuses them.
-use Rattle.std.specs.Prelude.{◌≡◌, ◌≢◌, ℕ, Bool, false, IsTrue, List, [], ◌∷◌, ◌++◌, length, Option, Some, Result, Ok, Err, IfErr, IsErrOf, codes, decimal}
-use Rattle.std.specs.Io.KnownBytes.{Appends}
+use Rattle.std.specs.Prelude.{◌≡◌, ℕ, Bool, IsTrue, List, [], ◌∷◌, ◌++◌, length, Option, Some, Result, Ok, Err, IfErr, IsErrOf, codes, decimal}
 use Rattle.aig_base.specs.declared.logic.literal.Lit.{Lit}
 use Rattle.aig_base.specs.Formula.{clauses_in}
 use Rattle.aig_answers.specs.declared.error.AnswerError.TheVariants as answers
@@ -21,11 +20,11 @@ use Rattle.aig_answers.specs.Equality.{AlwaysEquals}
 use Rattle.aig_answers.specs.declared.equality.error.EqualityError.{EqualityError}
 use Rattle.aig_answers.specs.declared.equality.error.EqualityError.TheVariants as always
 use Rattle.aig_format.specs.File.{File}
-use Rattle.aig_output.specs.Sinks.{Stops}
 use Rattle.aig_reader.specs.Verdicts.{Accepted, Refused, Verdict}
 use Rattle.aig_refutation.specs.declared.error.RefutationError.TheVariants as refutation
 use Rattle.aig_runs.specs.declared.window.Window.{Window}
 use Rattle.aig_answers.specs.declared.safety.error.SafetyError.TheVariants as proving
+use Rattle.aig_check_commands.specs.Printed.{Printed}
 use Rattle.aig_check_commands.specs.Sums.{IsSum}
 use Rattle.aig_check_commands.specs.Titles.{title_text}
 use Rattle.aig_check_commands.specs.declared.command.PairCommand.{PairCommand}
@@ -115,9 +114,9 @@ other_verdict_of (errors.Miter e) = comparing.second_verdict e
 other_verdict_of errors.Write = Accepted
 other_verdict_of e = Refused
 
--- the command has this error
+-- the command has this error in the place of an answer
 abbrev pub IsErrorOfPair : PairCommand → CheckError → Type 0
-IsErrorOfPair c errors.Write = Unit {0}
+IsErrorOfPair c errors.Write = ⊥
 IsErrorOfPair (commands.Obligations optimize) (errors.Certificate e) = certificates.IsOfClauses e
 IsErrorOfPair (commands.AlwaysEqual k form base_optimize step_optimize) (errors.Certificate e) = ⊥
 IsErrorOfPair (commands.AlwaysEqual k form base_optimize step_optimize) (errors.Equality e) =
@@ -157,52 +156,52 @@ LeavesStep e = ⊥
 
 -- ---- runs
 
--- what a result tells of two files that were taken: the answer to them was written, and the writer
--- has not failed; or a beginning of it was, and the writer has; or it is said why there is none
-abbrev pub TellsOfPair : {W : Type 0} → (W → Option (List ℕ)) → (W → Bool) → PairCommand → ℕ
-    → Option (List ℕ) → Option (List ℕ) → Option (List ℕ) → Option (List ℕ) → W → W → File → File
-    → Result Unit CheckError → Type 0
-TellsOfPair held write_failed c limit base step bytes others w made f g (Ok done) =
-    (text : List ℕ) × PairAnswers c limit base step bytes others f g text
-    × Appends (held w) (held made) text × (write_failed made ≡ false)
-TellsOfPair held write_failed c limit base step bytes others w made f g (Err errors.Write) =
-    (text : List ℕ) × PairAnswers c limit base step bytes others f g text
-    × Stops (held w) (held made) (write_failed made) text
-TellsOfPair held write_failed c limit base step bytes others w made f g
-    (Err (errors.Certificate e)) =
+-- what is told of two files that were taken: the answer to them, or why there is none
+abbrev pub TellsOfPair : PairCommand → ℕ → Option (List ℕ) → Option (List ℕ) → Option (List ℕ)
+    → Option (List ℕ) → File → File → Result (List ℕ) CheckError → Type 0
+TellsOfPair c limit base step bytes others f g (Ok text) =
+    PairAnswers c limit base step bytes others f g text
+TellsOfPair c limit base step bytes others f g (Err (errors.Certificate e)) =
     RefusesPair c limit base step f g e
-TellsOfPair held write_failed c limit base step bytes others w made f g (Err (errors.Equality e)) =
+TellsOfPair c limit base step bytes others f g (Err (errors.Equality e)) =
     RefusesAlways c limit base step f g e
-TellsOfPair held write_failed c limit base step bytes others w made f g (Err e) = ⊥
+TellsOfPair c limit base step bytes others f g (Err e) = ⊥
 
--- What a command does: r, s, p, q and w are before it the readers of FILE, of the file beside it,
--- and of two proofs, and the writer; rest, other, used, spent and made are these after it.
-pub record RunsPair {R S P Q W : Type 0} (left : R → Option (List ℕ)) (failed : R → Bool)
+-- What a command makes of its files: r, s, p and q are before it the readers of FILE, of the file
+-- beside it, and of two proofs; rest, other, used and spent are these after it.
+pub record ChecksPair {R S P Q : Type 0} (left : R → Option (List ℕ)) (failed : R → Bool)
     (left_of : S → Option (List ℕ)) (failed_of : S → Bool) (base_left : P → Option (List ℕ))
     (base_failed : P → Bool) (step_left : Q → Option (List ℕ)) (step_failed : Q → Bool)
-    (held : W → Option (List ℕ)) (write_failed : W → Bool)
-    (c : PairCommand) (limit : ℕ) (r : R) (s : S) (p : P) (q : Q) (w : W)
-    (result : Result Unit CheckError) (rest : R) (other : S) (used : P) (spent : Q) (made : W)
-    : Type 0 where
+    (c : PairCommand) (limit : ℕ) (r : R) (s : S) (p : P) (q : Q) (rest : R) (other : S) (used : P)
+    (spent : Q) (answer : Result (List ℕ) CheckError) : Type 0 where
   -- what is said of the bytes of both files, and where they are taken, of their machines
   pub reads : ReadsPair left failed left_of failed_of limit
-      (TellsOfPair held write_failed c limit (base_left p) (step_left q) (left r) (left_of s) w
-      made) verdict_of other_verdict_of (IsErrorOfPair c) r s result rest other
-  -- every refusal but that of the writer leaves the writer as it was
-  pub kept : IfErr result (λ e. e ≢ errors.Write → made ≡ w)
+      (TellsOfPair c limit (base_left p) (step_left q) (left r) (left_of s)) verdict_of
+      other_verdict_of (IsErrorOfPair c) r s answer rest other
   -- a proof is read only where what comes before it is taken
-  pub base_unread : IfErr result (λ e. LeavesBase e → used ≡ p)
-  pub step_unread : IfErr result (λ e. LeavesStep e → spent ≡ q)
+  pub base_unread : IfErr answer (λ e. LeavesBase e → used ≡ p)
+  pub step_unread : IfErr answer (λ e. LeavesStep e → spent ≡ q)
   -- a read of it is said to have failed only where one did
-  pub base_stream : IsErrOf result
+  pub base_stream : IsErrOf answer
       (errors.Certificate (certificate.Query (answers.Refutation refutation.Stream)))
       → IsTrue (base_failed used)
-  pub step_stream : IsErrOf result
+  pub step_stream : IsErrOf answer
       (errors.Certificate (certificate.Window (answers.Refutation refutation.Stream)))
       → IsTrue (step_failed spent)
-  pub miter_base_stream : IsErrOf result
+  pub miter_base_stream : IsErrOf answer
       (errors.Equality (always.Miter (proving.Base (bounded.Refutation refutation.Stream))))
       → IsTrue (base_failed used)
-  pub miter_step_stream : IsErrOf result
+  pub miter_step_stream : IsErrOf answer
       (errors.Equality (always.Miter (proving.Step (answers.Refutation refutation.Stream))))
       → IsTrue (step_failed spent)
+
+-- what a command does: w is the writer before it, and made is it after it
+abbrev pub RunsPair : {R S P Q W : Type 0} → (R → Option (List ℕ)) → (R → Bool)
+    → (S → Option (List ℕ)) → (S → Bool) → (P → Option (List ℕ)) → (P → Bool)
+    → (Q → Option (List ℕ)) → (Q → Bool) → (W → Option (List ℕ)) → (W → Bool) → PairCommand → ℕ
+    → R → S → P → Q → W → Result Unit CheckError → R → S → P → Q → W → Type 0
+RunsPair left failed left_of failed_of base_left base_failed step_left step_failed held
+    write_failed c limit r s p q w result rest other used spent made =
+    Printed held write_failed
+    (ChecksPair left failed left_of failed_of base_left base_failed step_left step_failed c limit r
+    s p q rest other used spent) w result made

@@ -1,7 +1,6 @@
 -- Serves private clauses alone.
 -- What is printed of what was read: a text, or a beginning of it.
-use Rattle.std.specs.Prelude.{◌≡◌, ◌≢◌, ℕ, ◌+◌, Bool, false, List, [], ◌++◌, length, replicate, Option, Result, Ok, Err, IfErr, IsErrOf, OnOk, codes}
-use Rattle.std.specs.Io.KnownBytes.{Appends}
+use Rattle.std.specs.Prelude.{◌≡◌, ℕ, ◌+◌, Bool, List, [], ◌++◌, length, replicate, Option, Result, Ok, Err, codes}
 use Rattle.aig_answers.specs.declared.windows.WindowClauses.{WindowClauses}
 use Rattle.aig_base.specs.Formula.{clauses_in}
 use Rattle.aig_base.specs.declared.logic.literal.Lit.{Lit}
@@ -11,7 +10,7 @@ use Rattle.aig_circuit.specs.View.{lists_circuit}
 use Rattle.aig_cnf.specs.Cnf.{HasClauses}
 use Rattle.aig_dimacs.specs.Text.{IsFormula, dimacs_of}
 use Rattle.aig_encode.specs.declared.encoding.Encoded.{Encoded}
-use Rattle.aig_output.specs.Sinks.{Stops, WritesOrStops}
+use Rattle.aig_output.specs.Sinks.{WritesOrStops}
 use Rattle.aig_runs.specs.Queries.{query_clauses}
 use Rattle.aig_runs.specs.Unrolled.{UnrolledCircuit}
 use Rattle.aig_witness.specs.Checked.{RefusesSolution, SaysWitness}
@@ -21,8 +20,6 @@ use Rattle.aig_witness.specs.Witness.{Witness, witness_text}
 use Rattle.aig_witness.specs.Shown.{IsKnownWitness}
 use Rattle.aig_check_commands.specs.Comments.{comments_of}
 use Rattle.aig_check_commands.specs.Pairs.{part_text}
-use Rattle.aig_check_commands.specs.Running.{Runs, nothing_fails, nothing_given}
-use Rattle.aig_check_commands.specs.declared.command.FileCommand.{FileCommand}
 use Rattle.aig_check_commands.specs.declared.error.CheckError.{CheckError}
 use Rattle.aig_check_commands.specs.declared.error.CheckError.TheVariants as errors
 
@@ -32,15 +29,16 @@ query_text title u lists extra =
     title_text title ++ comments_of u.circuit u.unrolled u.steps
     ++ dimacs_of (length lists) (clauses_in lists ++ extra)
 
--- it is written with the clauses of the circuit with its further steps, or a beginning of it, and
--- the clauses are a formula
-pub record WritesQuery {W T E : Type 0} (held : W → Option (List ℕ)) (failed : W → Bool)
-    (title : Title) (u : UnrolledCircuit) (optimize : Bool) (extra : List (List Lit)) (old : W)
+-- a front is written, and then the clauses of a circuit and further ones, or a beginning of that,
+-- and the clauses are a formula
+pub record WritesBehind {W T E : Type 0} (held : W → Option (List ℕ)) (failed : W → Bool)
+    (front : List ℕ) (c : Circuit) (optimize : Bool) (extra : List (List Lit)) (old : W)
     (result : Result T E) (new : W) : Type 0 where
   pub lists : List (List (List Lit))
-  pub has : HasClauses u.unrolled optimize lists
+  pub has : HasClauses c optimize lists
   pub formula : IsFormula (length lists) (clauses_in lists ++ extra)
-  pub writes : WritesOrStops held failed old result (query_text title u lists extra) new
+  pub writes : WritesOrStops held failed old result
+      (front ++ dimacs_of (length lists) (clauses_in lists ++ extra)) new
 
 -- the text with the clauses that ask for a bad state at the last step
 pub record IsQueryText (title : Title) (u : UnrolledCircuit) (optimize : Bool) (text : List ℕ)
@@ -56,28 +54,12 @@ pub record IsQueryText (title : Title) (u : UnrolledCircuit) (optimize : Bool) (
 abbrev pub clauses_with : List (List (List Lit)) → List (List Lit) → WindowClauses
 clauses_with lists extra = record { clauses = lists; extra = extra }
 
--- the text of a circuit's clauses and further ones is written, after a line that names them, or a
--- beginning of it
-pub record WritesPart {W T E : Type 0} (held : W → Option (List ℕ)) (failed : W → Bool)
-    (name : List ℕ) (c : Circuit) (optimize : Bool) (extra : List (List Lit)) (old : W)
-    (result : Result T E) (new : W) : Type 0 where
-  pub lists : List (List (List Lit))
-  pub has : HasClauses c optimize lists
-  pub formula : IsFormula (length lists) (clauses_in lists ++ extra)
-  pub writes : WritesOrStops held failed old result (part_text name (clauses_with lists extra))
-      new
+-- they are written behind a title
+abbrev pub WritesTitled : {W T E : Type 0} → (W → Option (List ℕ)) → (W → Bool) → Title → Circuit
+    → Bool → List (List Lit) → W → Result T E → W → Type 0
+WritesTitled held failed title = WritesBehind held failed (title_text title)
 
--- so is that text behind a title
-pub record WritesTitled {W T E : Type 0} (held : W → Option (List ℕ)) (failed : W → Bool)
-    (title : Title) (c : Circuit) (optimize : Bool) (extra : List (List Lit)) (old : W)
-    (result : Result T E) (new : W) : Type 0 where
-  pub lists : List (List (List Lit))
-  pub has : HasClauses c optimize lists
-  pub formula : IsFormula (length lists) (clauses_in lists ++ extra)
-  pub writes : WritesOrStops held failed old result
-      (title_text title ++ dimacs_of (length lists) (clauses_in lists ++ extra)) new
-
--- so is that of the clauses of which BASE is a proof, behind a title
+-- so is the text of the clauses of which BASE is a proof, behind a title
 pub record WritesBase {W T E : Type 0} (held : W → Option (List ℕ)) (failed : W → Bool)
     (title : Title) (c : Circuit) (optimize : Bool) (extra : List (List Lit)) (old : W)
     (result : Result T E) (new : W) : Type 0 where
@@ -129,33 +111,15 @@ pub record IsKnownText (given : Option (List ℕ)) (e : Encoded) (k : ℕ) (text
     pub known : IsKnownWitness e.circuit witness
     pub exact : text ≡ witness_text witness
 
--- Such a text is held, or after a failed write a beginning of one. After any other error nothing
--- was written.
-pub record PrintsSuch {W : Type 0} (held : W → Option (List ℕ)) (failed : W → Bool)
-    (IsSuch : List ℕ → Type 0) (w : W) (result : Result Unit CheckError) (made : W) : Type 0 where
-  pub ok : OnOk result
-      ((text : List ℕ) × IsSuch text × Appends (held w) (held made) text × (failed made ≡ false))
-  pub stopped : IsErrOf result errors.Write
-      → (text : List ℕ) × IsSuch text × Stops (held w) (held made) (failed made) text
-  pub kept : IfErr result (λ e. e ≢ errors.Write → made ≡ w)
+-- the answer is such a text, or memory for it ran out
+abbrev pub IsTextOf : (List ℕ → Type 0) → Result (List ℕ) CheckError → Type 0
+IsTextOf IsSuch (Ok text) = IsSuch text
+IsTextOf IsSuch (Err e) = e ≡ errors.Memory
 
--- a command was run that takes nothing beside its file: r is the file's reader before it, and rest
--- after it
-pub record RunsAlone {R W : Type 0} (left : R → Option (List ℕ)) (failed : R → Bool)
-    (held : W → Option (List ℕ)) (write_failed : W → Bool) (c : FileCommand) (limit : ℕ) (r : R)
-    (w : W) (result : Result Unit CheckError) (made : W) : Type 0 where
-  pub rest : R
-  pub runs : Runs left failed nothing_given nothing_fails held write_failed c limit r tt w result
-      rest tt made
-
--- the errors of a query's text
-abbrev pub IsOfText : CheckError → Type 0
-IsOfText errors.Memory = Unit {0}
-IsOfText errors.Write = Unit {0}
-IsOfText e = ⊥
-
--- the errors of a solver's answer to a query for step k, and what they tell
-abbrev pub IsOfSolution : Option (List ℕ) → Bool → Encoded → ℕ → CheckError → Type 0
-IsOfSolution given failed e k (errors.Solution error) = RefusesSolution given e k failed error
-IsOfSolution given failed e k errors.Write = Unit {0}
-IsOfSolution given failed e k error = ⊥
+-- the answer is the text of a witness, or says why the solver's answer to a query for step k is
+-- refused
+abbrev pub IsSolutionOf : Option (List ℕ) → Bool → Encoded → ℕ → Result (List ℕ) CheckError → Type 0
+IsSolutionOf given failed e k (Ok text) = IsKnownText given e k text
+IsSolutionOf given failed e k (Err (errors.Solution error)) =
+    RefusesSolution given e k failed error
+IsSolutionOf given failed e k (Err error) = ⊥

@@ -1,8 +1,7 @@
 -- Part of what is promised.
 -- What a command does with the bytes of a file and of a proof or a witness: what it puts into its
 -- writer, and why it refuses them.
-use Rattle.std.specs.Prelude.{◌≡◌, ◌≢◌, ℕ, ◌+◌, Bool, false, IsTrue, List, [], ◌∷◌, ◌++◌, length, Option, Some, None, Result, Ok, Err, IfErr, IsErrOf, OnOk, codes, decimal}
-use Rattle.std.specs.Io.KnownBytes.{Appends}
+use Rattle.std.specs.Prelude.{◌≡◌, ◌≢◌, ℕ, ◌+◌, Bool, false, IsTrue, List, [], ◌∷◌, ◌++◌, length, Option, Some, None, Result, Ok, Err, IfErr, IfOk, codes, decimal}
 use Rattle.aig_base.specs.declared.logic.literal.Lit.{Lit}
 use Rattle.aig_base.specs.Formula.{clauses_in}
 use Rattle.aig_dimacs.specs.Reading.{parse_formula}
@@ -14,7 +13,6 @@ use Rattle.aig_reader.specs.declared.error.ReadError.TheVariants as read
 use Rattle.aig_reader.specs.Reading.{IsReadAs}
 use Rattle.aig_reader.specs.Verdicts.{Accepted, Judges, Refused, Short, Verdict, verdict_by}
 use Rattle.aig_runs.specs.Queries.{IsSafeTo}
-use Rattle.aig_output.specs.Sinks.{Stops}
 use Rattle.aig_runs.specs.declared.window.Window.{Window}
 use Rattle.aig_runs.specs.Induction.{IsKInductive}
 use Rattle.aig_runs.specs.Safety.{IsSafeAt}
@@ -49,6 +47,7 @@ use Rattle.aig_answers.specs.Steps as stepping
 use Rattle.aig_simulated.specs.Simulated as simulating
 use Rattle.aig_witness.specs.declared.solutions.error.SolutionError.{SolutionError}
 use Rattle.aig_witness.specs.Checked.{RefusesSolution, SaysWitness}
+use Rattle.aig_check_commands.specs.Printed.{Printed}
 use Rattle.aig_check_commands.specs.Sums.{IsSum}
 use Rattle.aig_check_commands.specs.Titles.{title_text}
 use Rattle.aig_check_commands.specs.declared.titles.title.Question.TheVariants as questions
@@ -171,14 +170,6 @@ file_verdict (commands.Bounded k optimize) limit f = bounded_verdict f
 file_verdict (commands.RefutedTo k optimize) limit f = bounded_verdict f
 file_verdict (commands.WitnessTo k optimize) limit f = bounded_verdict f
 
--- the bytes that were taken are a file of which something is asked, and this holds of what the
--- command puts into its writer for that file
-abbrev pub AnswersFile : FileCommand → ℕ → Option (List ℕ) → Option (List ℕ) → Option (List ℕ)
-    → (List ℕ → Type 0) → Type 0
-AnswersFile c limit given old new Holds =
-    (text : List ℕ) × IsReadAs (IsAskedBy c limit) (Answers c given old) old new text
-    × Holds text
-
 -- ---- errors
 
 -- what an error says of the bytes of the file: one of the writer, or of what is given beside the
@@ -212,9 +203,9 @@ abbrev pub error_status : CheckError → ℕ
 error_status (errors.Settled k) = 20
 error_status e = 1
 
--- the command has this error
+-- the command has this error in the place of an answer
 abbrev pub IsErrorOf : FileCommand → CheckError → Type 0
-IsErrorOf c errors.Write = Unit {0}
+IsErrorOf c errors.Write = ⊥
 IsErrorOf (commands.Clauses k optimize) errors.Memory = Unit {0}
 IsErrorOf (commands.Clauses k optimize) (errors.Answer e) = IsOfQuery e
 IsErrorOf (commands.Window k form optimize) (errors.Answer e) = IsOfWindow e
@@ -343,30 +334,31 @@ nothing_given p = None
 abbrev pub nothing_fails : Unit {0} → Bool
 nothing_fails p = false
 
--- What a command does: r, p and w are before it the file's reader, that of the proof, the solver's
--- answer or the witness, and the writer; rest, used and made are these after it.
-pub record Runs {R P W : Type 0} (left : R → Option (List ℕ)) (read_failed : R → Bool)
-    (given : P → Option (List ℕ)) (given_failed : P → Bool) (held : W → Option (List ℕ))
-    (write_failed : W → Bool) (c : FileCommand) (limit : ℕ) (r : R) (p : P) (w : W)
-    (result : Result Unit CheckError) (rest : R) (used : P) (made : W) : Type 0 where
+-- What a command makes of its files: r and p are before it the file's reader and that of the proof,
+-- the solver's answer or the witness; rest and used are these after it.
+pub record ChecksFile {R P : Type 0} (left : R → Option (List ℕ)) (read_failed : R → Bool)
+    (given : P → Option (List ℕ)) (given_failed : P → Bool) (c : FileCommand) (limit : ℕ) (r : R)
+    (p : P) (rest : R) (used : P) (answer : Result (List ℕ) CheckError) : Type 0 where
   -- what is said of the bytes of the file
   pub verdict : Judges (file_verdict c limit) limit (left r) (left rest) (read_failed rest)
-      (verdict_by verdict_of result)
+      (verdict_by verdict_of answer)
   -- which errors it has
-  pub own : IfErr result (IsErrorOf c)
-  -- its answer to the file that was read is written, and the writer has not failed
-  pub ok : OnOk result (AnswersFile c limit (given p) (left r) (left rest)
-      (λ text. Appends (held w) (held made) text × (write_failed made ≡ false)))
-  -- a beginning of it is, and the writer has failed
-  pub stopped : IsErrOf result errors.Write → AnswersFile c limit (given p) (left r) (left rest)
-      (Stops (held w) (held made) (write_failed made))
+  pub own : IfErr answer (IsErrorOf c)
+  -- the text is its answer to the file that was read
+  pub text : IfOk answer
+      (IsReadAs (IsAskedBy c limit) (Answers c (given p) (left r)) (left r) (left rest))
   -- then the proof was taken
-  pub taken : IfErr result (λ e. e ≡ errors.Write)
-      → TakesProof c limit (left r) (left rest) (given p)
-  -- every other refusal leaves the writer as it was
-  pub kept : IfErr result (λ e. e ≢ errors.Write → made ≡ w)
+  pub taken : IfOk answer (λ text. TakesProof c limit (left r) (left rest) (given p))
   -- what is given beside the file is read only where the file is taken
-  pub unread : IfErr result (λ e. IsOfFileAlone e → used ≡ p)
+  pub unread : IfErr answer (λ e. IsOfFileAlone e → used ≡ p)
   -- and a refusal of it, or of a settled question, tells why
-  pub refusal : IfErr result
+  pub refusal : IfErr answer
       (TellsOfGiven c limit (left r) (left rest) (given p) (given_failed used))
+
+-- what a command does: w is the writer before it, and made is it after it
+abbrev pub Runs : {R P W : Type 0} → (R → Option (List ℕ)) → (R → Bool) → (P → Option (List ℕ))
+    → (P → Bool) → (W → Option (List ℕ)) → (W → Bool) → FileCommand → ℕ → R → P → W
+    → Result Unit CheckError → R → P → W → Type 0
+Runs left read_failed given given_failed held write_failed c limit r p w result rest used made =
+    Printed held write_failed
+    (ChecksFile left read_failed given given_failed c limit r p rest used) w result made

@@ -42,8 +42,8 @@ fn act_on<F: Opens, W: Sink>(
         call.now.asked (map string_bytes call.now.paths.now)
         (map string_bytes call.now.further.now) w.old result w.new }
 {
-    let (file, inputs) = open_all(alloc, files, call)?;
-    run(alloc, call.limit, call.asked, file, inputs, w)
+    let opened = open_all(alloc, files, call)?;
+    run(alloc, call.limit, call.asked, opened, w)
 }
 
 /// Runs the command that words give, and flushes what it prints.

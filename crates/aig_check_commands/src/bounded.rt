@@ -157,7 +157,7 @@ pub fn print_refuted_to<R: Source, P: Source, W: Sink>(
         command limit r.old proof.old w.old result r.new proof.new w.new }
 {
     check_bounded(alloc, r, limit, k, optimize, proof)?;
-    Ok(write_line(w, b"no bad state up to step ", k)?)
+    after_writing(write_line(w, b"no bad state up to step ", k))
 }
 
 /// Reads a solver's answer to the clauses of `print_bounded`, and prints the witness that it says, which was checked: of the first
@@ -177,5 +177,5 @@ pub fn print_witness_to<R: Source, P: Source, W: Sink>(
         command limit r.old solution.old w.old result r.new solution.new w.new }
 {
     let witness = bounded_witness(alloc, r, limit, k, optimize, solution)?;
-    Ok(write_witness(w, &witness)?)
+    after_writing(write_witness(w, &witness))
 }

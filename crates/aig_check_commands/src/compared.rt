@@ -4,6 +4,7 @@ ghost use Rattle.aig_command_line.specs.Limits.{IsLimit};
 ghost use Rattle.aig_check_commands.specs.Comparing.{RunsComparing};
 
 use crate::error::CheckError;
+use crate::printing::after_writing;
 use aig_answers::check_equal_by;
 use aig_base::{Sink, Source};
 use aig_command_line::write_text;
@@ -29,5 +30,5 @@ pub fn print_equal_by<R: Source, S: Source, C: Source, P: Source, Q: Source, W: 
         file.new other.new certificate.new base.new step.new w.new }
 {
     check_equal_by(alloc, file, other, certificate, limit, optimize, base, step)?;
-    Ok(write_text(w, b"equal at every step")?)
+    after_writing(write_text(w, b"equal at every step"))
 }

@@ -6,6 +6,7 @@ ghost use Rattle.aig_check_commands.specs.Pairs.{RunsPair};
 
 use crate::command::PairCommand;
 use crate::error::CheckError;
+use crate::printing::after_writing;
 use aig_answers::{Window, check_always_equal};
 use aig_base::{Sink, Source};
 use aig_command_line::write_text;
@@ -45,5 +46,5 @@ pub fn print_always_equal<R: Source, S: Source, P: Source, Q: Source, W: Sink>(
         step_optimize,
         step,
     )?;
-    Ok(write_text(w, b"equal at every step")?)
+    after_writing(write_text(w, b"equal at every step"))
 }

@@ -1,12 +1,12 @@
 //! What the commands do with the bytes of two files, and of proofs about them.
 
-ghost use Rattle.std.specs.Prelude.{◌≡◌};
+ghost use Rattle.std.specs.Prelude.{◌≡◌, ◌++◌, ◌∷◌, []};
 ghost use Rattle.aig_answers.specs.Answers.{AreWrittenFrom};
 ghost use Rattle.aig_circuit.specs.Circuit.{IsCircuit};
 ghost use Rattle.aig_circuit.specs.View.{lists_circuit};
 ghost use Rattle.aig_command_line.specs.Limits.{IsLimit};
 ghost use Rattle.aig_check_commands.specs.Pairs.{RunsPair};
-ghost use Rattle.aig_check_commands.specs.Printing.{WritesBase, WritesBoth, WritesPart};
+ghost use Rattle.aig_check_commands.specs.Printing.{WritesBase, WritesBehind, WritesBoth};
 ghost use Rattle.aig_check_commands.specs.Running.{nothing_fails, nothing_given};
 
 use crate::command::PairCommand;
@@ -40,7 +40,7 @@ pub fn print_certified<R: Source, S: Source, P: Source, Q: Source, W: Sink>(
         file.new certificate.new base.new step.new w.new }
 {
     check_certified(alloc, file, certificate, limit, optimize, base, step)?;
-    Ok(write_text(w, b"no bad state at any step")?)
+    after_writing(write_text(w, b"no bad state at any step"))
 }
 
 /// Checks a proof that two files' machines are equal at step `k`, and prints so.
@@ -61,7 +61,7 @@ pub fn print_equal<R: Source, S: Source, P: Source, W: Sink>(
         file.new other.new proof.new tt w.new }
 {
     check_equal(alloc, file, other, limit, k, optimize, proof)?;
-    Ok(write_line(w, b"equal at step ", k)?)
+    after_writing(write_line(w, b"equal at step ", k))
 }
 
 /// Writes the clauses of a circuit and further ones, after a line that names them. No list of them is made.
@@ -73,8 +73,8 @@ fn write_part<W: Sink>(
     parts: &ClauseParts,
 ) -> Result<(), StreamFault>
     requires { AreWrittenFrom circuit.now optimize parts.now }
-    ensures { WritesPart W.held W.failed name.now circuit.now optimize parts.now.extra w.old
-        result w.new }
+    ensures { WritesBehind W.held W.failed (name.now ++ 10 ∷ []) circuit.now optimize
+        parts.now.extra w.old result w.new }
 {
     tell_circuit(circuit, optimize, &parts.needed, &parts.extra);
     write_text(w, name)?;

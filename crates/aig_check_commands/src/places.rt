@@ -1,16 +1,15 @@
 //! The place where what is given beside a file is refused, found by running the command again.
 
-ghost use Rattle.std.specs.Prelude.{◌≡◌, ◌+◌, ◌<◌, ◌⊎◌, ◌∷◌, ℕ, IfOk, IsTrue, List, Option, Some, false, length, map, slice_get, string_bytes, true};
+ghost use Rattle.std.specs.Prelude.{◌≡◌, ◌<◌, ◌⊎◌, IfOk, Some, map, slice_get, string_bytes, true};
 ghost use Rattle.aig_command_line.specs.declared.tally.Place.TheVariants as places;
 ghost use Rattle.aig_command_line.specs.Came.{IsPlaceIn};
 ghost use Rattle.aig_check_commands.specs.Explaining.{IsRefusedIn, IsRunPlace};
-ghost use Rattle.aig_check_commands.specs.Fits.{AreFor, Fits, is_list, room_of};
-ghost use Rattle.aig_check_commands.specs.Inputs.{listed};
+ghost use Rattle.aig_check_commands.specs.Fits.{AreFor, Fits};
 ghost use Rattle.aig_check_commands.specs.CommandWords.{beside_of};
 
 use crate::command::Call;
 use crate::error::CheckError;
-use crate::inputs::{Again, Inputs, open_all};
+use crate::inputs::{Again, open_all};
 use crate::running::check_asked;
 use aig_answers::{
     AnswerError, BoundedAnswerError, CertificateError, EqualityError, MiterError, SafetyError,
@@ -217,21 +216,17 @@ impl<R: Source, C: Source> Source for Traced<R, C> {
 /// An input that may be counted.
 type Trace<R, B> = Traced<R, Counted<R, B>>;
 
-/// An input, counted or not.
+/// An input whose bytes are counted.
 // It is never inlined: else its buffer is on the stack while the command is run.
 #[inline(never)]
-fn counted_if<R: Source + Drop, B: Origin>(
+fn counted<R: Source + Drop, B: Origin>(
     alloc: Global,
     source: R,
-    is_counted: bool,
 ) -> Result<Trace<R, B>, MemoryError>
-    requires { IsTrue is_counted → R.left source ≡ B.bytes }
+    requires { R.left source ≡ B.bytes }
     ensures { IfOk result (λ input. ⟦<Traced<R, Counted<R, B>> as Source>⟧.left input
         ≡ R.left source) }
 {
-    if !is_counted {
-        return Ok(Traced::Plain(source));
-    }
     Ok(Traced::Counted(Box::new(alloc, Counted::new(source))?))
 }
 
@@ -247,8 +242,8 @@ fn plain<R: Drop, C: Drop>(alloc: Global, inputs: Vec<R>) -> Result<Vec<Traced<R
     Ok(traced)
 }
 
-/// A list of inputs, of which the one of this number is counted.
-fn trace_each<R: Source + Drop, B: Origin>(
+/// The inputs, of which the one of this number, the first of which is 0, is counted.
+fn trace<R: Source + Drop, B: Origin>(
     alloc: Global,
     mut inputs: Vec<R>,
     which: usize,
@@ -257,54 +252,14 @@ fn trace_each<R: Source + Drop, B: Origin>(
     ensures { IfOk result (λ traced. map ⟦<Traced<R, Counted<R, B>> as Source>⟧.left traced.items
         ≡ map R.left inputs.items) }
 {
-    let counted = counted_if(alloc, inputs.remove(which), true)?;
+    let counted = counted(alloc, inputs.remove(which))?;
     let mut traced = plain(alloc, inputs)?;
     traced.insert(which, counted)?;
     Ok(traced)
 }
 
-/// Few inputs, of which the one of this number, the first of which is 0, is counted, if there is one.
-fn trace_few<R: Source + Drop, B: Origin>(
-    alloc: Global,
-    inputs: Inputs<R>,
-    which: usize,
-) -> Result<Inputs<Trace<R, B>>, MemoryError>
-    requires few { is_list inputs ≡ false }
-    requires origin { (known : Option (List ℕ))
-        → slice_get (map R.left (listed inputs)) which ≡ Some known → known ≡ B.bytes }
-    ensures listed { IfOk result (λ traced. map ⟦<Traced<R, Counted<R, B>> as Source>⟧.left
-        (listed traced) ≡ map R.left (listed inputs)) }
-    ensures few { IfOk result (λ traced. is_list traced ≡ false) }
-    ensures room { IfOk result (λ traced. room_of traced ≡ 6) }
-{
-    let Some((front, last)) = inputs.split_last() else {
-        return Ok(Inputs::Empty);
-    };
-    let is_counted = which == front.count();
-    let traced = trace_few(alloc, front, which)?;
-    let last = counted_if(alloc, last, is_counted)?;
-    Ok(traced.with(last))
-}
-
-/// The inputs, of which the one of this number, the first of which is 0, is counted.
-fn trace<R: Source + Drop, B: Origin>(
-    alloc: Global,
-    inputs: Inputs<R>,
-    which: usize,
-) -> Result<Inputs<Trace<R, B>>, MemoryError>
-    requires { slice_get (map R.left (listed inputs)) which ≡ Some B.bytes }
-    ensures listed { IfOk result (λ traced. map ⟦<Traced<R, Counted<R, B>> as Source>⟧.left
-        (listed traced) ≡ map R.left (listed inputs)) }
-    ensures form { IfOk result (λ traced. is_list traced ≡ is_list inputs) }
-{
-    match inputs {
-        Inputs::Each(all) => Ok(Inputs::Each(trace_each(alloc, all, which)?)),
-        few => trace_few(alloc, few, which),
-    }
-}
-
-/// The place that is told of the counted one of a list of inputs.
-fn place_in_list<R: Source, B: Origin>(inputs: &[Trace<R, B>], measure: Measure) -> Place
+/// The place that is told of the counted input.
+fn place_among<R: Source, B: Origin>(inputs: &[Trace<R, B>], measure: Measure) -> Place
     ensures { (result ≡ places.Whole) ⊎ IsPlaceIn B.bytes measure result }
 {
     for input in inputs {
@@ -315,68 +270,30 @@ fn place_in_list<R: Source, B: Origin>(inputs: &[Trace<R, B>], measure: Measure)
     Place::Whole
 }
 
-/// The place that is told of the counted input.
-fn place_among<R: Source, B: Origin>(inputs: &Inputs<Trace<R, B>>, measure: Measure) -> Place
-    ensures { (result ≡ places.Whole) ⊎ IsPlaceIn B.bytes measure result }
-{
-    match inputs {
-        Inputs::One(Traced::Counted(counted))
-        | Inputs::Two(Traced::Counted(counted), _)
-        | Inputs::Two(_, Traced::Counted(counted))
-        | Inputs::Three(Traced::Counted(counted), _, _)
-        | Inputs::Three(_, Traced::Counted(counted), _)
-        | Inputs::Three(_, _, Traced::Counted(counted))
-        | Inputs::Four(Traced::Counted(counted), _, _, _)
-        | Inputs::Four(_, Traced::Counted(counted), _, _)
-        | Inputs::Four(_, _, Traced::Counted(counted), _)
-        | Inputs::Four(_, _, _, Traced::Counted(counted))
-        | Inputs::Five(Traced::Counted(counted), _, _, _, _)
-        | Inputs::Five(_, Traced::Counted(counted), _, _, _)
-        | Inputs::Five(_, _, Traced::Counted(counted), _, _)
-        | Inputs::Five(_, _, _, Traced::Counted(counted), _)
-        | Inputs::Five(_, _, _, _, Traced::Counted(counted))
-        | Inputs::Six(Traced::Counted(counted), _, _, _, _, _)
-        | Inputs::Six(_, Traced::Counted(counted), _, _, _, _)
-        | Inputs::Six(_, _, Traced::Counted(counted), _, _, _)
-        | Inputs::Six(_, _, _, Traced::Counted(counted), _, _)
-        | Inputs::Six(_, _, _, _, Traced::Counted(counted), _)
-        | Inputs::Six(_, _, _, _, _, Traced::Counted(counted)) => place_told(&**counted, measure),
-        Inputs::Each(all) => place_in_list(all.as_slice(), measure),
-        _ => Place::Whole,
-    }
-}
-
 /// Runs what is asked again, with this input counted. Returns the place of its last byte that came where the refusal is the same.
 // It is never inlined: else its buffers are on the stack beside those of the first run.
 #[inline(never)]
 fn place_in<R: Source + Drop, B: Origin>(
     alloc: Global,
     call: &Call<'_>,
-    mut file: R,
-    inputs: Inputs<R>,
+    files: Vec<R>,
     which: usize,
     error: CheckError,
     measure: Measure,
 ) -> Place
     requires fits { Fits call.now }
     requires checks { 0 < beside_of call.now.asked.command }
-    requires inputs { AreFor call.now.asked.command inputs }
-    requires origin { slice_get (map R.left (listed inputs)) which ≡ Some B.bytes }
+    requires files { AreFor call.now.asked.command files.items }
+    requires origin { slice_get (map R.left files.items) which ≡ Some B.bytes }
     ensures { (result ≡ places.Whole) ⊎ IsRefusedIn call.now.limit call.now.asked
-        (R.left file ∷ map R.left (listed inputs)) (which + 1) error measure result }
+        (map R.left files.items) which error measure result }
 {
-    let Ok(mut traced) = trace::<R, B>(alloc, inputs, which) else {
+    let Ok(mut traced) = trace::<R, B>(alloc, files, which) else {
         return Place::Whole;
     };
-    match check_asked(
-        alloc,
-        call.limit,
-        call.asked,
-        &mut file,
-        &mut traced,
-        &mut Discarded,
-    ) {
-        Err(again) if is_same(again, error) => place_among(&traced, measure),
+    let files = traced.as_mut_slice();
+    match check_asked(alloc, call.limit, call.asked, files, &mut Discarded) {
+        Err(again) if is_same(again, error) => place_among(traced.as_slice(), measure),
         _ => Place::Whole,
     }
 }
@@ -398,9 +315,9 @@ pub(crate) fn place_by_run<F: Reopens>(
     if number >= call.further.len() {
         return Place::Whole;
     }
-    let Ok((file, inputs)) = open_all(alloc, &Again::new(files), call) else {
+    let Ok(opened) = open_all(alloc, &Again::new(files), call) else {
         return Place::Whole;
     };
-    let which = call.paths.len() - 1 + number;
-    place_in::<F::File, Brand>(alloc, call, file, inputs, which, error, measure)
+    let which = call.paths.len() + number;
+    place_in::<F::File, Brand>(alloc, call, opened, which, error, measure)
 }

@@ -1,6 +1,6 @@
 //! What the commands do with the bytes of a file, and of a proof, a solver's answer or a witness.
 
-ghost use Rattle.std.specs.Prelude.{◌≡◌, ◌+◌, ◌<◌, ◌≤◌, ◌^◌, ◌++◌, ◌∷◌, ℕ, [], IfErr, List, decimal, length, replicate};
+ghost use Rattle.std.specs.Prelude.{◌≡◌, ◌+◌, ◌<◌, ◌≤◌, ◌^◌, ◌++◌, ◌∷◌, ℕ, [], List, decimal, length, replicate};
 ghost use Rattle.aig_answers.specs.Answers.{IsUnrolledWindow};
 ghost use Rattle.aig_base.specs.declared.logic.literal.Lit.{Lit};
 ghost use Rattle.aig_base.specs.Clauses.{AreBelow};
@@ -14,7 +14,8 @@ ghost use Rattle.aig_output.specs.Sinks.{BuffersOrStops, WritesOrStops};
 ghost use Rattle.aig_check_commands.specs.Titles.{title_text};
 ghost use Rattle.aig_unroll.specs.Unroll.{UnrollsTo};
 ghost use Rattle.aig_check_commands.specs.Comments.{comments_of};
-ghost use Rattle.aig_check_commands.specs.Printing.{IsKnownText, IsOfSolution, IsOfText, IsQueryText, PrintsSuch, WritesFree, WritesQuery, after_writing};
+ghost use Rattle.aig_check_commands.specs.Printed.{Printed};
+ghost use Rattle.aig_check_commands.specs.Printing.{IsQueryText, IsSolutionOf, IsTextOf, WritesBehind, WritesFree, after_writing};
 ghost use Rattle.aig_check_commands.specs.Running.{Runs, nothing_fails, nothing_given};
 ghost use Rattle.aig_check_commands.specs.Titling.{is_distinct};
 
@@ -192,7 +193,7 @@ pub fn print_refuted<R: Source, P: Source, W: Sink>(
         command limit r.old proof.old w.old result r.new proof.new w.new }
 {
     check_step(alloc, r, limit, k, optimize, proof)?;
-    Ok(write_line(w, b"no bad state at step ", k)?)
+    after_writing(write_line(w, b"no bad state at step ", k))
 }
 
 /// Checks a proof that no window of `k + 2` steps has a bad state first at its end, and prints what that means. Requires that
@@ -215,7 +216,7 @@ pub fn print_inductive<R: Source, P: Source, W: Sink>(
 {
     inductive_windows_are_safe();
     check_window(alloc, r, limit, k, optimize, form, proof)?;
-    Ok(write_line(w, b"no bad state at any step, if none up to step ", k)?)
+    after_writing(write_line(w, b"no bad state at any step, if none up to step ", k))
 }
 
 /// Tells that clauses are read again from their text, as the counts of variables and of clauses fit.
@@ -297,7 +298,9 @@ fn write_query<'a, W: Sink>(
     requires needed { AreNeeded asked.now.unrolled optimize needed.now.marks.items
         needed.now.clauses }
     requires below { AreBelow (length asked.now.unrolled.nodes) extra.now }
-    ensures { WritesQuery W.held W.failed title.now asked.now optimize extra.now w.old result
+    ensures { let front = title_text title.now
+        ++ comments_of asked.now.circuit asked.now.unrolled asked.now.steps in
+        WritesBehind W.held W.failed front asked.now.unrolled optimize extra.now w.old result
         w.new }
 {
     let unrolled = asked.unrolled();
@@ -316,16 +319,14 @@ fn print_query<W: Sink>(
 ) -> Result<(), CheckError>
     requires few { length asked.now.unrolled.nodes ≤ 2 ^ 31 }
     requires small { asked.now.steps < 2 ^ 32 }
-    ensures prints { PrintsSuch W.held W.failed (IsQueryText title.now asked.now optimize) w.old
-        result
-        w.new }
-    ensures own { IfErr result IsOfText }
+    ensures { Printed W.held W.failed (IsTextOf (IsQueryText title.now asked.now optimize)) w.old
+        result w.new }
 {
     let circuit = asked.circuit();
     let places = Places::new(alloc, &circuit)?;
     let extra = asked.query_clauses(alloc)?;
     let needed = find_needed(alloc, &asked.unrolled(), optimize)?;
-    Ok(write_query(w, title, asked, &places, optimize, &needed, &extra)?)
+    after_writing(write_query(w, title, asked, &places, optimize, &needed, &extra))
 }
 
 /// Prints the query of the file whose bytes are the origin.
@@ -385,14 +386,12 @@ fn print_solution<P: Source, W: Sink>(
 ) -> Result<(), CheckError>
     requires small { k < 2 ^ 32 }
     requires steps { UnrollsTo asked.now.encoded.circuit k asked.now.encoded.unrolled }
-    ensures prints { let given = P.left solution.old in
-        PrintsSuch W.held W.failed (IsKnownText given asked.now.encoded k) w.old result w.new }
-    // The solver's answer is refused as `checked_witness` refuses it.
-    ensures own { IfErr result
-        (IsOfSolution (P.left solution.old) (P.failed solution.new) asked.now.encoded k) }
+    ensures { Printed W.held W.failed
+        (IsSolutionOf (P.left solution.old) (P.failed solution.new) asked.now.encoded k) w.old
+        result w.new }
 {
     let witness = checked_witness(alloc, asked, k, solution)?;
-    Ok(write_witness(w, &witness)?)
+    after_writing(write_witness(w, &witness))
 }
 
 /// Reads a solver's answer to the query of a file for step `k`, and prints the witness that it says, which was checked. Requires

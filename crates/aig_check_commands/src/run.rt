@@ -8,6 +8,7 @@ ghost use Rattle.aig_check_commands.specs.Running.{Runs, lasso_line, shown_line}
 use crate::command::FileCommand;
 use crate::error::CheckError;
 use crate::line::buffer_named;
+use crate::printing::after_writing;
 use aig_base::{Sink, Source, StreamFault};
 use aig_output::OutputBuffer;
 use aig_witness::{ShownLasso, ShownProperty, check_claim};
@@ -70,5 +71,5 @@ pub fn print_run<R: Source, P: Source, W: Sink>(
         command limit r.old witness.old w.old result r.new witness.new w.new }
 {
     let shown = check_claim(alloc, r, limit, witness)?;
-    Ok(write_shown(w, shown)?)
+    after_writing(write_shown(w, shown))
 }

@@ -1,28 +1,29 @@
 //! What a command does with the files that were opened for it.
 
-ghost use Rattle.std.specs.Prelude.{◌≡◌, ◌+◌, ◌<◌, ◌^◌, IsTrue, List, Some, length};
+ghost use Rattle.std.specs.Prelude.{◌≡◌, ◌∷◌, ◌+◌, ◌<◌, ◌^◌, IsTrue, List, Some, length};
+ghost use Rattle.std.specs.Borrow.{Array, LendsBoth, sem};
+ghost use Rattle.std.specs.List.{IsFirstAndRest};
 ghost use Rattle.aig_command_line.specs.Limits.{IsLimit};
-ghost use Rattle.aig_check_commands.specs.Acting.{RanBy};
+ghost use Rattle.aig_check_commands.specs.Acting.{RanOn};
 ghost use Rattle.aig_check_commands.specs.Fits.{AreFor};
-ghost use Rattle.aig_check_commands.specs.Inputs.{Ran, listed};
+ghost use Rattle.aig_check_commands.specs.Inputs.{Ran};
 ghost use Rattle.aig_check_commands.specs.Justice.{is_asked};
 ghost use Rattle.aig_check_commands.specs.Living.{ChecksMade, PrintsMade, RunsMade};
-ghost use Rattle.aig_check_commands.specs.Pairs.{RunsPair};
-ghost use Rattle.aig_check_commands.specs.Running.{Runs};
-ghost use Rattle.aig_check_commands.specs.Printing.{RunsAlone};
+ghost use Rattle.aig_check_commands.specs.Running.{Runs, nothing_fails, nothing_given};
 ghost use Rattle.aig_check_commands.specs.SafeBySteps.{RunsOnProofs};
-ghost use Rattle.aig_check_commands.specs.CommandWords.{beside_of, prints, step_of};
+ghost use Rattle.aig_check_commands.specs.CommandWords.{beside_of, paths_of, prints, step_of};
 
 use crate::bounded::{print_bounded, print_refuted_to, print_witness_to};
 use crate::command::{Asked, Command, FileCommand, PairCommand};
 use crate::compared::print_equal_by;
 use crate::equality::print_always_equal;
 use crate::error::CheckError;
-use crate::inputs::Inputs;
 use crate::justice::Justice;
 use crate::living::{made_text, write_fair};
 use crate::pairs::{print_certified, print_equal, print_obligations};
-use crate::printing::{print_clauses, print_inductive, print_refuted, print_window, print_witness};
+use crate::printing::{
+    after_writing, print_clauses, print_inductive, print_refuted, print_window, print_witness,
+};
 use crate::run::print_run;
 use crate::safe::print_safe;
 use crate::safe_by_steps::print_safe_by_steps;
@@ -33,62 +34,79 @@ use aig_command_line::Discarded;
 use aig_edit_laws::fair_runs_are_lassos;
 use std::alloc::Global;
 
+/// The first of some inputs, and the others.
+fn first_of<S>(inputs: &mut [S]) -> (&mut S, &mut [S])
+    requires { 0 < length inputs.old }
+    ensures* writes_back { sem 𝓛 (LendsBoth (Array S.row 0) S.row (Array S.row 0) inputs.entry
+        result ◌∷◌) }
+    ensures first { IsFirstAndRest inputs.old result.0.now result.1.now }
+{
+    let (first, others) = inputs.split_at_mut(1);
+    (&mut first[0], others)
+}
+
 /// Runs a command on a file and on what is given beside it.
-fn check_given<R: Source, P: Source, W: Sink>(
+fn check_file<R: Source, S: Source, W: Sink>(
     alloc: Global,
     limit: usize,
     command: FileCommand,
-    r: &mut R,
-    given: &mut P,
+    file: &mut R,
+    inputs: &mut [S],
     w: &mut W,
 ) -> Result<(), CheckError>
     requires limit { IsLimit limit }
-    requires beside { beside_of (Command.File command) ≡ 1 }
+    requires checks { 0 < beside_of (Command.File command) }
+    requires fits { length inputs.old ≡ 1 }
     requires small { step_of (Command.File command) < 2 ^ 32 }
-    ensures { Runs R.left R.failed P.left P.failed W.held W.failed command limit r.old given.old
-        w.old result r.new given.new w.new }
+    ensures { Ran R.left R.failed S.left S.failed W.held W.failed limit (Command.File command)
+        file.old inputs.old w.old result file.new inputs.new w.new }
 {
+    let (given, _) = first_of(inputs);
     match command {
         FileCommand::Refuted { k, optimize } => print_refuted(
-            alloc, limit, k, optimize, r, given, w,
+            alloc, limit, k, optimize, file, given, w,
         ),
         FileCommand::Inductive { k, form, optimize } => {
-            print_inductive(alloc, limit, k, form, optimize, r, given, w)
+            print_inductive(alloc, limit, k, form, optimize, file, given, w)
         }
         FileCommand::Witness { k, optimize } => print_witness(
-            alloc, limit, k, optimize, r, given, w,
+            alloc, limit, k, optimize, file, given, w,
         ),
-        FileCommand::Run => print_run(alloc, limit, r, given, w),
+        FileCommand::Run => print_run(alloc, limit, file, given, w),
         FileCommand::RefutedTo { k, optimize } => {
-            print_refuted_to(alloc, limit, k, optimize, r, given, w)
+            print_refuted_to(alloc, limit, k, optimize, file, given, w)
         }
         FileCommand::WitnessTo { k, optimize } => {
-            print_witness_to(alloc, limit, k, optimize, r, given, w)
+            print_witness_to(alloc, limit, k, optimize, file, given, w)
         }
         _ => unreachable!(),
     }
 }
 
-/// Runs a command on two files and on two proofs about them.
-fn check_proofs<R: Source, S: Source, W: Sink>(
+/// Runs a command on two files and on proofs about them.
+fn check_pair<R: Source, S: Source, W: Sink>(
     alloc: Global,
     limit: usize,
     command: PairCommand,
     file: &mut R,
-    other: &mut S,
-    base: &mut S,
-    step: &mut S,
+    inputs: &mut [S],
     w: &mut W,
 ) -> Result<(), CheckError>
     requires limit { IsLimit limit }
-    requires beside { beside_of (Command.Pair command) ≡ 2 }
+    requires checks { 0 < beside_of (Command.Pair command) }
+    requires fits { length inputs.old ≡ beside_of (Command.Pair command) + 1 }
     requires small { step_of (Command.Pair command) < 2 ^ 32 }
-    ensures { RunsPair R.left R.failed S.left S.failed S.left S.failed S.left S.failed W.held
-        W.failed command limit file.old other.old base.old step.old w.old result file.new other.new
-        base.new step.new w.new }
+    ensures { Ran R.left R.failed S.left S.failed W.held W.failed limit (Command.Pair command)
+        file.old inputs.old w.old result file.new inputs.new w.new }
 {
+    let (other, proofs) = first_of(inputs);
+    let (base, proofs) = first_of(proofs);
     match command {
+        PairCommand::Equal { k, optimize } => {
+            print_equal(alloc, limit, k, optimize, file, other, base, w)
+        }
         PairCommand::Certified { optimize } => {
+            let (step, _) = first_of(proofs);
             print_certified(alloc, limit, optimize, file, other, base, step, w)
         }
         PairCommand::AlwaysEqual {
@@ -96,33 +114,23 @@ fn check_proofs<R: Source, S: Source, W: Sink>(
             form,
             base_optimize,
             step_optimize,
-        } => print_always_equal(
-            alloc,
-            limit,
-            k,
-            form,
-            base_optimize,
-            step_optimize,
-            file,
-            other,
-            base,
-            step,
-            w,
-        ),
-        _ => unreachable!(),
-    }
-}
-
-/// Whether a command prints clauses, and takes nothing beside its files.
-fn prints(command: Command) -> bool
-    ensures { result ≡ prints command }
-{
-    match command {
-        Command::File(
-            FileCommand::Clauses { .. } | FileCommand::Window { .. } | FileCommand::Bounded { .. },
-        ) => true,
-        Command::Pair(PairCommand::Obligations { .. }) | Command::Obligation { .. } => true,
-        _ => false,
+        } => {
+            let (step, _) = first_of(proofs);
+            print_always_equal(
+                alloc,
+                limit,
+                k,
+                form,
+                base_optimize,
+                step_optimize,
+                file,
+                other,
+                base,
+                step,
+                w,
+            )
+        }
+        PairCommand::Obligations { .. } => unreachable!(),
     }
 }
 
@@ -167,35 +175,46 @@ fn check<R: Source, S: Source, W: Sink>(
     limit: usize,
     command: Command,
     file: &mut R,
-    inputs: &mut Inputs<S>,
+    inputs: &mut [S],
     w: &mut W,
 ) -> Result<(), CheckError>
     requires limit { IsLimit limit }
     requires checks { 0 < beside_of command }
-    requires fits { AreFor command inputs.old }
+    requires fits { length inputs.old + 1 ≡ paths_of command + beside_of command }
     requires small { step_of command < 2 ^ 32 }
     ensures { Ran R.left R.failed S.left S.failed W.held W.failed limit command file.old
-        (listed inputs.old) w.old result file.new (listed inputs.new) w.new }
+        inputs.old w.old result file.new inputs.new w.new }
 {
-    match (command, inputs) {
-        (Command::File(command), Inputs::One(given)) => check_given(
-            alloc, limit, command, file, given, w,
-        ),
-        (Command::Pair(PairCommand::Equal { k, optimize }), Inputs::Two(other, proof)) => {
-            print_equal(alloc, limit, k, optimize, file, other, proof, w)
-        }
-        (Command::Pair(command), Inputs::Three(other, base, step)) => {
-            check_proofs(alloc, limit, command, file, other, base, step, w)
-        }
-        (
-            Command::Safe {
+    match command {
+        Command::File(command) => check_file(alloc, limit, command, file, inputs, w),
+        Command::Pair(command) => check_pair(alloc, limit, command, file, inputs, w),
+        Command::Safe {
+            k,
+            form,
+            base_optimize,
+            step_optimize,
+        } => {
+            let (base, rest) = first_of(inputs);
+            let (step, _) = first_of(rest);
+            print_safe(
+                alloc,
+                limit,
                 k,
                 form,
                 base_optimize,
                 step_optimize,
-            },
-            Inputs::Two(base, step),
-        ) => print_safe(
+                file,
+                base,
+                step,
+                w,
+            )
+        }
+        Command::SafeBySteps {
+            k,
+            form,
+            base_optimize,
+            step_optimize,
+        } => check_steps(
             alloc,
             limit,
             k,
@@ -203,36 +222,14 @@ fn check<R: Source, S: Source, W: Sink>(
             base_optimize,
             step_optimize,
             file,
-            base,
-            step,
+            inputs,
             w,
         ),
-        (
-            Command::SafeBySteps {
-                k,
-                form,
-                base_optimize,
-                step_optimize,
-            },
-            Inputs::Each(proofs),
-        ) => check_steps(
-            alloc,
-            limit,
-            k,
-            form,
-            base_optimize,
-            step_optimize,
-            file,
-            proofs.as_mut_slice(),
-            w,
-        ),
-        (
-            Command::Simulated { optimize },
-            Inputs::Six(witness, reset, transition, property, base, step),
-        ) => print_simulated(
-            alloc, limit, optimize, file, witness, reset, transition, property, base, step, w,
-        ),
-        (Command::EqualBy { optimize }, Inputs::Four(other, certificate, base, step)) => {
+        Command::EqualBy { optimize } => {
+            let (other, others) = first_of(inputs);
+            let (certificate, others) = first_of(others);
+            let (base, others) = first_of(others);
+            let (step, _) = first_of(others);
             print_equal_by(
                 alloc,
                 limit,
@@ -245,7 +242,31 @@ fn check<R: Source, S: Source, W: Sink>(
                 w,
             )
         }
-        _ => unreachable!(),
+        Command::Simulated { optimize } => {
+            let (witness, proofs) = first_of(inputs);
+            let (reset, proofs) = first_of(proofs);
+            let (transition, proofs) = first_of(proofs);
+            let (property, proofs) = first_of(proofs);
+            let (base, proofs) = first_of(proofs);
+            let (step, _) = first_of(proofs);
+            print_simulated(
+                alloc, limit, optimize, file, witness, reset, transition, property, base, step, w,
+            )
+        }
+        Command::Obligation { .. } => unreachable!(),
+    }
+}
+
+/// Whether a command prints clauses, and takes nothing beside its files.
+fn prints(command: Command) -> bool
+    ensures { result ≡ prints command }
+{
+    match command {
+        Command::File(
+            FileCommand::Clauses { .. } | FileCommand::Window { .. } | FileCommand::Bounded { .. },
+        ) => true,
+        Command::Pair(PairCommand::Obligations { .. }) | Command::Obligation { .. } => true,
+        _ => false,
     }
 }
 
@@ -260,7 +281,8 @@ fn print_file<R: Source + Drop, W: Sink>(
     requires limit { IsLimit limit }
     requires prints { beside_of (Command.File command) ≡ 0 }
     requires small { step_of (Command.File command) < 2 ^ 32 }
-    ensures { RunsAlone R.left R.failed W.held W.failed command limit file w.old result w.new }
+    ensures { (rest : R) × Runs R.left R.failed nothing_given nothing_fails W.held W.failed command
+        limit file tt w.old result rest tt w.new }
 {
     match command {
         FileCommand::Clauses { k, optimize } => print_clauses(alloc, limit, k, optimize, file, w),
@@ -278,19 +300,19 @@ fn print<R: Source + Drop, S: Source + Drop, W: Sink>(
     limit: usize,
     command: Command,
     file: R,
-    inputs: Inputs<S>,
+    mut inputs: Vec<S>,
     w: &mut W,
 ) -> Result<(), CheckError>
     requires limit { IsLimit limit }
     requires prints { beside_of command ≡ 0 }
-    requires fits { AreFor command inputs }
+    requires fits { length inputs.items + 1 ≡ paths_of command + beside_of command }
     requires small { step_of command < 2 ^ 32 }
     ensures { (rest : R) × (others : List S) × Ran R.left R.failed S.left S.failed W.held W.failed
-        limit command file (listed inputs) w.old result rest others w.new }
+        limit command file inputs.items w.old result rest others w.new }
 {
-    match (command, inputs) {
-        (Command::File(command), Inputs::Empty) => print_file(alloc, limit, command, file, w),
-        (Command::Pair(PairCommand::Obligations { optimize }), Inputs::One(certificate)) => {
+    match (command, inputs.pop()) {
+        (Command::File(command), None) => print_file(alloc, limit, command, file, w),
+        (Command::Pair(PairCommand::Obligations { optimize }), Some(certificate)) => {
             print_obligations(alloc, limit, optimize, file, certificate, w)
         }
         (
@@ -298,7 +320,7 @@ fn print<R: Source + Drop, S: Source + Drop, W: Sink>(
                 condition,
                 optimize,
             },
-            Inputs::One(witness),
+            Some(witness),
         ) => { print_obligation(alloc, limit, condition, optimize, file, witness, w) }
         _ => unreachable!(),
     }
@@ -311,24 +333,24 @@ fn check_made<R: Source, S: Source, W: Sink>(
     justice: Justice,
     command: Command,
     file: &mut R,
-    inputs: &mut Inputs<S>,
+    inputs: &mut [S],
     w: &mut W,
 ) -> Result<(), CheckError>
     requires limit { IsLimit limit }
     requires asked { IsTrue (is_asked (Some justice) command) }
     requires checks { 0 < beside_of command }
-    requires fits { AreFor command inputs.old }
+    requires fits { length inputs.old + 1 ≡ paths_of command + beside_of command }
     requires small { step_of command < 2 ^ 32 }
     ensures { RunsMade R.left R.failed limit justice
         (ChecksMade S.left S.failed W.held W.failed limit justice.property command
-        (listed inputs.old) (listed inputs.new) w.old w.new)
-        ((listed inputs.new ≡ listed inputs.old) × (w.new ≡ w.old)) file.old result file.new }
+        inputs.old inputs.new w.old w.new)
+        ((inputs.new ≡ inputs.old) × (w.new ≡ w.old)) file.old result file.new }
 {
     fair_runs_are_lassos();
     let text = made_text(alloc, limit, justice, file)?;
     let mut source = FromRead::new(text.as_slice());
     check(alloc, limit, command, &mut source, inputs, &mut Discarded)?;
-    Ok(write_fair(w, command, justice.property)?)
+    after_writing(write_fair(w, command, justice.property))
 }
 
 /// Runs a command that prints clauses of the file that is made of FILE for a justice property.
@@ -338,39 +360,39 @@ fn print_made<R: Source, S: Source + Drop, W: Sink>(
     justice: Justice,
     command: Command,
     file: &mut R,
-    inputs: Inputs<S>,
+    inputs: Vec<S>,
     w: &mut W,
 ) -> Result<(), CheckError>
     requires limit { IsLimit limit }
     requires prints { beside_of command ≡ 0 }
-    requires fits { AreFor command inputs }
+    requires fits { length inputs.items + 1 ≡ paths_of command + beside_of command }
     requires small { step_of command < 2 ^ 32 }
     ensures { (others : List S) × RunsMade R.left R.failed limit justice
-        (λ f. PrintsMade S.left S.failed W.held W.failed limit command (listed inputs) others w.old
-        w.new) ((others ≡ listed inputs) × (w.new ≡ w.old)) file.old result file.new }
+        (λ f. PrintsMade S.left S.failed W.held W.failed limit command inputs.items others w.old
+        w.new) ((others ≡ inputs.items) × (w.new ≡ w.old)) file.old result file.new }
 {
     let text = made_text(alloc, limit, justice, file)?;
     let source = FromRead::new(text.as_slice());
     print(alloc, limit, command, source, inputs, w)
 }
 
-/// Runs what is asked, where that checks what is given beside its files.
-pub(crate) fn check_asked<R: Source, S: Source, W: Sink>(
+/// Runs what is asked on files, of which the first is FILE, where that checks what is given beside them.
+pub(crate) fn check_asked<S: Source, W: Sink>(
     alloc: Global,
     limit: usize,
     asked: Asked,
-    file: &mut R,
-    inputs: &mut Inputs<S>,
+    files: &mut [S],
     w: &mut W,
 ) -> Result<(), CheckError>
     requires limit { IsLimit limit }
     requires asked { IsTrue (is_asked asked.justice asked.command) }
     requires checks { 0 < beside_of asked.command }
-    requires fits { AreFor asked.command inputs.old }
+    requires fits { AreFor asked.command files.old }
     requires small { step_of asked.command < 2 ^ 32 }
-    ensures { RanBy R.left R.failed S.left S.failed W.held W.failed limit asked.justice
-        asked.command file.old (listed inputs.old) w.old result file.new (listed inputs.new) w.new }
+    ensures { RanOn S.left S.failed W.held W.failed limit asked files.old w.old result files.new
+        w.new }
 {
+    let (file, inputs) = first_of(files);
     let command = asked.command;
     match asked.justice {
         None => check(alloc, limit, command, file, inputs, w),
@@ -378,27 +400,27 @@ pub(crate) fn check_asked<R: Source, S: Source, W: Sink>(
     }
 }
 
-/// Runs what is asked, on FILE and on the files behind it.
-pub(crate) fn run<R: Source + Drop, S: Source + Drop, W: Sink>(
+/// Runs what is asked on files, of which the first is FILE.
+pub(crate) fn run<S: Source + Drop, W: Sink>(
     alloc: Global,
     limit: usize,
     asked: Asked,
-    mut file: R,
-    mut inputs: Inputs<S>,
+    mut files: Vec<S>,
     w: &mut W,
 ) -> Result<(), CheckError>
     requires limit { IsLimit limit }
     requires asked { IsTrue (is_asked asked.justice asked.command) }
-    requires fits { AreFor asked.command inputs }
+    requires fits { AreFor asked.command files.items }
     requires small { step_of asked.command < 2 ^ 32 }
-    ensures { (rest : R) × (others : List S) × RanBy R.left R.failed S.left S.failed W.held W.failed
-        limit asked.justice asked.command file (listed inputs) w.old result rest others w.new }
+    ensures { (others : List S) × RanOn S.left S.failed W.held W.failed limit asked files.items
+        w.old result others w.new }
 {
     if !prints(asked.command) {
-        return check_asked(alloc, limit, asked, &mut file, &mut inputs, w);
+        return check_asked(alloc, limit, asked, files.as_mut_slice(), w);
     }
+    let mut file = files.remove(0);
     match asked.justice {
-        None => print(alloc, limit, asked.command, file, inputs, w),
-        Some(justice) => print_made(alloc, limit, justice, asked.command, &mut file, inputs, w),
+        None => print(alloc, limit, asked.command, file, files, w),
+        Some(justice) => print_made(alloc, limit, justice, asked.command, &mut file, files, w),
     }
 }

@@ -5,6 +5,7 @@ ghost use Rattle.aig_command_line.specs.Limits.{IsLimit};
 ghost use Rattle.aig_check_commands.specs.SafeBySteps.{RunsSafeBySteps};
 
 use crate::error::CheckError;
+use crate::printing::after_writing;
 use aig_answers::{Window, check_safe_by_steps};
 use aig_base::{Sink, Source};
 use aig_command_line::write_text;
@@ -43,5 +44,5 @@ pub fn print_safe_by_steps<R: Source, P: Source, Q: Source, W: Sink>(
         step_optimize,
         step,
     )?;
-    Ok(write_text(w, b"no bad state at any step")?)
+    after_writing(write_text(w, b"no bad state at any step"))
 }

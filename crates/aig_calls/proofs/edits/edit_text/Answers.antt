@@ -1,30 +1,18 @@
 use Rattle.std.proofs.Common.{Ok, Err}
 use Rattle.std.proofs.lemmas.Result.{err_from_is_err_and}
 use Rattle.aig_tool_commands.specs.declared.tool.TheConstants.{LIMIT}
-use Rattle.aig_calls.proofs.Seen.{edit_seen, file_seen, held_all, held_nothing, on, wrote}
+use Rattle.aig_calls.proofs.Seen.{edit_seen, made_into, unmade}
 use Rattle.aig_calls.proofs.edits.edit_text.Goals as goal
 
 pub returns-in_err-print_edit : goal.returns-in_err-print_edit
 returns-in_err-print_edit c =
     let p = err_from_is_err_and c.from_residual.result c.from_residual.ensures.1 in
-    rw (p.1, p.2) (
-      wrote c.new-sink.result,
-      wrote c.print_edit.new.w,
-      (on c.new-source.result
-          c.print_edit.new.r c.new-source.ensures.reader (file_seen (λ f. edit_seen c.new-sink.result
-          c.print_edit.new.w c.args.edit.now LIMIT f (Err c.in_err-print_edit.field-0.0))
-          c.in_err-print_edit.ensures.reads)),
-    )
+    rw (p.1, p.2) (unmade c.new-source.result c.print_edit.new.r c.new-sink.result
+    c.print_edit.new.w _ c.new-source.ensures.reader
+    (λ f. edit_seen c.new-sink.result c.print_edit.new.w c.args.edit.now LIMIT f (Err _)) c.in_err-print_edit.ensures.reads)
 
 pub returns : goal.returns
-returns c = (
-  wrote c.new-sink.result,
-  wrote c.print_edit.new.w,
-  held_nothing c.new-sink.ensures.writer c.new.ensures.items,
-  (
-    held_all c.into_inner.ensures,
-    (on c.new-source.result c.print_edit.new.r
-        c.new-source.ensures.reader (file_seen (λ f. edit_seen c.new-sink.result c.print_edit.new.w
-        c.args.edit.now LIMIT f (Ok tt)) c.in_ok-print_edit.ensures.reads)),
-  ),
-)
+returns c =
+    made_into c.new-source.result c.print_edit.new.r c.new-sink.result c.print_edit.new.w
+    c.new-source.ensures.reader c.new-sink.ensures.writer c.new.ensures.items c.into_inner.ensures
+    (λ f. edit_seen c.new-sink.result c.print_edit.new.w c.args.edit.now LIMIT f (Ok tt)) c.in_ok-print_edit.ensures.reads

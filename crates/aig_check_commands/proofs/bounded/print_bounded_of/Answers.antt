@@ -32,8 +32,7 @@ returns-then-is_settled g c =
     let settled = c.is_settled.ensures.0 c.if-is_settled.true in
     rw (sym c.new-file.ensures) (
       c.bounded.new.r.source,
-      refused (errors.Settled c.args.k) told.verdict refl (λ is. cc) refl
-          (λ alone. refl)
+      refused (errors.Settled c.args.k) told.verdict refl refl (λ alone. refl)
           (read_again told.answer (λ bytes f holds asks. record {
             made = made;
             asks = asks;

@@ -3,7 +3,7 @@ use Rattle.aig_answers.specs.declared.bounded_checks.error.BoundedAnswerError.Th
 use Rattle.aig_refutation.specs.declared.error.RefutationError.TheVariants as refutation
 use Rattle.aig_check_commands.specs.declared.error.CheckError.TheVariants as errors
 use Rattle.aig_check_commands.specs.Bounded.{safe_to_line}
-use Rattle.aig_check_commands.proofs.Outcomes.{answered, err_of, proof_told, read_again, refused, refuses_bounded, stopped, tells_of_bounded}
+use Rattle.aig_check_commands.proofs.Outcomes.{answer_ends, err_of, proof_told, read_again, refused, refuses_bounded, tells_of_bounded}
 use Rattle.aig_check_commands.proofs.bounded.print_refuted_to.Goals as goal
 
 pub returns-in_err-check_bounded : goal.returns-in_err-check_bounded
@@ -11,19 +11,15 @@ returns-in_err-check_bounded g c =
     let p = err_from_is_err_and c.from_residual.result c.from_residual.ensures.1 in
     let told = c.in_err-check_bounded.ensures in
     let e = c.in_err-check_bounded.field-0.0 in
-    rw (p.1, p.2) (refused (errors.Bounded e) told.verdict told.own (λ is. cc) refl (λ alone. told.unread (refuses_bounded e alone))
+    rw (p.1, p.2) (refused (errors.Bounded e) told.verdict told.own refl
+    (λ alone. told.unread (refuses_bounded e alone))
     (tells_of_bounded c.args.k c.args.limit c.args.optimize _ _ _ _ e told.own
     (λ taken. proof_told (told.shown taken))
     (λ is. told.stream (err_of e (bounded.Refutation refutation.Stream) is)) told.large))
 
-pub returns-in_err-write_line : goal.returns-in_err-write_line
-returns-in_err-write_line g c =
-    let p = err_from_is_err_and c.from_residual-in_err-write_line.result c.from_residual-in_err-write_line.ensures.1 in
-    let read = c.in_ok-check_bounded.ensures in
-    rw (p.1, p.2) (stopped (safe_to_line c.args.k) (proof_told (read.shown refl)) read.verdict (read_again read.answer (λ bytes f holds safe. (refl, safe))) c.in_err-write_line.ensures.err)
-
 pub returns : goal.returns
 returns g c =
     let read = c.in_ok-check_bounded.ensures in
-    let told = c.in_ok-write_line.ensures in
-    answered tt (safe_to_line c.args.k) (proof_told (read.shown refl)) read.verdict (read_again read.answer (λ bytes f holds safe. (refl, safe))) told.ok told.sound
+    rw c.after_writing.ensures (answer_ends c.write_line.result (safe_to_line c.args.k)
+    (proof_told (read.shown refl)) read.verdict
+    (read_again read.answer (λ bytes f holds safe. (refl, safe))) c.write_line.ensures)

@@ -1,32 +1,31 @@
 use Rattle.aig_base.proofs.Words.{◌++◌, ◌∷◌, [], ◌∙◌, Err, Ok, List, String, Global, ap, append-nil, append_assoc, arith, err_from_is_err_and, length, length-append, length-map, length-take-le, map, map_more, refl, string_bytes, subst, sym, take, take_all}
-use Rattle.aig_check_commands.specs.Inputs.{listed}
+use Rattle.aig_check_commands.specs.Fits.{LacksOne}
 use Rattle.aig_check_commands.specs.Opening.{AreOpened}
-use Rattle.aig_check_commands.proofs.Opened.{opened_length, opened_more, opens_as, opens_until}
+use Rattle.aig_check_commands.proofs.Opened.{all_opened, lacks_at, opened_length}
 use Rattle.aig_check_commands.proofs.inputs.open_beside.Goals as goal
 
 pub loop-path-init : goal.loop-path-init
-loop-path-init g c = ([], tt, sym (append-nil _), refl, refl)
+loop-path-init g c = ([], tt, sym (append-nil _), refl)
 
-pub returns-in_err-open : goal.returns-in_err-open
-returns-in_err-open g c =
+pub returns-in_err-open-clause-refused : goal.returns-in_err-open-clause-refused
+returns-in_err-open-clause-refused g c =
     let p = err_from_is_err_and c.from_residual.result c.from_residual.ensures.1 in
     let opened = c.loop-path.invariant in
     let opens = g.F.Opens.opens c.args.files.now in
-    rw p.1 (opens_until opens c.args.paths.now c.loop-path.path-index c.path-item.result opened.0 _ _
+    rw (p.1, p.2) (lacks_at opens c.args.paths.now c.loop-path.path-index c.path-item.result opened.0
     c.in_err-open.field-0.0 c.loop-path-test.true c.path-item.is opened.1
-    (subst (λ p. opens p (Err c.in_err-open.field-0.0)) c.as_str.ensures.value c.in_err-open.ensures)
-    (ap (λ e. Err e) p.2))
+    (subst (λ p. opens p (Err c.in_err-open.field-0.0)) c.as_str.ensures.value c.in_err-open.ensures))
 
-pub with-inputs-requires : goal.with-inputs-requires
-with-inputs-requires g c =
+pub push_reserved-requires : goal.push_reserved-requires
+push_reserved-requires g c =
     let opened = c.loop-path.invariant in
     let i = c.loop-path.path-index in
     let paths = c.args.paths.now in
-    let count = ap length opened.2 ∙ length-append (listed c.args.opened) opened.0 in
+    let count = ap length opened.2 ∙ length-append c.args.opened.now.items opened.0 in
     let many = opened_length (g.F.Opens.opens c.args.files.now) _ opened.0 opened.1
     ∙ length-map (take i paths) string_bytes in
     let few = length-take-le i paths in
-    omega (arith, count, many, few, opened.4, c.loop-path-test.true, c.requires)
+    omega (arith, count, many, few, opened.3, c.loop-path-test.true, c.requires)
 
 pub loop-path-preserved : goal.loop-path-preserved
 loop-path-preserved g c =
@@ -41,21 +40,21 @@ loop-path-preserved g c =
     ∙ sym (map_more string_bytes paths i x c.loop-path-test.true) in (
       opened.0 ++ f ∷ [],
       subst (λ ps. AreOpened opens ps (opened.0 ++ f ∷ [])) more
-          (opened_more opens front opened.0 (string_bytes x) f opened.1
-          (subst (λ p. opens p (Ok f)) c.as_str.ensures.value c.in_ok-open.ensures)),
-      c.with-inputs.ensures.listed ∙ ap (λ l. l ++ f ∷ []) opened.2
-          ∙ append_assoc (listed c.args.opened) opened.0 (f ∷ []),
-      c.with-inputs.ensures.form ∙ opened.3,
-      c.with-inputs.ensures.room ∙ opened.4,
+          (all_opened opens front (string_bytes x ∷ []) opened.0 (f ∷ []) opened.1
+          (subst (λ p. opens p (Ok f)) c.as_str.ensures.value c.in_ok-open.ensures, tt)),
+      c.push_reserved.ensures.items ∙ ap (λ l. l ++ f ∷ []) opened.2
+          ∙ append_assoc c.args.opened.now.items opened.0 (f ∷ []),
+      c.push_reserved.ensures.capacity ∙ opened.3,
     )
 
-pub returns : goal.returns
-returns g c =
+pub returns-clause-opens : goal.returns-clause-opens
+returns-clause-opens g c =
     let opened = c.loop-path.invariant in
-    let opens = g.F.Opens.opens c.args.files.now in
     let paths = c.args.paths.now in
     let all = ap (λ (xs : List (String Global)). map string_bytes xs)
-    (take_all c.loop-path.path-index paths (omega (arith, c.loop-path-test.false))) in
-    opens_as opens (map string_bytes paths) opened.0 _ _
-    (subst (λ ps. AreOpened opens ps opened.0) all opened.1)
-    (c.loop-path.inputs, refl, opened.2, opened.3, opened.4)
+    (take_all c.loop-path.path-index paths (omega (arith, c.loop-path-test.false))) in (
+      opened.0,
+      subst (λ ps. AreOpened (g.F.Opens.opens c.args.files.now) ps opened.0) all opened.1,
+      opened.2,
+      opened.3,
+    )

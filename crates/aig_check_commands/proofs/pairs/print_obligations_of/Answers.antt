@@ -3,7 +3,9 @@ use Rattle.aig_answers.specs.Certificates.{Obliges}
 use Rattle.aig_refutation.specs.declared.error.RefutationError.TheVariants as refutation
 use Rattle.aig_check_commands.specs.Under.{source_of}
 use Rattle.aig_check_commands.specs.Titling.{pair_title}
-use Rattle.aig_check_commands.proofs.Pairing.{no_proof_of_clauses, obligations_text, obliged_text, pair_ends, pair_refused, reads_under, summed_under}
+use Rattle.aig_check_commands.specs.declared.error.CheckError.TheVariants as errors
+use Rattle.aig_check_commands.proofs.Outcomes.{error_printed, text_printed}
+use Rattle.aig_check_commands.proofs.Pairing.{no_proof_of_clauses, obligations_text, obliged_text, pair_answered, pair_refused, reads_under, summed_under}
 use Rattle.aig_check_commands.proofs.pairs.print_obligations_of.Goals as goal
 
 pub returns-in_err-asked : goal.returns-in_err-asked
@@ -17,9 +19,9 @@ returns-in_err-asked g c =
     rw (sym c.new-first.ensures, sym c.new-second.ensures, p.1, p.2) (
       c.obligations_of.new.file.source,
       c.obligations_of.new.certificate.source,
-      pair_refused (Obliges c.args.limit c.args.optimize) e reads (λ own. own)
-          (λ f h refuses. refuses) refl (λ leaves. refl) (λ leaves. refl) (λ is. absurd (none.0 is))
-          (λ is. absurd (none.1 is)),
+      error_printed (errors.Certificate e) (pair_refused (Obliges c.args.limit c.args.optimize) e
+          reads (λ own. own) (λ f h refuses. refuses) (λ leaves. refl) (λ leaves. refl)
+          (λ is. absurd (none.0 is)) (λ is. absurd (none.1 is))) refl,
     )
 
 pub returns : goal.returns
@@ -36,13 +38,13 @@ returns g c =
     let told = c.write_obligations.ensures in
     let bytes = g.R.Source.left c.new-first.result.source in
     let others = g.S.Source.left c.new-second.result.source in
+    let text = obliged_text (pair_title optimize sum beside) o told.base told.step in
     rw (sym c.new-first.ensures, sym c.new-second.ensures, c.after_writing.ensures) (
       c.obligations_of.new.file.source,
       c.obligations_of.new.certificate.source,
-      pair_ends (Obliges c.args.limit optimize) o c.write_obligations.result
-          (obliged_text (pair_title optimize sum beside) o told.base told.step) read.0
+      text_printed c.write_obligations.result text (pair_answered (Obliges c.args.limit optimize) o
+          text read.0
           (λ f h asked. obligations_text optimize bytes others sum beside read.1 read.2 f h o
           told.base told.step asked told.base_has told.step_has told.base_formula
-          told.step_formula)
-          told.writes,
+          told.step_formula)) told.writes,
     )

@@ -30,5 +30,5 @@ returns g c =
       text_ends c.print_query.result _ tt read.verdict
           (λ text is. read_again read.answer (λ bytes f holds of.
           clauses_text (g.R.Source.left c.new-file.result.source) c.finish.result sums f c.args.limit c.args.k c.args.optimize u text of is))
-          told.prints told.own tt,
+          told tt,
     )

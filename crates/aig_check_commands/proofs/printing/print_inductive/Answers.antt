@@ -1,8 +1,9 @@
 use Rattle.aig_base.proofs.Words.{refl, err_from_is_err_and}
 use Rattle.aig_refutation.specs.declared.error.RefutationError.TheVariants as refutation
 use Rattle.aig_answers.specs.declared.error.AnswerError.TheVariants as answers
+use Rattle.aig_check_commands.specs.declared.error.CheckError.TheVariants as errors
 use Rattle.aig_check_commands.specs.Running.{window_line}
-use Rattle.aig_check_commands.proofs.Outcomes.{answered, err_of, proof_refused, read_again, refuses_file, stopped, tells_of_induction}
+use Rattle.aig_check_commands.proofs.Outcomes.{answer_ends, err_of, read_again, refused, refuses_file, tells_of_induction}
 use Rattle.aig_check_commands.proofs.printing.print_inductive.Goals as goal
 
 pub returns-in_err-check_window : goal.returns-in_err-check_window
@@ -10,18 +11,16 @@ returns-in_err-check_window g c =
     let p = err_from_is_err_and c.from_residual.result c.from_residual.ensures.1 in
     let told = c.in_err-check_window.ensures in
     let e = c.in_err-check_window.field-0.0 in
-    rw (p.1, p.2) (proof_refused e told.verdict told.own refl (λ alone. told.unread (refuses_file e alone)) (tells_of_induction c.args.k c.args.limit c.args.optimize _ _ _ _ c.args.form e told.shown (λ is. told.proof_stream (err_of e (answers.Refutation refutation.Stream) is))))
-
-pub returns-in_err-write_line : goal.returns-in_err-write_line
-returns-in_err-write_line g c =
-    let p = err_from_is_err_and c.from_residual-in_err-write_line.result c.from_residual-in_err-write_line.ensures.1 in
-    let read = c.in_ok-check_window.ensures in
-    let law = c.inductive_windows_are_safe.ensures c.args.form in
-    rw (p.1, p.2) (stopped (window_line c.args.k) (read.shown refl) read.verdict (read_again read.answer (λ bytes f holds safe. (refl, safe, λ base. law f c.args.k base safe))) c.in_err-write_line.ensures.err)
+    rw (p.1, p.2) (refused (errors.Answer e) told.verdict told.own refl
+    (λ alone. told.unread (refuses_file e alone))
+    (tells_of_induction c.args.k c.args.limit c.args.optimize _ _ _ _ c.args.form e told.shown
+    (λ is. told.proof_stream (err_of e (answers.Refutation refutation.Stream) is))))
 
 pub returns : goal.returns
 returns g c =
     let read = c.in_ok-check_window.ensures in
-    let told = c.in_ok-write_line.ensures in
     let law = c.inductive_windows_are_safe.ensures c.args.form in
-    answered tt (window_line c.args.k) (read.shown refl) read.verdict (read_again read.answer (λ bytes f holds safe. (refl, safe, λ base. law f c.args.k base safe))) told.ok told.sound
+    rw c.after_writing.ensures (answer_ends c.write_line.result (window_line c.args.k)
+    (read.shown refl) read.verdict
+    (read_again read.answer (λ bytes f holds safe. (refl, safe, λ base. law f c.args.k base safe)))
+    c.write_line.ensures)

@@ -19,8 +19,20 @@ returns g c =
     let read = c.in_ok-asked.ensures in
     let q = c.in_ok-asked.asked in
     let told = c.print_solution.ensures in
-    solution_ends c.print_solution.result _ tt read.verdict
+    solution_ends c.print_solution.result q.encoded c.args.k tt read.verdict
     (λ text is. read_again read.answer (λ bytes f holds asks.
     let known = subst (λ (d : Circuit). IsKnownWitness d is.witness) asks.0.of_file is.known in
-    record { witness = is.witness; steps = is.steps; shows = c.known_witnesses_show.ensures f c.args.limit is.witness holds.0.0.1 known; exact = is.exact; query = q; asks = asks; said = is.said })) told.prints q.encoded c.args.k told.own (λ e. tt)
-    (λ e refuses. read_again read.answer (λ bytes f holds asks. record { query = q; asks = asks; refusal = refuses }))
+    record {
+      witness = is.witness;
+      steps = is.steps;
+      shows = c.known_witnesses_show.ensures f c.args.limit is.witness holds.0.0.1 known;
+      exact = is.exact;
+      query = q;
+      asks = asks;
+      said = is.said;
+    })) told (λ e. tt)
+    (λ e refuses. read_again read.answer (λ bytes f holds asks. record {
+      query = q;
+      asks = asks;
+      refusal = refuses;
+    }))

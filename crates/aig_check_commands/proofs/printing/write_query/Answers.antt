@@ -1,31 +1,18 @@
-use Rattle.std.proofs.Common.{◌++◌, length, rules}
-use Rattle.aig_base.specs.Formula.{clauses_in}
-use Rattle.aig_dimacs.specs.Text.{dimacs_of}
-use Rattle.aig_output.proofs.Putting.{Stops-before, failed_put}
+use Rattle.std.proofs.Common.{◌++◌, rules}
 use Rattle.aig_check_commands.specs.Titles.{title_text}
 use Rattle.aig_check_commands.specs.Comments.{comments_of}
-use Rattle.aig_check_commands.proofs.Pairing.{then_written}
+use Rattle.aig_check_commands.proofs.Pairing.{stopped_before, written_behind}
 use Rattle.aig_check_commands.proofs.printing.write_query.Goals as goal
 
 pub returns-in_err-write_front : goal.returns-in_err-write_front
 returns-in_err-write_front g c =
-    let told = rw c.unrolled-unrolled.ensures.value at c.tell_circuit.ensures in
-    let text = dimacs_of (length told.0) (clauses_in told.0 ++ c.args.extra.now) in
-    record {
-      lists = told.0;
-      has = told.1;
-      formula = told.2;
-      writes = failed_put (Stops-before text c.in_err-write_front.ensures.err) (search rules);
-    }
+    let u = c.args.asked.now in
+    stopped_before (title_text c.args.title.now ++ comments_of u.circuit u.unrolled u.steps)
+    (rw c.unrolled-unrolled.ensures.value at c.tell_circuit.ensures)
+    c.in_err-write_front.ensures.err (search rules)
 
 pub returns : goal.returns
 returns g c =
     let u = c.args.asked.now in
-    let told = rw c.unrolled-unrolled.ensures.value at c.write_circuit.ensures in
-    record {
-      lists = told.0;
-      has = told.1;
-      formula = told.2.formula;
-      writes = then_written (title_text c.args.title.now ++ comments_of u.circuit u.unrolled u.steps)
-          c.in_ok-write_front.ensures.ok told.2.writes;
-    }
+    written_behind (title_text c.args.title.now ++ comments_of u.circuit u.unrolled u.steps)
+    c.in_ok-write_front.ensures.ok (rw c.unrolled-unrolled.ensures.value at c.write_circuit.ensures)

@@ -1,14 +1,14 @@
 use Rattle.aig_base.proofs.Words.{Ok, Err, err_from_is_err_and, refl, subst, ◌∙◌}
-use Rattle.aig_check_commands.specs.declared.error.CheckError.TheVariants as errors
-use Rattle.aig_check_commands.specs.Inputs.{listed}
+use Rattle.aig_format.specs.Circuit.{text_of}
+use Rattle.aig_check_commands.specs.Printing.{after_writing}
 use Rattle.aig_check_commands.specs.Living.{ChecksMade, ChecksText, ShowsFair, fair_line}
-use Rattle.aig_check_commands.proofs.Made.{concludes_refused, ran, ran_no_making, ran_no_write, ran_on_text, shows_fair, unmade}
+use Rattle.aig_check_commands.proofs.Made.{concludes_refused, concludes_written, ran, ran_no_making, ran_no_write, ran_on_text, shows_fair, unmade, written_no_making}
 use Rattle.aig_check_commands.proofs.running.check_made.Goals as goal
 
 pub returns-in_err-text : goal.returns-in_err-text
 returns-in_err-text g c =
     let p = err_from_is_err_and c.from_residual.result c.from_residual.ensures.1 in
-    let files = listed c.args.inputs.now in
+    let files = c.args.inputs.now in
     rw (p.1, p.2) (unmade g.R.Source.left g.R.Source.failed c.args.limit c.args.justice
     (ChecksMade g.S.Source.left g.S.Source.failed g.W.Sink.held g.W.Sink.failed c.args.limit
     c.args.justice.property c.args.command files files c.args.w.now c.args.w.now) _ c.args.file.now _
@@ -21,8 +21,8 @@ returns-in_err-check g c =
     let e = c.in_err-check.field-0.0 in
     let d = c.args.command in
     let property = c.args.justice.property in
-    let files = listed c.args.inputs.now in
-    let others = listed c.check.new.inputs in
+    let files = c.args.inputs.now in
+    let others = c.check.new.inputs in
     let on = ran_on_text _ _ _ _ _ _ _ _ _ _ _ _ c.as_slice.result.now d files others (rw c.new-source.ensures.reader)
     c.in_err-check.ensures in
     let made = ChecksMade g.S.Source.left g.S.Source.failed g.W.Sink.held g.W.Sink.failed
@@ -36,47 +36,24 @@ returns-in_err-check g c =
     c.as_slice.result.now) c.args.w.now c.args.w.now e
     (ran_no_write _ _ _ _ _ _ _ _ _ d files others e c.in_err-check.ensures) (_, _, on) refl)))
 
-pub returns-in_err-write_fair : goal.returns-in_err-write_fair
-returns-in_err-write_fair g c =
-    let p = err_from_is_err_and c.from_residual-in_err-write_fair.result
-    c.from_residual-in_err-write_fair.ensures.1 in
-    let d = c.args.command in
-    let property = c.args.justice.property in
-    let files = listed c.args.inputs.now in
-    let others = listed c.check.new.inputs in
-    let on = ran_on_text _ _ _ _ _ _ _ _ _ _ _ _ c.as_slice.result.now d files others (rw c.new-source.ensures.reader)
-    c.in_ok-check.ensures in
-    let made = ChecksMade g.S.Source.left g.S.Source.failed g.W.Sink.held g.W.Sink.failed
-    c.args.limit property d files others c.args.w.now c.write_fair.new.w in
-    rw (p.1, p.2) (ran g.R.Source.left g.R.Source.failed c.args.limit c.args.justice made _
-    c.args.file.now _ c.in_ok-text.text (Err errors.Write) (λ no. no) c.in_ok-text.ensures
-    (λ f m of is.
-    let checks = subst (λ t. ChecksText g.S.Source.left g.S.Source.failed c.args.limit d files others
-    t (Ok tt)) (c.as_slice.ensures.value ∙ is) (_, _, on) in (
-      checks,
-      shows_fair g.S.Source.left g.S.Source.failed c.fair_runs_are_lassos.ensures c.args.limit
-          c.args.justice f m of d files others c.requires.checks c.requires.asked checks,
-      c.in_err-write_fair.ensures.err,
-    )))
-
 pub returns : goal.returns
 returns g c =
     let d = c.args.command in
     let property = c.args.justice.property in
-    let files = listed c.args.inputs.now in
-    let others = listed c.check.new.inputs in
-    let on = ran_on_text _ _ _ _ _ _ _ _ _ _ _ _ c.as_slice.result.now d files others (rw c.new-source.ensures.reader)
-    c.in_ok-check.ensures in
+    let files = c.args.inputs.now in
+    let others = c.check.new.inputs in
+    let on = ran_on_text _ _ _ _ _ _ _ _ _ _ _ _ c.as_slice.result.now d files others
+    (rw c.new-source.ensures.reader) c.in_ok-check.ensures in
     let made = ChecksMade g.S.Source.left g.S.Source.failed g.W.Sink.held g.W.Sink.failed
     c.args.limit property d files others c.args.w.now c.write_fair.new.w in
-    ran g.R.Source.left g.R.Source.failed c.args.limit c.args.justice made _
-    c.args.file.now _ c.in_ok-text.text (Ok tt) tt c.in_ok-text.ensures
+    rw c.after_writing.ensures (ran g.R.Source.left g.R.Source.failed c.args.limit c.args.justice
+    made _ c.args.file.now _ c.in_ok-text.text (after_writing c.write_fair.result)
+    (written_no_making c.write_fair.result) c.in_ok-text.ensures
     (λ f m of is.
     let checks = subst (λ t. ChecksText g.S.Source.left g.S.Source.failed c.args.limit d files others
-    t (Ok tt)) (c.as_slice.ensures.value ∙ is) (_, _, on) in (
-      checks,
-      shows_fair g.S.Source.left g.S.Source.failed c.fair_runs_are_lassos.ensures c.args.limit
-          c.args.justice f m of d files others c.requires.checks c.requires.asked checks,
-      c.in_ok-write_fair.ensures.ok,
-      c.in_ok-write_fair.ensures.sound,
-    ))
+    t (Ok tt)) (c.as_slice.ensures.value ∙ is) (_, _, on) in
+    concludes_written (ChecksText g.S.Source.left g.S.Source.failed c.args.limit d files others
+    (text_of m)) c.write_fair.result checks
+    (shows_fair g.S.Source.left g.S.Source.failed c.fair_runs_are_lassos.ensures c.args.limit
+    c.args.justice f m of d files others c.requires.checks c.requires.asked checks)
+    c.write_fair.ensures))

@@ -1,17 +1,21 @@
-use Rattle.aig_base.proofs.Words.{[], ◌∷◌, rules}
+use Rattle.aig_base.proofs.Words.{[], ◌∷◌, arith, rules}
+use Rattle.aig_check_commands.proofs.Opened.{only_one, paths_few}
 use Rattle.aig_check_commands.proofs.running.print.Goals as goal
 
-pub returns-in-File-Empty : goal.returns-in-File-Empty
-returns-in-File-Empty g c =
-    let run = c.print_file.ensures in
-    (run.rest, [], search (rules, run.runs))
-
-pub returns-in-Pair-Obligations-One : goal.returns-in-Pair-Obligations-One
-returns-in-Pair-Obligations-One g c =
+pub returns-in-Pair-Obligations-Some : goal.returns-in-Pair-Obligations-Some
+returns-in-Pair-Obligations-Some g c =
     let run = c.print_obligations.ensures in
-    (run.0, run.1 ∷ [], search (rules, run.2))
+    let few = paths_few c.args.command in
+    let only = only_one c.pop.new.self.items c.in-Pair-Obligations-Some.certificate _
+    c.in-Pair-Obligations-Some.ensures.items
+    (omega (arith, c.requires.fits, c.requires.prints, few)) in
+    (run.0, run.1 ∷ [], rw only (search (rules, run.2)))
 
-pub returns-in-Obligation-One : goal.returns-in-Obligation-One
-returns-in-Obligation-One g c =
+pub returns-in-Obligation-Some : goal.returns-in-Obligation-Some
+returns-in-Obligation-Some g c =
     let run = c.print_obligation.ensures in
-    (run.0, run.1 ∷ [], search (rules, run.2))
+    let few = paths_few c.args.command in
+    let only = only_one c.pop.new.self.items c.in-Obligation-Some.witness _
+    c.in-Obligation-Some.ensures.items
+    (omega (arith, c.requires.fits, c.requires.prints, few)) in
+    (run.0, run.1 ∷ [], rw only (search (rules, run.2)))

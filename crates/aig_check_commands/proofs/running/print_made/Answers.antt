@@ -1,6 +1,5 @@
 use Rattle.aig_base.proofs.Words.{err_from_is_err_and, refl, subst, ◌∙◌}
 use Rattle.aig_format.specs.File.{File}
-use Rattle.aig_check_commands.specs.Inputs.{listed}
 use Rattle.aig_check_commands.specs.Living.{PrintsMade}
 use Rattle.aig_check_commands.proofs.Made.{ran, ran_no_making, ran_on_text, unmade}
 use Rattle.aig_check_commands.proofs.running.print_made.Goals as goal
@@ -8,7 +7,7 @@ use Rattle.aig_check_commands.proofs.running.print_made.Goals as goal
 pub returns-in_err-text : goal.returns-in_err-text
 returns-in_err-text g c =
     let p = err_from_is_err_and c.from_residual.result c.from_residual.ensures.1 in
-    let files = listed c.args.inputs in
+    let files = c.args.inputs.items in
     rw (p.1, p.2) (
       files,
       unmade g.R.Source.left g.R.Source.failed c.args.limit c.args.justice
@@ -20,7 +19,7 @@ returns-in_err-text g c =
 pub returns : goal.returns
 returns g c =
     let d = c.args.command in
-    let files = listed c.args.inputs in
+    let files = c.args.inputs.items in
     let raw = c.print.ensures in
     let on = ran_on_text _ _ _ _ _ _ _ _ _ _ _ _ c.as_slice.result.now d files raw.1 (rw c.new-source.ensures.reader)
     raw.2 in

@@ -3,8 +3,10 @@ use Rattle.aig_answers.specs.declared.error.AnswerError.TheVariants as answers
 use Rattle.aig_answers.specs.declared.bounded_checks.error.BoundedAnswerError.TheVariants as bounded
 use Rattle.aig_refutation.specs.declared.error.RefutationError.TheVariants as refutation
 use Rattle.aig_answers.specs.declared.safety.error.SafetyError.TheVariants as proving
-use Rattle.aig_check_commands.proofs.Outcomes.{err_of}
-use Rattle.aig_check_commands.proofs.Proving.{safe_answered, safe_refused, safe_stopped}
+use Rattle.aig_check_commands.specs.Pairs.{safe_line}
+use Rattle.aig_check_commands.specs.declared.error.CheckError.TheVariants as errors
+use Rattle.aig_check_commands.proofs.Outcomes.{err_of, error_printed, text_printed}
+use Rattle.aig_check_commands.proofs.Proving.{safe_answered, safe_refused}
 use Rattle.aig_check_commands.proofs.safe.print_safe.Goals as goal
 
 pub returns-in_err-check_safe : goal.returns-in_err-check_safe
@@ -12,20 +14,14 @@ returns-in_err-check_safe g c =
     let p = err_from_is_err_and c.from_residual.result c.from_residual.ensures.1 in
     let told = c.in_err-check_safe.ensures in
     let e = c.in_err-check_safe.field-0.0 in
-    rw (p.1, p.2) (safe_refused e told.verdict told.own told.large told.shown refl
-    told.base_unread told.step_unread
+    rw (p.1, p.2) (error_printed (errors.Safe e) (safe_refused e told.verdict told.own told.large
+    told.shown told.base_unread told.step_unread
     (λ is. told.base_stream (err_of e (proving.Base (bounded.Refutation refutation.Stream)) is))
     (λ is. told.step_stream (err_of e (proving.Step (answers.Refutation refutation.Stream)) is)))
-
-pub returns-in_err-write_text : goal.returns-in_err-write_text
-returns-in_err-write_text g c =
-    let p = err_from_is_err_and c.from_residual-in_err-write_text.result
-    c.from_residual-in_err-write_text.ensures.1 in
-    let told = c.in_ok-check_safe.ensures in
-    rw (p.1, p.2) (safe_stopped told.verdict (told.shown refl) c.in_err-write_text.ensures.err)
+    refl)
 
 pub returns : goal.returns
 returns g c =
     let told = c.in_ok-check_safe.ensures in
-    let written = c.in_ok-write_text.ensures in
-    safe_answered tt told.verdict (told.shown refl) written.ok written.sound
+    rw c.after_writing.ensures (text_printed c.write_text.result safe_line
+    (safe_answered told.verdict (told.shown refl)) c.write_text.ensures)

@@ -3,7 +3,7 @@ use Rattle.std.specs.Prelude.{option_map}
 use Rattle.std.proofs.lemmas.Option.{slice_get-map, slice_get_within}
 use Rattle.aig_check_commands.specs.declared.places.Traced.TheVariants.{Plain}
 use Rattle.aig_check_commands.proofs.Refusing.{put_back}
-use Rattle.aig_check_commands.proofs.places.trace_each.Goals as goal
+use Rattle.aig_check_commands.proofs.places.trace.Goals as goal
 
 pub remove-requires : goal.remove-requires
 remove-requires g c =
@@ -11,15 +11,15 @@ remove-requires g c =
     let within = slice_get_within (map g.R.Source.left items) c.args.which _ c.requires in
     omega (arith, within, length-map items g.R.Source.left)
 
-pub counted_if-requires : goal.counted_if-requires
-counted_if-requires g c =
+pub counted-requires : goal.counted-requires
+counted-requires g c =
     let items = c.args.inputs.items in
     let within = slice_get_within (map g.R.Source.left items) c.args.which _ c.requires in
     let low : c.args.which < length items = omega (arith, within, length-map items g.R.Source.left) in
     let at = slice_get-get_or items c.args.which c.remove.result low in
     let seen = slice_get-map g.R.Source.left items c.args.which
     ∙ ap (option_map g.R.Source.left) at in
-    λ is. ap g.R.Source.left c.remove.ensures.value ∙ same_Some _ _ (sym seen ∙ c.requires)
+    ap g.R.Source.left c.remove.ensures.value ∙ same_Some _ _ (sym seen ∙ c.requires)
 
 pub returns : goal.returns
 returns g c =
