@@ -16,13 +16,12 @@ import subprocess
 import sys
 
 import harness
-from harness import CHECK, PROVE, TESTS, TOP, rows
+from harness import CHECK, PROVE, RESYN, TESTS, TOP, rows
 
 from aigprove.aiger import Circuit, Header, Lines
 
 DESIGNS = TESTS / "designs"
 # Designs that are compared with what these commands of ABC make of them.
-RESYN = "balance; rewrite; refactor; balance; rewrite; rewrite -z; balance; refactor -z; rewrite -z; balance"
 REWRITTEN = [("fifo_ptr", "dc2"), ("credit_flow", RESYN), ("lru", "dc2; rewrite; refactor"), ("sha4", "balance; dc2")]
 # How many values a witness has at most whose every value is tried.
 SHORT = 60

@@ -39,6 +39,18 @@ USAGE = {
 }
 TOOL, EDIT, CHECK = (str(TOP / "crates" / name / "out" / name) for name in ["aigtool", "aigedit", "aigcheck"])
 PROVE = str(TOP / "bin" / "aigprove")
+# What makes another form of a circuit by ABC, where latches that are 1 at first are inverted behind it.
+RESYN = "balance; rewrite; refactor; balance; rewrite; rewrite -z; balance; refactor -z; rewrite -z; balance"
+FORMS = {
+    "dc2": "dc2",
+    "resyn2": RESYN,
+    "dch": "dch; strash",
+    "scorr, dc2": "scorr; dc2",
+    "retime, dc2": "retime; strash; dc2",
+    "retime -M 1": "retime -M 1; strash",
+    "retime -M 2": "retime -M 2; strash",
+    "dretime, dc2": "dretime; strash; dc2",
+}
 # How many seconds a program has to end.
 SECONDS = 100
 REPEATED = re.compile(r"\{([^{}]*)\}\*(\d+)")

@@ -9,6 +9,9 @@ of files that ABC reads, and `bin/aigprove --equal` of all; what that keeps isn'
 
 The engine that guesses which registers correspond says nothing else alone, if anything.
 
+Half as many designs of tests/designs are compared so with what ABC makes of them, also by retiming, or with that and a gate changed: no
+answer is another than that of `dsec`, and a run to a difference shows one, as a simulation here has it.
+
 And a third as many invariants of ABC's pdr, for random files that are never bad: `aigcheck certified` takes each as a certificate. With
 one of its cubes less it takes it where a search over all states says that the rest is an invariant still, by cadical's proofs, and else
 no proofs of the whole.
@@ -19,18 +22,22 @@ import concurrent.futures
 import itertools
 import random
 import re
+import sys
 from pathlib import Path
 
 import harness
 from aiger import Machine, machine_of
 from designs import inverted
-from harness import CHECK, EDIT, PROVE, TOOL, numbers, output
+from harness import CHECK, EDIT, FORMS, PROVE, TOOL, numbers, output
 from machines import random_machine
 from trials import Files, told
 
 from aigprove.aiger import Circuit, Lines
 from aigprove.plain import Plain
 
+# Seconds for the answer about a design, and the designs.
+SECONDS = "20"
+DESIGNS = sorted((harness.TESTS / "designs").glob("*.aig"))
 REWRITES = ["balance", "rewrite", "refactor", "dc2", "fraig", "scorr"]
 BOUND = 4
 
@@ -154,6 +161,50 @@ class Pair(Files):
             self.fail("what is kept isn't shown again, or is with the other file turned")
 
 
+class Form(Files):
+    """A design in a plain form, and beside it what ABC makes of that, perhaps with a gate more in the place of an edge."""
+
+    def __init__(self, rng, folder):
+        super().__init__(folder)
+        self.file, self.other = str(self.folder / "file.aig"), str(self.folder / "other.aig")
+        self.name = f"{rng.choice(DESIGNS)}; logic; undc; strash; zero; write_aiger {self.file}; {rng.choice([*FORMS.values()])}; zero"
+        self.abc(f"read_aiger {self.name}; write_aiger {self.other}")
+        if rng.random() < 0.4:
+            changed_one = changed(machine_of(output([TOOL, "text", self.other])), rng)
+            self.put("other.aag", changed_one.text())
+            output([TOOL, "binary", str(self.folder / "other.aag"), self.other])
+        self.machines = [machine_of(output([TOOL, "text", file])) for file in [self.file, self.other]]
+
+    def fail(self, why):
+        sys.exit(f"{self.name}: {why}")
+
+    def differ(self, witness):
+        """Whether outputs or bad literals of both machines differ in the last step of a witness of their miter."""
+        _, _, start, *steps, _ = witness.splitlines()
+        bits, ends = iter(start), []
+        for machine in self.machines:
+            state = [next(bits) == "1" for _ in machine.latches]
+            if tuple(state) not in machine.starts():
+                return False
+            for row in steps:
+                values = machine.values(state, [bit == "1" for bit in row])
+                state = machine.following(values)
+            ends.append([values[literal] for literal in [*machine.outputs, *machine.bads]])
+        return ends[0] != ends[1]
+
+    def compare(self):
+        """Compares what aigprove says with what ABC says."""
+        told, witness = re.search("are (NOT )?equiv", self.abc(f"dsec {self.file} {self.other}"), re.IGNORECASE), self.folder / "witness"
+        for words in [["--witness", str(witness)], ["--engine", "registers"]]:
+            status, printed, said = harness.run([PROVE, *words, "--timeout", SECONDS, "--equal", self.other, self.file])
+            if status not in (0, 10, 20) or told and status == (20 if told[1] else 10):
+                self.fail(f"ABC says {told and told[0]}, and aigprove: {status} {printed} {said}")
+            if status == 10 and not self.differ(witness.read_text()):
+                self.fail("nothing differs at the end of the witness")
+            self.counts[f"designs {['open', 'different', 'equal'][status // 10]}" + " by registers" * ("--engine" in words)] += 1
+        return self.counts
+
+
 class Invariant(Files):
     """A machine that is never bad, and an invariant of ABC's that shows it."""
 
@@ -202,11 +253,11 @@ class Invariant(Files):
 
 def main():
     pairs, seed = numbers(300, 1)
-    tried = [Pair] * pairs + [Invariant] * (pairs // 3)
+    tried = [Pair] * pairs + [Invariant] * (pairs // 3) + [Form] * (pairs // 2)
     with harness.new_folder() as folder, concurrent.futures.ThreadPoolExecutor(2) as pool:
         compare = lambda i: tried[i](random.Random(f"{seed}-{i}"), folder / str(i)).compare()
         counts = sum(pool.map(compare, range(len(tried))), collections.Counter())
-    print(f"seed {seed}: {pairs} pairs and {pairs // 3} invariants agree ({told(counts)})")
+    print(f"seed {seed}: {pairs} pairs, {pairs // 3} invariants and {pairs // 2} designs agree ({told(counts)})")
 
 
 if __name__ == "__main__":

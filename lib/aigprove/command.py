@@ -283,12 +283,12 @@ def parse(line):
         made.error("--write-certificate is about an answer of our own, and not with --certificate and --run")
     words.deadline = math.inf if words.timeout is None else time.monotonic() + words.timeout
     given = words.certificate or words.run
-    words.engines = words.engine or ([] if given else [*ENGINES, *[REGISTERS] * bool(words.equal)])
+    words.engines = words.engine or ([] if given else [*[REGISTERS] * bool(words.equal), *ENGINES])
     words.certificate, words.run = (path and sealed(path, words.limit) for path in [words.certificate, words.run])
     words.believed = [believed(name, vars(words)[name]) for name in BELIEVED]
-    own, words.solver = not words.solver, words.solver or cadical()
+    words.is_cadical, words.solver = not words.solver, words.solver or cadical()
     # A proof with hints is checked in far less time than one of steps in turn, which has none.
-    words.takes_turns = own and HINTED not in words.solver
+    words.takes_turns = words.is_cadical and HINTED not in words.solver
     words.solver[:1] = map(engine, words.solver[:1])
     words.abc = words.abc and engine(words.abc)
     return words

@@ -11,6 +11,10 @@ SAID = 4096
 HINTED, ASSUMING = "--lrat=1", "--plain"
 
 
+class Undecided(Fault):
+    """A solver ended without an answer."""
+
+
 class Question(collections.namedtuple("Question", "command k form", defaults=[()])):
     """Clauses that ask whether a bad state is reached at step k (`query`), at a step up to k (`bounded`), or by a window of k + 2 steps
     from any state (`window`)."""
@@ -73,13 +77,17 @@ class Solver:
             with folder.make("clauses.cnf") as out:
                 if not self.judge.print_question(question, file, out):
                     return False, self.judge.nothing
-            try:
-                status = folder.run(self.programs, [*self.told(question, folder), folder.place("proof")])
-            finally:
-                pass_on(folder)
-            if status not in (10, 20):
-                raise Fault(f"{os.path.basename(self.words[0])} {ending(status)}")
-            return status == 10, folder.taken("out", "answer") if status == 10 else folder.taken("proof", "proof")
+            return self.answer(folder, self.told(question, folder))
+
+    def answer(self, folder, words):
+        """Whether what these words ask in a folder has a solution, as it says, and the solution or the proof."""
+        try:
+            status = folder.run(self.programs, [*words, folder.place("proof")])
+        finally:
+            pass_on(folder)
+        if status not in (10, 20):
+            raise (Fault if status else Undecided)(f"{os.path.basename(self.words[0])} {ending(status)}")
+        return status == 10, folder.taken("out", "answer") if status == 10 else folder.taken("proof", "proof")
 
     def told(self, question, folder):
         """The words that call it for a question whose clauses are in a folder."""

@@ -1,57 +1,21 @@
-"""Registers that correspond: an engine for two files, which guesses by names and by random runs which latches of their miter are always
-equal, or each other's inverse, and has a certificate checked that says so. Nothing here is believed."""
-import collections
+"""Registers that correspond: an engine for two files, which guesses by names and by random runs which latches, and other nodes, of their
+miter are always equal, or each other's inverse, and has a certificate checked that says so. Nothing here is believed."""
+import copy
 import random
 
+from aigprove.classes import Classes, Different
 from aigprove.engines import Asking, Certificate, Missing
-from aigprove.plain import Gates, literals_of
-from aigprove.programs import Sealed
-from aigprove.questions import Question
+from aigprove.nodes import Nodes
+from aigprove.plain import Gates
+from aigprove.programs import Fault, Sealed, say
+from aigprove.questions import Undecided
 from aigprove.source import OTHER, Pair
+from aigprove.turns import Turns
 
-# How many runs are simulated at once, for how many steps; and how many inputs are tried of a state that a solver finds.
-RUNS, STEPS, TRIED = 256, 24, 64
-
-
-class Machine:
-    """What a circuit does in many runs at once, each of which is a bit of an integer."""
-
-    def __init__(self, circuit, runs, rng):
-        self.circuit, self.every, self.rng = circuit, (1 << runs) - 1, rng
-
-    def drawn(self):
-        return self.rng.getrandbits(self.every.bit_length())
-
-    def step(self, state):
-        """The next state, by drawn inputs, and the runs in which the constraints hold."""
-        circuit = self.circuit
-        return self.stepped(state, [self.drawn() for _ in circuit.inputs])
-
-    def stepped(self, state, inputs):
-        circuit, every = self.circuit, self.every
-        known = {0: 0, 1: every}
-        for literal, value in [*zip(circuit.inputs, inputs), *zip(circuit.latches, state)]:
-            known[literal], known[literal ^ 1] = value, value ^ every
-        for gate, left, right in circuit.gates:
-            known[gate] = value = known[left] & known[right]
-            known[gate ^ 1] = value ^ every
-        allowed = every
-        for literal in circuit.constraints:
-            allowed &= known[literal]
-        return [known[literal] for literal in circuit.nexts], allowed
-
-
-def signatures(circuit, rng):
-    """What each latch has in the steps of random runs that meet the constraints, with its first value as 0; None where that is open."""
-    machine = Machine(circuit, RUNS, rng)
-    state = [machine.every * reset if reset < 2 else machine.drawn() for reset in circuit.resets]
-    allowed, found = machine.every, [0] * len(state)
-    for _ in range(STEPS):
-        state, now = machine.step(state)
-        allowed &= now
-        sides = (value ^ machine.every if reset == 1 else value for value, reset in zip(state, circuit.resets))
-        found = [last << RUNS | side & allowed for last, side in zip(found, sides)]
-    return [None if reset > 1 else it for it, reset in zip(found, circuit.resets)]
+# How many seconds of cadical's are few: so many, and one for so many gates.
+LEAST, QUICK = 1, 3000
+# For how many steps nodes are looked at ahead of those that there are.
+AHEAD = (0, 2)
 
 
 def partners(circuit, count):
@@ -62,128 +26,205 @@ def partners(circuit, count):
     return {i: named.get(i) or (i + count if is_alike else None) for i in range(count)}
 
 
-def classes(circuit, count, rng):
-    """Classes of latches that may be equal: partners, and all others that were equal in random runs; -1 stands for a latch that stays."""
-    found, owned = signatures(circuit, rng), partners(circuit, count)
-    made, left = [], collections.defaultdict(list)
-    taken = set()
-    for i, other in owned.items():
-        if other is not None and found[i] is not None and found[i] == found[other]:
-            made.append([i, other])
-            taken.add(other)
-            taken.add(i)
-    left[0].append(-1)
-    for i, signature in enumerate(found):
-        if i not in taken and signature is not None:
-            left[signature].append(i)
-    return made + [own for own in left.values() if len(own) > 1]
+def paired(classes, other):
+    """Classes of which pairs of partners, by their literals, are apart from all else."""
+    made = copy.copy(classes)
+    made.rows = []
+    for own in classes.rows:
+        sides = {it & ~1: it for it in own}
+        pairs = [[it, sides[other[it & ~1]]] for it in own if other.get(it & ~1) in sides]
+        taken = {it for pair in pairs for it in pair}
+        left = [it for it in own if it not in taken]
+        made.rows += pairs + [left] * (len(left) > 1)
+    return made
 
 
-class Guess:
-    """A miter, and classes of its latches that may be equal."""
+class States:
+    """Classes of latches that a step keeps, and of nodes that are equal wherever these are."""
 
-    def __init__(self, circuit, made):
-        self.circuit, self.classes = circuit, made
+    def __init__(self, classes, solver):
+        self.classes, self.nodes, self.solver, self.is_hard = classes, classes.nodes, solver, False
 
-    def leaves(self, first, literals):
-        """The literals that stand for inputs and latches, in the order of `literals`; those of a class stand for its first one."""
-        leaves = dict(zip(self.circuit.inputs, range(first, first + 2 * len(self.circuit.inputs), 2)))
-        leaves.update(zip(self.circuit.latches, literals))
-        return leaves
+    def pairs(self):
+        """All pairs of latches, and if it is hard those of nodes, by which a step was seen to keep them and nothing bad to be there."""
+        found = None
+        while found is None:
+            self.classes.settle()
+            try:
+                found = self.kept()
+            except Undecided:
+                if self.is_hard:
+                    raise
+                self.is_hard = True
+        return found
 
-    def sides(self, literals):
-        """The literals of latches, each inverted where its first value is 1."""
-        return [literal ^ (reset == 1) for literal, reset in zip(literals, self.circuit.resets)]
+    def kept(self):
+        """These pairs; None where classes were split."""
+        classes, size, states, proved = self.classes, self.classes.size(), self.classes.pairs(), 0
+        nodes, known = self.nodes.merged(classes.merged(self.nodes.leaves(), 1))
+        inner, seconds = self.inner(nodes), None if self.is_hard else LEAST + len(nodes.gates.rows) // QUICK
+        nexts = [(nodes.next(left), nodes.next(right)) for left, right in states] + [(bad, 0) for bad in nodes.bads]
+        while classes.size() == size:
+            pairs, facts = inner.pairs(), [(literal, 1) for literal in nodes.constraints]
+            found = self.solver.differing(nodes.gates, facts + pairs[:proved], pairs[proved:] + nexts, seconds)
+            if found is None:
+                return states + of_nodes(pairs, known)
+            proved += min(found[0], len(pairs) - proved)
+            self.divide(inner, found[1])
+        return None
 
-    def pairs(self, literals):
-        """The literals that have to be equal, where latches have these: of each class the first and every other one."""
-        sides = [*self.sides(literals), 0]
-        return [(sides[own[0]], sides[i]) for own in self.classes for i in own[1:]]
-
-    def question(self):
-        """A file without latches that is bad where all latches of a class are equal, and the next ones aren't, or something differs."""
-        circuit, count = self.circuit, len(self.circuit.inputs) + len(self.circuit.latches)
-        own = list(range(2 * (len(circuit.inputs) + 1), 2 * (count + 1), 2))
-        for one in self.classes:
-            first = one[0]
-            for i in one[1:]:
-                own[i] = (0 if first < 0 else own[first] ^ (circuit.resets[first] == 1)) ^ (circuit.resets[i] == 1)
-        gates = Gates(2 * (count + 1))
-        literal = literals_of(circuit, gates, self.leaves(2, own))
-        unequal = [differing(gates, *pair) for pair in self.pairs([literal(it) for it in circuit.nexts])]
-        bad = gates.all([gates.any([*map(literal, circuit.bads), *unequal]), *map(literal, circuit.constraints)])
-        return bad, written(gates, count, [], bad)
-
-    def certificate(self):
-        """The text of a certificate that says that latches of a class are equal."""
-        inputs, latches = len(self.circuit.inputs), len(self.circuit.latches)
-        own = range(2 * (inputs + 1), 2 * (inputs + latches + 1), 2)
-        gates = Gates(own.stop)
-        bad = gates.any([differing(gates, *pair) for pair in self.pairs(own)])
-        states = [f"{latch} {latch} {reset if reset < 2 else latch}" for latch, reset in zip(own, self.circuit.resets)]
-        return written(gates, inputs, states, bad)
-
-    def refined(self, row, rng):
-        """The classes without what isn't equal behind a state and inputs that a solver found, and behind further inputs."""
-        circuit, count = self.circuit, len(self.circuit.inputs)
-        machine = Machine(circuit, TRIED, rng)
-        full = lambda bit: machine.every * (bit == "1")
-        state = [full(bit) for bit in row[count:]]
-        for one in self.classes:
-            for i in one[1:]:
-                first = 0 if one[0] < 0 else state[one[0]] ^ machine.every * (circuit.resets[one[0]] == 1)
-                state[i] = first ^ machine.every * (circuit.resets[i] == 1)
-        inputs = [machine.drawn() & ~1 | (bit == "1") for bit in row[:count]]
-        after, allowed = machine.stepped(state, inputs)
-        sides = [(value ^ machine.every * (reset == 1)) & allowed for value, reset in zip(after, circuit.resets)] + [0]
-        made = []
-        for one in self.classes:
-            parts = collections.defaultdict(list)
-            for i in one:
-                parts[sides[i]].append(i)
-            made += [part for part in parts.values() if len(part) > 1]
+    def inner(self, nodes):
+        """Classes of nodes that are equal where members of classes are, as random values have it, if it is hard; else there are none."""
+        made = Classes(nodes, self.classes.rng, self.classes.every)
+        if self.is_hard:
+            made.gather(nodes.all(), made.drawn(nodes.leaves()))
+            made.excite()
         return made
 
+    def divide(self, inner, true):
+        """Splits what a solution, and others beside it, show to be different."""
+        classes, nodes = self.classes, inner.nodes
+        size, latches = classes.size() + inner.size(), classes.size()
+        known = nodes.values(inner.beside([literal >> 1 in true for literal in nodes.leaves()]), inner.every)
+        runs, state = inner.check(known, inner.every), nodes.following(known)
+        inner.split(known, runs)
+        classes.step(state, runs)
+        if classes.size() < latches:
+            classes.follow([*classes.drawn(nodes.inputs), *state], runs)
+        if classes.size() + inner.size() == size:
+            raise Fault("the solver's solution is none")
 
-def differing(gates, left, right):
-    """The literal of an exclusive or."""
-    return gates.both(gates.both(left, right ^ 1) ^ 1, gates.both(left ^ 1, right) ^ 1) ^ 1
+
+def of_nodes(pairs, known):
+    """Pairs of literals as those of the first nodes that have them."""
+    own = {value: literal for literal, value in reversed(list(enumerate(known)))}
+    return [(own[left], own[right]) for left, right in pairs]
 
 
-def written(gates, inputs, states, bad):
-    """The text of a file with so many inputs, these latches and gates, and one bad state property."""
-    header = f"aag {inputs + len(states) + len(gates.rows)} {inputs} {len(states)} 0 {len(gates.rows)} 1"
-    lines = [header, *range(2, 2 * inputs + 2, 2), *states, bad, *(" ".join(map(str, row)) for row in gates.rows)]
+class Steps:
+    """Classes of nodes that first states have and a step keeps."""
+
+    def __init__(self, classes, solver):
+        self.classes, self.nodes, self.solver = classes, classes.nodes, solver
+
+    def pairs(self):
+        size = None
+        while size != self.classes.size():
+            size = self.classes.size()
+            self.keep_first()
+            self.keep_next()
+        return self.classes.pairs()
+
+    def keep_first(self):
+        """Splits classes until first states have them."""
+        nodes, classes = self.nodes, self.classes
+        state = [reset if reset < 2 else latch for reset, latch in zip(nodes.resets, nodes.latches)]
+        gates = Gates(nodes.latches.stop)
+        known = nodes.values([*nodes.inputs, *state], 1, gates.both)
+        facts = [(known[it], 1) for it in nodes.constraints]
+        while found := self.solver.differing(gates, facts, [(known[left], known[right]) for left, right in classes.pairs()]):
+            values = classes.beside([literal >> 1 in found[1] for literal in nodes.leaves()])
+            fixed = zip(nodes.resets, values[len(nodes.inputs):])
+            state = [classes.every * reset if reset < 2 else value for reset, value in fixed]
+            self.follow([*values[:len(nodes.inputs)], *state], classes.every)
+
+    def keep_next(self):
+        """Splits classes until a step was seen to keep each of them, some perhaps in states in which others were equal that were split then."""
+        nodes, classes, proved, latches = self.nodes, self.classes, [], None
+        while True:
+            pairs, before = classes.pairs(), set(proved)
+            if latches != (latches := classes.merged(nodes.leaves(), 1)):
+                gates, now, then = self.frames(latches)
+            proved, asked = [it for it in pairs if it in before], [it for it in pairs if it not in before]
+            facts = [(known[it], 1) for it in nodes.constraints for known in (now, then)]
+            facts += [(now[left], now[right]) for left, right in pairs] + [(then[left], then[right]) for left, right in proved]
+            found = self.solver.differing(gates, facts, [(then[left], then[right]) for left, right in asked])
+            if found is None:
+                return
+            proved += asked[: found[0]]
+            self.divide(found[1])
+
+    def frames(self, latches):
+        """Gates, and the literals of nodes in a step and in the next one."""
+        nodes = self.nodes
+        further = range(nodes.latches.stop, nodes.latches.stop + 2 * len(nodes.inputs), 2)
+        gates = Gates(further.stop)
+        now = nodes.values(latches, 1, gates.both)
+        return gates, now, nodes.values([*further, *nodes.following(now)], 1, gates.both)
+
+    def divide(self, true):
+        """Splits what a solution, and others beside it, show to be different in the next step."""
+        nodes, classes = self.nodes, self.classes
+        count = len(nodes.inputs)
+        values = classes.beside([number in true for number in range(1, len(nodes.leaves()) + count + 1)])
+        known = nodes.values(classes.merged(values[: len(nodes.leaves())], classes.every), classes.every)
+        runs = nodes.allowed(known, classes.every)
+        for left, right in classes.pairs():
+            runs &= ~(known[left] ^ known[right])
+        self.follow([*values[len(nodes.leaves()):], *nodes.following(known)], runs)
+
+    def follow(self, leaves, runs):
+        """Splits classes by runs from a step on, which has to split one."""
+        size = self.classes.size()
+        self.classes.follow(leaves, runs)
+        if self.classes.size() == size:
+            raise Fault("the solver's solution is none")
+
+
+def certificate(nodes, pairs):
+    """The text of a certificate whose bad states are those in which a pair differs; of what stands on others first, as they are asked about
+    the last first."""
+    gates = Gates(nodes.latches.stop)
+    known = nodes.values(nodes.leaves(), 1, gates.both)
+    ways = [gates.both(*way) for left, right in pairs for way in [(known[left], known[right] ^ 1), (known[left] ^ 1, known[right])]]
+    bads = [bad for bad in reversed(ways) if bad] or [0]
+    states = [f"{latch} {latch} {reset if reset < 2 else latch}" for latch, reset in zip(nodes.latches, nodes.resets)]
+    count = len(nodes.leaves()) + len(gates.rows)
+    header = f"aag {count} {len(nodes.inputs)} {len(states)} 0 {len(gates.rows)} {len(bads)}"
+    lines = [header, *nodes.inputs, *states, *bads, *(" ".join(map(str, row)) for row in gates.rows)]
     return "".join(f"{line}\n" for line in lines).encode()
 
 
 class Registers(Asking):
-    """Guesses classes of equal latches, and has those divided that a step divides, until none does."""
+    """Guesses classes of nodes that are always equal, first of latches alone, and has those split that a step splits, until none does."""
 
     def __init__(self, race):
         super().__init__(race)
         if not isinstance(race.source, Pair):
             raise Missing("it compares two files, as --equal does")
+        self.solver = Turns(race.words, self.solver.programs, self.judge, race.above)
 
     def run(self):
         self.race.progress("registers")
-        circuit, rng = self.race.circuit, random.Random(0)
-        guess = Guess(circuit, classes(circuit, self.source.first.header().latches, rng))
-        while (found := self.divided(guess, rng)) is not None:
-            if len(found) == len(guess.classes) and sum(map(len, found)) == sum(map(len, guess.classes)):
-                # Something differs where all are equal.
-                return
-            guess.classes = found
-        Certificate(self.race, Sealed(guess.certificate())).run()
+        try:
+            for nodes, guess in self.guesses():
+                if (pairs := self.kept(guess)) is not None:
+                    made = Certificate(self.race, Sealed(certificate(nodes, pairs)))
+                    made.solver = self.solver
+                    made.run()
+                    return
+        except Different:
+            pass
+        if self.race.words.verbose:
+            say("registers: something differs where all are equal that may be")
 
-    def divided(self, guess, rng):
-        """The classes that a step leaves, if one divides a class or comes to a difference; else None."""
-        bad, text = guess.question()
-        if bad == 0:
+    def guesses(self):
+        """What may be equal: registers and their partners, others, and other nodes, also in steps ahead."""
+        circuit = self.race.circuit
+        nodes, rng = Nodes(circuit), random.Random(0)
+        latches = Classes(nodes, rng).begin([0, *nodes.latches])
+        given = partners(circuit, self.source.first.header().latches)
+        other = {nodes.latches[i]: nodes.latches[it] for i, it in given.items() if it is not None}
+        yield nodes, States(paired(latches, other), self.solver)
+        yield nodes, States(latches, self.solver)
+        for steps in AHEAD:
+            nodes = Nodes(circuit)
+            for _ in range(steps):
+                nodes.look_ahead()
+            yield nodes, Steps(Classes(nodes, rng).begin(nodes.all()), self.solver)
+
+    def kept(self, guess):
+        try:
+            return guess.pairs()
+        except Different:
             return None
-        file, question = Sealed(text), Question("query", 0)
-        has_solution, given = self.solver.ask(question, file)
-        if not has_solution:
-            return None
-        _, _, _, row, *_ = self.judge.witness(file, question, given).decode().split("\n")
-        return guess.refined(row, rng)

@@ -1,0 +1,90 @@
+"""The nodes of a circuit in order, and what they are in many runs at once, each of which is a bit of an integer. Nothing here is believed."""
+import copy
+import operator
+
+from aigprove.plain import Gates, literals_of
+
+
+class Nodes:
+    """A circuit whose literals are those of 0, its inputs, its latches and its gates, in this order, each gate once."""
+
+    def __init__(self, circuit):
+        self.inputs = range(2, 2 * len(circuit.inputs) + 2, 2)
+        self.latches = range(self.inputs.stop, self.inputs.stop + 2 * len(circuit.latches), 2)
+        self.gates, self.resets = Gates(self.latches.stop), circuit.resets
+        leaves = dict(zip([*circuit.inputs, *circuit.latches], [*self.inputs, *self.latches]))
+        literal = literals_of(circuit, self.gates, leaves)
+        lists = [circuit.nexts, circuit.bads, circuit.constraints]
+        self.nexts, self.bads, self.constraints = (list(map(literal, literals)) for literals in lists)
+
+    def all(self):
+        """The literals of all nodes."""
+        return range(0, self.gates.next, 2)
+
+    def leaves(self):
+        return [*self.inputs, *self.latches]
+
+    def values(self, leaves, every, both=operator.and_):
+        """The values of all literals, by those of inputs and latches, in the runs of `every`; where this is 1 they may be literals."""
+        known = sides(leaves, every)
+        for _, left, right in self.gates.rows:
+            value = both(known[left], known[right])
+            known += value, value ^ every
+        return known
+
+    def next(self, literal):
+        """The literal of what a latch, or 0, is in the next step."""
+        return literal if literal < 2 else self.nexts[(literal - self.latches.start) // 2] ^ literal & 1
+
+    def following(self, known):
+        """The next values of the latches."""
+        return [known[literal] for literal in self.nexts]
+
+    def allowed(self, known, runs):
+        """Those of some runs in which the constraints hold."""
+        for literal in self.constraints:
+            runs &= known[literal]
+        return runs
+
+    def merged(self, leaves):
+        """The same where inputs and latches are these literals of them, and the literals that all of its own have there."""
+        made = copy.copy(self)
+        made.gates = Gates(self.latches.stop)
+        known = self.values(leaves, 1, made.gates.both)
+        lists = [self.nexts, self.bads, self.constraints]
+        made.nexts, made.bads, made.constraints = ([known[literal] for literal in literals] for literals in lists)
+        return made, known
+
+    def reached(self, literals, rng):
+        """Inputs and latches, inverted where they are to be 0, that may make literals true."""
+        first, values, left, choices = self.latches.stop, {}, list(literals), []
+        while left or choices:
+            if not left:
+                # One of two that aren't to be true together.
+                below = choices.pop()
+                if all(values.get(it >> 1) != it ^ 1 for it in below):
+                    left.append(rng.choice([it for it in below if it >> 1 not in values] or below) ^ 1)
+            elif (it := left.pop()) >> 1 not in values:
+                values[it >> 1] = it
+                below = self.gates.rows[(it - first) >> 1][1:] if it >= first else []
+                if it & 1 and below:
+                    choices.append(below)
+                else:
+                    left += below
+        return [it for it in values.values() if 1 < it < first]
+
+    def look_ahead(self):
+        """Adds what nodes are in the next step, where they read no inputs of that step."""
+        known = dict(zip([0, *self.latches], [0, *self.nexts]))
+        value = lambda literal: known[literal & ~1] ^ literal & 1
+        for gate, left, right in list(self.gates.rows):
+            if left & ~1 in known and right & ~1 in known:
+                known[gate] = self.gates.both(value(left), value(right))
+
+
+def sides(values, every):
+    """0 and 1, and values and their inverses, one after the other."""
+    known = [0, every]
+    for value in values:
+        known += value, value ^ every
+    return known
