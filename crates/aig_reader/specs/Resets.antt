@@ -1,4 +1,4 @@
--- Serves private clauses alone.
+-- Part of what is promised.
 -- Files whose resets may be functions, and their circuits. (Certificates of the hardware model
 -- checking competition; AIGER 1.9, "Reset logic", has 0, 1 and the latch's own literal alone.)
 use Rattle.std.specs.Prelude.{◌≡◌, ℕ, ◌/◌, ◌==◌, Bool, if◌then◌else◌, IfSome, IsTrue, List, map, Option, Some, None, unwrap_or}
