@@ -23,6 +23,7 @@ use Rattle.aig_witness.specs.declared.fair.fault.LassoFault.{LassoFault}
 use Rattle.aig_witness.specs.declared.fair.fault.LassoFault.TheVariants as lassos
 use Rattle.aig_reader.specs.declared.error.ReadError.{ReadError}
 use Rattle.aig_reader.specs.declared.error.ReadError.TheVariants as read
+use Rattle.aig_reader.specs.declared.error.Section.TheVariants as section
 use Rattle.aig_refutation.specs.declared.error.RefutationError.{RefutationError}
 use Rattle.aig_refutation.specs.declared.error.RefutationError.TheVariants as refutation
 use Rattle.aig_answers.specs.declared.safety.error.SafetyError.{SafetyError}
@@ -207,10 +208,16 @@ about_condition condition (conditions.Question asking.Memory) = nothing
 about_condition condition (conditions.Refutation e) =
     about_refutation (subjects.Nth (turn_of condition)) e
 
+-- a witness circuit; a place is that where a file is refused, which stops at a reset that is a
+-- function
+abbrev pub about_witness_circuit : ReadError → About
+about_witness_circuit (read.Literal section.Latches) = whole subjects.Other
+about_witness_circuit e = about_read subjects.Other e
+
 -- FILE, its witness circuit, or one of the proofs
 abbrev pub about_simulation : SimulationError → About
 about_simulation (simulation.Read e) = about_read subjects.File e
-about_simulation (simulation.Witness e) = about_read subjects.Other e
+about_simulation (simulation.Witness e) = about_witness_circuit e
 about_simulation simulation.NoBads = whole subjects.File
 about_simulation (simulation.Sharing e) = about_sharing e
 about_simulation simulation.Circular = whole subjects.Other

@@ -13,7 +13,7 @@ use aig_bounded::BoundedError;
 use aig_command_line::Measure;
 use aig_edits::{EditError, PairError};
 use aig_encode::EncodeError;
-use aig_reader::ReadError;
+use aig_reader::{ReadError, Section};
 use aig_refutation::RefutationError;
 use aig_simulated::{Condition, ConditionError, SimulationError};
 use aig_simulation::{QuestionError, SharingError};
@@ -340,13 +340,24 @@ fn about_condition(condition: Condition, error: ConditionError) -> About
     }
 }
 
+/// What an error of reading a witness circuit is about. The place is that where a file is refused, which stops at a reset that is a
+/// function.
+fn about_witness_circuit(error: ReadError) -> About
+    ensures { result ≡ specs.about_witness_circuit error }
+{
+    match error {
+        ReadError::Literal(Section::Latches) => whole(Subject::Other),
+        _ => about_read(Subject::Other, error),
+    }
+}
+
 /// What an error of a file and a witness circuit is about.
 fn about_simulation(error: SimulationError) -> About
     ensures { result ≡ specs.about_simulation error }
 {
     match error {
         SimulationError::Read(error) => about_read(Subject::File, error),
-        SimulationError::Witness(error) => about_read(Subject::Other, error),
+        SimulationError::Witness(error) => about_witness_circuit(error),
         SimulationError::NoBads => whole(Subject::File),
         SimulationError::Sharing(error) => about_sharing(error),
         SimulationError::Circular => whole(Subject::Other),
