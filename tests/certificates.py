@@ -24,7 +24,7 @@ import sys
 import harness
 import simulations
 from aiger import machine_of
-from claims import CONDITIONS, MANGLES, Search, Witness, leaves_of, other_names
+from claims import CONDITIONS, MANGLES, Search, Witness, has_functions, leaves_of, other_names
 from designs import REWRITTEN, rewritten
 from harness import EDIT, PROVE, TOOL, numbers, output, rows
 from machines import NAMES, named, random_machine
@@ -217,8 +217,10 @@ class Written(Claims):
         return witness
 
     def mangle(self, witness):
-        """Has a mangled certificate be refused by what it breaks, or taken."""
-        other = self.rng.choice([it for it in MANGLES if it is not other_names])(self.rng, Witness(witness, {}))
+        """Has a mangled certificate, whose resets aren't functions, be refused by what it breaks, or taken."""
+        mangles = [it for it in MANGLES if it is not other_names]
+        while has_functions((other := self.rng.choice(mangles)(self.rng, Witness(witness, {}))).machine):
+            pass
         pair, broken = self.pair(other), self.broken(other.machine)
         self.compare(pair, broken, self.rng.choice([[], ["raw"]]))
         said = self.compare_proved(pair, broken)

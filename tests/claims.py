@@ -365,6 +365,11 @@ def other_reset(rng, witness):
     return with_other(rng, witness, 2, lambda row: sorted({0, 1, row[0], rng.choice(made), rng.choice(made) ^ 1} - {row[2]}))
 
 
+def has_functions(machine):
+    """Whether some reset is a function. aigprove reads no such file."""
+    return any(row[0] != row[2] > 1 for row in machine.latches if len(row) > 2)
+
+
 def going_round(rng, witness, own):
     """Resets of some of these latches go round in a circle."""
     leaves = rng.sample(own, rng.randint(1, min(3, len(own))))
