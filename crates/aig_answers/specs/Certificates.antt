@@ -13,7 +13,9 @@ use Rattle.aig_edits.specs.Joints as joints
 use Rattle.aig_edits.specs.Joints.{IsJointOf, IsRefusalOf}
 use Rattle.aig_edits.specs.declared.pairing.Pairing.TheVariants.{Certificate, Miter}
 use Rattle.aig_format.specs.File.{File}
-use Rattle.aig_join.specs.Files.{AreEqualMachinesAt, HasLinesOf, HaveSameFileCounts}
+use Rattle.aig_join.specs.Alike.{AreEqualMachinesFrom}
+use Rattle.aig_join.specs.Files.{HasLinesOf, HaveSameFileCounts}
+use Rattle.aig_join.specs.declared.starts.Starts.{Starts}
 use Rattle.aig_reader.specs.Verdicts.{Accepted, NoBads, Short, TooLarge, TooMany, Verdict, verdict_by}
 use Rattle.aig_runs.specs.Queries.{IsSafeTo}
 use Rattle.aig_unroll.specs.Places.{unrolled_size}
@@ -109,16 +111,18 @@ Certifies limit optimize base step f g (Err (errors.Window e)) =
     (m : Circuit) × IsJointOf Certificate f g m × TellsOfQuery limit 0 optimize base m (Ok tt)
     × TellsOfTwo limit optimize step m (Err e)
 
--- the machines are equal at step k, or it is said why that isn't shown by the proof of this text
-abbrev pub Equals : ℕ → ℕ → Bool → Option (List ℕ) → File → File → Result Unit CertificateError
-    → Type 0
-Equals limit k optimize proof f g (Ok done) =
-    (HaveSameFileCounts f g × AreEqualMachinesAt f g k)
-    × ((m : Circuit) × IsJointOf Miter f g m × TellsOfQuery limit k optimize proof m (Ok tt))
-Equals limit k optimize proof f g (Err (errors.Pair e)) = IsRefusalOf Miter f g e
-Equals limit k optimize proof f g (Err (errors.Query e)) =
-    (m : Circuit) × IsJointOf Miter f g m × TellsOfQuery limit k optimize proof m (Err e)
-Equals limit k optimize proof f g (Err (errors.Window e)) = ⊥
+-- the machines, whose registers start so, are equal at step k, or it is said why that isn't shown
+-- by the proof of this text
+abbrev pub Equals : Starts → ℕ → ℕ → Bool → Option (List ℕ) → File → File
+    → Result Unit CertificateError → Type 0
+Equals starts limit k optimize proof f g (Ok done) =
+    (HaveSameFileCounts f g × AreEqualMachinesFrom starts f g k)
+    × ((m : Circuit) × IsJointOf (Miter starts) f g m
+    × TellsOfQuery limit k optimize proof m (Ok tt))
+Equals starts limit k optimize proof f g (Err (errors.Pair e)) = IsRefusalOf (Miter starts) f g e
+Equals starts limit k optimize proof f g (Err (errors.Query e)) =
+    (m : Circuit) × IsJointOf (Miter starts) f g m × TellsOfQuery limit k optimize proof m (Err e)
+Equals starts limit k optimize proof f g (Err (errors.Window e)) = ⊥
 
 -- ---- clauses
 

@@ -10,6 +10,7 @@ use Rattle.aig_circuit.specs.Circuit.{Circuit}
 use Rattle.aig_tool_commands.specs.Running.{IsTextOf}
 use Rattle.aig_edits.specs.Joints.{IsJointOf}
 use Rattle.aig_edits.specs.declared.pairing.Pairing.TheVariants.{Miter}
+use Rattle.aig_join.specs.declared.starts.Starts.TheVariants.{Apart}
 use Rattle.aig_encode.specs.Encoding.{IsQuery}
 use Rattle.aig_encode.specs.declared.query_clauses.Query.{Query}
 use Rattle.aig_format.specs.Circuit.{text_of}
@@ -46,7 +47,7 @@ AreObligationsOf optimize file certificate text =
 abbrev pub IsMiterTextOf : List ℕ → List ℕ → List ℕ → Type 0
 IsMiterTextOf file other text =
     (f : File) × (g : File) × Accepts file (2 ^ 24) f × Accepts other (2 ^ 24) g
-    × ((m : Circuit) × IsJointOf Miter f g m × (text ≡ text_of m))
+    × ((m : Circuit) × IsJointOf (Miter Apart) f g m × (text ≡ text_of m))
 
 -- that of `aigtool query FILE K`
 abbrev pub IsQueryTextOf : ℕ → Bool → List ℕ → List ℕ → Type 0

@@ -1,26 +1,22 @@
-//! Small callers of the library, as a crate above it writes them: their proofs cite public clauses and laws alone. A law that joins
-//! `aigedit` to `aigtool` and `aigcheck`. Tests of the library's calls on circuits, and of these callers.
+//! A law that joins `aigedit` to `aigtool` and `aigcheck`. And, read for tests alone, so that each is proved once: small callers of the
+//! library, as a crate above it writes them, whose proofs cite public clauses and laws alone; and tests of the library's calls on
+//! circuits, and of these callers.
 #![tactic(auto)]
 
+#[cfg(test)]
 mod callers;
+#[cfg(test)]
 mod instances;
 mod laws;
+#[cfg(test)]
 mod printing;
+#[cfg(test)]
 mod sample;
+#[cfg(test)]
 mod shown;
+#[cfg(test)]
 mod taking;
 #[cfg(test)]
 mod tests;
 
-pub use callers::{
-    clauses, exclusive_or, hashed, literal, reached, renumbered, second_value, with_step,
-};
-pub use instances::{printed_of_compress, printed_of_refuted};
 pub use laws::joint_files_ask_the_same;
-pub use printing::printed;
-pub use sample::{SampleError, show_all};
-pub use shown::is_shown_safe;
-pub use taking::{
-    MiterError, taken_as_equal, taken_at_step, taken_of_certificate, taken_of_window,
-    taken_up_to_step,
-};

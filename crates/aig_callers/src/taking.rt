@@ -17,7 +17,7 @@ use aig_check_commands::{
     CheckError, print_bounded, print_clauses, print_obligations, print_window,
 };
 use aig_command_line::FlushedWriter;
-use aig_edits::{PairError, Pairing, print_joint};
+use aig_edits::{PairError, Pairing, Starts, print_joint};
 use aig_format::reads_exactly;
 use aig_join::miters_are_one;
 use aig_refutation::{
@@ -187,7 +187,14 @@ fn miter_text(alloc: Global, file: &[u8], other: &[u8]) -> Result<Vec<u8>, PairE
 {
     let mut out = FlushedWriter::new(Vec::new(alloc));
     let (file, other) = (&mut source_of(file), &mut source_of(other));
-    print_joint(alloc, Pairing::Miter, file, other, LIMIT, &mut out)?;
+    print_joint(
+        alloc,
+        Pairing::Miter(Starts::Apart),
+        file,
+        other,
+        LIMIT,
+        &mut out,
+    )?;
     Ok(out.into_inner())
 }
 
@@ -258,6 +265,7 @@ pub fn taken_as_equal(
         alloc,
         file,
         other,
+        Starts::Apart,
         LIMIT,
         k,
         optimize,

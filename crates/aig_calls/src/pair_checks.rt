@@ -2,6 +2,7 @@
 
 ghost use Rattle.std.specs.Prelude.{◌<◌, ◌^◌, None, Some};
 ghost use Rattle.aig_check_commands.specs.declared.command.PairCommand.TheVariants as commands;
+ghost use Rattle.aig_join.specs.declared.starts.Starts.TheVariants.{Apart};
 ghost use Rattle.aig_simulated.specs.Simulated.{proofs_of};
 ghost use Rattle.aig_calls.specs.Calls.{Checks, ChecksAt, RunsOnMiter, RunsOnPair, RunsOnWitness, form_of};
 ghost use Rattle.aig_calls.specs.Memory.{Unseen};
@@ -15,6 +16,7 @@ use aig_check_commands::{
     CheckError, print_always_equal, print_certified, print_equal, print_equal_by, print_simulated,
 };
 use aig_command_line::Discarded;
+use aig_edits::Starts;
 use aig_tool_commands::LIMIT;
 use std::alloc::Global;
 
@@ -55,7 +57,7 @@ fn equate(
     optimize: bool,
     proof: &[u8],
 ) -> Result<(), CheckError>
-    ensures { Unseen (RunsOnPair LIMIT (commands.Equal k optimize) file.now other.now (Some
+    ensures { Unseen (RunsOnPair LIMIT (commands.Equal Apart k optimize) file.now other.now (Some
         proof.now) None result) }
 {
     let mut first = FromRead::new(file);
@@ -64,6 +66,7 @@ fn equate(
     print_equal(
         alloc,
         LIMIT,
+        Starts::Apart,
         k,
         optimize,
         &mut first,
@@ -86,8 +89,8 @@ fn equate_always(
     step: &[u8],
 ) -> Result<(), CheckError>
     requires { k < 2 ^ 32 }
-    ensures { Unseen (RunsOnPair LIMIT (commands.AlwaysEqual k form base_optimize step_optimize)
-        file.now other.now (Some base.now) (Some step.now) result) }
+    ensures { Unseen (RunsOnPair LIMIT (commands.AlwaysEqual Apart k form base_optimize
+        step_optimize) file.now other.now (Some base.now) (Some step.now) result) }
 {
     let mut first = FromRead::new(file);
     let mut second = FromRead::new(other);
@@ -96,6 +99,7 @@ fn equate_always(
     print_always_equal(
         alloc,
         LIMIT,
+        Starts::Apart,
         k,
         form,
         base_optimize,
@@ -129,6 +133,7 @@ fn equate_by(
     print_equal_by(
         alloc,
         LIMIT,
+        Starts::Apart,
         optimize,
         &mut first,
         &mut second,
@@ -227,8 +232,8 @@ pub extern "C" fn aig_check_equal(
     optimize: bool,
     proof: &[u8],
 ) -> u32
-    ensures { ChecksAt k check_status (λ done. Unseen (RunsOnPair LIMIT (commands.Equal k optimize)
-        file.now other.now (Some proof.now) None done)) result }
+    ensures { ChecksAt k check_status (λ done. Unseen (RunsOnPair LIMIT (commands.Equal Apart k
+        optimize) file.now other.now (Some proof.now) None done)) result }
 {
     match step_of(k) {
         Ok(k) => status_of(equate(alloc, file, other, k, optimize, proof)),
@@ -250,8 +255,8 @@ pub extern "C" fn aig_check_always_equal(
     step_optimize: bool,
     step: &[u8],
 ) -> u32
-    ensures { ChecksAt k check_status (λ done. Unseen (RunsOnPair LIMIT (commands.AlwaysEqual k
-        (form_of distinct) base_optimize step_optimize) file.now other.now (Some base.now) (Some
+    ensures { ChecksAt k check_status (λ done. Unseen (RunsOnPair LIMIT (commands.AlwaysEqual Apart
+        k (form_of distinct) base_optimize step_optimize) file.now other.now (Some base.now) (Some
         step.now) done)) result }
 {
     match step_of(k) {

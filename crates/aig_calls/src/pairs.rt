@@ -3,13 +3,14 @@
 ghost use Rattle.std.specs.Prelude.{None};
 ghost use Rattle.aig_check_commands.specs.declared.command.PairCommand.TheVariants as commands;
 ghost use Rattle.aig_edits.specs.declared.pairing.Pairing.TheVariants.{Certificate, Merge, Miter};
+ghost use Rattle.aig_join.specs.declared.starts.Starts.TheVariants.{Apart};
 ghost use Rattle.aig_calls.specs.Calls.{GivesResult, MakesJoint, Prints, RunsOnPair, items_in};
 ghost use Rattle.aig_calls.specs.Statuses.{check_status, pair_status};
 
 use crate::buffer::put;
 use aig_base::{FromRead, ToWrite};
 use aig_check_commands::{CheckError, print_obligations};
-use aig_edits::{PairError, Pairing, print_joint};
+use aig_edits::{PairError, Pairing, Starts, print_joint};
 use aig_tool_commands::LIMIT;
 use std::alloc::Global;
 
@@ -54,11 +55,17 @@ pub extern "C" fn aig_miter(
     out: &mut [u8],
     needed: &mut usize,
 ) -> u32
-    ensures { GivesResult pair_status (Prints (MakesJoint LIMIT Miter file.now other.now)) result
-        out.old
-        out.new needed.old needed.new }
+    ensures { GivesResult pair_status (Prints (MakesJoint LIMIT (Miter Apart) file.now other.now))
+        result out.old out.new needed.old needed.new }
 {
-    print_pair(alloc, Pairing::Miter, file, other, out, needed)
+    print_pair(
+        alloc,
+        Pairing::Miter(Starts::Apart),
+        file,
+        other,
+        out,
+        needed,
+    )
 }
 
 /// The text form of a file's circuit beside its certificate.

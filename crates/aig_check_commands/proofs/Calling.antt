@@ -13,6 +13,8 @@ use Rattle.aig_command_line.specs.declared.arguments.Given.{Given}
 use Rattle.aig_command_line.specs.Limits.{IsLimited}
 use Rattle.aig_command_line.proofs.Apart as apart
 use Rattle.aig_command_line.proofs.Limits.{asked_alone, one_limit}
+use Rattle.aig_join.specs.declared.starts.Matching.TheVariants.{ByName, ByOrder}
+use Rattle.aig_join.specs.declared.starts.Starts.TheVariants.{Alike, Apart}
 use Rattle.aig_check_commands.specs.declared.command.Action.{Action}
 use Rattle.aig_check_commands.specs.declared.command.Action.TheVariants as actions
 use Rattle.aig_check_commands.specs.declared.command.Asked.{Asked}
@@ -38,6 +40,24 @@ place_in name form a (x ∷ xs) =
 -- each command is in the list
 pub among : (a : Action) → Contains ALL a
 among actions.Clauses = (place_in name_of form_of actions.Clauses ALL, omega arith, refl)
+among (actions.Equal Apart) =
+    (place_in name_of form_of (actions.Equal Apart) ALL, omega arith, refl)
+among (actions.Equal (Alike ByOrder)) =
+    (place_in name_of form_of (actions.Equal (Alike ByOrder)) ALL, omega arith, refl)
+among (actions.Equal (Alike ByName)) =
+    (place_in name_of form_of (actions.Equal (Alike ByName)) ALL, omega arith, refl)
+among (actions.AlwaysEqual Apart) =
+    (place_in name_of form_of (actions.AlwaysEqual Apart) ALL, omega arith, refl)
+among (actions.AlwaysEqual (Alike ByOrder)) =
+    (place_in name_of form_of (actions.AlwaysEqual (Alike ByOrder)) ALL, omega arith, refl)
+among (actions.AlwaysEqual (Alike ByName)) =
+    (place_in name_of form_of (actions.AlwaysEqual (Alike ByName)) ALL, omega arith, refl)
+among (actions.EqualBy Apart) =
+    (place_in name_of form_of (actions.EqualBy Apart) ALL, omega arith, refl)
+among (actions.EqualBy (Alike ByOrder)) =
+    (place_in name_of form_of (actions.EqualBy (Alike ByOrder)) ALL, omega arith, refl)
+among (actions.EqualBy (Alike ByName)) =
+    (place_in name_of form_of (actions.EqualBy (Alike ByName)) ALL, omega arith, refl)
 among a = (place_in name_of form_of a ALL, omega arith, refl)
 
 -- what holds of each in the list holds of each

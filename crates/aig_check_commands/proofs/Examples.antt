@@ -1,12 +1,16 @@
 -- The comments of a small query, computed; and wrong words and lines, of which the definitions are
 -- false.
 use Rattle.aig_base.proofs.Words.{◌≡◌, ◌≢◌, ◌⊎◌, ℕ, Bool, true, false, None, Option, List, [], ◌∷◌, ◌++◌, length, refl, ap, subst, sym, arith, length-append, ◌∙◌, inl, inr, Some}
-use Rattle.std.specs.Prelude.{IsTrue, codes, not, slice_get, slice_index, slice_index_or}
+use Rattle.std.specs.Prelude.{◌^◌, IsTrue, codes, decimal, not, slice_get, slice_index, slice_index_or}
 use Rattle.std.specs.Fmt.{digits}
 use Rattle.aig_base.specs.Clauses.{lit_to}
 use Rattle.aig_circuit.specs.declared.node.AigNodeType.TheVariants.{False, Leaf}
 use Rattle.aig_circuit.proofs.Words.{Circuit, only_false, edge_to, no_properties}
 use Rattle.aig_format.specs.File.{File}
+use Rattle.aig_format.specs.Text.{IsNumber}
+use Rattle.aig_join.specs.declared.starts.Matching.TheVariants.{ByName}
+use Rattle.aig_join.specs.declared.starts.Starts.{Starts}
+use Rattle.aig_join.specs.declared.starts.Starts.TheVariants.{Alike, Apart}
 use Rattle.aig_reader.specs.Verdicts.{Accepted, Judges}
 use Rattle.aig_refutation.specs.declared.error.RefutationError.{RefutationError}
 use Rattle.aig_answers.specs.declared.error.AnswerError.{AnswerError}
@@ -28,7 +32,7 @@ use Rattle.aig_check_commands.specs.declared.command.Action.{Action}
 use Rattle.aig_check_commands.specs.declared.command.Action.TheVariants as actions
 use Rattle.aig_check_commands.specs.declared.command.Command.TheVariants as asked
 use Rattle.aig_check_commands.specs.declared.command.PairCommand.TheVariants as on_pair
-use Rattle.aig_check_commands.specs.Pairs.{IsObligationsText, PairAnswers, RefusesPair, safe_line}
+use Rattle.aig_check_commands.specs.Pairs.{IsObligationsText, PairAnswers, RefusesPair, equal_line, safe_line, starts_text}
 use Rattle.aig_answers.specs.declared.certificates.error.CertificateError.TheVariants as certificate
 use Rattle.aig_check_commands.specs.declared.command.FileCommand.TheVariants as commands
 use Rattle.aig_check_commands.specs.Comments.{comments_of, input_lines, literal_line}
@@ -60,7 +64,7 @@ whole_of words c d x is (inr other) = absurd (none other.1)
   where
     never : (step : Bool) (c : Command) → ¬ (raw_alone step c ≡ Some (asked.File d))
     never step (asked.Safe k form o p) is = cc
-    never step (asked.Pair (on_pair.AlwaysEqual k form o p)) is = cc
+    never step (asked.Pair (on_pair.AlwaysEqual starts k form o p)) is = cc
     never step c is = cc
 
     no_file : (a : WitnessAction) (given : Arguments) (further : List (List ℕ))
@@ -138,6 +142,66 @@ no_other_name file steps proof k optimize a give =
     let first = ap (λ a. slice_index (name_of a) 0) is in
     omega (arith, letter, first)
 
+-- words with the name of a comparison
+abbrev alike_words : List (List ℕ)
+alike_words = codes "equal-alike-by-name" ∷ codes "a" ∷ codes "b" ∷ codes "3" ∷ codes "p" ∷ []
+
+number_3 : IsNumber 3 (codes "3")
+number_3 = record {
+  some = λ none. cc;
+  each = ((omega arith, omega arith), tt);
+  value = refl;
+  small = omega arith;
+}
+
+-- they begin with no word of a setting
+no_setting : (word : List ℕ) (more : List (List ℕ)) → slice_index word 0 ≡ 45
+    → ¬ (alike_words ≡ word ∷ more)
+no_setting word more dash is =
+    let letter = ap (λ (words : List (List ℕ)). slice_index (slice_index_or words 0 []) 0) is in
+    omega (arith, letter, dash)
+
+-- files are compared with registers that are alike by name
+alike_by_name : Give alike_words (of_property None (asked.Pair (on_pair.Equal (Alike ByName) 3 true)))
+alike_by_name = (
+  2 ^ 24,
+  codes "a" ∷ codes "b" ∷ [],
+  codes "p" ∷ [],
+  record {
+    rest = alike_words;
+    limited = inr (record {
+      other = λ more. no_setting (codes "--limit") more refl;
+      all = refl;
+      usual = refl;
+    });
+    more = alike_words;
+    asked = (λ more. no_setting (codes "--justice") more refl, refl);
+    arguments = record {
+      paths = codes "a" ∷ codes "b" ∷ [];
+      step = 3;
+      further = codes "p" ∷ [];
+      distinct = false;
+      optimize = true;
+    };
+    gives = inl (record {
+      action = actions.Equal (Alike ByName);
+      gives = record {
+        steps = codes "3" ∷ [];
+        spelled = refl;
+        paths = refl;
+        step = (codes "3", refl, number_3);
+        further = refl;
+        distinct = λ is. is;
+        raw = λ is. refl;
+      };
+      command = refl;
+    });
+    allowed = refl;
+    on = refl;
+    beside = refl;
+  },
+)
+
 -- ---- comments
 
 -- Latch 1 keeps what it has, and is bad where it is false. With one step more input 2 is node 3.
@@ -201,11 +265,22 @@ no_one_step_told optimize given bytes f answers =
     let word : 97 ≡ 117 = ap (λ text. slice_index text 13) answers.0 in omega (arith, word)
 
 -- equal machines are told as a safe one
-no_safety_told : (k limit : ℕ) (optimize : Bool) (base step bytes others : Option (List ℕ))
-    (f g : File)
-    → ¬ PairAnswers (on_pair.Equal k optimize) limit base step bytes others f g safe_line
-no_safety_told k limit optimize base step bytes others f g answers =
+no_safety_told : (starts : Starts) (k limit : ℕ) (optimize : Bool)
+    (base step bytes others : Option (List ℕ)) (f g : File)
+    → ¬ PairAnswers (on_pair.Equal starts k optimize) limit base step bytes others f g safe_line
+no_safety_told starts k limit optimize base step bytes others f g answers =
     let letter : 110 ≡ 101 = ap (λ text. slice_index text 0) answers.0 in omega (arith, letter)
+
+-- machines whose registers start alike are told as those are whose registers start apart
+no_apart_told : (k limit : ℕ) (optimize : Bool) (base step bytes others : Option (List ℕ))
+    (f g : File)
+    → ¬ PairAnswers (on_pair.Equal (Alike ByName) k optimize) limit base step bytes others f g
+    (equal_line Apart k)
+no_apart_told k limit optimize base step bytes others f g answers =
+    let count = ap length answers.0 in
+    let parts = length-append (decimal k) (10 ∷ []) in
+    let more = length-append (decimal k) (starts_text (Alike ByName) ++ 10 ∷ []) in
+    omega (arith, count, parts, more)
 
 -- the clauses of BASE under the name of those of STEP
 no_step_first : (optimize : Bool) (bytes others : Option (List ℕ)) (f g : File)
@@ -225,10 +300,10 @@ no_bare_clauses optimize bytes others f g rest is =
 -- ---- errors
 
 -- one proof is refused as the second of two
-no_second_proof : (k limit : ℕ) (optimize : Bool) (base step : Option (List ℕ)) (f g : File) (e :
-    AnswerError)
-    → ¬ RefusesPair (on_pair.Equal k optimize) limit base step f g (certificate.Window e)
-no_second_proof k limit optimize base step f g e refuses = refuses
+no_second_proof : (starts : Starts) (k limit : ℕ) (optimize : Bool) (base step : Option (List ℕ))
+    (f g : File) (e : AnswerError)
+    → ¬ RefusesPair (on_pair.Equal starts k optimize) limit base step f g (certificate.Window e)
+no_second_proof starts k limit optimize base step f g e refuses = refuses
 
 -- clauses are refused as a proof would be
 no_proof_of_clauses : (k : ℕ) (optimize : Bool) (e : RefutationError)

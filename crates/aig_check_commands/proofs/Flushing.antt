@@ -264,8 +264,8 @@ module _ {W : Type 0} (held : W → Option (List ℕ)) (write_failed : W → Boo
         become = ran.become;
         runs = printed ran.runs;
       }
-  ran_ended left failed left_of failed_of (commands.EqualBy optimize) r rest (s ∷ c ∷ p ∷ q ∷ [])
-      (other ∷ tried ∷ used ∷ spent ∷ []) ran =
+  ran_ended left failed left_of failed_of (commands.EqualBy starts optimize) r rest
+      (s ∷ c ∷ p ∷ q ∷ []) (other ∷ tried ∷ used ∷ spent ∷ []) ran =
       printed ran
   ran_ended left failed left_of failed_of (commands.Simulated optimize) r rest
       (s ∷ a ∷ b ∷ c ∷ d ∷ e ∷ [])

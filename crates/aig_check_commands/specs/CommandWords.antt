@@ -8,6 +8,9 @@ use Rattle.aig_command_line.specs.declared.arguments.Step.{Step}
 use Rattle.aig_command_line.specs.declared.arguments.Step.TheVariants.{Absent, At, UpTo, By, Each}
 use Rattle.aig_command_line.specs.Arguments.{Arguments, GivesArguments}
 use Rattle.aig_command_line.specs.Limits.{IsLimited}
+use Rattle.aig_join.specs.declared.starts.Matching.TheVariants.{ByName, ByOrder}
+use Rattle.aig_join.specs.declared.starts.Starts.{Starts}
+use Rattle.aig_join.specs.declared.starts.Starts.TheVariants.{Alike, Apart}
 use Rattle.aig_check_commands.specs.declared.command.Action.{Action}
 use Rattle.aig_check_commands.specs.declared.command.Action.TheVariants as actions
 use Rattle.aig_check_commands.specs.declared.command.WitnessAction.{WitnessAction}
@@ -32,6 +35,12 @@ abbrev pub on_certificate : ℕ → ArgumentForm
 on_certificate further =
     record { paths = 2; step = Absent; further = further; distinct = false; raw = true }
 
+-- the word that names a comparison of machines whose registers with open start begin so
+abbrev pub equal_name : Starts → List ℕ
+equal_name Apart = codes "equal"
+equal_name (Alike ByOrder) = codes "equal-alike-by-order"
+equal_name (Alike ByName) = codes "equal-alike-by-name"
+
 -- The word that names a command, and what comes after it: the paths are FILE, and CERT or OTHER;
 -- the further ones are PROOF, SOLUTION or WITNESS, or BASE and STEP, behind CERT where that comes
 -- after OTHER; or P0 to PK and STEP.
@@ -44,14 +53,14 @@ row_of actions.Witness = (codes "witness", on_step 1 At 1 false)
 row_of actions.Run =
     (codes "run", record { paths = 1; step = Absent; further = 1; distinct = false; raw = false })
 row_of actions.Certified = (codes "certified", on_certificate 2)
-row_of actions.Equal = (codes "equal", on_step 2 At 1 false)
+row_of (actions.Equal starts) = (equal_name starts, on_step 2 At 1 false)
 row_of actions.Obligations = (codes "obligations", on_certificate 0)
 row_of actions.Bounded = (codes "bounded", on_step 1 At 0 false)
 row_of actions.RefutedTo = (codes "refuted", on_step 1 UpTo 1 false)
 row_of actions.WitnessTo = (codes "witness", on_step 1 UpTo 1 false)
 row_of actions.Safe = (codes "safe", on_step 1 UpTo 2 true)
-row_of actions.AlwaysEqual = (codes "equal", on_step 2 UpTo 2 true)
-row_of actions.EqualBy = (codes "equal", on_step 2 By 3 false)
+row_of (actions.AlwaysEqual starts) = (equal_name starts, on_step 2 UpTo 2 true)
+row_of (actions.EqualBy starts) = (equal_name starts, on_step 2 By 3 false)
 row_of actions.SafeBySteps = (codes "safe", on_step 1 Each 1 true)
 
 -- the word
@@ -78,16 +87,17 @@ command_of actions.Inductive k distinct optimize =
 command_of actions.Witness k distinct optimize = commands.File (on_file.Witness k optimize)
 command_of actions.Run k distinct optimize = commands.File on_file.Run
 command_of actions.Certified k distinct optimize = commands.Pair (on_pair.Certified optimize)
-command_of actions.Equal k distinct optimize = commands.Pair (on_pair.Equal k optimize)
+command_of (actions.Equal starts) k distinct optimize =
+    commands.Pair (on_pair.Equal starts k optimize)
 command_of actions.Obligations k distinct optimize = commands.Pair (on_pair.Obligations optimize)
 command_of actions.Bounded k distinct optimize = commands.File (on_file.Bounded k optimize)
 command_of actions.RefutedTo k distinct optimize = commands.File (on_file.RefutedTo k optimize)
 command_of actions.WitnessTo k distinct optimize = commands.File (on_file.WitnessTo k optimize)
 command_of actions.Safe k distinct optimize =
     commands.Safe k (window_of distinct) optimize optimize
-command_of actions.AlwaysEqual k distinct optimize =
-    commands.Pair (on_pair.AlwaysEqual k (window_of distinct) optimize optimize)
-command_of actions.EqualBy k distinct optimize = commands.EqualBy optimize
+command_of (actions.AlwaysEqual starts) k distinct optimize =
+    commands.Pair (on_pair.AlwaysEqual starts k (window_of distinct) optimize optimize)
+command_of (actions.EqualBy starts) k distinct optimize = commands.EqualBy starts optimize
 command_of actions.SafeBySteps k distinct optimize =
     commands.SafeBySteps k (window_of distinct) optimize optimize
 
@@ -101,8 +111,8 @@ raw_word false = codes "raw-step"
 abbrev pub raw_alone : Bool → Command → Option Command
 raw_alone step (commands.Safe k form base_optimize step_optimize) =
     Some (commands.Safe k form (not step) step)
-raw_alone step (commands.Pair (on_pair.AlwaysEqual k form base_optimize step_optimize)) =
-    Some (commands.Pair (on_pair.AlwaysEqual k form (not step) step))
+raw_alone step (commands.Pair (on_pair.AlwaysEqual starts k form base_optimize step_optimize)) =
+    Some (commands.Pair (on_pair.AlwaysEqual starts k form (not step) step))
 raw_alone step (commands.SafeBySteps k form base_optimize step_optimize) =
     Some (commands.SafeBySteps k form (not step) step)
 raw_alone step c = None
@@ -192,8 +202,8 @@ step_of (commands.File (on_file.Witness k optimize)) = k
 step_of (commands.File (on_file.Bounded k optimize)) = k
 step_of (commands.File (on_file.RefutedTo k optimize)) = k
 step_of (commands.File (on_file.WitnessTo k optimize)) = k
-step_of (commands.Pair (on_pair.Equal k optimize)) = k
-step_of (commands.Pair (on_pair.AlwaysEqual k form base_optimize step_optimize)) = k
+step_of (commands.Pair (on_pair.Equal starts k optimize)) = k
+step_of (commands.Pair (on_pair.AlwaysEqual starts k form base_optimize step_optimize)) = k
 step_of (commands.Safe k form base_optimize step_optimize) = k
 step_of (commands.SafeBySteps k form base_optimize step_optimize) = k
 step_of c = 0
@@ -204,7 +214,7 @@ paths_of (commands.File c) = 1
 paths_of (commands.Pair c) = 2
 paths_of (commands.Safe k form base_optimize step_optimize) = 1
 paths_of (commands.SafeBySteps k form base_optimize step_optimize) = 1
-paths_of (commands.EqualBy optimize) = 2
+paths_of (commands.EqualBy starts optimize) = 2
 paths_of (commands.Simulated optimize) = 2
 paths_of (commands.Obligation condition optimize) = 2
 
@@ -215,10 +225,10 @@ beside_of (commands.File (on_file.Window k form optimize)) = 0
 beside_of (commands.File (on_file.Bounded k optimize)) = 0
 beside_of (commands.Pair (on_pair.Certified optimize)) = 2
 beside_of (commands.Pair (on_pair.Obligations optimize)) = 0
-beside_of (commands.Pair (on_pair.AlwaysEqual k form base_optimize step_optimize)) = 2
+beside_of (commands.Pair (on_pair.AlwaysEqual starts k form base_optimize step_optimize)) = 2
 beside_of (commands.Safe k form base_optimize step_optimize) = 2
 beside_of (commands.SafeBySteps k form base_optimize step_optimize) = k + 2
-beside_of (commands.EqualBy optimize) = 3
+beside_of (commands.EqualBy starts optimize) = 3
 beside_of (commands.Simulated optimize) = 5
 beside_of (commands.Obligation condition optimize) = 0
 beside_of c = 1

@@ -25,9 +25,9 @@ leaves_out a c = is_none a
 
 -- `equal` compares files
 abbrev pub compares : Command → Bool
-compares (commands.Pair (on_pair.Equal k optimize)) = true
-compares (commands.Pair (on_pair.AlwaysEqual k form base_optimize step_optimize)) = true
-compares (commands.EqualBy optimize) = true
+compares (commands.Pair (on_pair.Equal starts k optimize)) = true
+compares (commands.Pair (on_pair.AlwaysEqual starts k form base_optimize step_optimize)) = true
+compares (commands.EqualBy starts optimize) = true
 compares c = false
 
 -- what is done with parts of its files that its answer is not about

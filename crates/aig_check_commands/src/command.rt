@@ -3,7 +3,7 @@
 ghost use Rattle.std.specs.Prelude.{◌≡◌, ◌↔◌, ◌<◌, ◌^◌, ◌⊎◌, ◌∷◌, Bool, IfNone, IfSome, List, Some, ℕ, length, map, string_bytes};
 ghost use Rattle.aig_command_line.specs.Arguments.{seen};
 ghost use Rattle.aig_check_commands.specs.Fits.{Fits};
-ghost use Rattle.aig_check_commands.specs.CommandWords.{AreCommand, FitNone, Give, IsAlone, IsCall, IsOnWitness, IsWhole, beside_of, command_of, form_of, name_of, on_certificate, on_step, paths_of, raw_alone, raw_word, step_of, window_of, witness_form, witness_name};
+ghost use Rattle.aig_check_commands.specs.CommandWords.{AreCommand, FitNone, Give, IsAlone, IsCall, IsOnWitness, IsWhole, beside_of, command_of, equal_name, form_of, name_of, on_certificate, on_step, paths_of, raw_alone, raw_word, step_of, window_of, witness_form, witness_name};
 ghost use Rattle.aig_check_commands.specs.declared.command.Asked.{Asked};
 ghost use Rattle.aig_check_commands.specs.declared.command.Command.{Command};
 ghost use Rattle.aig_simulation.specs.Names.{condition_name};
@@ -12,6 +12,7 @@ ghost use Rattle.aig_simulation.specs.declared.condition.Condition.{Condition};
 use crate::justice::{Justice, is_asked, is_word, justice_first};
 use aig_answers::Window;
 use aig_command_line::{ArgumentForm, Given, HasArguments, Step, find, limited};
+use aig_edits::{Matching, Starts};
 use aig_simulated::Condition;
 
 /// What the program is asked to do with a file.
@@ -113,6 +114,8 @@ pub enum PairCommand {
     },
     /// Check a proof that the files' machines are equal at step `k`.
     Equal {
+        /// How registers with open start begin.
+        starts: Starts,
         /// The step.
         k: usize,
         /// Whether exclusive ors and choices have clauses of their own.
@@ -120,6 +123,8 @@ pub enum PairCommand {
     },
     /// Check proofs that the files' machines are equal at every step.
     AlwaysEqual {
+        /// How registers with open start begin.
+        starts: Starts,
         /// How many steps come before the last two of a window.
         k: usize,
         /// Which windows are looked at.
@@ -162,6 +167,8 @@ pub enum Command {
     },
     /// Check that a certificate of the miter shows that the machines of FILE and OTHER are equal at every step.
     EqualBy {
+        /// How registers with open start begin.
+        starts: Starts,
         /// Whether exclusive ors and choices have clauses of their own.
         optimize: bool,
     },
@@ -198,7 +205,7 @@ pub const USAGE: &str =
     safe FILE to K BASE STEP [distinct] [raw | raw-base | raw-step], \
     safe FILE each K P0 .. PK STEP [distinct] [raw | raw-base | raw-step], \
     equal FILE OTHER to K BASE STEP [distinct] [raw | raw-base | raw-step], \
-    equal FILE OTHER by CERT BASE STEP [raw], \
+    equal FILE OTHER by CERT BASE STEP [raw], equal-alike-by-order and equal-alike-by-name as equal, \
     certified FILE WITNESS RESET TRANSITION PROPERTY BASE STEP [raw], obligations FILE WITNESS CONDITION [raw]";
 
 /// A command without K and its settings.
@@ -218,8 +225,8 @@ pub enum Action {
     Run,
     /// `certified FILE CERT BASE STEP [raw]`.
     Certified,
-    /// `equal FILE OTHER K PROOF [raw]`.
-    Equal,
+    /// `equal FILE OTHER K PROOF [raw]`; behind its name how registers with open start begin.
+    Equal(Starts),
     /// `obligations FILE CERT [raw]`.
     Obligations,
     /// `bounded FILE K [raw]`.
@@ -230,10 +237,10 @@ pub enum Action {
     WitnessTo,
     /// `safe FILE to K BASE STEP [distinct] [raw | raw-base | raw-step]`.
     Safe,
-    /// `equal FILE OTHER to K BASE STEP [distinct] [raw | raw-base | raw-step]`.
-    AlwaysEqual,
-    /// `equal FILE OTHER by CERT BASE STEP [raw]`.
-    EqualBy,
+    /// `equal FILE OTHER to K BASE STEP [distinct] [raw | raw-base | raw-step]`; behind its name how registers with open start begin.
+    AlwaysEqual(Starts),
+    /// `equal FILE OTHER by CERT BASE STEP [raw]`; behind its name how registers with open start begin.
+    EqualBy(Starts),
     /// `safe FILE each K P0 .. PK STEP [distinct] [raw | raw-base | raw-step]`.
     SafeBySteps,
 }
@@ -245,6 +252,17 @@ pub enum WitnessAction {
     Certified,
     /// `obligations FILE WITNESS CONDITION [raw]`.
     Obligations,
+}
+
+/// The word that names a comparison of machines whose registers with open start begin so.
+fn equal_name(starts: Starts) -> &'static str
+    ensures { result.now ≡ equal_name starts }
+{
+    match starts {
+        Starts::Apart => "equal",
+        Starts::Alike(Matching::ByOrder) => "equal-alike-by-order",
+        Starts::Alike(Matching::ByName) => "equal-alike-by-name",
+    }
 }
 
 /// The form of a command on so many files and a step.
@@ -330,7 +348,7 @@ fn window_of(distinct: bool) -> Window
 
 impl Action {
     /// Each of them.
-    const ALL: [Action; 16] = [
+    const ALL: [Action; 22] = [
         Action::Clauses,
         Action::Window,
         Action::Refuted,
@@ -338,14 +356,20 @@ impl Action {
         Action::Witness,
         Action::Run,
         Action::Certified,
-        Action::Equal,
+        Action::Equal(Starts::Apart),
+        Action::Equal(Starts::Alike(Matching::ByOrder)),
+        Action::Equal(Starts::Alike(Matching::ByName)),
         Action::Obligations,
         Action::Bounded,
         Action::RefutedTo,
         Action::WitnessTo,
         Action::Safe,
-        Action::AlwaysEqual,
-        Action::EqualBy,
+        Action::AlwaysEqual(Starts::Apart),
+        Action::AlwaysEqual(Starts::Alike(Matching::ByOrder)),
+        Action::AlwaysEqual(Starts::Alike(Matching::ByName)),
+        Action::EqualBy(Starts::Apart),
+        Action::EqualBy(Starts::Alike(Matching::ByOrder)),
+        Action::EqualBy(Starts::Alike(Matching::ByName)),
         Action::SafeBySteps,
     ];
 
@@ -371,14 +395,14 @@ impl Action {
                 },
             ),
             Action::Certified => ("certified", on_certificate(2)),
-            Action::Equal => ("equal", on_step(2, Step::At, 1, false)),
+            Action::Equal(starts) => (equal_name(starts), on_step(2, Step::At, 1, false)),
             Action::Obligations => ("obligations", on_certificate(0)),
             Action::Bounded => ("bounded", on_step(1, Step::At, 0, false)),
             Action::RefutedTo => ("refuted", on_step(1, Step::UpTo, 1, false)),
             Action::WitnessTo => ("witness", on_step(1, Step::UpTo, 1, false)),
             Action::Safe => ("safe", on_step(1, Step::UpTo, 2, true)),
-            Action::AlwaysEqual => ("equal", on_step(2, Step::UpTo, 2, true)),
-            Action::EqualBy => ("equal", on_step(2, Step::By, 3, false)),
+            Action::AlwaysEqual(starts) => (equal_name(starts), on_step(2, Step::UpTo, 2, true)),
+            Action::EqualBy(starts) => (equal_name(starts), on_step(2, Step::By, 3, false)),
             Action::SafeBySteps => ("safe", on_step(1, Step::Each, 1, true)),
         }
     }
@@ -396,7 +420,11 @@ impl Action {
             Action::Witness => Command::File(FileCommand::Witness { k, optimize }),
             Action::Run => Command::File(FileCommand::Run),
             Action::Certified => Command::Pair(PairCommand::Certified { optimize }),
-            Action::Equal => Command::Pair(PairCommand::Equal { k, optimize }),
+            Action::Equal(starts) => Command::Pair(PairCommand::Equal {
+                starts,
+                k,
+                optimize,
+            }),
             Action::Obligations => Command::Pair(PairCommand::Obligations { optimize }),
             Action::Bounded => Command::File(FileCommand::Bounded { k, optimize }),
             Action::RefutedTo => Command::File(FileCommand::RefutedTo { k, optimize }),
@@ -407,13 +435,14 @@ impl Action {
                 base_optimize: optimize,
                 step_optimize: optimize,
             },
-            Action::AlwaysEqual => Command::Pair(PairCommand::AlwaysEqual {
+            Action::AlwaysEqual(starts) => Command::Pair(PairCommand::AlwaysEqual {
+                starts,
                 k,
                 form,
                 base_optimize: optimize,
                 step_optimize: optimize,
             }),
-            Action::EqualBy => Command::EqualBy { optimize },
+            Action::EqualBy(starts) => Command::EqualBy { starts, optimize },
             Action::SafeBySteps => Command::SafeBySteps {
                 k,
                 form,
@@ -472,8 +501,16 @@ fn raw_alone(step_optimize: bool, command: Command) -> Option<Command>
             base_optimize,
             step_optimize,
         }),
-        Command::Pair(PairCommand::AlwaysEqual { k, form, .. }) => {
+        Command::Pair(
+            PairCommand::AlwaysEqual {
+                starts,
+                k,
+                form,
+                ..
+            },
+        ) => {
             Some(Command::Pair(PairCommand::AlwaysEqual {
+                starts,
                 k,
                 form,
                 base_optimize,
@@ -634,7 +671,8 @@ pub fn call_of(words: &[String]) -> Option<Call<'_>>
 /// `distinct` and `raw` may come last, where the command may have them, and in place of `raw` the word `raw-base` or `raw-step` of `safe` and
 /// of `equal` with `to`: the clauses of BASE alone, or those of all of P0 to PK, are then raw, or those of STEP alone. With a witness circuit
 /// in the place of CERT the words after it are five proofs of `certified`, one for each condition, and the name of a condition of
-/// `obligations`. It takes no memory.
+/// `obligations`. In place of `equal` the word `equal-alike-by-order` or `equal-alike-by-name` says how registers with open start begin. It
+/// takes no memory.
 pub fn parse(words: &[String]) -> Option<Asked>
     ensures exact { (c : Asked) → (result ≡ Some c) ↔ Give (map string_bytes words.now) c }
     ensures small { IfSome result (λ c. step_of c.command < 2 ^ 32) }

@@ -5,18 +5,21 @@ ghost use Rattle.aig_command_line.specs.Limits.{IsLimit};
 ghost use Rattle.aig_check_commands.specs.Pairs.{RunsPair};
 
 use crate::command::PairCommand;
+use crate::equal_lines::write_always;
 use crate::error::CheckError;
 use crate::printing::after_writing;
 use aig_answers::{Window, check_always_equal};
 use aig_base::{Sink, Source};
-use aig_command_line::write_text;
+use aig_edits::Starts;
 use std::alloc::Global;
 
-/// Checks proofs that two files' machines are equal at every step, and prints so: `base`, that the clauses of `print_bounded` of their
-/// miter can't be satisfied, and `step`, that those of `print_window` can't. Requires that `k` is below 2^32.
+/// Checks proofs that two files' machines, whose registers with open start begin as is said, are equal at every step, and prints so:
+/// `base`, that the clauses of `print_bounded` of their miter can't be satisfied, and `step`, that those of `print_window` can't.
+/// Requires that `k` is below 2^32.
 pub fn print_always_equal<R: Source, S: Source, P: Source, Q: Source, W: Sink>(
     alloc: Global,
     limit: usize,
+    starts: Starts,
     k: usize,
     form: Window,
     base_optimize: bool,
@@ -29,7 +32,7 @@ pub fn print_always_equal<R: Source, S: Source, P: Source, Q: Source, W: Sink>(
 ) -> Result<(), CheckError>
     requires limit { IsLimit limit }
     requires small { k < 2 ^ 32 }
-    ensures { let command = PairCommand.AlwaysEqual k form base_optimize step_optimize in
+    ensures { let command = PairCommand.AlwaysEqual starts k form base_optimize step_optimize in
         RunsPair R.left R.failed S.left S.failed P.left P.failed Q.left Q.failed W.held W.failed
         command limit file.old other.old base.old step.old w.old result
         file.new other.new base.new step.new w.new }
@@ -38,6 +41,7 @@ pub fn print_always_equal<R: Source, S: Source, P: Source, Q: Source, W: Sink>(
         alloc,
         file,
         other,
+        starts,
         limit,
         k,
         base_optimize,
@@ -46,5 +50,5 @@ pub fn print_always_equal<R: Source, S: Source, P: Source, Q: Source, W: Sink>(
         step_optimize,
         step,
     )?;
-    after_writing(write_text(w, b"equal at every step"))
+    after_writing(write_always(w, starts))
 }

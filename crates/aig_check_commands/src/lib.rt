@@ -7,6 +7,7 @@ mod bounded;
 mod command;
 mod comments;
 mod compared;
+mod equal_lines;
 mod equality;
 mod error;
 mod explaining;

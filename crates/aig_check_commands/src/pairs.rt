@@ -10,14 +10,16 @@ ghost use Rattle.aig_check_commands.specs.Printing.{WritesBase, WritesBehind, Wr
 ghost use Rattle.aig_check_commands.specs.Running.{nothing_fails, nothing_given};
 
 use crate::command::PairCommand;
+use crate::equal_lines::write_equal;
 use crate::error::CheckError;
-use crate::printing::{after_writing, tell_circuit, write_line};
+use crate::printing::{after_writing, tell_circuit};
 use crate::titles::{Question, Summed, Title, write_title};
 use aig_answers::{ClauseParts, Obligations, check_certified, check_equal, obligations_of};
 use aig_base::{Sink, Source, StreamFault};
 use aig_circuit::CircuitView;
 use aig_command_line::{Origin, write_text};
 use aig_dimacs::write_circuit;
+use aig_edits::Starts;
 use std::alloc::Global;
 use std::marker::Brand;
 
@@ -43,10 +45,11 @@ pub fn print_certified<R: Source, S: Source, P: Source, Q: Source, W: Sink>(
     after_writing(write_text(w, b"no bad state at any step"))
 }
 
-/// Checks a proof that two files' machines are equal at step `k`, and prints so.
+/// Checks a proof that two files' machines, whose registers with open start begin as is said, are equal at step `k`, and prints so.
 pub fn print_equal<R: Source, S: Source, P: Source, W: Sink>(
     alloc: Global,
     limit: usize,
+    starts: Starts,
     k: usize,
     optimize: bool,
     file: &mut R,
@@ -55,13 +58,13 @@ pub fn print_equal<R: Source, S: Source, P: Source, W: Sink>(
     w: &mut W,
 ) -> Result<(), CheckError>
     requires { IsLimit limit }
-    ensures { let command = PairCommand.Equal k optimize in
+    ensures { let command = PairCommand.Equal starts k optimize in
         RunsPair R.left R.failed S.left S.failed P.left P.failed nothing_given nothing_fails W.held
         W.failed command limit file.old other.old proof.old tt w.old result
         file.new other.new proof.new tt w.new }
 {
-    check_equal(alloc, file, other, limit, k, optimize, proof)?;
-    after_writing(write_line(w, b"equal at step ", k))
+    check_equal(alloc, file, other, starts, limit, k, optimize, proof)?;
+    after_writing(write_equal(w, starts, k))
 }
 
 /// Writes the clauses of a circuit and further ones, after a line that names them. No list of them is made.

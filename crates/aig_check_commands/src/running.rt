@@ -102,14 +102,17 @@ fn check_pair<R: Source, S: Source, W: Sink>(
     let (other, proofs) = first_of(inputs);
     let (base, proofs) = first_of(proofs);
     match command {
-        PairCommand::Equal { k, optimize } => {
-            print_equal(alloc, limit, k, optimize, file, other, base, w)
-        }
+        PairCommand::Equal {
+            starts,
+            k,
+            optimize,
+        } => { print_equal(alloc, limit, starts, k, optimize, file, other, base, w) }
         PairCommand::Certified { optimize } => {
             let (step, _) = first_of(proofs);
             print_certified(alloc, limit, optimize, file, other, base, step, w)
         }
         PairCommand::AlwaysEqual {
+            starts,
             k,
             form,
             base_optimize,
@@ -119,6 +122,7 @@ fn check_pair<R: Source, S: Source, W: Sink>(
             print_always_equal(
                 alloc,
                 limit,
+                starts,
                 k,
                 form,
                 base_optimize,
@@ -225,7 +229,7 @@ fn check<R: Source, S: Source, W: Sink>(
             inputs,
             w,
         ),
-        Command::EqualBy { optimize } => {
+        Command::EqualBy { starts, optimize } => {
             let (other, others) = first_of(inputs);
             let (certificate, others) = first_of(others);
             let (base, others) = first_of(others);
@@ -233,6 +237,7 @@ fn check<R: Source, S: Source, W: Sink>(
             print_equal_by(
                 alloc,
                 limit,
+                starts,
                 optimize,
                 file,
                 other,

@@ -15,6 +15,8 @@ use Rattle.aig_command_line.proofs.Apart as apart
 use Rattle.aig_format.specs.Text.{IsNumber, value_of}
 use Rattle.aig_command_line.proofs.Limits.{asked_alone, one_limit}
 use Rattle.aig_edit_commands.specs.declared.command.Action.{Action}
+use Rattle.aig_join.specs.declared.starts.Matching.TheVariants.{ByName, ByOrder}
+use Rattle.aig_join.specs.declared.starts.Starts.TheVariants.{Alike, Apart}
 use Rattle.aig_edit_commands.specs.declared.command.Action.TheVariants as actions
 use Rattle.aig_edit_commands.specs.declared.command.Command.{Command}
 use Rattle.aig_edit_commands.specs.declared.command.TheConstants.Action.{ALL}
@@ -25,6 +27,21 @@ use Rattle.aig_edit_commands.specs.CommandWords.{IsCall, IsCommandOf, form_of, n
 -- each command is in the list, at the place of the first that doesn't exclude it
 among : (a : Action) → Contains ALL a
 among actions.Refine = (0, omega arith, refl)
+among (actions.Miter Apart) = (
+  position_or_len (λ b. not (apart.exclude name_of form_of (actions.Miter Apart) b)) ALL,
+  lit< tt,
+  refl,
+)
+among (actions.Miter (Alike ByOrder)) = (
+  position_or_len (λ b. not (apart.exclude name_of form_of (actions.Miter (Alike ByOrder)) b)) ALL,
+  lit< tt,
+  refl,
+)
+among (actions.Miter (Alike ByName)) = (
+  position_or_len (λ b. not (apart.exclude name_of form_of (actions.Miter (Alike ByName)) b)) ALL,
+  lit< tt,
+  refl,
+)
 among a =
     (position_or_len (λ b. not (apart.exclude name_of form_of a b)) ALL, lit< tt, refl)
 

@@ -19,6 +19,7 @@ use Rattle.aig_edits.specs.declared.pair_error.PairError.{PairError}
 use Rattle.aig_edits.specs.declared.pair_error.PairError.TheVariants as pair
 use Rattle.aig_edits.specs.declared.pairing.Pairing.{Pairing}
 use Rattle.aig_edits.specs.declared.pairing.Pairing.TheVariants as pairings
+use Rattle.aig_join.specs.declared.starts.Starts.TheVariants.{Apart}
 use Rattle.aig_format.specs.Text.{IsNumber}
 use Rattle.aig_format.specs.declared.FileKind.TheVariants.{Text}
 use Rattle.aig_reader.specs.declared.error.ReadError.TheVariants as read
@@ -147,9 +148,9 @@ join_call = record {
 
 -- the miter of both, and the certificate before its file
 no_miter : (limit : ℕ) (paths : List (List ℕ))
-    → ¬ IsCall join_words limit (commands.Pair pairings.Miter) paths
+    → ¬ IsCall join_words limit (commands.Pair (pairings.Miter Apart)) paths
 no_miter limit paths call =
-    let same = one_call join_words limit (2 ^ 24) (commands.Pair pairings.Miter)
+    let same = one_call join_words limit (2 ^ 24) (commands.Pair (pairings.Miter Apart))
     (commands.Pair pairings.Certificate) paths (codes "file.aag" ∷ codes "cert.aag" ∷ []) call
     join_call in
     let other = same.1 in
@@ -258,7 +259,7 @@ second_seen = record {
 }
 
 -- a miter compares on runs of the second file; a joint file doesn't
-miter-lines : lines_of (codes "aigedit") two_paths (regard_of (commands.Pair pairings.Miter))
+miter-lines : lines_of (codes "aigedit") two_paths (regard_of (commands.Pair (pairings.Miter Apart)))
     second_seen
     ≡ codes "aigedit: cert.aag: justice and fairness were not looked at"
     ∷ codes "aigedit: cert.aag: compared only on runs that its constraints allow" ∷ []

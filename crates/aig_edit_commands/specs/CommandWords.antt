@@ -8,11 +8,20 @@ use Rattle.aig_command_line.specs.Limits.{IsLimited}
 use Rattle.aig_edits.specs.declared.editing.Edit.{Edit}
 use Rattle.aig_edits.specs.declared.editing.Edit.TheVariants as edits
 use Rattle.aig_edits.specs.declared.pairing.Pairing.TheVariants as pairings
+use Rattle.aig_join.specs.declared.starts.Matching.TheVariants.{ByName, ByOrder}
+use Rattle.aig_join.specs.declared.starts.Starts.{Starts}
+use Rattle.aig_join.specs.declared.starts.Starts.TheVariants.{Alike, Apart}
 use Rattle.aig_edit_commands.specs.declared.command.Action.{Action}
 use Rattle.aig_edit_commands.specs.declared.command.Action.TheVariants as actions
 use Rattle.aig_edit_commands.specs.declared.command.Command.{Command}
 use Rattle.aig_edit_commands.specs.declared.command.Command.TheVariants as commands
 use Rattle.aig_edit_commands.specs.declared.command.FileCommand.TheVariants as files
+
+-- the word that names a miter whose registers with open start begin so
+abbrev pub miter_name : Starts → List ℕ
+miter_name Apart = codes "miter"
+miter_name (Alike ByOrder) = codes "miter-alike-by-order"
+miter_name (Alike ByName) = codes "miter-alike-by-name"
 
 -- the word that names a command
 abbrev pub name_of : Action → List ℕ
@@ -30,7 +39,7 @@ name_of actions.Question = codes "question"
 name_of actions.Live = codes "live"
 name_of actions.Rounds = codes "rounds"
 name_of actions.Info = codes "info"
-name_of actions.Miter = codes "miter"
+name_of (actions.Miter starts) = miter_name starts
 name_of actions.Join = codes "join"
 name_of actions.Merge = codes "merge"
 
@@ -42,7 +51,7 @@ form_of actions.Cone = record (of_paths 1) { step = At }
 form_of actions.Question = record (of_paths 1) { step = At }
 form_of actions.Live = record (of_paths 1) { step = At }
 form_of actions.Rounds = record (of_paths 1) { step = At; further = 1 }
-form_of actions.Miter = of_paths 2
+form_of (actions.Miter starts) = of_paths 2
 form_of actions.Join = of_paths 2
 form_of actions.Merge = of_paths 2
 form_of a = of_paths 1
@@ -67,7 +76,7 @@ command_of actions.Question k = commands.File (files.Question k)
 command_of actions.Live k = commands.File (files.Live k)
 command_of actions.Rounds k = commands.File (files.Rounds k 0)
 command_of actions.Info k = commands.File files.Info
-command_of actions.Miter k = commands.Pair pairings.Miter
+command_of (actions.Miter starts) k = commands.Pair (pairings.Miter starts)
 command_of actions.Join k = commands.Pair pairings.Certificate
 command_of actions.Merge k = commands.Pair pairings.Merge
 

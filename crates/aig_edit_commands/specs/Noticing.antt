@@ -26,7 +26,7 @@ regard_of (commands.File (files.Edit (edits.Cone n))) = leaves_out
 regard_of (commands.File files.Reduction) = leaves_out
 regard_of (commands.File (files.Question k)) = leaves_out
 regard_of (commands.Pair pairings.Certificate) = leaves_out
-regard_of (commands.Pair pairings.Miter) = record { leaves_out = true; compares = true }
+regard_of (commands.Pair (pairings.Miter starts)) = record { leaves_out = true; compares = true }
 regard_of c = record { leaves_out = false; compares = false }
 
 -- where the program is done, each file's lines are told, and else nothing

@@ -4,17 +4,17 @@ ghost use Rattle.std.specs.Prelude.{◌≡◌, List, ℕ, IfNone, IfSome, length
 ghost use Rattle.aig_command_line.specs.Limits.{IsLimit};
 ghost use Rattle.aig_command_line.specs.Arguments.{AreStep};
 ghost use Rattle.aig_command_line.specs.declared.arguments.Step.TheVariants.{At};
-ghost use Rattle.aig_edit_commands.specs.CommandWords.{IsCall, IsCommandOf, command_of, edit_by, form_of, name_of, paths_of};
+ghost use Rattle.aig_edit_commands.specs.CommandWords.{IsCall, IsCommandOf, command_of, edit_by, form_of, miter_name, name_of, paths_of};
 ghost use Rattle.aig_edit_commands.specs.declared.command.Command.{Command};
 
 use aig_command_line::{ArgumentForm, HasArguments, Step, find, limited, steps};
-use aig_edits::{Edit, Pairing};
+use aig_edits::{Edit, Matching, Pairing, Starts};
 
 /// How the program is used.
 pub const USAGE: &str =
     "usage: aigedit [--limit N] refine FILE, reencode FILE, unroll FILE K, move FILE, compress FILE, bads FILE, \
     property FILE N, possible FILE, reduce FILE, cone FILE N, question FILE K, live FILE J, rounds FILE J N, info FILE, \
-    miter FILE OTHER, join FILE CERT, merge FILE OTHER";
+    miter FILE OTHER, miter-alike-by-order FILE OTHER, miter-alike-by-name FILE OTHER, join FILE CERT, merge FILE OTHER";
 
 /// What the program is asked to do with one file.
 #[derive(Drop)]
@@ -73,8 +73,8 @@ pub enum Action {
     Rounds,
     /// `info FILE`: print the counts of a file.
     Info,
-    /// `miter FILE OTHER`: print the miter of two files.
-    Miter,
+    /// `miter FILE OTHER`: print the miter of two files; behind its name how registers with open start begin.
+    Miter(Starts),
     /// `join FILE CERT`: print a file beside its certificate.
     Join,
     /// `merge FILE OTHER`: print two files side by side.
@@ -99,6 +99,17 @@ const COUNTED: ArgumentForm = ArgumentForm {
     raw: false,
 };
 
+/// The word that names a miter whose registers with open start begin so.
+fn miter_name(starts: Starts) -> &'static str
+    ensures { result.now ≡ miter_name starts }
+{
+    match starts {
+        Starts::Apart => "miter",
+        Starts::Alike(Matching::ByOrder) => "miter-alike-by-order",
+        Starts::Alike(Matching::ByName) => "miter-alike-by-name",
+    }
+}
+
 impl HasArguments for Action {
     ghost name = { name_of };
 
@@ -120,7 +131,7 @@ impl HasArguments for Action {
             Action::Live => "live",
             Action::Rounds => "rounds",
             Action::Info => "info",
-            Action::Miter => "miter",
+            Action::Miter(starts) => miter_name(*starts),
             Action::Join => "join",
             Action::Merge => "merge",
         }
@@ -131,7 +142,7 @@ impl HasArguments for Action {
             Action::Unroll | Action::Property | Action::Cone | Action::Question | Action::Live =>
                 NUMBERED,
             Action::Rounds => COUNTED,
-            Action::Miter | Action::Join | Action::Merge => ArgumentForm::of_paths(2),
+            Action::Miter(_) | Action::Join | Action::Merge => ArgumentForm::of_paths(2),
             _ => ArgumentForm::of_paths(1),
         }
     }
@@ -139,7 +150,7 @@ impl HasArguments for Action {
 
 impl Action {
     /// Each of them.
-    const ALL: [Action; 17] = [
+    const ALL: [Action; 19] = [
         Action::Refine,
         Action::Reencode,
         Action::Unroll,
@@ -154,7 +165,9 @@ impl Action {
         Action::Live,
         Action::Rounds,
         Action::Info,
-        Action::Miter,
+        Action::Miter(Starts::Apart),
+        Action::Miter(Starts::Alike(Matching::ByOrder)),
+        Action::Miter(Starts::Alike(Matching::ByName)),
         Action::Join,
         Action::Merge,
     ];
@@ -178,7 +191,7 @@ impl Action {
             Action::Live => Command::File(FileCommand::Live(k)),
             Action::Rounds => Command::File(FileCommand::Rounds(k, 0)),
             Action::Info => Command::File(FileCommand::Info),
-            Action::Miter => Command::Pair(Pairing::Miter),
+            Action::Miter(starts) => Command::Pair(Pairing::Miter(starts)),
             Action::Join => Command::Pair(Pairing::Certificate),
             Action::Merge => Command::Pair(Pairing::Merge),
         }

@@ -16,11 +16,11 @@ fn regard_of(command: &Command) -> Regard
     let leaves_out = match command {
         Command::File(FileCommand::Edit(Edit::Cone(_))) => true,
         Command::File(FileCommand::Reduction | FileCommand::Question(_)) => true,
-        Command::Pair(Pairing::Miter | Pairing::Certificate) => true,
+        Command::Pair(Pairing::Miter(_) | Pairing::Certificate) => true,
         _ => false,
     };
     let compares = match command {
-        Command::Pair(Pairing::Miter) => true,
+        Command::Pair(Pairing::Miter(_)) => true,
         _ => false,
     };
     Regard {

@@ -5,7 +5,8 @@ use Rattle.aig_circuit.specs.declared.view.CircuitLists.{CircuitLists}
 use Rattle.aig_format.proofs.Words.{IsReadAgain, circuit_of, edge_of, file_of, latch_of, File, Accepts, node_of_variable, FitsFormat}
 use Rattle.aig_format.specs.declared.FileKind.TheVariants.{Text}
 use Rattle.aig_format.proofs.Circuits.{IsCircuit-of_file}
-use Rattle.aig_join.proofs.Written.{written-certified, written-miter}
+use Rattle.aig_join.proofs.AlikeWritten.{written-miter_from}
+use Rattle.aig_join.proofs.Written.{written-certified}
 use Rattle.aig_reader.specs.Verdicts.{Accepted, IsOfFile, verdict_by}
 use Rattle.aig_reader.proofs.Verdicts.{of_no_file}
 use Rattle.aig_edits.specs.declared.pair_error.PairError.{PairError}
@@ -33,7 +34,7 @@ counted-of f =
 
 pub fits_back : (pairing : Pairing) (f g : File) → CanPair pairing (circuit_of f) (circuit_of g)
     → DoFit pairing f g
-fits_back Miter f g can = record {
+fits_back (Miter starts) f g can = record {
   inputs = sym (inputs-of f) ∙ can.inputs ∙ inputs-of g;
   outputs = sym (length-map f.properties.outputs (edge_of f)) ∙ can.outputs
       ∙ length-map g.properties.outputs (edge_of g);
@@ -56,33 +57,35 @@ module _ (limit : ℕ) (low : limit ≤ 2 ^ 31) (f g : File) (bytes others : Lis
 
   -- its text is a file, which shows what it should
   written : (pairing : Pairing) (m : Circuit) → DoFit pairing f g
-      → IsJoint pairing (circuit_of f) (circuit_of g) m → FitsFormat m
+      → IsJoint pairing (circuit_of f) (circuit_of g) m → IsCircuit m → FitsFormat m
       → IsReadAgain m (file_of Text m) × ShowsOf pairing f g (file_of Text m)
-  written Miter m fit joint small = written-miter f g limit limit bytes others m low low is also fit
-      joint small
-  written Certificate m fit joint small =
+  written (Miter starts) m fit joint circuit small = written-miter_from f g limit limit bytes others
+      m low low is also fit starts joint circuit small
+  written Certificate m fit joint circuit small =
       let Goal : Circuit → Type 0 =
       λ c. IsReadAgain c (file_of Text c) × ShowsOf Certificate f g (file_of Text c) in
       subst Goal (sym joint) (written-certified f g limit limit bytes others low low is also fit
       (subst FitsFormat joint small))
-  written Merge m fit joint small =
+  written Merge m fit joint circuit small =
       let Goal : Circuit → Type 0 =
       λ c. IsReadAgain c (file_of Text c) × ShowsOf Merge f g (file_of Text c) in
       subst Goal (sym joint.0) (written-merged f g limit limit bytes others low low is also
       (subst FitsFormat joint.0 small))
 
   joint_of : (pairing : Pairing) (m : Circuit) → CanPair pairing (circuit_of f) (circuit_of g)
-      → IsJoint pairing (circuit_of f) (circuit_of g) m → FitsFormat m → IsJointOf pairing f g m
-  joint_of pairing m can joint small =
+      → IsJoint pairing (circuit_of f) (circuit_of g) m → IsCircuit m → FitsFormat m
+      → IsJointOf pairing f g m
+  joint_of pairing m can joint circuit small =
       let fit = fits_back pairing f g can in
-      let text = written pairing m fit joint small in
+      let text = written pairing m fit joint circuit small in
       record { fit = fit; joint = joint; small = small; again = text.0; shows = text.1 }
 
   -- ---- results
 
   joins : (pairing : Pairing) (made : Result CircuitLists PairError)
       → IsJoinOf pairing (circuit_of f) (circuit_of g) made → IsJoined pairing f g made
-  joins pairing (Ok lists) told = joint_of pairing (lists_circuit lists) told.0 told.1 told.3
+  joins pairing (Ok lists) told = joint_of pairing (lists_circuit lists) told.0 told.1 told.2
+      told.3
   joins pairing (Err (errors.Misfit m)) told =
       subst (λ b. IsMisfit pairing (counted f) b m) (counted-of g)
       (subst (λ a. IsMisfit pairing a (counted_circuit (circuit_of g)) m) (counted-of f) told)

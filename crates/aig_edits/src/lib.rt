@@ -19,6 +19,7 @@ mod reading_pairs;
 mod reducing;
 mod rounding;
 
+pub use aig_join::{Matching, Starts};
 pub use edit_error::EditError;
 pub use editing::Edit;
 pub use info::{Counts, print_info, write_info};

@@ -1,5 +1,5 @@
 -- Small circuits, joined.
-use Rattle.aig_base.proofs.Words.{◌≡◌, ℕ, Bool, true, false, Some, None, List, [], ◌∷◌, refl, ap, nat_cmp, codes, empty, get-empty, bytes_eq}
+use Rattle.aig_base.proofs.Words.{◌≡◌, ℕ, Bool, true, false, Option, Some, None, List, [], ◌∷◌, refl, ap, nat_cmp, codes, empty, get-empty, bytes_eq}
 use Rattle.aig_circuit.specs.declared.edge.AigEdge.{AigEdge}
 use Rattle.aig_circuit.specs.declared.node.AigNodeType.{AigNodeType}
 use Rattle.aig_circuit.specs.declared.node.AigNodeType.TheVariants.{False, Leaf, And}
@@ -10,6 +10,8 @@ use Rattle.aig_join.specs.Joined.{joined, number_in_joint}
 use Rattle.aig_join.specs.Names.{is_taken, other_name, with_name, with_names}
 use Rattle.aig_join.proofs.Naming.{Names}
 use Rattle.aig_join.specs.Certificate.{certified}
+use Rattle.aig_join.specs.declared.starts.Matching.TheVariants.{ByName, ByOrder}
+use Rattle.aig_join.specs.Starts.{Register, partners}
 
 abbrev pub node : ℕ → AigNodeType → AigNode
 node n kind = record { node_id = n; typ = kind }
@@ -99,3 +101,27 @@ other-named = refl
 
 taken-name : other_name (λ text. bytes_eq (codes "other.q") text) (Some (codes "q")) ≡ None
 taken-name = refl
+
+-- ---- registers that start alike
+
+abbrev pub register : ℕ → Bool → Option (List ℕ) → Register
+register n is_open name = record { place = n; is_open = is_open; name = name }
+
+-- the last of the second has none left, and one that isn't open takes none
+by-order : partners ByOrder
+    (register 1 true None ∷ register 2 false None ∷ register 3 true None ∷ [])
+    (register 5 true None ∷ register 6 false None ∷ register 7 true None ∷ register 8 true None
+    ∷ [])
+    ≡ Some 1 ∷ None ∷ Some 3 ∷ None ∷ []
+by-order = refl
+
+-- the first open one of the name counts; the others' name is that of one that isn't open, that of
+-- none, no name, and that of one that isn't open itself
+by-name : partners ByName
+    (register 1 false (Some (codes "p")) ∷ register 2 true (Some (codes "q"))
+    ∷ register 3 true (Some (codes "q")) ∷ register 4 true None ∷ [])
+    (register 5 true (Some (codes "q")) ∷ register 6 true (Some (codes "p"))
+    ∷ register 7 true (Some (codes "r")) ∷ register 8 true None
+    ∷ register 9 false (Some (codes "q")) ∷ [])
+    ≡ Some 2 ∷ None ∷ None ∷ None ∷ None ∷ []
+by-name = refl

@@ -18,13 +18,13 @@ use Rattle.aig_runs.proofs.Witnesses.{witness_forth}
 use Rattle.aig_runs.specs.Queries.{IsSafeTo}
 use Rattle.aig_runs.specs.Safety.{IsCircuitSafeAt, IsSafeAt}
 use Rattle.aig_join.specs.Certificate.{HasConstantFurtherInits, HasLeavesOf, certified}
-use Rattle.aig_join.specs.Files.{AreEqualMachinesAt, HasLinesOf, HaveSameFileCounts, IsAllowedMachineRun}
-use Rattle.aig_join.specs.Miter.{AreEqualAt, HaveSameCounts, IsMiter, compared}
+use Rattle.aig_join.specs.Files.{AreEqualMachinesAt, FilesCompareEqual, HasLinesOf, HaveSameFileCounts, HaveSameFileInputs, IsAllowedMachineRun}
+use Rattle.aig_join.specs.Miter.{AreEqualAt, CompareEqual, HaveSameCounts, HaveSameInputs, IsMiter, compared}
 use Rattle.aig_join.proofs.Certified.{safe-certified}
 use Rattle.aig_join.proofs.Miters.{safe-is_equal}
 
 -- pairs of what two lists are mapped to
-zip-forth : {A B C D : Type 0} (R : A → B → Type 0) (S : C → D → Type 0) (f : C → A) (g : D → B)
+pub zip-forth : {A B C D : Type 0} (R : A → B → Type 0) (S : C → D → Type 0) (f : C → A) (g : D → B)
     (P : C → Type 0) (Q : D → Type 0) → ((x : C) (y : D) → P x → Q y → R (f x) (g y) → S x y)
     → (xs : List C) (ys : List D) → All P xs → All Q ys → AllZip R (map f xs) (map g ys)
     → AllZip S xs ys
@@ -37,7 +37,7 @@ zip-forth R S f g P Q w (x ∷ xs) (y ∷ ys) ps qs zip = (
       (λ k d h. ps (suc k) d (omega arith)) (λ k d h. qs (suc k) d (omega arith)) zip.1,
 )
 
-zip-back : {A B C D : Type 0} (R : A → B → Type 0) (S : C → D → Type 0) (f : C → A) (g : D → B)
+pub zip-back : {A B C D : Type 0} (R : A → B → Type 0) (S : C → D → Type 0) (f : C → A) (g : D → B)
     (P : C → Type 0) (Q : D → Type 0) → ((x : C) (y : D) → P x → Q y → S x y → R (f x) (g y))
     → (xs : List C) (ys : List D) → All P xs → All Q ys → AllZip S xs ys
     → AllZip R (map f xs) (map g ys)
@@ -81,7 +81,7 @@ module _ (f : File) (limit k : ℕ) (fits : Fits f limit) (x run : ℕ → ℕ �
       let all = literals-are k (omega arith) in
       All-append (LiteralIs k) f.properties.outputs f.properties.bads all.outputs all.bads
 
-  allowed-forth : IsRun (circuit_of f) k x → IsAllowedMachineRun f k run
+  pub allowed-forth : IsRun (circuit_of f) k x → IsAllowedMachineRun f k run
       → IsAllowedRun (circuit_of f) k x
   allowed-forth is allowed = record {
     from_start = record {
@@ -96,7 +96,7 @@ module _ (f : File) (limit k : ℕ) (fits : Fits f limit) (x run : ℕ → ℕ �
         f.properties.constraints (λ j d l. (literals-are t h).constraints j d l ∙ holds j d l);
   }
 
-  allowed-back : IsMachineRun f k run → IsAllowedRun (circuit_of f) k x
+  pub allowed-back : IsMachineRun f k run → IsAllowedRun (circuit_of f) k x
       → IsAllowedMachineRun f k run
   allowed-back is allowed = record {
     is_run = is;
@@ -144,29 +144,61 @@ module _ (f g : File) (limit bound k : ℕ) (fits : Fits f limit) (also : Fits g
       (sym (compared-edges f)) (subst (λ (es : List AigEdge). AllZip R
       (map (edge_of f) (compared_literals f)) es) (sym (compared-edges g)) zip)
 
+  -- over leaf values that the runs' values are of
+  module _ (x run : ℕ → ℕ → Bool) (vx : HasNodeValues f k x run) (y other : ℕ → ℕ → Bool)
+      (vy : HasNodeValues g k y other) where
+    -- the leaves of inputs are the same where the variables are
+    pub inputs-forth : (t : ℕ) → t ≤ k → HaveSameFileInputs f g (run t) (other t)
+        → HaveSameInputs (circuit_of f) (circuit_of g) (x t) (y t)
+    inputs-forth t h same = zip-back (λ m n. x t m ≡ y t n) (λ d e. run t (d / 2) ≡ other t (e / 2))
+        (λ e. node_of_variable f (e / 2)) (λ e. node_of_variable g (e / 2))
+        (InputIs f limit k fits x run vx t) (InputIs g bound k also y other vy t)
+        (λ d e p q s. p ∙ s ∙ sym q) f.inputs g.inputs (inputs-are f limit k fits x run vx t h)
+        (inputs-are g bound k also y other vy t h) same
+
+    -- and the other way round
+    pub inputs-back : (t : ℕ) → t ≤ k → HaveSameInputs (circuit_of f) (circuit_of g) (x t) (y t)
+        → HaveSameFileInputs f g (run t) (other t)
+    inputs-back t h same = zip-forth (λ m n. x t m ≡ y t n) (λ d e. run t (d / 2) ≡ other t (e / 2))
+        (λ e. node_of_variable f (e / 2)) (λ e. node_of_variable g (e / 2))
+        (InputIs f limit k fits x run vx t) (InputIs g bound k also y other vy t)
+        (λ d e p q s. sym p ∙ s ∙ q) f.inputs g.inputs (inputs-are f limit k fits x run vx t h)
+        (inputs-are g bound k also y other vy t h) same
+
+    -- the edges have the same value at step k
+    abbrev EdgesAre : AigEdge → AigEdge → Type 0
+    EdgesAre d e = edge_value (circuit_of f).nodes (x k) d ≡ edge_value (circuit_of g).nodes (y k) e
+
+    -- what is compared of the files is the same where that of the circuits is
+    pub compared-forth : CompareEqual (circuit_of f) (circuit_of g) (x k) (y k)
+        → FilesCompareEqual f g (run k) (other k)
+    compared-forth same = zip-forth EdgesAre (λ d e. value_of_literal (run k) d
+        ≡ value_of_literal (other k) e) (edge_of f) (edge_of g)
+        (LiteralIs f limit k fits x run vx k) (LiteralIs g bound k also y other vy k)
+        (λ d e p q s. sym p ∙ s ∙ q) (compared_literals f) (compared_literals g)
+        (compared-are f limit k fits x run vx) (compared-are g bound k also y other vy)
+        (to_literals EdgesAre same)
+
+    -- and the other way round
+    pub compared-back : FilesCompareEqual f g (run k) (other k)
+        → CompareEqual (circuit_of f) (circuit_of g) (x k) (y k)
+    compared-back same = from_literals EdgesAre (zip-back EdgesAre (λ d e. value_of_literal (run k) d
+        ≡ value_of_literal (other k) e) (edge_of f) (edge_of g)
+        (LiteralIs f limit k fits x run vx k) (LiteralIs g bound k also y other vy k)
+        (λ d e p q s. p ∙ s ∙ sym q) (compared_literals f) (compared_literals g)
+        (compared-are f limit k fits x run vx) (compared-are g bound k also y other vy) same)
+
   machines-forth : AreEqualAt (circuit_of f) (circuit_of g) k → AreEqualMachinesAt f g k
   machines-forth equal run other first second inputs =
       let x = leaves_of f run in
       let y = leaves_of g other in
       let vx = forth_values f limit k run fits first.is_run in
       let vy = forth_values g bound k other also second.is_run in
-      let same = equal x y (allowed-forth f limit k fits x run vx
+      compared-forth x run vx y other vy (equal x y (allowed-forth f limit k fits x run vx
       (forth_run f limit k run fits first.is_run) first)
       (allowed-forth g bound k also y other vy (forth_run g bound k other also second.is_run)
       second)
-      (λ t h. zip-back (λ m n. x t m ≡ y t n) (λ d e. run t (d / 2) ≡ other t (e / 2))
-      (λ e. node_of_variable f (e / 2)) (λ e. node_of_variable g (e / 2))
-      (InputIs f limit k fits x run vx t) (InputIs g bound k also y other vy t)
-      (λ d e p q s. p ∙ s ∙ sym q) f.inputs g.inputs (inputs-are f limit k fits x run vx t h)
-      (inputs-are g bound k also y other vy t h) (inputs t h)) in
-      zip-forth (λ d e. edge_value (circuit_of f).nodes (x k) d
-      ≡ edge_value (circuit_of g).nodes (y k) e) (λ d e. value_of_literal (run k) d
-      ≡ value_of_literal (other k) e) (edge_of f) (edge_of g)
-      (LiteralIs f limit k fits x run vx k) (LiteralIs g bound k also y other vy k)
-      (λ d e p q s. sym p ∙ s ∙ q) (compared_literals f) (compared_literals g)
-      (compared-are f limit k fits x run vx) (compared-are g bound k also y other vy)
-      (to_literals (λ d e. edge_value (circuit_of f).nodes (x k) d
-      ≡ edge_value (circuit_of g).nodes (y k) e) same)
+      (λ t h. inputs-forth x run vx y other vy t h (inputs t h)))
 
   machines-back : AreEqualMachinesAt f g k → AreEqualAt (circuit_of f) (circuit_of g) k
   machines-back equal x y first second inputs =
@@ -174,22 +206,11 @@ module _ (f g : File) (limit bound k : ℕ) (fits : Fits f limit) (also : Fits g
       let other = values_over g y in
       let vx : HasNodeValues f k x run = λ t v h known. refl in
       let vy : HasNodeValues g k y other = λ t v h known. refl in
-      let same = equal run other (allowed-back f limit k fits x run vx
+      compared-back x run vx y other vy (equal run other (allowed-back f limit k fits x run vx
       (back_run f limit k x fits first.from_start.run) first)
       (allowed-back g bound k also y other vy (back_run g bound k y also second.from_start.run)
       second)
-      (λ t h. zip-forth (λ m n. x t m ≡ y t n) (λ d e. run t (d / 2) ≡ other t (e / 2))
-      (λ e. node_of_variable f (e / 2)) (λ e. node_of_variable g (e / 2))
-      (InputIs f limit k fits x run vx t) (InputIs g bound k also y other vy t)
-      (λ d e p q s. sym p ∙ s ∙ q) f.inputs g.inputs (inputs-are f limit k fits x run vx t h)
-      (inputs-are g bound k also y other vy t h) (inputs t h)) in
-      let R : AigEdge → AigEdge → Type 0 = λ d e. edge_value (circuit_of f).nodes (x k) d
-      ≡ edge_value (circuit_of g).nodes (y k) e in
-      from_literals R (zip-back R (λ d e. value_of_literal (run k) d
-      ≡ value_of_literal (other k) e) (edge_of f) (edge_of g)
-      (LiteralIs f limit k fits x run vx k) (LiteralIs g bound k also y other vy k)
-      (λ d e p q s. p ∙ s ∙ sym q) (compared_literals f) (compared_literals g)
-      (compared-are f limit k fits x run vx) (compared-are g bound k also y other vy) same)
+      (λ t h. inputs-back x run vx y other vy t h (inputs t h)))
 
   -- the miter of the files' circuits is safe exactly where the machines' outputs and bads are equal
   pub safe-is_equal_machines : HaveSameFileCounts f g → (m : Circuit)

@@ -9,7 +9,7 @@ use Rattle.aig_runs.specs.CircuitQueries.{IsCircuitWitness}
 use Rattle.aig_runs.specs.Safety.{IsCircuitSafeAt}
 use Rattle.aig_join.specs.Joined.{CanShare, joined, number_in_joint, shared_of_first, shared_of_second}
 use Rattle.aig_join.specs.Pairs.{AgreeOnShared, JoinsRuns, MeetsConstraints}
-use Rattle.aig_join.specs.Miter.{AreEqualAt, ComparesRuns, HaveSameCounts, HaveSameInputs, IsMiter, compared, moved_compared}
+use Rattle.aig_join.specs.Miter.{AreEqualAt, CompareEqual, ComparesRuns, HaveSameCounts, HaveSameInputs, IsMiter, compared, moved_compared}
 use Rattle.aig_join.proofs.Differing.{All-at, DifferInSteps-count, DifferInSteps-there, differ-at}
 use Rattle.aig_join.proofs.Grown.{IsCircuit-over_gates, constraints-agree, grown, run-agrees, runs-grown, start-agrees, starts-grown, value-agrees}
 use Rattle.aig_join.proofs.Joined.{IsCircuit-joined, JoinsRuns-joined, edge_moved, first_value, longer, second_value}
@@ -114,7 +114,7 @@ module _ (a b m : Circuit) (is_a : IsCircuit a) (is_b : IsCircuit b) (counts : H
 
   -- ---- values
 
-  value-first : (z : ℕ → Bool) (e : AigEdge) → IsInRange a.nodes e → edge_value m.nodes z e
+  pub value-first : (z : ℕ → Bool) (e : AigEdge) → IsInRange a.nodes e → edge_value m.nodes z e
       ≡ edge_value a.nodes z e
   value-first z e h = grows.values z e (let long = longer 0 a b is_a is_b can in omega arith)
       ∙ first_value 0 a b is_a is_b can z e h
@@ -244,10 +244,10 @@ module _ (a b m : Circuit) (is_a : IsCircuit a) (is_b : IsCircuit b) (counts : H
       abbrev pub paired : ℕ → ℕ → Bool
       paired t = (pick t).0
 
-      first-same : (t n : ℕ) → t ≤ k → IsLeaf a.nodes n → x t n ≡ paired t n
+      pub first-same : (t n : ℕ) → t ≤ k → IsLeaf a.nodes n → x t n ≡ paired t n
       first-same t n h leaf = sym (((pick t).1 h).0 n leaf)
 
-      second-same : (t n : ℕ) → t ≤ k → IsLeaf b.nodes n → y t n ≡ paired t (number n)
+      pub second-same : (t n : ℕ) → t ≤ k → IsLeaf b.nodes n → y t n ≡ paired t (number n)
       second-same t n h leaf = sym (((pick t).1 h).1 n leaf)
 
       pub differing-is_witness : IsAllowedRun a k x → IsAllowedRun b k y → (j : ℕ) (e f : AigEdge)
@@ -288,35 +288,30 @@ module _ (a b m : Circuit) (is_a : IsCircuit a) (is_b : IsCircuit b) (counts : H
                 ((law.bads (paired k) j e f (get_or m.properties.bads j e) at_e at_f at_d).1 other);
           }
 
-  safe-equal : (k : ℕ) → IsCircuitSafeAt m k → AreEqualAt a b k
-  safe-equal k safe x y first second inputs = elim (same-or-differ (edge_value a.nodes (x k))
+  -- two allowed runs have equal outputs at step k, unless the pair of them is a witness
+  pub equal-unless : (k : ℕ) (x y : ℕ → ℕ → Bool)
+      (inputs : (t : ℕ) → t ≤ k → HaveSameInputs a b (x t) (y t)) → IsAllowedRun a k x
+      → IsAllowedRun b k y → ¬ IsCircuitWitness m k (paired k x y inputs)
+      → CompareEqual a b (x k) (y k)
+  equal-unless k x y inputs first second none = elim (same-or-differ (edge_value a.nodes (x k))
       (edge_value b.nodes (y k)) (compared a) (compared b) compared-count) [
         | inl same ↦ same
-        | inr r ↦ absurd (safe (
-          paired k x y inputs,
-          differing-is_witness k x y inputs first second r.0
-              r.1 r.2 r.3 r.4 r.5,
-        ))
+        | inr r ↦ absurd (none (differing-is_witness k x y inputs first second r.0 r.1 r.2 r.3 r.4
+            r.5))
       ]
 
-  equal-safe : (k : ℕ) → AreEqualAt a b k → IsCircuitSafeAt m k
-  equal-safe k equal (z, w) =
+  safe-equal : (k : ℕ) → IsCircuitSafeAt m k → AreEqualAt a b k
+  safe-equal k safe x y first second inputs = equal-unless k x y inputs first second
+      (λ w. safe (paired k x y inputs, w))
+
+  -- a witness is two allowed runs whose outputs differ at step k
+  pub witness-differs : (k : ℕ) (z : ℕ → ℕ → Bool) → IsCircuitWitness m k z
+      → IsAllowedRun a k z × IsAllowedRun b k (λ t n. z t (number n))
+      × ¬ CompareEqual a b (z k) (λ n. z k (number n))
+  witness-differs k z w =
       let theirs : ℕ → ℕ → Bool = λ t n. z t (number n) in
       let runs = (law.runs k z).0 w.is_run in
       let starts = (law.starts (z 0)).0 w.start in
-      let first : IsAllowedRun a k z = record {
-        from_start = record
-            { run = runs.0; start = starts.0 };
-        allowed = λ t h.
-            ((law.constraints (z t)).0 (w.constraints t h)).0;
-      } in
-      let second : IsAllowedRun b k theirs = record {
-        from_start = record
-            { run = runs.1; start = starts.1 };
-        allowed = λ t h.
-            ((law.constraints (z t)).0 (w.constraints t h)).1;
-      } in
-      let same = equal z theirs first second (λ t h. law.inputs (z t)) in
       let found = Any-from_list_any (edge_value m.nodes (z k)) m.properties.bads w.bad in
       let j = found.0 in
       let d = found.1 in
@@ -326,9 +321,24 @@ module _ (a b m : Circuit) (is_a : IsCircuit a) (is_b : IsCircuit b) (counts : H
       ≡ Some d = slice_get-get_or m.properties.bads j d found.2 ∙ ap Some found.3 in
       let differ = (law.bads (z k) j (get_or (compared a) j d) (get_or (compared b) j d) d
       (slice_get-get_or (compared a) j d low_a) (slice_get-get_or (compared b) j d low_b) at_d).0
-      found.4 in
-      differ (AllZip-get_or (λ e f. edge_value a.nodes (z k) e ≡ edge_value b.nodes (theirs k) f)
-      (compared a) (compared b) j d d same low_a)
+      found.4 in (
+        record {
+          from_start = record { run = runs.0; start = starts.0 };
+          allowed = λ t h. ((law.constraints (z t)).0 (w.constraints t h)).0;
+        },
+        record {
+          from_start = record { run = runs.1; start = starts.1 };
+          allowed = λ t h. ((law.constraints (z t)).0 (w.constraints t h)).1;
+        },
+        λ same. differ (AllZip-get_or
+            (λ e f. edge_value a.nodes (z k) e ≡ edge_value b.nodes (theirs k) f)
+            (compared a) (compared b) j d d same low_a),
+      )
+
+  equal-safe : (k : ℕ) → AreEqualAt a b k → IsCircuitSafeAt m k
+  equal-safe k equal (z, w) =
+      let apart = witness-differs k z w in
+      apart.2 (equal z (λ t n. z t (number n)) apart.0 apart.1 (λ t h. law.inputs (z t)))
 
   -- the miter is safe exactly where the outputs are equal
   pub safe-is_equal : (k : ℕ) → IsCircuitSafeAt m k ↔ AreEqualAt a b k

@@ -46,12 +46,12 @@ module _ (c : Circuit) (h : File) (again : IsReadAgain c h) where
         w.bad;
   }
 
-  file-safe : (k : ℕ) → IsCircuitSafeAt c k → IsSafeAt h k
+  pub file-safe : (k : ℕ) → IsCircuitSafeAt c k → IsSafeAt h k
   file-safe k safe (run, w) =
       let found = witness_forth h (length c.nodes) k run fits w in
       safe (found.0, named k found.0 (subst (λ d. IsCircuitWitness d k found.0) again.1 found.1))
 
-  circuit-safe : (k : ℕ) → IsSafeAt h k → IsCircuitSafeAt c k
+  pub circuit-safe : (k : ℕ) → IsSafeAt h k → IsCircuitSafeAt c k
   circuit-safe k safe (x, w) = safe (
     values_over h x,
     witness_back h (length c.nodes) k x fits

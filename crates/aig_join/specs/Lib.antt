@@ -5,3 +5,5 @@ pub mod Numbers
 pub mod Miter
 pub mod Certificate
 pub mod Files
+pub mod Starts
+pub mod Alike

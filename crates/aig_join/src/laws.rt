@@ -15,6 +15,9 @@ ghost use Rattle.aig_join.specs.Names.{is_taken, other_name};
 ghost use Rattle.aig_join.specs.Pairs.{JoinsRuns};
 ghost use Rattle.aig_join.specs.Miter.{AreEqualAt, ComparesRuns, HaveSameCounts, IsMiter};
 ghost use Rattle.aig_join.specs.Files.{AreEqualMachinesAt, HasLinesOf, HaveSameFileCounts};
+ghost use Rattle.aig_join.specs.Alike.{AreEqualAlikeAt, AreEqualMachinesFrom, IsAlikeMiter, IsMiterFrom};
+ghost use Rattle.aig_join.specs.declared.starts.Matching.{Matching};
+ghost use Rattle.aig_join.specs.declared.starts.Starts.{Starts};
 ghost use Rattle.aig_join.specs.Certificate.{Certifies, HasConstantFurtherInits, HasLeavesOf, certified};
 
 /// Law: two circuits joined are a circuit, whose runs are pairs of runs of the two.
@@ -114,6 +117,26 @@ pub fn written_witnesses_certify()
         (file_of Text (certified (circuit_of f) (circuit_of g)))
         × ((n : ℕ) → IsSafeTo (file_of Text (certified (circuit_of f) (circuit_of g))) n
         → IsSafeTo f n) }
+{}
+
+/// Law: a miter of two circuits whose matched registers start alike is safe at a step exactly where outputs and bad edges are equal there on
+/// all runs with the same inputs whose matched registers start alike.
+pub fn alike_miters_compare_runs()
+    ensures { (matching : Matching) (a b m : Circuit) (k : ℕ) → IsCircuit a → IsCircuit b
+        → HaveSameCounts a b → IsAlikeMiter matching a b m
+        → IsCircuitSafeAt m k ↔ AreEqualAlikeAt matching a b k }
+{}
+
+/// Law: the text of the miter of two accepted files' circuits, with registers that start as is said, is an accepted file where it isn't too
+/// large, and its machine is safe at a step exactly where outputs and bad literals of the two machines are equal there on all runs whose
+/// registers start so.
+pub fn written_miters_compare_machines_from()
+    ensures { (starts : Starts) (f g : File) (limit bound : ℕ) (bytes others : List ℕ) (m : Circuit)
+        → limit ≤ 2 ^ 31 → bound ≤ 2 ^ 31 → Accepts bytes limit f → Accepts others bound g
+        → HaveSameFileCounts f g → IsMiterFrom starts (circuit_of f) (circuit_of g) m → IsCircuit m
+        → FitsFormat m
+        → IsReadAgain m (file_of Text m)
+        × ((k : ℕ) → IsSafeAt (file_of Text m) k ↔ AreEqualMachinesFrom starts f g k) }
 {}
 
 /// Law: two circuits have one miter.

@@ -2,7 +2,7 @@
 
 use aig_answers::{AnswerError, CertificateError, check_certified, check_equal};
 use aig_base::FromRead;
-use aig_edits::{Misfit, PairError};
+use aig_edits::{Misfit, PairError, Starts};
 use aig_refutation::RefutationError;
 use std::alloc::Global;
 
@@ -42,7 +42,17 @@ fn equal(alloc: Global, optimize: bool, other: &[u8], proof: &[u8]) -> Option<Ce
     let mut file = FromRead::new(AND);
     let mut other = FromRead::new(other);
     let mut proof = FromRead::new(proof);
-    check_equal(alloc, &mut file, &mut other, LIMIT, 0, optimize, &mut proof).err()
+    check_equal(
+        alloc,
+        &mut file,
+        &mut other,
+        Starts::Apart,
+        LIMIT,
+        0,
+        optimize,
+        &mut proof,
+    )
+    .err()
 }
 
 // The joint circuit is `DIFFERING` with the latch as a second bad edge. Clauses 5, 6, 7, 9 and 10 of its query are `6 2 3`,

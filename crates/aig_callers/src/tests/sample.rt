@@ -1,6 +1,6 @@
 //! What the sample writes.
 
-use crate::show_all;
+use crate::sample::show_all;
 use aig_base::{FromRead, ToWrite};
 use std::test::Fail;
 

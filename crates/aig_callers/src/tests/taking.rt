@@ -1,8 +1,8 @@
 //! Proofs of what another call prints, and programs on files in memory.
 
-use crate::{
-    printed_of_compress, printed_of_refuted, taken_as_equal, taken_at_step, taken_of_certificate,
-    taken_of_window, taken_up_to_step,
+use crate::instances::{printed_of_compress, printed_of_refuted};
+use crate::taking::{
+    taken_as_equal, taken_at_step, taken_of_certificate, taken_of_window, taken_up_to_step,
 };
 use aig_runs::Window;
 
