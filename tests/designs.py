@@ -68,7 +68,8 @@ def needed(folder):
         verb, *words = shlex.split(line) or [""]
         if verb == "shows" and words[1] != "run":
             equal = (6, 2) if words[4:5] == ["to"] else (5, 1)
-            first, count = {"certified": (4, 2), "equal": equal, "safe": (5, 2)}.get(words[1], (5 if words[3] == "to" else 4, 1))
+            command = words[1].partition("-alike")[0]
+            first, count = {"certified": (4, 2), "equal": equal, "safe": (5, 2)}.get(command, (5 if words[3] == "to" else 4, 1))
             for proof in words[first:first + count]:
                 tried = [*words[1:words.index(proof)], "/dev/stdin", *words[words.index(proof) + 1 :]]
                 if harness.run([CHECK, *tried], cwd=folder, input=b"0\n")[0] != 0:

@@ -9,8 +9,13 @@ of files that ABC reads, and `bin/aigprove --equal` of all; what that keeps isn'
 
 The engine that guesses which registers correspond says nothing else alone, if anything.
 
+As many pairs have registers that may start with either value, most of which have names, beside the same in another order, and perhaps a
+gate more. Where those that are matched by order or by name start alike, the search begins with states in which they do, and is compared with
+`aigedit miter-alike-by-order`, `aigcheck equal-alike-by-order`, those by name, and `aigprove --starts`. Where that leaves them apart, it
+says exactly at a step that differs by that alone that it is equal with registers alike.
+
 Half as many designs of tests/designs are compared so with what ABC makes of them, also by retiming, or with that and a gate changed: no
-answer is another than that of `dsec`, and a run to a difference shows one, as a simulation here has it.
+answer is another than that of `dsec` where there are no constraints, and a run to a difference shows one, as a simulation here has it.
 
 And a third as many invariants of ABC's pdr, for random files that are never bad: `aigcheck certified` takes each as a certificate. With
 one of its cubes less it takes it where a search over all states says that the rest is an invariant still, by cadical's proofs, and else
@@ -19,6 +24,7 @@ no proofs of the whole.
 It ends at the first that differs, and else prints one line. The solver and ABC are the Debian packages cadical and berkeley-abc."""
 import collections
 import concurrent.futures
+import dataclasses
 import itertools
 import random
 import re
@@ -29,7 +35,7 @@ import harness
 from aiger import Machine, machine_of
 from designs import inverted
 from harness import CHECK, EDIT, FORMS, PROVE, TOOL, numbers, output
-from machines import random_machine
+from machines import named, random_machine
 from trials import Files, told
 
 from aigprove.aiger import Circuit, Lines
@@ -38,25 +44,45 @@ from aigprove.plain import Plain
 # Seconds for the answer about a design, and the designs.
 SECONDS = "20"
 DESIGNS = sorted((harness.TESTS / "designs").glob("*.aig"))
+REGISTERS = [f"r{i}" for i in range(20)]
 REWRITES = ["balance", "rewrite", "refactor", "dc2", "fraig", "scorr"]
 BOUND = 4
 
 
-def first_difference(first, other):
-    """The first step at which outputs or bad literals of two machines differ, if ever."""
-    compared = list(zip([*first.outputs, *first.bads], [*other.outputs, *other.bads], strict=True))
-    pairs, seen = set(itertools.product(first.starts(), other.starts())), set()
+def starting(first, other, partners=()):
+    """The pairs of first states of two machines, in which registers at these pairs of places are alike."""
+    pairs = itertools.product(first.starts(), other.starts())
+    return {(state, beside) for state, beside in pairs if all(state[i] == beside[j] for i, j in partners)}
+
+
+def step(first, other, pairs):
+    """Whether outputs or bad literals of two machines differ in a step from these states, and the next states."""
+    compared, steps = list(zip([*first.outputs, *first.bads], [*other.outputs, *other.bads], strict=True)), []
+    for state, beside in pairs:
+        theirs = dict(other.steps(beside))
+        steps += [(values, theirs[inputs]) for inputs, values in first.steps(state) if inputs in theirs]
+    is_different = any(ours[one] != theirs[two] for ours, theirs in steps for one, two in compared)
+    return is_different, {(first.following(ours), other.following(theirs)) for ours, theirs in steps}
+
+
+def first_difference(first, other, pairs):
+    """The first step at which two machines differ in runs from these states, if ever."""
+    seen = set()
     for k in itertools.count():
-        steps = []
-        for state, beside in pairs:
-            theirs = dict(other.steps(beside))
-            steps += [(values, theirs[inputs]) for inputs, values in first.steps(state) if inputs in theirs]
-        if any(ours[one] != theirs[two] for ours, theirs in steps for one, two in compared):
+        is_different, after = step(first, other, pairs)
+        if is_different:
             return k
         seen |= pairs
-        pairs = {(first.following(ours), other.following(theirs)) for ours, theirs in steps} - seen
+        pairs = after - seen
         if not pairs:
             return None
+
+
+def differ_at(first, other, pairs, k):
+    """Whether two machines differ at a step in runs from these states."""
+    for _ in range(k):
+        _, pairs = step(first, other, pairs)
+    return step(first, other, pairs)[0]
 
 
 def is_inductive(machine):
@@ -85,8 +111,43 @@ def changed(machine, rng):
     return made
 
 
+def opened(machine):
+    """The places of the registers that may start with either value, and their names, if they have some."""
+    return [(i, machine.names.get(f"l{i}")) for i, row in enumerate(machine.latches) if row[2] == row[0]]
+
+
+def partners(way, first, other):
+    """Pairs of places of registers that may start with either value: the first of both machines, the second and so on, or each of the
+    second machine with the first of its name."""
+    ours, theirs = opened(first), opened(other)
+    if way != "by-name":
+        return [(i, j) for (i, _), (j, _) in zip(ours, theirs)] if way == "by-order" else []
+    named = [(next((i for i, name in ours if name == own), None), j) for j, own in theirs if own is not None]
+    return [(i, j) for i, j in named if i is not None]
+
+
+def with_open(rng):
+    """A machine whose registers may start with either value most often, and have names, some the same."""
+    made = with_outputs(rng)
+    made.latches = [(leaf, following, leaf if rng.random() < 0.6 else reset) for leaf, following, reset in made.latches]
+    return named(rng, made, REGISTERS, "l", 0.9)
+
+
+def reordered(machine, rng):
+    """The machine with its registers in another order, of which a few lose their names, or start with a constant."""
+    order = rng.sample(range(len(machine.latches)), len(machine.latches))
+    names = {f"l{i}": machine.names[f"l{place}"] for i, place in enumerate(order) if f"l{place}" in machine.names and rng.random() < 0.95}
+    rows = [list(machine.latches[place]) for place in order]
+    for row in rows:
+        row[2] = rng.randrange(2) if rng.random() < 0.05 else row[2]
+    return dataclasses.replace(machine, latches=rows, names=names)
+
+
 class Pair(Files):
     """Two machines in files."""
+
+    # What stands behind the names of commands that compare them, and behind lines of aigcheck; and words of aigprove.
+    suffix, said, words = "", "", []
 
     def __init__(self, rng, folder):
         super().__init__(folder)
@@ -100,6 +161,10 @@ class Pair(Files):
         self.other_machine = self.rewritten(rng) if self.abc_command and rng.random() < 0.7 else changed(self.machine, rng)
         self.other = self.put("other.aag", self.other_machine.text())
 
+    def starts(self):
+        """The pairs of first states that are compared."""
+        return starting(self.machine, self.other_machine)
+
     def rewritten(self, rng):
         """The machine as ABC writes it again."""
         binary, made = str(self.folder / "file.aig"), str(self.folder / "made.aig")
@@ -109,8 +174,8 @@ class Pair(Files):
 
     def compare(self):
         """Compares all answers."""
-        first = first_difference(self.machine, self.other_machine)
-        miter = self.put("miter.aag", output([EDIT, "miter", self.file, self.other]))
+        first = first_difference(self.machine, self.other_machine, self.starts())
+        miter = self.put("miter.aag", output([EDIT, f"miter{self.suffix}", self.file, self.other]))
         made = machine_of(Path(miter).read_text())
         if made.first_bad() != first:
             self.fail(f"a search finds a difference at step {first}, and the miter is bad at step {made.first_bad()}")
@@ -120,14 +185,15 @@ class Pair(Files):
             if (proof is None) != (k == first):
                 self.fail(f"a search finds a difference at step {first}, and cadical {'one' if proof is None else 'none'} at step {k}")
             for given in [proof] if proof else [empty, last or empty]:
-                if self.takes(f"equal at step {k}", "equal", self.file, self.other, str(k), given) != (proof is not None):
-                    self.fail(f"aigcheck equal {'refuses' if proof else 'takes'} {given} for step {k}, and a search finds {first}")
+                words = [f"equal{self.suffix}", self.file, self.other, str(k), given]
+                if self.takes(f"equal at step {k}{self.said}", *words) != (proof is not None):
+                    self.fail(f"aigcheck {'refuses' if proof else 'takes'} {' '.join(words)}, and a search finds {first}")
                 self.counts["proofs taken" if proof else "proofs refused"] += 1
             last = proof
         if self.abc_command:
             self.compare_abc(first)
         self.compare_proved(first, made.first_unmet())
-        self.counts["equal" if first is None else "different"] += 1
+        self.counts[f"{'equal' if first is None else 'different'}{self.suffix}"] += 1
         return self.counts
 
     def compare_abc(self, first):
@@ -144,14 +210,17 @@ class Pair(Files):
         """Compares what aigprove says, and what it keeps. Where no run meets the constraints of both files from a step on, the answer is
         empty."""
         keep = self.folder / "kept"
-        status, printed, said = harness.run([PROVE, "--equal", self.other, self.file, "--keep", str(keep)])
+        status, printed, said = harness.run([PROVE, *self.words, "--equal", self.other, self.file, "--keep", str(keep)])
         printed = printed.decode()
         if status != (10 if first is not None else 20 if unmet is None else 0):
             self.fail(f"a search finds a difference at step {first}, and no run from step {unmet} on, and aigprove: {status} {printed} {said}")
-        lines = f"\n{printed}"
-        if ("\nequal at every step\n" in lines) != (first is None) or ("\na difference" in lines) == (first is None):
+        lines, alike = f"\n{printed}", self.said if self.has_alike() else ""
+        different = re.search(f"\na difference at step ([0-9]+){alike}: ", lines)
+        if (f"\nequal at every step{alike}\n" in lines) != (first is None) or (different is None) != (first is None):
             self.fail(f"a search finds a difference at step {first}, and aigprove: {printed}")
-        status, _, said = harness.run([PROVE, "-q", "--engine", "registers", "--equal", self.other, self.file])
+        if different and not alike:
+            self.compare_alike(int(different[1]), lines)
+        status, _, said = harness.run([PROVE, *self.words, "-q", "--engine", "registers", "--equal", self.other, self.file])
         if status not in (0, 20) or status == 20 and first is not None:
             self.fail(f"a search finds a difference at step {first}, and registers that correspond: {status} {said}")
         self.counts["by registers"] += status == 20
@@ -159,6 +228,46 @@ class Pair(Files):
         (keep / "other.aag").write_bytes(inverted((keep / "other.aag").read_bytes()))
         if again is None or harness.shown_again(keep) is not None:
             self.fail("what is kept isn't shown again, or is with the other file turned")
+
+
+    def has_alike(self):
+        """Whether any registers start alike."""
+        return False
+
+    def compare_alike(self, k, lines):
+        """Compares what aigprove says of the step that differs where registers are apart: whether anything does with them alike, by name
+        where all that may start with either value have one."""
+        both = [self.machine, self.other_machine]
+        way = "by-name" if all(name is not None for machine in both for _, name in opened(machine)) else "by-order"
+        matched = partners(way, *both)
+        is_equal = bool(matched) and not differ_at(*both, starting(*both, matched), k)
+        wanted = f"\nequal at step {k}, registers with open start alike {way.replace('-', ' ')}\n--starts {way} compares so\n"
+        if (wanted in lines) != is_equal or ("compares so" in lines) != is_equal:
+            self.fail(f"a search finds that registers that start alike {way} {'do' if is_equal else 'do not'} make step {k} equal: {lines}")
+        self.counts["equal at a step with registers alike"] += is_equal
+
+
+class Alike(Pair):
+    """Two machines whose registers may start with either value, most often; those that are matched in some way start alike."""
+
+    abc_command = None
+
+    def __init__(self, rng, folder):
+        Files.__init__(self, folder)
+        self.way, self.machine = rng.choice(["apart", "by-order", "by-name"]), with_open(rng)
+        self.words = ["--starts", self.way]
+        if self.way != "apart":
+            self.suffix, self.said = f"-alike-{self.way}", f", registers with open start alike {self.way.replace('-', ' ')}"
+        self.other_machine = reordered(self.machine, rng) if rng.random() < 0.8 else self.machine
+        if rng.random() < 0.4:
+            self.other_machine = dataclasses.replace(changed(self.other_machine, rng), names=self.other_machine.names)
+        self.file, self.other = self.put("file.aag", self.machine.text()), self.put("other.aag", self.other_machine.text())
+
+    def starts(self):
+        return starting(self.machine, self.other_machine, partners(self.way, self.machine, self.other_machine))
+
+    def has_alike(self):
+        return bool(partners(self.way, self.machine, self.other_machine))
 
 
 class Form(Files):
@@ -192,9 +301,16 @@ class Form(Files):
             ends.append([values[literal] for literal in [*machine.outputs, *machine.bads]])
         return ends[0] != ends[1]
 
+    def by_abc(self):
+        """What ABC says, which compares all runs, also those that constraints don't allow; nothing of a file with such, or after some seconds."""
+        if any(machine.constraints for machine in self.machines):
+            return None
+        _, printed, _ = harness.run(["berkeley-abc", "-q", f"dsec {self.file} {self.other}"], timeout=float(SECONDS))
+        return re.search(b"are (NOT )?equiv", printed, re.IGNORECASE)
+
     def compare(self):
         """Compares what aigprove says with what ABC says."""
-        told, witness = re.search("are (NOT )?equiv", self.abc(f"dsec {self.file} {self.other}"), re.IGNORECASE), self.folder / "witness"
+        told, witness = self.by_abc(), self.folder / "witness"
         for words in [["--witness", str(witness)], ["--engine", "registers"]]:
             status, printed, said = harness.run([PROVE, *words, "--timeout", SECONDS, "--equal", self.other, self.file])
             if status not in (0, 10, 20) or told and status == (20 if told[1] else 10):
@@ -253,11 +369,11 @@ class Invariant(Files):
 
 def main():
     pairs, seed = numbers(300, 1)
-    tried = [Pair] * pairs + [Invariant] * (pairs // 3) + [Form] * (pairs // 2)
+    tried = [Pair] * pairs + [Invariant] * (pairs // 3) + [Form] * (pairs // 2) + [Alike] * pairs
     with harness.new_folder() as folder, concurrent.futures.ThreadPoolExecutor(2) as pool:
         compare = lambda i: tried[i](random.Random(f"{seed}-{i}"), folder / str(i)).compare()
         counts = sum(pool.map(compare, range(len(tried))), collections.Counter())
-    print(f"seed {seed}: {pairs} pairs, {pairs // 3} invariants and {pairs // 2} designs agree ({told(counts)})")
+    print(f"seed {seed}: {2 * pairs} pairs, {pairs // 3} invariants and {pairs // 2} designs agree ({told(counts)})")
 
 
 if __name__ == "__main__":

@@ -171,6 +171,7 @@ def worded():
             ["t.aag top \x1b[2J", "unrecognized arguments: \\x1b[2J"],
             ["--limit 2147483649 t.aag", "argument --limit: 2147483649 is no number of nodes"],
             ["--limit 0 t.aag", "argument --limit: 0 is no number of nodes"],
+            ["--starts by-name t.aag", "--starts is for --equal"],
         ]:
             status, out, said, left = run.result(wrong.split(" "), words)
             yield wrong, (2, "", [f"aigprove: error: {why}"], []), (status, out, said.splitlines()[-1:], left)

@@ -157,6 +157,16 @@ class Circuit:
             for position, literal in enumerate(literals):
                 yield letter, position, literal
 
+    def text(self):
+        """Its text form, with its names, as bytes."""
+        counts = self.header.counts[: 5 if self.header.is_old else 9]
+        latches = zip(self.latches, self.nexts, self.resets)
+        sets = [*map(len, self.justice), *itertools.chain(*self.justice), *self.fairness]
+        rows = [("aag", *counts), *zip(self.inputs), *latches, *zip([*self.outputs, *self.bads, *self.constraints, *sets]), *self.gates]
+        lines = (" ".join(map(str, row)).encode() for row in rows)
+        names = (b"%s%d %s" % (letter.encode(), i, name) for (letter, i), name in self.names.items())
+        return b"".join(line + b"\n" for line in itertools.chain(lines, names))
+
     def name(self, letter, position):
         """The name of a signal, as bytes."""
         return self.names.get((letter, position)) or f"{letter}{position}".encode()

@@ -52,8 +52,7 @@ class Classes:
 
     def begin(self, literals):
         """Puts literals into classes by random runs from the first states."""
-        resets = zip(self.nodes.resets, self.drawn(self.nodes.latches))
-        state = [self.every * reset if reset < 2 else value for reset, value in resets]
+        state = self.nodes.first(self.drawn(self.nodes.latches), self.every)
         leaves = [*self.drawn(self.nodes.inputs), *state]
         self.gather(literals, leaves)
         self.follow(leaves, self.every, BEGUN)

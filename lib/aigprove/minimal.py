@@ -3,8 +3,8 @@ import time
 
 from aigprove.simulation import trials
 
-# How many trials are simulated at once.
-AT_ONCE = 1 << 11
+# How many trials are simulated at once; and how many gates in all steps a run has at most that is small enough for that.
+AT_ONCE, SMALL = 1 << 11, 1 << 18
 
 
 def places_of(told, opened):

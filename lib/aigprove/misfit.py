@@ -21,15 +21,16 @@ def alone(path, own, other):
     return [f"{path} alone has {', '.join([*found[:NAMED], *more])}"] if found else []
 
 
-def told(letter, paths, circuits):
-    """How many signals of a kind two files have, and the names of those that one of them has alone."""
+def told(letter, paths, circuits, is_named):
+    """How many signals of a kind two files have, and the names of those that one of them has alone, where they are to have the same."""
     what, attribute = COMPARED[letter]
     counts = [getattr(circuit.header, attribute) for circuit in circuits]
     first, other = (names_of(circuit, letter, count) for circuit, count in zip(circuits, counts))
-    found = [*alone(paths[0], first, other), *alone(paths[1], other, first)] if counts[0] != counts[1] else []
+    is_told = is_named or counts[0] != counts[1]
+    found = [*alone(paths[0], first, other), *alone(paths[1], other, first)] if is_told else []
     return f"{counts[0]} and {counts[1]} {what}" + f" ({'; '.join(found)})" * bool(found)
 
 
-def misfit(paths, circuits):
-    """The line that says why two files don't fit."""
-    return f"{' and '.join(paths)} don't fit: {', '.join(told(letter, paths, circuits) for letter in COMPARED)}"
+def misfit(paths, circuits, named=""):
+    """The line that says why two files don't fit, whose signals of some kinds, by these letters, have other names."""
+    return f"{' and '.join(paths)} don't fit: {', '.join(told(letter, paths, circuits, letter in named) for letter in COMPARED)}"

@@ -17,6 +17,8 @@ INITIAL = re.compile(r"^    sync init$", re.MULTILINE)
 VALUES = re.compile(r"^ *(?:connect|assign|switch|update) .*$", re.MULTILINE)
 X = re.compile(r"(?<= )([1-9][0-9]*)'([01x-]*x[01x-]*)(?= |$)")
 LINE = re.compile(r'^(module|  cell) (\S+)(?: (\S+))?$|^ *attribute \\src "([^"]*)"$', re.MULTILINE)
+# What is behind the name of what a register holds; and the index of a bit.
+STORED, INDEX = ".stored", re.compile(r"(\[[0-9]+\])?$")
 PART = re.compile(r"(.+)\$\[([0-9]+):([0-9]+)\]")
 
 
@@ -111,6 +113,22 @@ def names_of(module):
     return names
 
 
+def bits_of(module):
+    """Each bit of the nets that the design names, and its name as a file has it."""
+    for name, net in module["netnames"].items():
+        if not net["hide_name"]:
+            is_one = len(net["bits"]) == 1
+            yield from ((bit, name if is_one else f"{name}[{i}]") for i, bit in enumerate(net["bits"]) if not isinstance(bit, str))
+
+
+def aliases(module):
+    """All names of each bit that has one, by each of them."""
+    names = collections.defaultdict(list)
+    for bit, name in bits_of(module):
+        names[bit].append(name)
+    return {name: own for own in names.values() for name in own}
+
+
 def cells_like(module, kind):
     return [cell for cell in module["cells"].values() if cell["type"] == kind]
 
@@ -169,15 +187,29 @@ def stored(module):
     """New names for what registers with an asynchronous reset hold: the name in the design has its value with the reset."""
     ranked = sorted(module["netnames"].items(), key=lambda it: (not it[1]["hide_name"], -it[0].count(".")))
     nets = {tuple(net["bits"]): (name, net["hide_name"]) for name, net in ranked}
+    named = {(bit,): name for bit, name in bits_of(module)} | {bits: name for bits, (name, is_hidden) in nets.items() if not is_hidden}
     held = {tuple(cell["connections"]["Q"]) for cell in module["cells"].values() if "Q" in cell["connections"]}
     taken = set(module["netnames"])
     for cell in module["cells"].values():
         ports = cell["connections"]
         for bits in [tuple(ports[port]) for port in "AB" if cell["type"] == "$mux"]:
-            old, new = nets.get(bits), nets.get(tuple(ports["Y"]))
-            if bits in held and old and old[1] and new and not new[1] and f"{new[0]}.stored" not in taken:
-                taken.add(f"{new[0]}.stored")
-                yield old[0], f"{new[0]}.stored"
+            old, new = nets.get(bits), named.get(tuple(ports["Y"]))
+            if bits in held and old and old[1] and new and stored_name(new) not in taken:
+                taken.add(stored_name(new))
+                yield old[0], stored_name(new)
+
+
+def stored_name(name):
+    """The name of what a register holds whose value with the reset has this name: that of a bit is one of a bit, too."""
+    return INDEX.sub(f"{STORED}\\1", name, count=1)
+
+
+def all_names(name, known):
+    """All names of a register of this name, where these are known of signals."""
+    if STORED not in name:
+        return known.get(name, [name])
+    own = name.replace(STORED, "")
+    return list(map(stored_name, known.get(own, [own])))
 
 
 def free_names(module):

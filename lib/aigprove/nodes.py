@@ -6,9 +6,11 @@ from aigprove.plain import Gates, literals_of
 
 
 class Nodes:
-    """A circuit whose literals are those of 0, its inputs, its latches and its gates, in this order, each gate once."""
+    """A circuit whose literals are those of 0, its inputs, its latches and its gates, in this order, each gate once; by their places some
+    of its latches start like others."""
 
-    def __init__(self, circuit):
+    def __init__(self, circuit, alike={}):
+        self.alike = alike
         self.inputs = range(2, 2 * len(circuit.inputs) + 2, 2)
         self.latches = range(self.inputs.stop, self.inputs.stop + 2 * len(circuit.latches), 2)
         self.gates, self.resets = Gates(self.latches.stop), circuit.resets
@@ -23,6 +25,13 @@ class Nodes:
 
     def leaves(self):
         return [*self.inputs, *self.latches]
+
+    def first(self, values, every):
+        """The first values of the latches, by these of those that are open, in the runs of `every`; where this is 1 they may be literals."""
+        state = [every * reset if reset < 2 else value for reset, value in zip(self.resets, values)]
+        for place, partner in self.alike.items():
+            state[place] = state[partner]
+        return state
 
     def values(self, leaves, every, both=operator.and_):
         """The values of all literals, by those of inputs and latches, in the runs of `every`; where this is 1 they may be literals."""

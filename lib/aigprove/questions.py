@@ -1,5 +1,6 @@
 """Questions to a SAT solver about a file, whose answers go to aigcheck."""
 import collections
+import copy
 import os
 import subprocess
 
@@ -69,6 +70,12 @@ class Solver:
 
     def __init__(self, words, programs, judge, above, takes_turns=False):
         self.words, self.programs, self.judge, self.above, self.takes_turns = words, programs, judge, above, takes_turns
+
+    def within(self, seconds):
+        """The same one, of cadical, which ends after so many seconds."""
+        made = copy.copy(self)
+        made.words = [*self.words, "-t", str(seconds)]
+        return made
 
     def ask(self, question, file):
         """Whether a question has a solution, as it says, and the solution or the proof, which nobody has looked at. One that has none at

@@ -1,5 +1,7 @@
 """Engines side by side: the first checked answer wins."""
+import contextlib
 import functools
+import math
 import queue
 import re
 import sys
@@ -10,9 +12,9 @@ from aigprove import aiger, certificates, files, met, plain, witness
 from aigprove.engines import COMMANDS, Abc, Bounded, Certificate, Missing, Run, Steps, Windows
 from aigprove.endless import Endless
 from aigprove.evidence import Evidence
-from aigprove.minimal import minimal, simulated
+from aigprove.minimal import SMALL, minimal, simulated
 from aigprove.programs import Fault, Sealed, Stopped, reason, say, tell
-from aigprove.questions import Solver
+from aigprove.questions import Question, Solver
 from aigprove.registers import Registers
 from aigprove.replay import SIMULATED
 from aigprove.rounds import Rounds
@@ -23,9 +25,9 @@ SAFE, UNSAFE, OPEN, FAILED = 20, 10, 0, 1
 REPORTED = {SAFE: 0, UNSAFE: 1, OPEN: 2}
 # Seconds between two looks at turns, limits and the clock.
 TICK = 0.1
-# How many seconds values that don't matter are looked for in a run; how many gates in all steps a run has at most whose trials are simulated
-# here, many at once; and of how many properties that a run shows.
-SECONDS, SMALL, SHOWN = 1, 1 << 18, 8
+# How many seconds values that don't matter are looked for in a run, and of how many properties that it shows; and how many cadical has for
+# what is so where registers start alike.
+SECONDS, SHOWN, ALIKE = 1, 8, 5
 
 
 def header_of(file):
@@ -270,11 +272,26 @@ class Race:
             files.write(words.witness, [self.source.of_file(told).text().encode()])
         if words.vcd:
             files.write(words.vcd, (f"{line}\n".encode() for line in self.source.dump(circuit, told)))
+        self.print_alike(len(told.steps) - 1)
         return UNSAFE
+
+    def print_alike(self, k):
+        """Prints that nothing differs at a step where registers start alike, and how to ask so, where that is soon shown."""
+        seconds = math.floor(min(ALIKE, self.deadline - time.monotonic()))
+        if seconds <= 0 or not self.words.is_cadical or self.words.quiet or self.words.aiger:
+            return
+        question = Question("query", k)
+        with contextlib.suppress(Fault):
+            if alike := self.source.alike():
+                has_solution, given = self.needs_solver().within(seconds).ask(question, alike.asked)
+                claim = alike.unsolvable(question, given)
+                if not has_solution and self.judge.shows(claim):
+                    self.print_claim(claim)
+                    self.print_line(f"--starts {alike.starts.way} compares so")
 
     def print_open(self):
         """Prints up to which step all were shown, unless that was the last line."""
-        line = f"{self.source.so_far} up to step {self.steps - 1}" if self.steps else "nothing was shown"
+        line = self.source.up_to(self.steps - 1) if self.steps else "nothing was shown"
         if line != self.last or self.words.quiet:
             self.print_line(line, True)
         return OPEN
@@ -347,7 +364,7 @@ class Race:
             status = FAILED if len(self.faults) == len(engines) else self.print_open()
         if status != SAFE:
             self.tell_no_certificate("the answer is a run" if status == UNSAFE else "there is no answer")
-        if status == SAFE and self.header.constraints:
+        if status == SAFE and self.source.assumed(self.header):
             status = SAFE if self.print_met() else OPEN
         if status == SAFE and self.source.is_fair():
             status = SAFE if self.print_endless() else OPEN

@@ -6,24 +6,27 @@ import random
 from aigprove.classes import Classes, Different
 from aigprove.engines import Asking, Certificate, Missing
 from aigprove.nodes import Nodes
+from aigprove.pair import Pair
 from aigprove.plain import Gates
 from aigprove.programs import Fault, Sealed, say
 from aigprove.questions import Undecided
-from aigprove.source import OTHER, Pair
 from aigprove.turns import Turns
 
+# How aigedit begins the names of latches of the other file.
+OTHER = b"other."
 # How many seconds of cadical's are few: so many, and one for so many gates.
 LEAST, QUICK = 1, 3000
 # For how many steps nodes are looked at ahead of those that there are.
 AHEAD = (0, 2)
 
 
-def partners(circuit, count):
-    """The latch of the second file, by its place, that is to be a latch of the first: of the same name, or else at the same place."""
+def partners(circuit, count, others, alike):
+    """Of two files with so many latches: the latch of the second, by its place, that is to be a latch of the first: one that starts like
+    it, or has the same name, or else is at the same place."""
     names = {circuit.names.get(("l", i)): i for i in range(len(circuit.latches))}
     named = {i: names.get(OTHER + circuit.names[("l", i)]) for i in range(count) if ("l", i) in circuit.names}
-    is_alike = len(circuit.latches) == 2 * count
-    return {i: named.get(i) or (i + count if is_alike else None) for i in range(count)}
+    starting = {partner: place for place, partner in alike.items()}
+    return {i: starting.get(i) or named.get(i) or (i + count if others == count else None) for i in range(count)}
 
 
 def paired(classes, other):
@@ -118,14 +121,13 @@ class Steps:
     def keep_first(self):
         """Splits classes until first states have them."""
         nodes, classes = self.nodes, self.classes
-        state = [reset if reset < 2 else latch for reset, latch in zip(nodes.resets, nodes.latches)]
+        state = nodes.first(nodes.latches, 1)
         gates = Gates(nodes.latches.stop)
         known = nodes.values([*nodes.inputs, *state], 1, gates.both)
         facts = [(known[it], 1) for it in nodes.constraints]
         while found := self.solver.differing(gates, facts, [(known[left], known[right]) for left, right in classes.pairs()]):
             values = classes.beside([literal >> 1 in found[1] for literal in nodes.leaves()])
-            fixed = zip(nodes.resets, values[len(nodes.inputs):])
-            state = [classes.every * reset if reset < 2 else value for reset, value in fixed]
+            state = nodes.first(values[len(nodes.inputs):], classes.every)
             self.follow([*values[:len(nodes.inputs)], *state], classes.every)
 
     def keep_next(self):
@@ -210,15 +212,15 @@ class Registers(Asking):
 
     def guesses(self):
         """What may be equal: registers and their partners, others, and other nodes, also in steps ahead."""
-        circuit = self.race.circuit
-        nodes, rng = Nodes(circuit), random.Random(0)
+        circuit, alike = self.race.circuit, self.source.started()
+        nodes, rng = Nodes(circuit, alike), random.Random(0)
         latches = Classes(nodes, rng).begin([0, *nodes.latches])
-        given = partners(circuit, self.source.first.header().latches)
+        given = partners(circuit, *(it.header().latches for it in [self.source.first, self.source.other]), alike)
         other = {nodes.latches[i]: nodes.latches[it] for i, it in given.items() if it is not None}
         yield nodes, States(paired(latches, other), self.solver)
         yield nodes, States(latches, self.solver)
         for steps in AHEAD:
-            nodes = Nodes(circuit)
+            nodes = Nodes(circuit, alike)
             for _ in range(steps):
                 nodes.look_ahead()
             yield nodes, Steps(Classes(nodes, rng).begin(nodes.all()), self.solver)

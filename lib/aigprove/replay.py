@@ -3,6 +3,7 @@ import collections
 import re
 
 from aigprove import simulation
+from aigprove.netlist import STORED
 from aigprove.programs import Fault
 from aigprove.shown import number, word
 
@@ -98,6 +99,11 @@ class Module:
         return list(found.values())
 
 
+def read_as(name):
+    """The name with which a signal is read in the design, also of what a register, or a bit of one, holds beside that."""
+    return BIT.sub(r"\1", name).removesuffix(STORED) if STORED in name else name
+
+
 class Replay:
     """What yosys finds where it runs a witness on a design."""
 
@@ -114,7 +120,7 @@ class Replay:
         inputs = {BIT.sub(r"\1", circuit.name("i", i).decode("utf-8", "replace")) for i in range(len(circuit.inputs))}
         # What a register holds beside its name in the design is another's value in the step before.
         names = list(dict.fromkeys(it.name for it in reads))
-        seen = [name for name in names if name not in inputs and name.removesuffix(".stored") not in set(names) - {name}]
+        seen = [name for name in names if name not in inputs and read_as(name) not in set(names) - {name}]
         self.values = values_of(self.dump, {*names, *words.values()})
         self.latches = {int(place[1:]) for place, name in words.items() if name in names}
         at_first = {words[f"l{i}"] for i in self.latches}

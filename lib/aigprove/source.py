@@ -7,21 +7,17 @@ from aigprove import aiger, simulation, waves
 from aigprove.aiger import Header, Lines
 from aigprove.files import sealed
 from aigprove.judge import Claim
-from aigprove.misfit import misfit
+from aigprove.netlist import all_names
 from aigprove.programs import Fault, say
 from aigprove.replay import SIMULATED, Replay
 from aigprove.report import Answer
-from aigprove.shown import Shown, word
+from aigprove.shown import word
 from aigprove.verilog import BLIF, COVER, FRONTS, LIVE, STANDARD_INPUT, VERILOG, Design, File, kind_of
 # Options that are for designs alone, or for those that certain front ends read.
 OF_DESIGNS = {
     **dict.fromkeys(["top", "reset", "parameter", "black_box", "multiclock"]),
     **dict.fromkeys(["define", "include"], [VERILOG]),
 }
-# How aigedit begins the names of latches of the other file.
-OTHER = b"other."
-# How many outputs that differ are named.
-NAMED = 100
 # How many registers that are open at first are named.
 NAMED_OPEN = 8
 # By the command of a question: what aigcheck prints where that has no solution, and by which words.
@@ -36,7 +32,7 @@ class Given:
     """A file in AIGER form as it was given, and its name among what is kept; of the files of a design one is made first."""
 
     def __init__(self, paths, words, above, judge, name="file", given=None):
-        self.path, self.design, self.judge = paths[0], None, judge
+        self.path, self.design, self.judge, self.stem = paths[0], None, judge, name
         # What was read before is given.
         self.given = given or [sealed("/dev/stdin" if path == STANDARD_INPUT else path, judge.limit) for path in paths]
         self.kinds = [kind_of(path, file.line()) for path, file in zip(paths, self.given)]
@@ -48,10 +44,12 @@ class Given:
         for kind, line in self.design.left_out if self.design and not words.quiet else []:
             if kind not in words.later:
                 say(line)
-        self.file = sealed(self.design.file, judge.limit) if self.design else self.given[0]
-        self.line = self.file.line()
-        self.suffix = "aag" if self.line.startswith(b"aag") else "aig"
-        self.name = f"{name}.{self.suffix}"
+        self.take(sealed(self.design.file, judge.limit) if self.design else self.given[0])
+
+    def take(self, file):
+        """Takes the file in AIGER form."""
+        self.file, self.line = file, file.line()
+        self.name = f"{self.stem}.{'aag' if self.line.startswith(b'aag') else 'aig'}"
 
     def check_kinds(self, paths, words):
         """Refuses a file among several that is of no design, and what is for designs alone."""
@@ -73,6 +71,16 @@ class Given:
         if self.design:
             circuit.names = {place: outermost(name) for place, name in circuit.names.items()}
         return circuit
+
+    def named(self):
+        """The circuit of a design with the names of its assertions, and all names of its registers, by their places."""
+        circuit, known = self.judge.circuit(self.file, "FILE"), self.design.aliases
+        told = {place[1]: name.decode("utf-8", "surrogateescape") for place, name in circuit.names.items() if place[0] == "l"}
+        names = {place: [it for own in name.split(" ") for it in all_names(own, known)] for place, name in told.items()}
+        circuit.names = {place: outermost(name) for place, name in circuit.names.items() if place[0] != "l"}
+        named = enumerate(self.design.assertions)
+        circuit.names.update((("b", i), name.encode("utf-8", "surrogateescape")) for i, (name, _, is_named) in named if is_named)
+        return circuit, names
 
     def warnings(self):
         """A line of what the file has that nothing is asked about."""
@@ -123,6 +131,18 @@ class Asked:
         """That none is reached at all, by a certificate and proofs about both, by their names."""
         files = {"certificate": certificate, **proofs}
         return self.claim("no bad state at any step", "certified", files, files)
+
+    def up_to(self, k):
+        """The line of what was shown of the steps up to one."""
+        return f"{self.so_far} up to step {k}"
+
+    def assumed(self, header):
+        """How many constraints there are that runs may not meet, where the file has this header."""
+        return header.constraints
+
+    def alike(self):
+        """The same with registers that start alike, where that may make an answer another one; else None."""
+        return None
 
     def run(self, told, data):
         return self.claim(f"b{told.bad} at step {len(told.steps) - 1}", "run", ["witness"], {"witness": data})
@@ -265,109 +285,6 @@ class Covers(Source):
 def of_kind(kind, words, first):
     """The words that ask about what a design has of a kind, where the first question told what isn't asked about."""
     return argparse.Namespace(**{**vars(words), "quiet": True, "kind": kind, "top": first.design.top})
-
-
-class Pair(Asked):
-    """Two files, whose outputs and bad states are compared: their miter is asked about."""
-
-    name, prefix, safe, so_far, empty = "miter.aag", "miter: ", "equal at every step", "equal", "no output and no bad state property"
-    can_be_simulated = False
-
-    def __init__(self, words, above, judge):
-        self.judge, self.path = judge, f"{words.files[0]} and {words.equal}"
-        self.first = Given(words.files, words, above, judge)
-        self.other = Given([words.equal], argparse.Namespace(**{**vars(words), **of_first(words)}), above, judge, "other")
-        try:
-            self.asked = judge.made("miter", self.first.file, self.other.file)
-        except Fault as why:
-            if not str(why).startswith("aigedit: files do not fit: "):
-                raise
-            raise Fault(misfit([words.files[0], words.equal], [self.first.circuit(), self.other.circuit()])) from None
-
-    def unsolvable(self, question, proof):
-        """That a question has no solution: of a step, that both are equal there."""
-        if question.command != "query":
-            return super().unsolvable(question, proof)
-        return self.compares(f"equal at step {question.k}", [str(question.k), question.name], {question.name: proof})
-
-    def proved(self, question, base, window, step):
-        """That both are equal at every step, by proofs about the miter: of the steps up to K and of a window."""
-        words = ["to", str(question.k), question.name, window.name, *window.form]
-        return self.compares(self.safe, words, {question.name: base, window.name: step})
-
-    def certified(self, certificate, proofs):
-        """That both are equal at every step, by a certificate of the miter and proofs about both."""
-        files = {"certificate": certificate, **proofs}
-        return self.compares(self.safe, ["by", *files], files)
-
-    def compares(self, line, words, proofs):
-        """What aigcheck says of both files."""
-        files = {self.first.name: self.first.file, self.other.name: self.other.file, **proofs}
-        return Claim(line, ["equal", self.first.name, self.other.name, *words], files)
-
-    def compared(self):
-        """The letter and the position of what each bad state property of the miter compares: outputs, and then bad state properties."""
-        header = self.first.header()
-        return [("o", i) for i in range(header.outputs)] + [("b", i) for i in range(header.bads)]
-
-    def circuit(self):
-        """The circuit of the miter, whose bad state properties have the names of what they compare."""
-        circuit, first = self.judge.circuit(self.asked, "MITER"), self.first.circuit()
-        circuit.names = {place: self.outermost(name) for place, name in circuit.names.items()}
-        circuit.names.update((("b", i), first.name(*place)) for i, place in enumerate(self.compared()))
-        return circuit
-
-    def outermost(self, name):
-        """Of the names of a signal of a design the outermost, behind what says that it is one of the other file."""
-        is_other = name.startswith(OTHER)
-        prefix = OTHER if is_other else b""
-        return prefix + outermost(name[len(prefix):]) if (self.other if is_other else self.first).design else name
-
-    def warnings(self):
-        """Lines of what isn't compared."""
-        yield from self.first.warnings()
-        yield from self.other.warnings()
-        first, other = (it.header().constraints for it in [self.first, self.other])
-        if first or other:
-            yield f"{self.path} have {first} and {other} constraints: only runs that both files allow are compared"
-
-    def about(self):
-        """Lines of what isn't seen: what is asked about designs, and the names of an input in both files."""
-        yield from self.first.about()
-        yield from self.other.about()
-        first, other = self.first.circuit().names, self.other.circuit().names
-        for place in sorted(first.keys() & other.keys()):
-            if place[0] == "i" and first[place] != other[place]:
-                names = (word(it[place].decode("utf-8", "surrogateescape")) for it in (first, other))
-                yield f"inputs are matched by position: i{place[1]} is {' and '.join(names)}"
-
-    def others(self, circuit, told):
-        """Witnesses of what else differs at the end of a run, or may where it is long."""
-        if len(told.steps) * len(circuit.gates) > SIMULATED:
-            differing = range(len(circuit.bads))
-        else:
-            *_, values = simulation.run(circuit, told.start, told.steps)
-            differing = [bad for bad, literal in enumerate(circuit.bads) if values[literal] == "1"]
-        return [told._replace(bad=bad) for bad in differing[:NAMED] if bad != told.bad]
-
-    def found(self, shown, tolds):
-        """The line that says what differs in a run."""
-        shown, compared = Shown(self.first.circuit()), self.compared()
-        names = [shown.place(*compared[bad]) for bad in sorted(told.bad for told in tolds)]
-        return f"a difference at step {len(tolds[0].steps) - 1}: {', '.join(names)}"
-
-    def keep(self, evidence):
-        self.first.keep(evidence)
-        self.other.keep(evidence)
-        evidence.makes(self.name, self.asked, "miter", self.first.name, self.other.name)
-
-
-def of_first(words):
-    """What is of FILE alone where another file is compared with it: its top module, parameters and boxes, and all else where the other is
-    no design."""
-    alone = {"top": None, "parameter": [], "black_box": []}
-    is_design = kind_of(words.equal, b"")
-    return {**alone, **({} if is_design else {"reset": None, "multiclock": False, "define": [], "include": []})}
 
 
 def changes_of(shown, circuit, told, read):

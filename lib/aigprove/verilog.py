@@ -7,7 +7,7 @@ import functools
 import os
 import re
 
-from aigprove.netlist import cells_like, cells_of, check_drivers, clock_of, constants, free_names, item_of_x, opened, reached
+from aigprove.netlist import aliases, cells_like, cells_of, check_drivers, clock_of, constants, free_names, item_of_x, opened, reached
 from aigprove.netlist import base_of, modules_of, roots_of, stored
 from aigprove.programs import Fault, escaped, plain
 from aigprove.replay import Module
@@ -50,6 +50,7 @@ opt -fine -noff -keepdc
 setattr -unset hdlname w:*
 setattr -set outer 1 w:* w:*.* %d
 write_rtlil {made}/whole.il
+{named}
 opt_clean -purge
 setundef -undriven -undef
 delete t:$anyseq
@@ -233,7 +234,12 @@ class Design:
             fronts.insert(0, VERILOG.format(file=f"{made}/defines.v", include=""))
         # A box whose outputs are free is an empty module.
         fronts += [f"setattr -mod -unset blackbox ={name}" for name in self.words.black_box]
-        return (READ + further).format(fronts="\n".join(fronts), made=made, top=top, edges=self.edges(made), chosen=self.chosen(made))
+        return (READ + further).format(fronts="\n".join(fronts), top=top, **self.changing(made))
+
+    def changing(self, made):
+        """Words of the script that frees what is open, where our folder is `made`; of a design that is compared all names are written."""
+        named = f"write_json {made}/whole.json" if self.words.equal else ""
+        return {"made": made, "edges": self.edges(made), "chosen": self.chosen(made), "named": named}
 
     def chosen(self, made):
         """The lines that leave out what isn't asked about, where our folder is `made`."""
@@ -308,7 +314,7 @@ class Design:
         """Makes inputs of what is free, where that isn't done, and gives the name of the top module and what it has."""
         self.check_reset(*self.top_of("drawn.json"))
         if not self.is_free:
-            self.yosys.run(AGAIN, made=".", edges=self.edges("."), chosen=self.chosen("."))
+            self.yosys.run(AGAIN, **self.changing("."))
         check_drivers(*self.top_of("drawn.json"))
         top, module = self.top_of("free.json")
         if not WORD.fullmatch(top):
@@ -324,7 +330,9 @@ class Design:
         self.check_reset(self.top, module, self.clock and self.clock[0])
         reset = "" if self.words.multiclock else self.resetting(".", LATE)
         clock = f"delete w:{self.clock[0]}\nopt_clean -purge" if self.clock else ""
-        self.renames = "\n".join(f"rename {old} {new}" for old, new in [*stored(module), *free_names(module)])
+        names, given = dict(free_names(module)), self.top_of("drawn.json")[1]["ports"]
+        self.left_open = [names.get(port, port) for port in module["ports"] if port not in given]
+        self.renames = "\n".join(f"rename {old} {new}" for old, new in [*stored(module), *names.items()])
         words = {"top": self.top, "renames": self.renames, "clock": clock, "reset": reset, "spare": self.spare()}
         # A small design is made ready to be simulated in the same run, where yosys can: another one's start takes longer.
         self.is_replayed = len(self.yosys.text("whole.il")) <= SMALL and self.is_run(WRITE + "design -reset\n" + REPLAY, words)
@@ -352,6 +360,11 @@ class Design:
     def resetting(self, made, late):
         """The lines that use these cells, if there is a reset, in the folder where ours is so called."""
         return RESET.format(signal=self.reset.signal, made=made, late=late) if self.reset else ""
+
+    @functools.cached_property
+    def aliases(self):
+        """All names that the design has for a signal, by each of them."""
+        return aliases(self.top_of("whole.json")[1])
 
     def about(self):
         """The line of what is asked about."""

@@ -1,0 +1,191 @@
+"""Two files that are compared: their miter, which aigedit makes, is asked about."""
+import argparse
+import copy
+
+from aigprove import matched, simulation
+from aigprove.judge import Claim
+from aigprove.matched import APART, BY_NAME, Starts
+from aigprove.minimal import SMALL, simulated
+from aigprove.misfit import misfit
+from aigprove.programs import Fault, Sealed
+from aigprove.replay import SIMULATED
+from aigprove.shown import Shown, word
+from aigprove.source import Asked, Given
+from aigprove.verilog import kind_of
+
+# How many outputs that differ are named, and how many seconds first values are looked for that matter.
+NAMED, SECONDS = 100, 1
+# How many values that both designs leave open are named.
+NAMED_FREE = 10
+
+
+class Pair(Asked):
+    """Two files, whose outputs and bad states are compared: their miter is asked about."""
+
+    name, prefix, so_far, empty = "miter.aag", "miter: ", "equal", "no output and no bad state property"
+    can_be_simulated = False
+
+    def __init__(self, words, above, judge):
+        self.judge, self.paths = judge, [words.files[0], words.equal]
+        self.path = " and ".join(self.paths)
+        self.first = Given(words.files, words, above, judge)
+        self.other = Given([words.equal], argparse.Namespace(**{**vars(words), **of_first(words)}), above, judge, "other")
+        designs = [it for it in [self.first, self.other] if it.design]
+        for given, circuit in zip(designs, self.arranged([it.named() for it in designs])):
+            given.take(Sealed(circuit.text()))
+        self.begin(words.starts or (BY_NAME if len(designs) == 2 else APART))
+
+    def arranged(self, designs):
+        """The circuits of designs, of which all names of registers are given, too, with those by which registers are matched; of two the
+        second's signals are in the order of the first's."""
+        names = matched.chosen([own for _, own in designs])
+        circuits = [matched.with_registers(circuit, own) for (circuit, _), own in zip(designs, names)]
+        orders = matched.orders(*circuits) if len(circuits) == 2 else {}
+        if unlike := [letter for letter, places in orders.items() if places is None]:
+            raise Fault(misfit(self.paths, circuits, unlike))
+        return [*circuits[:1], *(matched.arranged(circuit, orders) for circuit in circuits[1:])]
+
+    def begin(self, way):
+        """Makes the miter, with registers of open start that begin so."""
+        try:
+            self.asked = self.judge.made(f"miter{matched.SUFFIXES[way]}", self.first.file, self.other.file)
+        except Fault as why:
+            if not str(why).startswith("aigedit: files do not fit: "):
+                raise
+            raise Fault(misfit(self.paths, self.circuits())) from None
+        circuits = [] if way == APART else self.circuits()
+        self.alone = list(matched.alone(way, self.paths, *circuits)) if circuits else []
+        self.starts = Starts(way, *circuits)
+        self.safe = "equal at every step" + self.starts.said
+
+    def circuits(self):
+        return [self.first.circuit(), self.other.circuit()]
+
+    def alike(self):
+        """The same pair with registers that start alike, where these don't, and there are some."""
+        if self.starts.partners:
+            return None
+        made, circuits = copy.copy(self), self.circuits()
+        if all(map(matched.opened, circuits)):
+            made.begin(matched.way_by_names(circuits))
+        return made if made.starts.partners else None
+
+    def up_to(self, k):
+        return super().up_to(k) + self.starts.said
+
+    def assumed(self, header):
+        """Those of both files: registers can always start alike."""
+        return sum(it.header().constraints for it in [self.first, self.other])
+
+    def unsolvable(self, question, proof):
+        """That a question has no solution: of a step, that both are equal there."""
+        if question.command != "query":
+            return super().unsolvable(question, proof)
+        line = f"equal at step {question.k}{self.starts.said}"
+        return self.compares(line, [str(question.k), question.name], {question.name: proof})
+
+    def proved(self, question, base, window, step):
+        """That both are equal at every step, by proofs about the miter: of the steps up to K and of a window."""
+        words = ["to", str(question.k), question.name, window.name, *window.form]
+        return self.compares(self.safe, words, {question.name: base, window.name: step})
+
+    def certified(self, certificate, proofs):
+        """That both are equal at every step, by a certificate of the miter and proofs about both."""
+        files = {"certificate": certificate, **proofs}
+        return self.compares(self.safe, ["by", *files], files)
+
+    def started(self):
+        """The latch of the miter, by its place, that each one starts like which does so."""
+        count = self.first.header().latches
+        return {count + i: partner for i, partner in self.starts.partners.items()}
+
+    def compares(self, line, words, proofs):
+        """What aigcheck says of both files."""
+        files = {self.first.name: self.first.file, self.other.name: self.other.file, **proofs}
+        return Claim(line, [f"equal{self.starts.suffix}", self.first.name, self.other.name, *words], files)
+
+    def compared(self):
+        """The letter and the position of what each bad state property of the miter compares: outputs, and then bad state properties."""
+        header = self.first.header()
+        return [("o", i) for i in range(header.outputs)] + [("b", i) for i in range(header.bads)]
+
+    def circuit(self):
+        """The circuit of the miter, whose bad state properties have the names of what they compare."""
+        circuit, first = self.judge.circuit(self.asked, "MITER"), self.first.circuit()
+        circuit.names.update((("b", i), first.name(*place)) for i, place in enumerate(self.compared()))
+        return circuit
+
+    def warnings(self):
+        """Lines of what isn't compared."""
+        yield from self.first.warnings()
+        yield from self.other.warnings()
+        first, other = (it.header().constraints for it in [self.first, self.other])
+        if first or other:
+            yield f"{self.path} have {first} and {other} constraints: only runs that both files allow are compared"
+
+    def about(self):
+        """Lines of what isn't seen: what is asked about designs, and the names of an input in both files."""
+        yield from self.first.about()
+        yield from self.other.about()
+        yield from self.alone
+        yield from self.same_free()
+        first, other = self.first.circuit().names, self.other.circuit().names
+        for place in sorted(first.keys() & other.keys()):
+            if place[0] == "i" and first[place] != other[place]:
+                names = (word(it[place].decode("utf-8", "surrogateescape")) for it in (first, other))
+                yield f"inputs are matched by position: i{place[1]} is {' and '.join(names)}"
+
+    def same_free(self):
+        """The line of values that both designs leave open, and that are inputs of one name."""
+        free = [dict.fromkeys(it.design.left_open) for it in [self.first, self.other] if it.design]
+        both = [word(name) for name in free[0] if name in free[1]] if len(free) == 2 else []
+        if both:
+            others = [f"and {len(both) - NAMED_FREE} others"] * (len(both) > NAMED_FREE)
+            yield f"both leave open, and have the same value for: {' '.join([*both[:NAMED_FREE], *others])}"
+
+    def others(self, circuit, told):
+        """Witnesses of what else differs at the end of a run, or may where it is long."""
+        if len(told.steps) * len(circuit.gates) > SIMULATED:
+            differing = range(len(circuit.bads))
+        else:
+            *_, values = simulation.run(circuit, told.start, told.steps)
+            differing = [bad for bad, literal in enumerate(circuit.bads) if values[literal] == "1"]
+        return [told._replace(bad=bad) for bad in differing[:NAMED] if bad != told.bad]
+
+    def found(self, shown, tolds):
+        """The line that says what differs in a run."""
+        shown, compared = Shown(self.first.circuit()), self.compared()
+        names = [shown.place(*compared[bad]) for bad in sorted(told.bad for told in tolds)]
+        return f"a difference at step {len(tolds[0].steps) - 1}{self.starts.said}: {', '.join(names)}"
+
+    def lines(self, shown, circuit, told):
+        """Lines of a run, without values that registers have only to start alike."""
+        yield from super().lines(shown, circuit, self.least(circuit, told))
+
+    def least(self, circuit, told):
+        """A run without the first values of registers that matter only as they start alike; of a short one simulations find that."""
+        if not self.starts.partners or len(told.steps) * len(circuit.gates) > SMALL:
+            return told
+        own, bads = copy.copy(circuit), [told.bad, *(it.bad for it in self.others(circuit, told))]
+        own.constraints = circuit.constraints[: self.assumed(circuit.header)]
+        found = simulated(own, told, matched.opened(circuit), bads, SECONDS)
+        start = list(found.start)
+        for place, partner in self.started().items():
+            start[partner] = start[partner] if start[place] == "x" else start[place]
+        return found._replace(start="".join(start))
+
+    def opened(self, circuit, told):
+        return super().opened(circuit, told) - self.started().keys()
+
+    def keep(self, evidence):
+        self.first.keep(evidence)
+        self.other.keep(evidence)
+        evidence.makes(self.name, self.asked, f"miter{self.starts.suffix}", self.first.name, self.other.name)
+
+
+def of_first(words):
+    """What is of FILE alone where another file is compared with it: its top module, parameters and boxes, and all else where the other is
+    no design."""
+    alone = {"top": None, "parameter": [], "black_box": []}
+    is_design = kind_of(words.equal, b"")
+    return {**alone, **({} if is_design else {"reset": None, "multiclock": False, "define": [], "include": []})}
