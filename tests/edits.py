@@ -140,7 +140,9 @@ class Batch:
                     shutil.copytree(self.folder / part, room / part)
             harness.write_files(room, {path: text.encode() for path, text in texts.items()})
             jobs = ["--jobs", "1" if self.kept.exists() else "2"]
-            words = [*self.crate.words(jobs, keeps=False), "--incremental", self.kept, *(f"--only={it}" for it in sorted(asked))]
+            # What is read for tests alone is checked with these.
+            words = self.crate.words(jobs, tests=self.crate.has_tests(), keeps=False)
+            words += ["--incremental", self.kept, *(f"--only={it}" for it in sorted(asked))]
             how = {"cwd": room, "stdin": subprocess.DEVNULL, "stderr": subprocess.STDOUT, "timeout": None}
             status, said, _ = harness.run([kit.rtlib().RATTLE, "check", *words], **how)
         self.rounds += 1
