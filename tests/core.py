@@ -25,16 +25,24 @@ ANSWER = "no bad state at any step"
 WORDS = ["-D", "FORMAL", "--top", "picorv32"]
 
 
-def fetched(folder):
-    """The text of the core, or None where it can't be had."""
+def sources(package, folder):
+    """The archive of the source package in Debian, which is put into a folder, or None where it can't be had."""
     (folder / "list").write_text(LIST.format(signed=f"[signed-by={KEYRING}] " if os.path.exists(KEYRING) else ""))
     (folder / "lists" / "partial").mkdir(parents=True)
     options = {"Dir::Etc::sourcelist": folder / "list", "Dir::Etc::sourceparts": "-", "Dir::State::lists": folder / "lists"}
     apt = ["apt-get", *(f"-o{name}={value}" for name, value in options.items())]
-    for words in [["update"], ["source", "--download-only", "nextpnr"]]:
+    for words in [["update"], ["source", "--download-only", package]]:
         if harness.run([*apt, *words], cwd=folder, timeout=300)[0] != 0:
             return None
-    with tarfile.open(next(folder.glob("*.orig.tar.gz"))) as archive:
+    return next(folder.glob("*.orig.tar.gz"))
+
+
+def fetched(folder):
+    """The text of the core, or None where it can't be had."""
+    path = sources("nextpnr", folder)
+    if path is None:
+        return None
+    with tarfile.open(path) as archive:
         member = next(it for it in archive.getmembers() if it.name.endswith(PLACE))
         return archive.extractfile(member).read().decode()
 

@@ -18,7 +18,6 @@ ABC's `dsec` on the same files. The tools are yosys, cadical and ABC."""
 import collections
 import itertools
 import json
-import os
 import pathlib
 import random
 import re
@@ -29,7 +28,7 @@ import tarfile
 import time
 
 import harness
-from core import KEYRING, LIST
+from core import sources
 from harness import PROVE, TOOL, numbers
 from trials import told
 
@@ -115,14 +114,10 @@ ANSWERS = {20: "equal", 10: "different", 0: "open", 1: "refused"}
 
 def fetched(folder):
     """Whether the folders of the source package are put into a folder, which they can't be where it can't be had."""
-    (folder / "list").write_text(LIST.format(signed=f"[signed-by={KEYRING}] " if os.path.exists(KEYRING) else ""))
-    (folder / "lists" / "partial").mkdir(parents=True)
-    options = {"Dir::Etc::sourcelist": folder / "list", "Dir::Etc::sourceparts": "-", "Dir::State::lists": folder / "lists"}
-    apt = ["apt-get", *(f"-o{name}={value}" for name, value in options.items())]
-    for words in [["update"], ["source", "--download-only", "yosys"]]:
-        if harness.run([*apt, *words], cwd=folder, timeout=300)[0] != 0:
-            return False
-    with tarfile.open(next(folder.glob("*.orig.tar.gz"))) as archive:
+    path = sources("yosys", folder)
+    if path is None:
+        return False
+    with tarfile.open(path) as archive:
         for member in archive.getmembers():
             path = member.name.partition("/")[2]
             if member.isfile() and path.startswith(tuple(f"{it}/" for it in FOLDERS)):
