@@ -22,6 +22,8 @@ ABOUT = {
 }
 ITEM = re.compile(r"^- `(aig\w+) ([^`]*)`: (.*)$", re.MULTILINE)
 STATUSES = "0: it was printed, written or shown. 1: a refusal, a failure, or nothing shown. 2: wrong words."
+CONSTRAINTS = "Before the name of any miter or equal --constraints first says that runs meet the constraints of FILE alone, and --constraints " \
+    "compared that it is compared, too, whether both files meet theirs."
 FILES = "FILE is in AIGER form, text or binary; K is a number of steps, and PROOF is in LRAT or DRAT. docs/COMMANDS.md of the repository " \
     "describes files of the other forms."
 
@@ -43,7 +45,8 @@ def item(words, what):
 def of_lists(program, text):
     """The page of a program whose commands stand in the lists of a text."""
     items = [(words, what) for name, words, what in ITEM.findall(text) if name == program]
-    lines = [*head(program), f".B {program}", ".I COMMAND FILE ..", ".SH DESCRIPTION", plain(FILES), ".SH COMMANDS"]
+    about = [FILES, *[CONSTRAINTS] * any("--constraints" in words for words, _ in items)]
+    lines = [*head(program), f".B {program}", ".I COMMAND FILE ..", ".SH DESCRIPTION", plain(" ".join(about)), ".SH COMMANDS"]
     lines += [line for words, what in items for line in item(words, f"Prints {what}.")]
     return [*lines, ".SH EXIT STATUS", plain(STATUSES)]
 
@@ -53,8 +56,8 @@ def of_parser():
     made, options = command.parser(), []
     for action in made._actions:
         if action.help != argparse.SUPPRESS:
-            names = ", ".join(action.option_strings) or action.metavar
-            options += item(f"{names} {action.metavar}" if action.option_strings and action.metavar else names, action.help)
+            names, value = ", ".join(action.option_strings) or action.metavar, action.metavar or "|".join(action.choices or [])
+            options += item(f"{names} {value}" if action.option_strings and value else names, action.help)
     about = re.sub(r"\n  (\w+(?:, \w+)*) +(.*)", r"\n.br\n.B \1\n\2", plain(command.ABOUT)).replace("\nAn engine", "\n.br\nAn engine")
     about = about.replace("\n\n", "\n.PP\n")
     return [*head("aigprove"), ".B aigprove", ".I FILE .. [TOP] [OPTION ..]", ".SH DESCRIPTION", about.strip(), ".SH OPTIONS", *options,

@@ -135,6 +135,26 @@ class Machine:
         return values[self.bads[witness.bad]]
 
 
+def starting(first, other, partners=()):
+    """The pairs of first states of two machines, in which registers at these pairs of places are alike."""
+    pairs = itertools.product(first.starts(), other.starts())
+    return {(state, beside) for state, beside in pairs if all(state[i] == beside[j] for i, j in partners)}
+
+
+def step(first, other, pairs, setting):
+    """Whether two machines differ in a step from these states, and the next states. By the setting both meet their constraints, or the
+    first does, or it is compared whether both do, and all else where they do."""
+    compared, found, after = list(zip([*first.outputs, *first.bads], [*other.outputs, *other.bads], strict=True)), [], set()
+    for (state, beside), inputs in itertools.product(pairs, itertools.product([False, True], repeat=len(first.inputs))):
+        ours, theirs = first.values(state, inputs), other.values(beside, inputs)
+        is_met = first.is_allowed(ours), setting == "first" or other.is_allowed(theirs)
+        if all(is_met):
+            found += [ours[one] != theirs[two] for one, two in compared]
+            after.add((first.following(ours), other.following(theirs)))
+        found.append(setting == "compared" and is_met[0] != is_met[1])
+    return any(found), after
+
+
 class Gates(list):
     """Gates over so many leaves, whose literals are 2, 4 and so on, in the order in which they are made."""
 

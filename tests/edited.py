@@ -2,7 +2,7 @@
 """Compares the machines of files that aigedit prints with those of the files that it reads: edited.py [--aigedit PATH] [FILES [SEED]]
 
 For the examples and for FILES (300) random files a search over all states says at which of the first steps a bad state or a true
-output is reached by a run that meets the constraints. What is printed is read by tests/aiger.py, and has to reach bad states at the
+output is reached by a run that meets the constraints, and at which two files differ, as constraints are taken. What is printed is read by tests/aiger.py, and has to reach bad states at the
 steps that the command says. The files are small, so that the search is over all runs.
 """
 import dataclasses
@@ -10,7 +10,7 @@ import random
 import sys
 
 import harness
-from aiger import machine_of
+from aiger import machine_of, starting, step
 from machines import small_machine
 
 EXAMPLES = sorted((harness.TOP / "examples").glob("*.aag"))
@@ -121,15 +121,40 @@ class Edits:
         wanted = reached(machine, machine.bads) & runs[1] | runs[0] & reached(other, other.bads)
         self.compare("merge", wanted, reached(made, made.bads))
 
-    def check(self, machine, other):
-        """Checks each command on a file, and the one that merges it with another."""
+    def check_miters(self, machine, other):
+        """Checks the miters of two machines of the same counts."""
+        for setting in ["both", "first", "compared"]:
+            made = self.edited(*["--constraints", setting] * (setting != "both"), "miter", "file", "beside")
+            wanted, pairs = set(), starting(machine, other)
+            for k in range(LAST + 1):
+                is_different, pairs = step(machine, other, pairs, setting)
+                wanted |= {k} if is_different else set()
+            self.compare(f"{other.text()}constraints {setting}", wanted, reached(made, made.bads))
+
+    def check(self, machine, other, beside):
+        """Checks each command on a file, the one that merges it with another, and those that compare it with one of the same counts."""
         (self.folder / "file").write_text(machine.text())
         (self.folder / "other").write_text(other.text())
+        (self.folder / "beside").write_text(beside.text())
         for check in [self.check_alike, self.check_steps, self.check_outputs, self.check_bads, self.check_counts]:
             with self.tally.test(check.__name__):
                 check(machine)
         with self.tally.test("check_merge"):
             self.check_merge(machine, other)
+        with self.tally.test("check_miters"):
+            self.check_miters(machine, beside)
+
+
+def like(rng, machine):
+    """A small machine of as many inputs, outputs and bad literals, or the same one, perhaps with other constraints."""
+    if rng.random() < 0.5:
+        own = machine.constraints
+        return dataclasses.replace(machine, constraints=rng.choice([own, own[1:], [*own, *machine.outputs[:1]], machine.bads]))
+    made = small_machine(rng, (len(machine.inputs), 3, 6))
+    while len(made.inputs) != len(machine.inputs):
+        made = small_machine(rng, (len(machine.inputs), 3, 6))
+    some = lambda literals: [rng.randrange(made.gates.end()) for _ in literals]
+    return dataclasses.replace(made, outputs=some(machine.outputs), bads=some(machine.bads))
 
 
 def main():
@@ -140,9 +165,10 @@ def main():
         for path in EXAMPLES:
             machine = machine_of(path.read_text().split("\nc\n")[0])
             if len(machine.inputs) + len(machine.latches) <= 6:
-                edits.check(machine, small_machine(rng))
+                edits.check(machine, small_machine(rng), like(rng, machine))
         for _ in range(given.files):
-            edits.check(small_machine(rng), small_machine(rng))
+            machine = small_machine(rng)
+            edits.check(machine, small_machine(rng), like(rng, machine))
     return tally.end()
 
 

@@ -25,16 +25,19 @@ USAGE = {
     "aigtool": b"usage: aigtool text FILE, binary FILE OUT, strash FILE, cnf FILE K [raw], query FILE K [raw]\n",
     "aigedit": b"usage: aigedit [--limit N] refine FILE, reencode FILE, unroll FILE K, move FILE, compress FILE, bads FILE, "
     b"property FILE N, possible FILE, reduce FILE, cone FILE N, question FILE K, live FILE J, rounds FILE J N, info FILE, "
-    b"miter FILE OTHER, miter-alike-by-order FILE OTHER, miter-alike-by-name FILE OTHER, join FILE CERT, merge FILE OTHER\n",
+    b"[--constraints first|compared] miter FILE OTHER, [--constraints first|compared] miter-alike-by-order FILE OTHER, "
+    b"[--constraints first|compared] miter-alike-by-name FILE OTHER, join FILE CERT, merge FILE OTHER\n",
     "aigcheck": b"usage: aigcheck [--limit N] [--justice J [--rounds N]] clauses FILE K [raw], window FILE K [distinct] [raw], "
     b"refuted FILE K PROOF [raw], "
     b"inductive FILE K PROOF [distinct] [raw], witness FILE K SOLUTION [raw], run FILE WITNESS, "
-    b"certified FILE CERT BASE STEP [raw], equal FILE OTHER K PROOF [raw], obligations FILE CERT [raw], "
+    b"certified FILE CERT BASE STEP [raw], [--constraints first|compared] equal FILE OTHER K PROOF [raw], "
+    b"obligations FILE CERT [raw], "
     b"bounded FILE K [raw], refuted FILE to K PROOF [raw], witness FILE to K SOLUTION [raw], "
     b"safe FILE to K BASE STEP [distinct] [raw | raw-base | raw-step], "
     b"safe FILE each K P0 .. PK STEP [distinct] [raw | raw-base | raw-step], "
-    b"equal FILE OTHER to K BASE STEP [distinct] [raw | raw-base | raw-step], "
-    b"equal FILE OTHER by CERT BASE STEP [raw], equal-alike-by-order and equal-alike-by-name as equal, "
+    b"[--constraints first|compared] equal FILE OTHER to K BASE STEP [distinct] [raw | raw-base | raw-step], "
+    b"[--constraints first|compared] equal FILE OTHER by CERT BASE STEP [raw], "
+    b"equal-alike-by-order and equal-alike-by-name as equal, "
     b"certified FILE WITNESS RESET TRANSITION PROPERTY BASE STEP [raw], obligations FILE WITNESS CONDITION [raw]\n",
 }
 TOOL, EDIT, CHECK = (str(TOP / "crates" / name / "out" / name) for name in ["aigtool", "aigedit", "aigcheck"])

@@ -14,6 +14,9 @@ gate more. Where those that are matched by order or by name start alike, the sea
 `aigedit miter-alike-by-order`, `aigcheck equal-alike-by-order`, those by name, and `aigprove --starts`. Where that leaves them apart, it
 says exactly at a step that differs by that alone that it is equal with registers alike.
 
+As many more of these have constraints, which are others in the second file now and then. The search takes those of the first alone, or
+compares whether both are met, as `--constraints` of the programs does, and what aigprove says to differ at the end of a run does there.
+
 Half as many designs of tests/designs are compared so with what ABC makes of them, also by retiming, or with that and a gate changed: no
 answer is another than that of `dsec` where there are no constraints, and a run to a difference shows one, as a simulation here has it.
 
@@ -32,7 +35,7 @@ import sys
 from pathlib import Path
 
 import harness
-from aiger import Machine, machine_of
+from aiger import Machine, machine_of, starting, step
 from designs import inverted
 from harness import CHECK, EDIT, FORMS, PROVE, TOOL, numbers, output
 from machines import named, random_machine
@@ -47,29 +50,25 @@ DESIGNS = sorted((harness.TESTS / "designs").glob("*.aig"))
 REGISTERS = [f"r{i}" for i in range(20)]
 REWRITES = ["balance", "rewrite", "refactor", "dc2", "fraig", "scorr"]
 BOUND = 4
+# A name that is told as a string.
+QUOTED = re.compile(r'"(?:[^"\\]|\\.)*"')
 
 
-def starting(first, other, partners=()):
-    """The pairs of first states of two machines, in which registers at these pairs of places are alike."""
-    pairs = itertools.product(first.starts(), other.starts())
-    return {(state, beside) for state, beside in pairs if all(state[i] == beside[j] for i, j in partners)}
+def first_unmet(first, other, pairs, setting):
+    """The first step from which on no run from these states meets the constraints, if there is one."""
+    seen = set()
+    for k in itertools.count():
+        seen.add(frozenset(pairs))
+        _, pairs = step(first, other, pairs, setting)
+        if not pairs or pairs in seen:
+            return None if pairs else k
 
 
-def step(first, other, pairs):
-    """Whether outputs or bad literals of two machines differ in a step from these states, and the next states."""
-    compared, steps = list(zip([*first.outputs, *first.bads], [*other.outputs, *other.bads], strict=True)), []
-    for state, beside in pairs:
-        theirs = dict(other.steps(beside))
-        steps += [(values, theirs[inputs]) for inputs, values in first.steps(state) if inputs in theirs]
-    is_different = any(ours[one] != theirs[two] for ours, theirs in steps for one, two in compared)
-    return is_different, {(first.following(ours), other.following(theirs)) for ours, theirs in steps}
-
-
-def first_difference(first, other, pairs):
+def first_difference(first, other, pairs, setting):
     """The first step at which two machines differ in runs from these states, if ever."""
     seen = set()
     for k in itertools.count():
-        is_different, after = step(first, other, pairs)
+        is_different, after = step(first, other, pairs, setting)
         if is_different:
             return k
         seen |= pairs
@@ -78,11 +77,11 @@ def first_difference(first, other, pairs):
             return None
 
 
-def differ_at(first, other, pairs, k):
+def differ_at(first, other, pairs, setting, k):
     """Whether two machines differ at a step in runs from these states."""
     for _ in range(k):
-        _, pairs = step(first, other, pairs)
-    return step(first, other, pairs)[0]
+        _, pairs = step(first, other, pairs, setting)
+    return step(first, other, pairs, setting)[0]
 
 
 def is_inductive(machine):
@@ -143,11 +142,19 @@ def reordered(machine, rng):
     return dataclasses.replace(machine, latches=rows, names=names)
 
 
+def varied(machine, rng):
+    """The machine, now and then with other constraints."""
+    literals, own = range(2 * (len(machine.inputs) + len(machine.latches) + len(machine.gates) + 1)), machine.constraints
+    ways = [own, own, own[::-1] + own, own[1:], [*own, rng.choice(literals)], [rng.choice(literals)]]
+    return dataclasses.replace(machine, constraints=rng.choice(ways))
+
+
 class Pair(Files):
     """Two machines in files."""
 
-    # What stands behind the names of commands that compare them, and behind lines of aigcheck; and words of aigprove.
-    suffix, said, words = "", "", []
+    # What stands behind the names of commands that compare them, and behind lines of aigcheck; words of aigprove; and what constraints say,
+    # with the words for it, and what stands behind lines then.
+    suffix, said, words, setting, setting_words, setting_said = "", "", [], "both", [], ""
 
     def __init__(self, rng, folder):
         super().__init__(folder)
@@ -174,8 +181,9 @@ class Pair(Files):
 
     def compare(self):
         """Compares all answers."""
-        first = first_difference(self.machine, self.other_machine, self.starts())
-        miter = self.put("miter.aag", output([EDIT, f"miter{self.suffix}", self.file, self.other]))
+        both = self.machine, self.other_machine, self.starts(), self.setting
+        first = first_difference(*both)
+        miter = self.put("miter.aag", output([EDIT, *self.setting_words, f"miter{self.suffix}", self.file, self.other]))
         made = machine_of(Path(miter).read_text())
         if made.first_bad() != first:
             self.fail(f"a search finds a difference at step {first}, and the miter is bad at step {made.first_bad()}")
@@ -185,15 +193,15 @@ class Pair(Files):
             if (proof is None) != (k == first):
                 self.fail(f"a search finds a difference at step {first}, and cadical {'one' if proof is None else 'none'} at step {k}")
             for given in [proof] if proof else [empty, last or empty]:
-                words = [f"equal{self.suffix}", self.file, self.other, str(k), given]
-                if self.takes(f"equal at step {k}{self.said}", *words) != (proof is not None):
+                words = [*self.setting_words, f"equal{self.suffix}", self.file, self.other, str(k), given]
+                if self.takes(f"equal at step {k}{self.setting_said}{self.said}", *words) != (proof is not None):
                     self.fail(f"aigcheck {'refuses' if proof else 'takes'} {' '.join(words)}, and a search finds {first}")
                 self.counts["proofs taken" if proof else "proofs refused"] += 1
             last = proof
         if self.abc_command:
             self.compare_abc(first)
-        self.compare_proved(first, made.first_unmet())
-        self.counts[f"{'equal' if first is None else 'different'}{self.suffix}"] += 1
+        self.compare_proved(first, first_unmet(*both))
+        self.counts[" ".join([f"{'equal' if first is None else 'different'}{self.suffix}", *self.setting_words[1:]])] += 1
         return self.counts
 
     def compare_abc(self, first):
@@ -207,17 +215,19 @@ class Pair(Files):
         self.counts[f"by {self.abc_command}" if told else "not told by ABC"] += 1
 
     def compare_proved(self, first, unmet):
-        """Compares what aigprove says, and what it keeps. Where no run meets the constraints of both files from a step on, the answer is
-        empty."""
-        keep = self.folder / "kept"
-        status, printed, said = harness.run([PROVE, *self.words, "--equal", self.other, self.file, "--keep", str(keep)])
+        """Compares what aigprove says, and what it keeps. Where no run meets the constraints from a step on, the answer is empty."""
+        keep, witness = self.folder / "kept", self.folder / "witness"
+        options = ["--keep", str(keep), "--witness", str(witness)]
+        status, printed, said = harness.run([PROVE, *self.words, "--equal", self.other, self.file, *options])
         printed = printed.decode()
         if status != (10 if first is not None else 20 if unmet is None else 0):
             self.fail(f"a search finds a difference at step {first}, and no run from step {unmet} on, and aigprove: {status} {printed} {said}")
-        lines, alike = f"\n{printed}", self.said if self.has_alike() else ""
-        different = re.search(f"\na difference at step ([0-9]+){alike}: ", lines)
-        if (f"\nequal at every step{alike}\n" in lines) != (first is None) or (different is None) != (first is None):
+        lines, alike, behind = f"\n{printed}", self.said if self.has_alike() else "", self.setting_behind()
+        different = re.search(f"\na difference at step ([0-9]+){behind}{alike}: (.*)\n", lines)
+        if (f"\nequal at every step{behind}{alike}\n" in lines) != (first is None) or (different is None) != (first is None):
             self.fail(f"a search finds a difference at step {first}, and aigprove: {printed}")
+        if different:
+            self.compare_told(different[2], lines, witness.read_text())
         if different and not alike:
             self.compare_alike(int(different[1]), lines)
         status, _, said = harness.run([PROVE, *self.words, "-q", "--engine", "registers", "--equal", self.other, self.file])
@@ -229,10 +239,41 @@ class Pair(Files):
         if again is None or harness.shown_again(keep) is not None:
             self.fail("what is kept isn't shown again, or is with the other file turned")
 
-
     def has_alike(self):
         """Whether any registers start alike."""
         return False
+
+    def setting_behind(self):
+        """What aigprove says of constraints behind lines: nothing of files without such."""
+        return self.setting_said if self.machine.constraints or self.other_machine.constraints else ""
+
+    def ended(self, witness):
+        """The values of both machines in the last step of a witness of their miter, where what doesn't matter is 0. Each has a latch more
+        where constraints are compared."""
+        _, _, start, *steps, _ = witness.split("\n")[:-1]
+        bits = iter(start)
+        for machine in [self.machine, self.other_machine]:
+            state = [next(bits) == "1" for _ in machine.latches]
+            if self.setting == "compared" and self.setting_behind():
+                next(bits)
+            for row in steps:
+                values = machine.values(state, [bit == "1" for bit in row])
+                state = machine.following(values)
+            yield machine, values
+
+    def compare_told(self, told, lines, witness):
+        """Compares what is told to differ at the end of a run with its values, and which file doesn't meet its constraints, if that is told."""
+        (ours, own), (theirs, others) = self.ended(witness)
+        is_met = {"first": ours.is_allowed(own), "second": theirs.is_allowed(others)}
+        if self.setting == "compared" and len(set(is_met.values())) > 1:
+            which = re.findall("\nthe (first|second) file doesn't meet c[0-9]+", lines)
+            holds = told == "constraints" and which in ([], [side for side in is_met if not is_met[side]])
+        else:
+            places = [(letter, int(i)) for letter, i in re.findall("(?:^|, )([ob])([0-9]+)", QUOTED.sub("", told))]
+            sides = {"o": (ours.outputs, theirs.outputs), "b": (ours.bads, theirs.bads)}
+            holds = places and all(own[sides[letter][0][i]] != others[sides[letter][1][i]] for letter, i in places)
+        if not holds:
+            self.fail(f"it doesn't differ so at the end of a run: {told}, {witness}")
 
     def compare_alike(self, k, lines):
         """Compares what aigprove says of the step that differs where registers are apart: whether anything does with them alike, by name
@@ -240,8 +281,9 @@ class Pair(Files):
         both = [self.machine, self.other_machine]
         way = "by-name" if all(name is not None for machine in both for _, name in opened(machine)) else "by-order"
         matched = partners(way, *both)
-        is_equal = bool(matched) and not differ_at(*both, starting(*both, matched), k)
-        wanted = f"\nequal at step {k}, registers with open start alike {way.replace('-', ' ')}\n--starts {way} compares so\n"
+        is_equal = bool(matched) and not differ_at(*both, starting(*both, matched), self.setting, k)
+        alike = f"{self.setting_behind()}, registers with open start alike {way.replace('-', ' ')}"
+        wanted = f"\nequal at step {k}{alike}\n--starts {way} compares so\n"
         if (wanted in lines) != is_equal or ("compares so" in lines) != is_equal:
             self.fail(f"a search finds that registers that start alike {way} {'do' if is_equal else 'do not'} make step {k} equal: {lines}")
         self.counts["equal at a step with registers alike"] += is_equal
@@ -258,16 +300,34 @@ class Alike(Pair):
         self.words = ["--starts", self.way]
         if self.way != "apart":
             self.suffix, self.said = f"-alike-{self.way}", f", registers with open start alike {self.way.replace('-', ' ')}"
-        self.other_machine = reordered(self.machine, rng) if rng.random() < 0.8 else self.machine
-        if rng.random() < 0.4:
-            self.other_machine = dataclasses.replace(changed(self.other_machine, rng), names=self.other_machine.names)
+        self.other_machine = self.beside(rng)
         self.file, self.other = self.put("file.aag", self.machine.text()), self.put("other.aag", self.other_machine.text())
+
+    def beside(self, rng):
+        """The other machine."""
+        made = reordered(self.machine, rng) if rng.random() < 0.8 else self.machine
+        return dataclasses.replace(changed(made, rng), names=made.names) if rng.random() < 0.4 else made
 
     def starts(self):
         return starting(self.machine, self.other_machine, partners(self.way, self.machine, self.other_machine))
 
     def has_alike(self):
         return bool(partners(self.way, self.machine, self.other_machine))
+
+
+class Constrained(Alike):
+    """Two such machines, most often with constraints: those of the first are met alone, or both are compared."""
+
+    def __init__(self, rng, folder):
+        self.setting = rng.choice(["first", "compared"])
+        self.setting_words = ["--constraints", self.setting]
+        self.setting_said = {"first": ", under the constraints of the first alone", "compared": ", constraints too"}[self.setting]
+        super().__init__(rng, folder)
+        self.words += self.setting_words
+
+    def beside(self, rng):
+        self.machine = dataclasses.replace(self.machine, constraints=self.machine.constraints or varied(self.machine, rng).constraints)
+        return varied(super().beside(rng), rng)
 
 
 class Form(Files):
@@ -369,11 +429,11 @@ class Invariant(Files):
 
 def main():
     pairs, seed = numbers(300, 1)
-    tried = [Pair] * pairs + [Invariant] * (pairs // 3) + [Form] * (pairs // 2) + [Alike] * pairs
+    tried = [Pair] * pairs + [Invariant] * (pairs // 3) + [Form] * (pairs // 2) + [Alike] * pairs + [Constrained] * pairs
     with harness.new_folder() as folder, concurrent.futures.ThreadPoolExecutor(2) as pool:
         compare = lambda i: tried[i](random.Random(f"{seed}-{i}"), folder / str(i)).compare()
         counts = sum(pool.map(compare, range(len(tried))), collections.Counter())
-    print(f"seed {seed}: {2 * pairs} pairs, {pairs // 3} invariants and {pairs // 2} designs agree ({told(counts)})")
+    print(f"seed {seed}: {3 * pairs} pairs, {pairs // 3} invariants and {pairs // 2} designs agree ({told(counts)})")
 
 
 if __name__ == "__main__":

@@ -35,6 +35,7 @@ OPENED = [
     "aigedit question file 1",
     "aigedit miter file other",
     "aigedit miter-alike-by-name file other",
+    "aigedit --constraints compared miter file other",
     "aigedit join file other",
     "aigcheck clauses file 0",
     "aigcheck refuted file 0 proof",

@@ -172,6 +172,7 @@ def worded():
             ["--limit 2147483649 t.aag", "argument --limit: 2147483649 is no number of nodes"],
             ["--limit 0 t.aag", "argument --limit: 0 is no number of nodes"],
             ["--starts by-name t.aag", "--starts is for --equal"],
+            ["--constraints both t.aag", "--constraints is for --equal"],
         ]:
             status, out, said, left = run.result(wrong.split(" "), words)
             yield wrong, (2, "", [f"aigprove: error: {why}"], []), (status, out, said.splitlines()[-1:], left)

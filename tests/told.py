@@ -51,6 +51,8 @@ EDITS = {
     "miter held.aag live.aig": [("held.aag", WITHIN), ("live.aig", LEFT_OUT)],
     "miter safe.aag held.aag": [("held.aag", WITHIN)],
     "miter held.aag held.aag": [("held.aag", WITHIN)] * 2,
+    "--constraints first miter held.aag held.aag": [],
+    "--constraints compared miter held.aag live.aig": [("live.aig", LEFT_OUT)],
 }
 
 

@@ -1,14 +1,25 @@
 """Classes of nodes that may be equal at every step, as random runs have it. Nothing here is believed."""
 import collections
+import functools
+import itertools
+import operator
 
 from aigprove.nodes import sides
 
 # How many runs are simulated at once, at least and at most, and of how many bits in all values.
-FEWEST, MOST, BITS = 64, 1024, 1 << 28
+FEWEST, MOST, BITS = 64, 4096, 1 << 28
 # In how many of these something is true that seldom is, and how often two such are tried to be made different.
 SELDOM, TRIED = 32, 3
 # For how many steps from the first states, from random states, and from those that a solver finds.
-BEGUN, DRAWN, FOUND = 32, 4, 8
+BEGUN, DRAWN, FOUND = 16, 4, 8
+
+
+def parts_of(own, values):
+    """Members of a class by their values, where several have the same."""
+    parts = collections.defaultdict(list)
+    for literal, value in zip(own, values):
+        parts[value].append(literal)
+    return [part for part in parts.values() if len(part) > 1]
 
 
 class Different(Exception):
@@ -19,8 +30,8 @@ class Classes:
     """Literals of nodes in classes, of each of which the first stands for all; no literal is there beside its inverse."""
 
     def __init__(self, nodes, rng, every=None):
-        self.nodes, self.rng, self.rows = nodes, rng, []
-        self.every = every or (1 << max(FEWEST, min(MOST, BITS // nodes.all().stop))) - 1
+        self.nodes, self.rng, self.rows, self.listed = nodes, rng, [], None
+        self.every = every or (1 << (1 << max(FEWEST, min(MOST, BITS // nodes.all().stop)).bit_length() - 1)) - 1
 
     def drawn(self, literals):
         """Random values for literals."""
@@ -34,15 +45,26 @@ class Classes:
         """The first of each class and every other member, in the order of these."""
         return sorted(((own[0], other) for own in self.rows for other in own[1:]), key=lambda pair: pair[1] >> 1)
 
+    def members(self, known):
+        """Values of each member that isn't the first of its class, and of this first one; and the numbers of their classes."""
+        if self.listed is not self.rows:
+            self.listed = self.rows
+            pairs = [(own[0], it, number) for number, own in enumerate(self.rows) for it in own[1:]]
+            self.firsts, self.others, self.numbers = zip(*pairs) if pairs else ((), (), ())
+        return map(known.__getitem__, self.firsts), map(known.__getitem__, self.others), self.numbers
+
+    def equal(self, known):
+        """The runs in which the members of each class are equal."""
+        firsts, others, _ = self.members(known)
+        return self.every ^ functools.reduce(operator.or_, map(operator.xor, firsts, others), 0)
+
     def split(self, known, runs):
         """Splits classes whose members differ in one of these runs."""
-        made = []
-        for own in self.rows:
-            parts = collections.defaultdict(list)
-            for literal in own:
-                parts[known[literal] & runs].append(literal)
-            made += [part for part in parts.values() if len(part) > 1]
-        self.rows = made
+        firsts, others, numbers = self.members(known)
+        differing = map(operator.and_, map(operator.xor, firsts, others), itertools.repeat(runs))
+        if hit := set(itertools.compress(numbers, differing)):
+            rows = [[own] if number not in hit else parts_of(own, [known[it] & runs for it in own]) for number, own in enumerate(self.rows)]
+            self.rows = list(itertools.chain.from_iterable(rows))
 
     def gather(self, literals, leaves):
         """Puts literals, the first of which is 0, into classes, inverted where they are 1 in the first run, by the values of leaves."""
@@ -57,6 +79,14 @@ class Classes:
         self.gather(literals, leaves)
         self.follow(leaves, self.every, BEGUN)
         return self
+
+    def of_first(self, stop):
+        """The same of nodes among which are no others than those that a class with one before a place has, and what these read."""
+        rows = [own for own in self.rows if own[0] < stop]
+        nodes, known = self.nodes.without(self.nodes.cone(itertools.chain.from_iterable(rows)))
+        made = Classes(nodes, self.rng, self.every)
+        made.rows = [[known[it] for it in own] for own in rows]
+        return made
 
     def check(self, known, runs):
         """Those of some runs in which constraints hold, none of which may be bad."""
@@ -111,6 +141,13 @@ class Classes:
                     if literal < self.nodes.latches.stop:
                         made[literal >> 1] = value ^ every * (literal & 1)
         return made[1:]
+
+    def spread(self, values, runs):
+        """Values of some of these runs, again and again."""
+        places = [place for place in range(self.every.bit_length()) if runs >> place & 1]
+        count = 1 << min(len(places), FEWEST).bit_length() - 1
+        times = self.every // ((1 << count) - 1)
+        return [times * sum((value >> place & 1) << i for i, place in enumerate(places[:count])) for value in values]
 
     def step(self, state, runs):
         """Splits classes of latches by these values."""

@@ -16,7 +16,7 @@ from aigprove.aiger import Fault
 from aigprove.files import sealed
 from aigprove.judge import Judge
 from aigprove.matched import STARTS
-from aigprove.pair import Pair
+from aigprove.pair import CONSTRAINTS, Pair
 from aigprove.justice import Justice, Justices, lives
 from aigprove.properties import Property
 from aigprove.questions import HINTED, cadical
@@ -69,8 +69,8 @@ Engines look for an answer side by side, and the first that is checked is printe
 An engine that isn't installed, lies or breaks is told of on standard error, and changes nothing else.
 
 With --equal outputs and bad states of FILE and OTHER are compared, on all runs of both that have the same inputs, and that the
-constraints of both allow: each step by aigcheck equal, and all at once by an answer about their miter, which aigedit makes.
-What two designs have is matched by name: inputs, outputs, assertions, and registers with open start, which begin alike (--starts).
+constraints of both allow (--constraints): each step by aigcheck equal, and all at once by an answer about their miter, which aigedit
+makes. What two designs have is matched by name: inputs, outputs, assertions, and registers with open start, which begin alike (--starts).
 Justice and fairness are not looked at.
 """
 ENDS = """\
@@ -203,6 +203,9 @@ def parser():
     starts = "with --equal: registers with open start begin each as it likes, or like those of the other file that are matched so " \
         "(by-name for two designs, else apart)"
     it.add_argument("--starts", choices=STARTS, help=starts)
+    allowed = "with --equal: compare runs that meet the constraints of both files, or those of FILE alone, or compare constraints, too: " \
+        "whether both files meet theirs at the same steps (both)"
+    it.add_argument("--constraints", choices=CONSTRAINTS, help=allowed)
     it.add_argument("--bound", metavar="N", type=count("[0-9]{1,10}", "steps"), help=bound)
     seconds = count(r"[0-9]{1,9}(\.[0-9]{1,9})?", "seconds", float)
     it.add_argument("--timeout", metavar="S", type=seconds, help="end after so many seconds, with those of yosys (never)")
@@ -308,8 +311,9 @@ def check_each(made, words):
     for name in ["equal", "certificate", "write_certificate", "run", "property", "aiger"] if words.each else ["equal"] if words.property is not None else []:
         if getattr(words, name) is not None and getattr(words, name) is not False:
             made.error(f"--{name.replace('_', '-')} is about one question, and not with " + ("--each" if words.each else "--property"))
-    if words.starts and not words.equal:
-        made.error("--starts is for --equal")
+    for name in ["starts", "constraints"]:
+        if getattr(words, name) and not words.equal:
+            made.error(f"--{name} is for --equal")
     if words.tasks and not words.keep:
         made.error("--tasks keeps what is asked about in a folder: --keep FOLDER says which")
     if words.gather and (words.keep or words.tasks):

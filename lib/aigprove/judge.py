@@ -45,8 +45,9 @@ class Judge:
         """The text form of a file."""
         return self.printed(*self.texts, file)
 
-    def made(self, command, *files):
-        return self.printed(*self.aigedit, command, *files)
+    def made(self, *words):
+        """What aigedit prints, sealed."""
+        return self.printed(*self.aigedit, *words)
 
     def circuit(self, file, what):
         """What a file says that a program took, and what it is called in faults."""

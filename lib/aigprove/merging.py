@@ -1,15 +1,33 @@
 """Clauses in which variables are merged whose definitions are equal, or that units say to be equal, and the clauses that say so: each follows
 from those before it by unit propagation, and so a proof may begin with them. Nothing here is believed."""
 import itertools
+import re
 
 TRUE, FALSE = -1, 1
+# The clauses of an and.
+AND = re.compile(rb"-(\d+) (-?\d+) 0\n-\1 (-?\d+) 0\n\1 (-?\d+) (-?\d+) 0\n")
 
 
 def parsed(clauses):
-    """How many variables a file in DIMACS form has, and its clauses, as lists."""
+    """How many variables a file in DIMACS form has, and where its clauses begin."""
     head = 0 if clauses.startswith(b"p cnf ") else clauses.index(b"\np cnf ") + 1
-    header, *lines, _ = clauses[head:].split(b"\n")
-    return int(header.split()[2]), [list(map(int, text.split()[:-1])) for text in lines]
+    end = clauses.index(b"\n", head)
+    return int(clauses[head:end].split()[2]), end + 1
+
+
+def lists(text):
+    """Clauses, as lists."""
+    return [list(map(int, line.split()[:-1])) for line in text.splitlines()]
+
+
+def pieces(clauses, place):
+    """The variable and the operands of each and, whose clauses are such, and the text of the clauses between them."""
+    for found in AND.finditer(clauses, place):
+        variable, first, second, left, right = map(int, found.groups())
+        if variable > max(abs(left), abs(right)) and {-left, -right} == {first, second}:
+            yield clauses[place:found.start()], (variable, (-left, -right))
+            place = found.end()
+    yield clauses[place:], None
 
 
 def largest(clause):
@@ -40,6 +58,20 @@ def text_of(clause):
     return b"%s 0\n" % b" ".join(b"%d" % it for it in clause)
 
 
+def texts_of(clauses):
+    """The texts of clauses, of those that say the same one, and of those that are always true none."""
+    sets = dict.fromkeys(map(frozenset, clauses))
+    return (text_of(own) for own in sets if TRUE not in own and not any(-it in own for it in own))
+
+
+def text_of_gate(variable, operands):
+    """The text of a gate's clauses."""
+    if len(operands) == 2 and len({1, abs(variable), *map(abs, operands)}) == 4:
+        left, right = operands
+        return b"%d %d 0\n%d %d 0\n%d %d %d 0\n" % (-variable, left, -variable, right, variable, -left, -right)
+    return b"".join(texts_of(clauses_of(variable, operands)))
+
+
 def and_of(left, right):
     """The literal that an and is, if it is one, and else a key of it and whether that is its inverse."""
     if FALSE in (left, right) or left == -right:
@@ -66,35 +98,40 @@ class Merging:
     false."""
 
     def __init__(self, clauses):
-        count, (*given, self.last) = parsed(clauses)
-        self.same = list(range(count + 1))
-        self.lemmas, self.others = [], [own for own in given if len(own) == 1]
-        for (it,) in self.others:
-            self.same[abs(it)] = TRUE if it > 0 else FALSE
-        gates = self.gates([own for own in given if len(own) > 1])
+        count, place = parsed(clauses)
+        last = clauses.rindex(b"\n", 0, -1) + 1
+        # By a variable and by its inverse, which counts from the end.
+        self.same, (self.last,) = [*range(count + 1), *range(-count, 0)], lists(clauses[last:])
+        self.lemmas, self.others = [], []
+        gates = self.gates(clauses[:last], place)
+        self.others, units = [own for own in self.others if len(own) > 1], [own for own in self.others if len(own) == 1]
+        self.others[:0] = units
+        for (it,) in units:
+            self.same[it], self.same[-it] = TRUE, FALSE
         # Equal definitions first, so that the nodes of a file and of its certificate are the same ones; then what units say of these.
         gates = self.merge(gates)
         self.merge_equal(gates)
         self.left = self.merge(gates)
 
-    def gates(self, clauses):
+    def gates(self, clauses, place):
         """The variables that clauses define, and their operands; clauses that define none are left as they are."""
         found = []
-        for variable, group in itertools.groupby(clauses, largest):
-            group = list(group)
-            operands = gate_of(variable, group)
-            if operands:
-                found.append((variable, operands))
-            else:
-                self.others += group
+        for text, gate in pieces(clauses, place):
+            for variable, group in itertools.groupby(lists(text) if text else [], largest):
+                group = list(group)
+                operands = gate_of(variable, group)
+                if operands:
+                    found.append((variable, operands))
+                else:
+                    self.others += group
+            if gate:
+                found.append(gate)
         return found
 
     def literal(self, of):
         """What stands for a literal."""
-        it = self.same[of if of > 0 else -of]
-        if it not in (of, -of, 1, -1):
-            it = self.literal(it)
-        return it if of > 0 else -it
+        it = self.same[of]
+        return it if it in (of, -of, TRUE, FALSE) else self.literal(it)
 
     def merge(self, gates):
         """The gates that are left when variables of the same definition are merged."""
@@ -112,7 +149,7 @@ class Merging:
 
     def join(self, variable, other, case):
         """Takes that a variable is another literal, and what says so: where this is a choice, by cases."""
-        self.same[variable] = other
+        self.same[variable], self.same[-variable] = other, -other
         for side in (1, -1):
             implied = [it for it in (-side * variable, side * other) if it != FALSE]
             if TRUE not in implied:
@@ -124,16 +161,16 @@ class Merging:
         apart = {tuple(sorted(map(self.literal, own), key=abs)) for own in ands}
         for left, right in apart:
             if (-left, -right) in apart and self.same[abs(right)] == abs(right):
-                self.same[abs(right)] = -left if right > 0 else left
+                self.same[right], self.same[-right] = -left, left
 
     def asked(self):
         """A file of cadical's that asks about the literals of the last clause in turn, the last first; nothing where all are false."""
         wanted = dict.fromkeys(it for it in map(self.literal, reversed(self.last)) if it != FALSE)
         if wanted:
-            clauses = itertools.chain(self.others, *itertools.starmap(clauses_of, self.left))
-            mapped = dict.fromkeys(frozenset(map(self.literal, own)) for own in clauses)
+            rows = dict.fromkeys((self.literal(variable), tuple(map(self.literal, operands))) for variable, operands in self.left)
             yield b"p inccnf\n-1 0\n"
-            yield from (text_of(own) for own in mapped if TRUE not in own and not any(-it in own for it in own))
+            yield from texts_of(map(self.literal, own) for own in self.others)
+            yield from itertools.starmap(text_of_gate, rows)
             yield from (b"a %d 0\n" % it for it in wanted)
 
     def proof(self):

@@ -33,7 +33,8 @@ class Assumptions:
     def look(self, solver, least, deadline):
         """Looks at steps 1, 2, 4 and so on, for some seconds, and at least up to this step; where the constraints can't be met at one, for
         the first such by halves."""
-        self.possible, until = Possible(self.source, self.judge), time.monotonic() + SECONDS
+        self.assuming, until = self.source.assuming(), time.monotonic() + SECONDS
+        self.possible = Possible(self.assuming, self.judge)
         step = max(min(least, MOST), 1)
         while self.unmet is None and time.monotonic() < deadline:
             self.ask(solver, step)
@@ -60,8 +61,10 @@ class Assumptions:
 
     def keep(self, evidence, folder=""):
         """Keeps what shows it, of a file that stands in a folder."""
+        if self.claims and self.assuming is not self.source:
+            self.assuming.keep(evidence)
         if self.claims:
-            evidence.makes(self.possible.name, self.possible.asked, "possible", folder + self.source.name)
+            evidence.makes(self.possible.name, self.possible.asked, "possible", folder + self.assuming.name)
         for claim in self.claims.values():
             evidence.shows(claim)
         evidence.add("echo", self.line())

@@ -1,6 +1,5 @@
 """The nodes of a circuit in order, and what they are in many runs at once, each of which is a bit of an integer. Nothing here is believed."""
 import copy
-import operator
 
 from aigprove.plain import Gates, literals_of
 
@@ -33,12 +32,20 @@ class Nodes:
             state[place] = state[partner]
         return state
 
-    def values(self, leaves, every, both=operator.and_):
-        """The values of all literals, by those of inputs and latches, in the runs of `every`; where this is 1 they may be literals."""
+    def values(self, leaves, every):
+        """The values of all literals, by those of inputs and latches, in the runs of `every`."""
         known = sides(leaves, every)
         for _, left, right in self.gates.rows:
-            value = both(known[left], known[right])
+            value = known[left] & known[right]
             known += value, value ^ every
+        return known
+
+    def literals(self, leaves, gates):
+        """The same of literals of other gates."""
+        known = sides(leaves, 1) + [0] * (self.gates.next - self.latches.stop)
+        for gate, left, right in self.gates.rows:
+            known[gate] = gates.both(known[left], known[right])
+            known[gate + 1] = known[gate] ^ 1
         return known
 
     def next(self, literal):
@@ -48,6 +55,10 @@ class Nodes:
     def following(self, known):
         """The next values of the latches."""
         return [known[literal] for literal in self.nexts]
+
+    def allowing(self, known):
+        """The constraints."""
+        return [known[literal] for literal in self.constraints]
 
     def allowed(self, known, runs):
         """Those of some runs in which the constraints hold."""
@@ -59,10 +70,25 @@ class Nodes:
         """The same where inputs and latches are these literals of them, and the literals that all of its own have there."""
         made = copy.copy(self)
         made.gates = Gates(self.latches.stop)
-        known = self.values(leaves, 1, made.gates.both)
+        known = self.literals(leaves, made.gates)
         lists = [self.nexts, self.bads, self.constraints]
         made.nexts, made.bads, made.constraints = ([known[literal] for literal in literals] for literals in lists)
         return made, known
+
+    def cone(self, literals):
+        """The nodes that literals and next values read, by their literals."""
+        seen = {literal & ~1 for literal in [*literals, *self.nexts, *self.bads, *self.constraints]}
+        for gate, left, right in reversed(self.gates.rows):
+            if gate in seen:
+                seen |= {left & ~1, right & ~1}
+        return seen
+
+    def without(self, kept):
+        """The same with no gates but these, and the literals that its own have there."""
+        made, gates = copy.copy(self), copy.copy(self.gates)
+        gates.rows = [row for row in gates.rows if row[0] in kept]
+        made.gates = gates
+        return made.merged(self.leaves())
 
     def reached(self, literals, rng):
         """Inputs and latches, inverted where they are to be 0, that may make literals true."""

@@ -13,6 +13,10 @@ from aigprove.shown import Shown, word
 from aigprove.source import Asked, Given
 from aigprove.verilog import kind_of
 
+# What constraints say: compared runs meet those of both files, or those of the first alone, or they are compared, too; and what stands then
+# behind lines.
+BOTH, FIRST, COMPARED = CONSTRAINTS = ["both", "first", "compared"]
+BEHIND = {BOTH: "", FIRST: ", under the constraints of the first alone", COMPARED: ", constraints too"}
 # How many outputs that differ are named, and how many seconds first values are looked for that matter.
 NAMED, SECONDS = 100, 1
 # How many values that both designs leave open are named.
@@ -33,6 +37,8 @@ class Pair(Asked):
         designs = [it for it in [self.first, self.other] if it.design]
         for given, circuit in zip(designs, self.arranged([it.named() for it in designs])):
             given.take(Sealed(circuit.text()))
+        # Where there are none they say nothing.
+        self.constraints = words.constraints if words.constraints and any(self.constrained()) else BOTH
         self.begin(words.starts or (BY_NAME if len(designs) == 2 else APART))
 
     def arranged(self, designs):
@@ -48,7 +54,7 @@ class Pair(Asked):
     def begin(self, way):
         """Makes the miter, with registers of open start that begin so."""
         try:
-            self.asked = self.judge.made(f"miter{matched.SUFFIXES[way]}", self.first.file, self.other.file)
+            self.asked = self.judge.made(*self.called("miter", matched.SUFFIXES[way]), self.first.file, self.other.file)
         except Fault as why:
             if not str(why).startswith("aigedit: files do not fit: "):
                 raise
@@ -56,7 +62,27 @@ class Pair(Asked):
         circuits = [] if way == APART else self.circuits()
         self.alone = list(matched.alone(way, self.paths, *circuits)) if circuits else []
         self.starts = Starts(way, *circuits)
-        self.safe = "equal at every step" + self.starts.said
+        self.said = BEHIND[self.constraints] + self.starts.said
+        self.safe = "equal at every step" + self.said
+
+    def called(self, command, suffix):
+        """The words that begin a call of aigedit or aigcheck."""
+        setting = ["--constraints", self.constraints] if self.constraints != BOTH else []
+        return [*setting, command + suffix]
+
+    def constrained(self):
+        """How many constraints both files have."""
+        return [it.header().constraints for it in [self.first, self.other]]
+
+    def latches(self):
+        """How many latches of the miter are of the first file, and how many of the other: each has one more where constraints are compared,
+        which is true while its own have held."""
+        return [it.header().latches + (self.constraints == COMPARED) for it in [self.first, self.other]]
+
+    def held(self):
+        """The place of the other file's such latch, with that of the first one's."""
+        first, other = self.latches()
+        return {first + other - 1: first - 1} if self.constraints == COMPARED else {}
 
     def circuits(self):
         return [self.first.circuit(), self.other.circuit()]
@@ -71,17 +97,26 @@ class Pair(Asked):
         return made if made.starts.partners else None
 
     def up_to(self, k):
-        return super().up_to(k) + self.starts.said
+        return super().up_to(k) + self.said
 
     def assumed(self, header):
-        """Those of both files: registers can always start alike."""
-        return sum(it.header().constraints for it in [self.first, self.other])
+        """Those of both files, or of the first: registers can always start alike."""
+        first, other = self.constrained()
+        return first if self.constraints == FIRST else first + other
+
+    def assuming(self):
+        """The pair whose miter has the constraints of both files, where these are compared."""
+        made = copy.copy(self) if self.constraints == COMPARED else self
+        if made is not self:
+            made.constraints, made.name = BOTH, "both.aag"
+            made.begin(self.starts.way)
+        return made
 
     def unsolvable(self, question, proof):
         """That a question has no solution: of a step, that both are equal there."""
         if question.command != "query":
             return super().unsolvable(question, proof)
-        line = f"equal at step {question.k}{self.starts.said}"
+        line = f"equal at step {question.k}{self.said}"
         return self.compares(line, [str(question.k), question.name], {question.name: proof})
 
     def proved(self, question, base, window, step):
@@ -96,32 +131,36 @@ class Pair(Asked):
 
     def started(self):
         """The latch of the miter, by its place, that each one starts like which does so."""
-        count = self.first.header().latches
+        count, _ = self.latches()
         return {count + i: partner for i, partner in self.starts.partners.items()}
 
     def compares(self, line, words, proofs):
         """What aigcheck says of both files."""
         files = {self.first.name: self.first.file, self.other.name: self.other.file, **proofs}
-        return Claim(line, [f"equal{self.starts.suffix}", self.first.name, self.other.name, *words], files)
+        return Claim(line, [*self.called("equal", self.starts.suffix), self.first.name, self.other.name, *words], files)
 
     def compared(self):
-        """The letter and the position of what each bad state property of the miter compares: outputs, and then bad state properties."""
+        """The letter and the position of what each bad state property of the miter compares: outputs, and then bad state properties; before
+        them None, where constraints are compared."""
         header = self.first.header()
-        return [("o", i) for i in range(header.outputs)] + [("b", i) for i in range(header.bads)]
+        outputs, bads = ([(letter, i) for i in range(count)] for letter, count in [("o", header.outputs), ("b", header.bads)])
+        return [*[None] * (self.constraints == COMPARED), *outputs, *bads]
 
     def circuit(self):
         """The circuit of the miter, whose bad state properties have the names of what they compare."""
         circuit, first = self.judge.circuit(self.asked, "MITER"), self.first.circuit()
-        circuit.names.update((("b", i), first.name(*place)) for i, place in enumerate(self.compared()))
+        circuit.names.update((("b", i), first.name(*place) if place else b"constraints") for i, place in enumerate(self.compared()))
         return circuit
 
     def warnings(self):
         """Lines of what isn't compared."""
         yield from self.first.warnings()
         yield from self.other.warnings()
-        first, other = (it.header().constraints for it in [self.first, self.other])
-        if first or other:
-            yield f"{self.path} have {first} and {other} constraints: only runs that both files allow are compared"
+        first, other = self.constrained()
+        if (first or other) and self.constraints != COMPARED:
+            says = "those of the first say which runs are compared, those of the second nothing"
+            said = says if self.constraints == FIRST else "only runs that both files allow are compared"
+            yield f"{self.path} have {first} and {other} constraints: {said}"
 
     def about(self):
         """Lines of what isn't seen: what is asked about designs, and the names of an input in both files."""
@@ -152,22 +191,42 @@ class Pair(Asked):
             differing = [bad for bad, literal in enumerate(circuit.bads) if values[literal] == "1"]
         return [told._replace(bad=bad) for bad in differing[:NAMED] if bad != told.bad]
 
+    def mattering(self, tolds):
+        """Where constraints differ nothing else is compared."""
+        compared = self.compared()
+        return [told for told in tolds if compared[told.bad] is None] or tolds
+
     def found(self, shown, tolds):
         """The line that says what differs in a run."""
         shown, compared = Shown(self.first.circuit()), self.compared()
-        names = [shown.place(*compared[bad]) for bad in sorted(told.bad for told in tolds)]
-        return f"a difference at step {len(tolds[0].steps) - 1}{self.starts.said}: {', '.join(names)}"
+        places = [compared[bad] for bad in sorted(told.bad for told in tolds)]
+        names = [shown.place(*place) if place else "constraints" for place in places]
+        return f"a difference at step {len(tolds[0].steps) - 1}{self.said}: {', '.join(names)}"
 
     def lines(self, shown, circuit, told):
-        """Lines of a run, without values that registers have only to start alike."""
-        yield from super().lines(shown, circuit, self.least(circuit, told))
+        """Lines of a run, without values that registers have only to start alike, and of the constraints that differ at its end."""
+        told = self.least(circuit, told)
+        yield from super().lines(shown, circuit, told)
+        if self.compared()[told.bad] is None:
+            yield from self.unmet("first", self.first, told, 0)
+            yield from self.unmet("second", self.other, told, self.latches()[0])
+
+    def unmet(self, which, given, told, place):
+        """The line of the constraints of a file, whose latches are the miter's from a place on, that are seen not to hold at the end of a
+        run."""
+        circuit, broken = given.circuit(), []
+        if len(told.steps) * len(circuit.gates) <= SIMULATED:
+            *_, values = simulation.run(circuit, told.start[place : place + len(circuit.latches)], told.steps)
+            broken = [i for i, literal in enumerate(circuit.constraints) if values[literal] == "0"]
+        if broken:
+            yield f"the {which} file doesn't meet {', '.join(Shown(circuit).place('c', i) for i in broken[:NAMED])}"
 
     def least(self, circuit, told):
         """A run without the first values of registers that matter only as they start alike; of a short one simulations find that."""
         if not self.starts.partners or len(told.steps) * len(circuit.gates) > SMALL:
             return told
-        own, bads = copy.copy(circuit), [told.bad, *(it.bad for it in self.others(circuit, told))]
-        own.constraints = circuit.constraints[: self.assumed(circuit.header)]
+        own, bads = copy.copy(circuit), [it.bad for it in self.mattering([told, *self.others(circuit, told)])]
+        own.constraints = circuit.constraints[: -len(self.starts.partners)]
         found = simulated(own, told, matched.opened(circuit), bads, SECONDS)
         start = list(found.start)
         for place, partner in self.started().items():
@@ -180,7 +239,7 @@ class Pair(Asked):
     def keep(self, evidence):
         self.first.keep(evidence)
         self.other.keep(evidence)
-        evidence.makes(self.name, self.asked, f"miter{self.starts.suffix}", self.first.name, self.other.name)
+        evidence.makes(self.name, self.asked, *self.called("miter", self.starts.suffix), self.first.name, self.other.name)
 
 
 def of_first(words):

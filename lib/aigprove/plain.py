@@ -20,7 +20,8 @@ class Gates:
 
     def both(self, left, right):
         """The literal of an and."""
-        left, right = max(left, right), min(left, right)
+        if left < right:
+            left, right = right, left
         if right == 0 or left == right ^ 1:
             return 0
         if right == 1 or left == right:

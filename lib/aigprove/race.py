@@ -131,7 +131,7 @@ class Race:
         self.judge.check(self.claimed(told))
         others = self.source.others(self.circuit, told)
         shown = [it for it in others if self.judge.holds(self.claimed(it))]
-        self.hand_in(lambda: self.print_run([told, *shown]))
+        self.hand_in(lambda: self.print_run(self.source.mattering([told, *shown])))
 
     def bound_reached(self):
         """Takes that all steps up to the bound were shown: the other engines may take as long again, and a second."""

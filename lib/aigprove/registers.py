@@ -1,8 +1,10 @@
 """Registers that correspond: an engine for two files, which guesses by names and by random runs which latches, and other nodes, of their
 miter are always equal, or each other's inverse, and has a certificate checked that says so. Nothing here is believed."""
 import copy
+import itertools
 import random
 
+from aigprove.alike import Alike, ordered
 from aigprove.classes import Classes, Different
 from aigprove.engines import Asking, Certificate, Missing
 from aigprove.nodes import Nodes
@@ -17,7 +19,7 @@ OTHER = b"other."
 # How many seconds of cadical's are few: so many, and one for so many gates.
 LEAST, QUICK = 1, 3000
 # For how many steps nodes are looked at ahead of those that there are.
-AHEAD = (0, 2)
+AHEAD = 2
 
 
 def partners(circuit, count, others, alike):
@@ -112,6 +114,7 @@ class Steps:
 
     def pairs(self):
         size = None
+        self.settle()
         while size != self.classes.size():
             size = self.classes.size()
             self.keep_first()
@@ -120,50 +123,60 @@ class Steps:
 
     def keep_first(self):
         """Splits classes until first states have them."""
-        nodes, classes = self.nodes, self.classes
-        state = nodes.first(nodes.latches, 1)
-        gates = Gates(nodes.latches.stop)
-        known = nodes.values([*nodes.inputs, *state], 1, gates.both)
-        facts = [(known[it], 1) for it in nodes.constraints]
-        while found := self.solver.differing(gates, facts, [(known[left], known[right]) for left, right in classes.pairs()]):
-            values = classes.beside([literal >> 1 in found[1] for literal in nodes.leaves()])
-            state = nodes.first(values[len(nodes.inputs):], classes.every)
-            self.follow([*values[:len(nodes.inputs)], *state], classes.every)
+        nodes, classes, found = self.nodes, self.classes, True
+        while found:
+            gates = Gates(nodes.latches.stop)
+            state = nodes.first(nodes.latches, 1)
+            _, apart = Alike(classes, self.order).literals([*nodes.inputs, *state], gates, {})
+            facts = [(literal, 1) for literal in self.constraints([*nodes.inputs, *state], gates)]
+            found = self.solver.differing(gates, facts, [pair for _, pair in apart])
+            if found:
+                values = classes.beside([literal >> 1 in found[1] for literal in nodes.leaves()])
+                state = nodes.first(values[len(nodes.inputs):], classes.every)
+                self.follow([*values[:len(nodes.inputs)], *state], classes.every)
+
+    def constraints(self, leaves, gates):
+        """The literals of the constraints, by those of inputs and latches, whether classes hold or not."""
+        return self.nodes.allowing(self.nodes.literals(leaves, gates)) if self.nodes.constraints else []
 
     def keep_next(self):
-        """Splits classes until a step was seen to keep each of them, some perhaps in states in which others were equal that were split then."""
-        nodes, classes, proved, latches = self.nodes, self.classes, [], None
+        """Splits classes until a step was seen to keep each of them, some perhaps in states in which others were equal that were split
+        then."""
+        nodes, classes, proved = self.nodes, self.classes, set()
+        inputs = range(nodes.latches.stop, nodes.latches.stop + 2 * len(nodes.inputs), 2)
         while True:
-            pairs, before = classes.pairs(), set(proved)
-            if latches != (latches := classes.merged(nodes.leaves(), 1)):
-                gates, now, then = self.frames(latches)
-            proved, asked = [it for it in pairs if it in before], [it for it in pairs if it not in before]
-            facts = [(known[it], 1) for it in nodes.constraints for known in (now, then)]
-            facts += [(now[left], now[right]) for left, right in pairs] + [(then[left], then[right]) for left, right in proved]
-            found = self.solver.differing(gates, facts, [(then[left], then[right]) for left, right in asked])
+            alike, gates, merged = Alike(classes, self.order), Gates(inputs.stop), {}
+            now, equal = alike.literals(nodes.leaves(), gates, merged)
+            leaves = [*inputs, *nodes.following(now)]
+            _, apart = alike.literals(leaves, gates, merged)
+            asked = [it for it in apart if it[0] not in proved]
+            facts = [(literal, 1) for literal in [*nodes.allowing(now), *self.constraints(leaves, gates)]]
+            found = self.solver.differing(gates, facts + [pair for _, pair in equal], [pair for _, pair in asked])
             if found is None:
                 return
-            proved += asked[: found[0]]
-            self.divide(found[1])
+            proved.update(names for names, _ in asked[: found[0]])
+            self.divide(alike, found[1])
 
-    def frames(self, latches):
-        """Gates, and the literals of nodes in a step and in the next one."""
-        nodes = self.nodes
-        further = range(nodes.latches.stop, nodes.latches.stop + 2 * len(nodes.inputs), 2)
-        gates = Gates(further.stop)
-        now = nodes.values(latches, 1, gates.both)
-        return gates, now, nodes.values([*further, *nodes.following(now)], 1, gates.both)
-
-    def divide(self, true):
+    def divide(self, alike, true):
         """Splits what a solution, and others beside it, show to be different in the next step."""
-        nodes, classes = self.nodes, self.classes
-        count = len(nodes.inputs)
-        values = classes.beside([number in true for number in range(1, len(nodes.leaves()) + count + 1)])
-        known = nodes.values(classes.merged(values[: len(nodes.leaves())], classes.every), classes.every)
-        runs = nodes.allowed(known, classes.every)
-        for left, right in classes.pairs():
-            runs &= ~(known[left] ^ known[right])
-        self.follow([*values[len(nodes.leaves()):], *nodes.following(known)], runs)
+        count = len(self.nodes.leaves())
+        values = self.classes.beside([number in true for number in range(1, count + len(self.nodes.inputs) + 1)])
+        state, runs = self.after(alike, values[:count])
+        self.follow([*values[count:], *state], runs)
+
+    def after(self, alike, leaves):
+        """The latches in the step that follows one in which members of classes are equal, and the runs in which they are."""
+        known = self.nodes.values(alike.leaves(leaves, self.classes.every), self.classes.every)
+        return self.nodes.following(known), self.nodes.allowed(known, self.classes.equal(known))
+
+    def settle(self):
+        """Splits classes by steps from random states in which members are equal, until that splits none."""
+        classes, size = self.classes, None
+        while size != (size := classes.size()):
+            self.order = ordered(classes)
+            state, runs = self.after(Alike(classes, self.order), classes.drawn(self.nodes.leaves()))
+            if runs:
+                classes.follow([*classes.drawn(self.nodes.inputs), *classes.spread(state, runs)], classes.every)
 
     def follow(self, leaves, runs):
         """Splits classes by runs from a step on, which has to split one."""
@@ -177,7 +190,7 @@ def certificate(nodes, pairs):
     """The text of a certificate whose bad states are those in which a pair differs; of what stands on others first, as they are asked about
     the last first."""
     gates = Gates(nodes.latches.stop)
-    known = nodes.values(nodes.leaves(), 1, gates.both)
+    known = nodes.literals(nodes.leaves(), gates)
     ways = [gates.both(*way) for left, right in pairs for way in [(known[left], known[right] ^ 1), (known[left] ^ 1, known[right])]]
     bads = [bad for bad in reversed(ways) if bad] or [0]
     states = [f"{latch} {latch} {reset if reset < 2 else latch}" for latch, reset in zip(nodes.latches, nodes.resets)]
@@ -215,15 +228,30 @@ class Registers(Asking):
         circuit, alike = self.race.circuit, self.source.started()
         nodes, rng = Nodes(circuit, alike), random.Random(0)
         latches = Classes(nodes, rng).begin([0, *nodes.latches])
-        given = partners(circuit, *(it.header().latches for it in [self.source.first, self.source.other]), alike)
+        counts = self.source.latches()
+        given = partners(circuit, *counts, {**alike, **self.source.held()})
         other = {nodes.latches[i]: nodes.latches[it] for i, it in given.items() if it is not None}
         yield nodes, States(paired(latches, other), self.solver)
         yield nodes, States(latches, self.solver)
-        for steps in AHEAD:
-            nodes = Nodes(circuit, alike)
-            for _ in range(steps):
-                nodes.look_ahead()
-            yield nodes, Steps(Classes(nodes, rng).begin(nodes.all()), self.solver)
+        # As many registers are seldom those of another time.
+        ways = [self.present(rng), self.ahead(rng)]
+        for guess in itertools.chain.from_iterable(ways if counts[0] == counts[1] else reversed(ways)):
+            yield guess.nodes, guess
+
+    def present(self, rng):
+        """Nodes of one step."""
+        nodes = Nodes(self.race.circuit, self.source.started())
+        yield Steps(Classes(nodes, rng).begin(nodes.all()), self.solver)
+
+    def ahead(self, rng):
+        """Also nodes of the next steps, first without those that are equal to such alone."""
+        nodes = Nodes(self.race.circuit, self.source.started())
+        stop = nodes.all().stop
+        for _ in range(AHEAD):
+            nodes.look_ahead()
+        classes = Classes(nodes, rng).begin(nodes.all())
+        yield Steps(classes.of_first(stop), self.solver)
+        yield Steps(classes, self.solver)
 
     def kept(self, guess):
         try:

@@ -140,6 +140,10 @@ class Asked:
         """How many constraints there are that runs may not meet, where the file has this header."""
         return header.constraints
 
+    def assuming(self):
+        """What has those constraints."""
+        return self
+
     def alike(self):
         """The same with registers that start alike, where that may make an answer another one; else None."""
         return None
@@ -157,6 +161,10 @@ class Asked:
     def others(self, circuit, told):
         """Further witnesses of what a run shows."""
         return []
+
+    def mattering(self, tolds):
+        """Of witnesses of one run those that are told."""
+        return tolds
 
     def places(self, circuit):
         """How the AIGER report names what is asked about, in the file that was given."""

@@ -3,6 +3,9 @@ from aigprove.merging import Merging
 from aigprove.programs import Fault, Folder, Sealed
 from aigprove.questions import ASSUMING, HINTED, Solver
 
+# How many conflicts cadical has where it is to end soon.
+FEW = 300
+
 
 def apart(left, right):
     """Both ways in which two literals differ, each as literals that are all true then."""
@@ -66,14 +69,15 @@ class Turns(Solver):
 
     def differing(self, gates, facts, pairs, seconds=None):
         """Where gates hold and pairs of facts are equal: the place of a pair that can differ, and the variables that are true then; what
-        stands before that place can't. None where none can, as the solver says: nobody has looked at a proof. cadical has so many seconds."""
+        stands before that place can't. None where none can, as the solver says: nobody has looked at a proof. cadical has so many seconds,
+        and few conflicts then."""
         ways = [way for pair in pairs for way in apart(*pair)]
         if not ways:
             return None
         with Folder(self.above) as folder:
             with folder.make("asked") as out:
                 out.writelines(text.encode() for text in self.asked(gates, facts, ways))
-            words = [*self.turning, *["-t", str(seconds)] * bool(seconds)] if self.is_cadical else self.words
+            words = [*self.turning, *(["-t", str(seconds), "-c", str(FEW)] if seconds else [])] if self.is_cadical else self.words
             has_solution, given = self.answer(folder, [*words, folder.place("asked")])
         return self.solved(given, pairs) if has_solution else None
 

@@ -16,9 +16,9 @@ use Rattle.aig_format.specs.Written.{file_text}
 use Rattle.aig_join.proofs.Certified.{IsCircuit-certified}
 use Rattle.aig_join.proofs.Written.{written-certified}
 use Rattle.aig_join.specs.Certificate.{HasLeavesOf, certified}
-use Rattle.aig_join.specs.Alike.{AreEqualMachinesFrom}
+use Rattle.aig_join.specs.Constraints.{AreEqualMachinesBy}
 use Rattle.aig_join.specs.Files.{HasLinesOf}
-use Rattle.aig_join.specs.declared.starts.Starts.{Starts}
+use Rattle.aig_join.specs.declared.comparison.Comparison.{Comparison}
 use Rattle.aig_runs.proofs.SafeSteps.{safe_is}
 use Rattle.aig_answers.specs.Certificates.{Certifies}
 use Rattle.aig_answers.specs.Comparing.{CertifiesMiter, IsOfCertificate, ReadsBeside}
@@ -30,8 +30,8 @@ use Rattle.aig_answers.proofs.Naming.{UnrollsByNone, both_told}
 use Rattle.aig_answers.proofs.Telling.{induction_of_step}
 
 module _ (none : UnrollsByNone) (known : Known) (limit : ℕ) (low : limit ≤ 2 ^ 31)
-    (optimize : Bool) (base step : Option (List ℕ)) (starts : Starts) (f g : File) (m : Circuit)
-    (joint : IsJointOf (Miter starts) f g m) (h : File) (bytes : List ℕ)
+    (optimize : Bool) (base step : Option (List ℕ)) (comparison : Comparison) (f g : File) (m : Circuit)
+    (joint : IsJointOf (Miter comparison) f g m) (h : File) (bytes : List ℕ)
     (is : Accepts bytes limit h) where
   -- the miter as a file
   abbrev written : File
@@ -151,7 +151,7 @@ module _ (none : UnrollsByNone) (known : Known) (limit : ℕ) (low : limit ≤ 2
 
   -- and where it is, the machines are equal
   pub equal_where : Certifies limit optimize base step written h (Ok tt) → (n : ℕ)
-      → AreEqualMachinesFrom starts f g n
+      → AreEqualMachinesBy comparison f g n
   equal_where shown n =
       (joint.shows n).0 ((safe_is written n).1 (shown.0.1 n) n (omega arith))
 
@@ -159,11 +159,11 @@ module _ (none : UnrollsByNone) (known : Known) (limit : ℕ) (low : limit ≤ 2
 
 module _ {S : Type 0} (left : S → Option (List ℕ)) (failed : S → Bool) (none : UnrollsByNone)
     (known : Known) (limit : ℕ) (low : limit ≤ 2 ^ 31) (optimize : Bool)
-    (base step : Option (List ℕ)) (starts : Starts) (f g : File) (m : Circuit)
-    (joint : IsJointOf (Miter starts) f g m) (s rest : S) where
+    (base step : Option (List ℕ)) (comparison : Comparison) (f g : File) (m : Circuit)
+    (joint : IsJointOf (Miter comparison) f g m) (s rest : S) where
   pub certifies_read : (made : Result Unit CertificateError)
       → ReadsBeside left failed limit (HoldsBeside limit optimize base step m) s made rest
-      → CertifiesMiter starts left failed limit optimize base step s rest f g made
+      → CertifiesMiter comparison left failed limit optimize base step s rest f g made
   certifies_read made told = (
     m,
     joint,
@@ -174,7 +174,7 @@ module _ {S : Type 0} (left : S → Option (List ℕ)) (failed : S → Bool) (no
             file = read.file;
             bytes = read.bytes;
             holds = read.holds;
-            means = certifies_miter none known limit low optimize base step starts f g m joint read.file
+            means = certifies_miter none known limit low optimize base step comparison f g m joint read.file
                 read.bytes read.holds made read.means;
             taken = read.taken;
           };
@@ -183,11 +183,11 @@ module _ {S : Type 0} (left : S → Option (List ℕ)) (failed : S → Bool) (no
 
   pub equal_read : ReadsBeside left failed limit (HoldsBeside limit optimize base step m) s
       (Ok tt) rest
-      → (n : ℕ) → AreEqualMachinesFrom starts f g n
+      → (n : ℕ) → AreEqualMachinesBy comparison f g n
   unfolding certifies_read
   equal_read told =
       let read = (certifies_read (Ok tt) told).2.answer refl in
-      equal_where none known limit low optimize base step starts f g m joint read.file read.bytes
+      equal_where none known limit low optimize base step comparison f g m joint read.file read.bytes
       read.holds read.means
 
 -- ---- what proofs of a joint circuit say of the certificate that stands in it

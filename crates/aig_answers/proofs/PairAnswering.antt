@@ -7,7 +7,7 @@ use Rattle.aig_base.specs.declared.logic.literal.Lit.{Lit}
 use Rattle.aig_circuit.specs.Circuit.{Circuit, IsCircuit}
 use Rattle.aig_edits.specs.Joints.{IsJointOf}
 use Rattle.aig_edits.specs.declared.pairing.Pairing.TheVariants.{Certificate, Miter}
-use Rattle.aig_join.specs.declared.starts.Starts.{Starts}
+use Rattle.aig_join.specs.declared.comparison.Comparison.{Comparison}
 use Rattle.aig_edit_laws.proofs.Written.{JoinsWitnesses, written_witnesses}
 use Rattle.aig_format.proofs.Words.{IsReadAgain, circuit_of, file_of, without_other_names, File, Fits}
 use Rattle.aig_format.proofs.Circuits.{IsCircuit-of_file}
@@ -149,16 +149,16 @@ certifies known limit optimize base step f g m joint (Err (errors.Window e)) tol
     (m, joint, told.1, told.2)
 
 -- the machines are equal at the step, or it is said why that isn't shown
-pub equals : (starts : Starts) (limit k : ℕ) (optimize : Bool) (proof : Option (List ℕ))
-    (f g : File) (m : Circuit) → IsJointOf (Miter starts) f g m → (made : Result Unit CertificateError)
-    → HoldsStep limit k optimize proof m made → Equals starts limit k optimize proof f g made
-equals starts limit k optimize proof f g m joint (Ok done) told = (
+pub equals : (comparison : Comparison) (limit k : ℕ) (optimize : Bool) (proof : Option (List ℕ))
+    (f g : File) (m : Circuit) → IsJointOf (Miter comparison) f g m → (made : Result Unit CertificateError)
+    → HoldsStep limit k optimize proof m made → Equals comparison limit k optimize proof f g made
+equals comparison limit k optimize proof f g m joint (Ok done) told = (
   (joint.fit, (joint.shows k).0 (file_safe m (file_of Text m) joint.again k told.0)),
   (m, joint, told.1),
 )
-equals starts limit k optimize proof f g m joint (Err (errors.Pair e)) told = absurd told
-equals starts limit k optimize proof f g m joint (Err (errors.Query e)) told = (m, joint, told.1)
-equals starts limit k optimize proof f g m joint (Err (errors.Window e)) told = absurd told
+equals comparison limit k optimize proof f g m joint (Err (errors.Pair e)) told = absurd told
+equals comparison limit k optimize proof f g m joint (Err (errors.Query e)) told = (m, joint, told.1)
+equals comparison limit k optimize proof f g m joint (Err (errors.Window e)) told = absurd told
 
 -- the clauses are those of the joint circuit, or it is said why there are none
 pub obliges : (limit : ℕ) (optimize : Bool) (f g : File) (m : Circuit)

@@ -13,9 +13,9 @@ use Rattle.aig_edits.specs.Joints as joints
 use Rattle.aig_edits.specs.Joints.{IsJointOf, IsRefusalOf}
 use Rattle.aig_edits.specs.declared.pairing.Pairing.TheVariants.{Certificate, Miter}
 use Rattle.aig_format.specs.File.{File}
-use Rattle.aig_join.specs.Alike.{AreEqualMachinesFrom}
+use Rattle.aig_join.specs.Constraints.{AreEqualMachinesBy}
 use Rattle.aig_join.specs.Files.{HasLinesOf, HaveSameFileCounts}
-use Rattle.aig_join.specs.declared.starts.Starts.{Starts}
+use Rattle.aig_join.specs.declared.comparison.Comparison.{Comparison}
 use Rattle.aig_reader.specs.Verdicts.{Accepted, NoBads, Short, TooLarge, TooMany, Verdict, verdict_by}
 use Rattle.aig_runs.specs.Queries.{IsSafeTo}
 use Rattle.aig_unroll.specs.Places.{unrolled_size}
@@ -111,18 +111,20 @@ Certifies limit optimize base step f g (Err (errors.Window e)) =
     (m : Circuit) × IsJointOf Certificate f g m × TellsOfQuery limit 0 optimize base m (Ok tt)
     × TellsOfTwo limit optimize step m (Err e)
 
--- the machines, whose registers start so, are equal at step k, or it is said why that isn't shown
+-- the machines, which are compared so, are equal at step k, or it is said why that isn't shown
 -- by the proof of this text
-abbrev pub Equals : Starts → ℕ → ℕ → Bool → Option (List ℕ) → File → File
+abbrev pub Equals : Comparison → ℕ → ℕ → Bool → Option (List ℕ) → File → File
     → Result Unit CertificateError → Type 0
-Equals starts limit k optimize proof f g (Ok done) =
-    (HaveSameFileCounts f g × AreEqualMachinesFrom starts f g k)
-    × ((m : Circuit) × IsJointOf (Miter starts) f g m
+Equals comparison limit k optimize proof f g (Ok done) =
+    (HaveSameFileCounts f g × AreEqualMachinesBy comparison f g k)
+    × ((m : Circuit) × IsJointOf (Miter comparison) f g m
     × TellsOfQuery limit k optimize proof m (Ok tt))
-Equals starts limit k optimize proof f g (Err (errors.Pair e)) = IsRefusalOf (Miter starts) f g e
-Equals starts limit k optimize proof f g (Err (errors.Query e)) =
-    (m : Circuit) × IsJointOf (Miter starts) f g m × TellsOfQuery limit k optimize proof m (Err e)
-Equals starts limit k optimize proof f g (Err (errors.Window e)) = ⊥
+Equals comparison limit k optimize proof f g (Err (errors.Pair e)) =
+    IsRefusalOf (Miter comparison) f g e
+Equals comparison limit k optimize proof f g (Err (errors.Query e)) =
+    (m : Circuit) × IsJointOf (Miter comparison) f g m
+    × TellsOfQuery limit k optimize proof m (Err e)
+Equals comparison limit k optimize proof f g (Err (errors.Window e)) = ⊥
 
 -- ---- clauses
 

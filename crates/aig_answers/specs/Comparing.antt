@@ -9,9 +9,9 @@ use Rattle.aig_format.specs.Circuit.{file_of}
 use Rattle.aig_format.specs.File.{File}
 use Rattle.aig_format.specs.Fits.{Accepts}
 use Rattle.aig_format.specs.declared.FileKind.TheVariants.{Text}
-use Rattle.aig_join.specs.Alike.{AreEqualMachinesFrom}
+use Rattle.aig_join.specs.Constraints.{AreEqualMachinesBy}
 use Rattle.aig_join.specs.Files.{HaveSameFileCounts}
-use Rattle.aig_join.specs.declared.starts.Starts.{Starts}
+use Rattle.aig_join.specs.declared.comparison.Comparison.{Comparison}
 use Rattle.aig_reader.specs.Reading.{IsReadAs}
 use Rattle.aig_reader.specs.Verdicts.{Accepted, Judges, Verdict, verdict_by}
 use Rattle.aig_answers.specs.Certificates as certificates
@@ -75,22 +75,23 @@ pub record ReadsBeside {S : Type 0} (left : S → Option (List ℕ)) (failed : S
 
 -- The answer is that of a certificate of the files' miter, as a file of its own: of the file that
 -- the miter's text is.
-abbrev pub CertifiesMiter : {S : Type 0} → Starts → (S → Option (List ℕ)) → (S → Bool) → ℕ → Bool
-    → Option (List ℕ) → Option (List ℕ) → S → S → File → File → Result Unit CertificateError
-    → Type 0
-CertifiesMiter starts left failed limit optimize base step s rest f g answer =
-    (m : Circuit) × IsJointOf (Miter starts) f g m
+abbrev pub CertifiesMiter : {S : Type 0} → Comparison → (S → Option (List ℕ)) → (S → Bool) → ℕ
+    → Bool → Option (List ℕ) → Option (List ℕ) → S → S → File → File
+    → Result Unit CertificateError → Type 0
+CertifiesMiter comparison left failed limit optimize base step s rest f g answer =
+    (m : Circuit) × IsJointOf (Miter comparison) f g m
     × ReadsBeside left failed limit (Certifies limit optimize base step (file_of Text m)) s answer
     rest
 
--- the machines, whose registers start so, are equal at every step, as the certificate of their
+-- the machines, which are compared so, are equal at every step, as the certificate of their
 -- miter shows, or it is said why that isn't shown: `base` and `step` are the texts of the proofs
-abbrev pub EqualsBy : {S : Type 0} → Starts → (S → Option (List ℕ)) → (S → Bool) → ℕ → Bool
-    → Option (List ℕ) → Option (List ℕ) → S → S → File → File → Result Unit MiterError → Type 0
-EqualsBy starts left failed limit optimize base step s rest f g (Ok done) =
-    (HaveSameFileCounts f g × ((n : ℕ) → AreEqualMachinesFrom starts f g n))
-    × CertifiesMiter starts left failed limit optimize base step s rest f g (Ok tt)
-EqualsBy starts left failed limit optimize base step s rest f g (Err (errors.Pair e)) =
-    IsRefusalOf (Miter starts) f g e
-EqualsBy starts left failed limit optimize base step s rest f g (Err (errors.Certificate e)) =
-    CertifiesMiter starts left failed limit optimize base step s rest f g (Err e)
+abbrev pub EqualsBy : {S : Type 0} → Comparison → (S → Option (List ℕ)) → (S → Bool) → ℕ
+    → Bool → Option (List ℕ) → Option (List ℕ) → S → S → File → File → Result Unit MiterError
+    → Type 0
+EqualsBy comparison left failed limit optimize base step s rest f g (Ok done) =
+    (HaveSameFileCounts f g × ((n : ℕ) → AreEqualMachinesBy comparison f g n))
+    × CertifiesMiter comparison left failed limit optimize base step s rest f g (Ok tt)
+EqualsBy comparison left failed limit optimize base step s rest f g (Err (errors.Pair e)) =
+    IsRefusalOf (Miter comparison) f g e
+EqualsBy comparison left failed limit optimize base step s rest f g (Err (errors.Certificate e)) =
+    CertifiesMiter comparison left failed limit optimize base step s rest f g (Err e)

@@ -10,9 +10,9 @@ use Rattle.aig_edits.specs.Joints as joints
 use Rattle.aig_edits.specs.Joints.{IsJointOf, IsRefusalOf}
 use Rattle.aig_edits.specs.declared.pairing.Pairing.TheVariants.{Miter}
 use Rattle.aig_format.specs.File.{File}
-use Rattle.aig_join.specs.Alike.{AreEqualMachinesFrom}
+use Rattle.aig_join.specs.Constraints.{AreEqualMachinesBy}
 use Rattle.aig_join.specs.Files.{HaveSameFileCounts}
-use Rattle.aig_join.specs.declared.starts.Starts.{Starts}
+use Rattle.aig_join.specs.declared.comparison.Comparison.{Comparison}
 use Rattle.aig_reader.specs.Verdicts.{Accepted, Verdict, verdict_by}
 use Rattle.aig_runs.specs.declared.window.Window.{Window}
 use Rattle.aig_answers.specs.Safety as safety
@@ -65,19 +65,20 @@ pub record TellsOfMiter {P Q : Type 0} (left : P → Option (List ℕ)) (left_of
   pub shown : verdict_by safety.verdict_of answer ≡ Accepted
       → ShowsCircuit left left_of k base_optimize form step_optimize p rest q m answer
 
--- The machines, whose registers start so, are equal at every step, or it is said why the proofs
+-- The machines, which are compared so, are equal at every step, or it is said why the proofs
 -- don't show so. The first of them is p before, and rest after it; the second is q before it.
-abbrev pub AlwaysEquals : {P Q : Type 0} → Starts → (P → Option (List ℕ))
+abbrev pub AlwaysEquals : {P Q : Type 0} → Comparison → (P → Option (List ℕ))
     → (Q → Option (List ℕ)) → ℕ → ℕ → Bool → Window → Bool → P → P → Q → File → File
     → Result Unit EqualityError → Type 0
-AlwaysEquals starts left left_of limit k base_optimize form step_optimize p rest q f g (Ok done) =
-    (HaveSameFileCounts f g × ((n : ℕ) → AreEqualMachinesFrom starts f g n))
-    × ((m : Circuit) × IsJointOf (Miter starts) f g m
+AlwaysEquals comparison left left_of limit k base_optimize form step_optimize p rest q f g
+    (Ok done) =
+    (HaveSameFileCounts f g × ((n : ℕ) → AreEqualMachinesBy comparison f g n))
+    × ((m : Circuit) × IsJointOf (Miter comparison) f g m
     × TellsOfMiter left left_of limit k base_optimize form step_optimize p rest q m (Ok tt))
-AlwaysEquals starts left left_of limit k base_optimize form step_optimize p rest q f g
+AlwaysEquals comparison left left_of limit k base_optimize form step_optimize p rest q f g
     (Err (errors.Pair e)) =
-    IsRefusalOf (Miter starts) f g e
-AlwaysEquals starts left left_of limit k base_optimize form step_optimize p rest q f g
+    IsRefusalOf (Miter comparison) f g e
+AlwaysEquals comparison left left_of limit k base_optimize form step_optimize p rest q f g
     (Err (errors.Miter e)) =
-    (m : Circuit) × IsJointOf (Miter starts) f g m
+    (m : Circuit) × IsJointOf (Miter comparison) f g m
     × TellsOfMiter left left_of limit k base_optimize form step_optimize p rest q m (Err e)

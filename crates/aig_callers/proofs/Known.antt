@@ -30,6 +30,7 @@ use Rattle.aig_edit_commands.specs.declared.command.Command.TheVariants as edit_
 use Rattle.aig_edit_commands.specs.declared.command.FileCommand.TheVariants as edit_files
 use Rattle.aig_edit_commands.specs.Acting as editing
 use Rattle.aig_edit_commands.specs.CommandWords as edit_words
+use Rattle.aig_join.specs.declared.comparison.Constraints.TheVariants.{OfBoth}
 use Rattle.aig_callers.proofs.Asking.{all_taken}
 use Rattle.aig_callers.proofs.Answered.{printed}
 use Rattle.aig_callers.proofs.Text.{all_held}
@@ -65,6 +66,10 @@ refuted_call words are = record {
   });
   more = words;
   asked = (λ more is. true≢false (ap (begins_with 114) (sym are ∙ is)), refl);
+  constraints = OfBoth;
+  others = words;
+  said = (λ more is. true≢false (ap (begins_with 114) (sym are ∙ is)), refl);
+  usual = refuted_asked.command;
   arguments = record {
     paths = codes "FILE" ∷ [];
     step = 0;
@@ -95,6 +100,7 @@ refuted_call words are = record {
     };
     command = refl;
   });
+  command = refl;
   allowed = refl;
   on = refl;
   beside = refl;
@@ -111,6 +117,9 @@ compress_call words are = record {
         refl;
     usual = refl;
   });
+  constraints = OfBoth;
+  more = words;
+  said = (λ more is. true≢false (ap (begins_with 99) (sym are ∙ is)), refl);
   action = edit_actions.Compress;
   arguments = record {
     paths = codes "FILE" ∷ [];
@@ -128,7 +137,9 @@ compress_call words are = record {
     distinct = λ is. is;
     raw = λ is. is;
   };
+  usual = edit_commands.File (edit_files.Edit edits.Compress);
   command = refl;
+  compares = refl;
   on = refl;
 }
 

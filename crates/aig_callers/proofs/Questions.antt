@@ -38,8 +38,8 @@ use Rattle.aig_edits.specs.declared.pairing.Pairing.TheVariants.{Certificate, Mi
 use Rattle.aig_encode.specs.Encoding.{IsQuery}
 use Rattle.aig_encode.specs.declared.query_clauses.Query.{Query}
 use Rattle.aig_join.specs.Miter.{IsMiter}
-use Rattle.aig_join.specs.declared.starts.Starts.TheVariants.{Apart}
 use Rattle.aig_callers.specs.Taking.{IsBoundedHindrance, IsHindrance, IsOfNoProof, IsOutside, IsProofOf, TakesParts}
+use Rattle.aig_callers.specs.Texts.{usual}
 use Rattle.aig_callers.proofs.Taken.{Laws, SpellOne, answer_taken, bounded_hindered, hindered, text_taken, told_of}
 
 any : {E : Type 0} (answer : Result (Unit {0}) E) → IfErr answer (λ e. Unit {0})
@@ -220,16 +220,16 @@ module _ (laws : Laws) (one : SpellOne) (limit : ℕ) (file beside : List ℕ) (
 
   module _ (are_one : MitersAreOne) (ask_the_same : AskTheSame) (k : ℕ) (optimize : Bool)
       (text proof : List ℕ) (given : Option (List ℕ)) (known : given ≡ Some proof) (m : Circuit)
-      (joint : IsJointOf (Miter Apart) f g m) (h : File) (written : Accepts (text_of m) limit h) (q : Query)
+      (joint : IsJointOf (Miter usual) f g m) (h : File) (written : Accepts (text_of m) limit h) (q : Query)
       (asks : IsQuery k optimize h q) (printed : IsTextOf q.encoded.clauses q.extra text) where
     query_taken : (e : RefutationError) → IsProofOf text proof
-        → Equals Apart limit k optimize given f g (Err (certificate.Query (answers.Refutation e)))
+        → Equals usual limit k optimize given f g (Err (certificate.Query (answers.Refutation e)))
         → IsOutside e
     query_taken e p (n, other, tells) =
         let same : m ≡ n = are_one (circuit_of f) (circuit_of g) m n joint.joint other.joint in
         let told = tells.shown refl in
         let made = told.0.0 in
-        let clauses = ask_the_same (Miter Apart) f g h n limit k optimize q made other
+        let clauses = ask_the_same (Miter usual) f g h n limit k optimize q made other
         (subst (λ c. Accepts (text_of c) limit h) same written) asks told.0.1 in
         let shows = subst (λ t. Shows (length made.clauses)
         (clauses_in made.clauses ++ made.extra) t (Err e)) known (told.1 made told.0.1) in
@@ -244,15 +244,15 @@ module _ (laws : Laws) (one : SpellOne) (limit : ℕ) (file beside : List ℕ) (
         → Option (List ℕ)) (failed_of : S → Bool) (r rest : R) (s other : S) (is : left r
         ≡ Some file) (is_also : left_of s ≡ Some beside) where
       pub equal_taken : (answer : Result (Unit {0}) CertificateError)
-          → ReadsPair left failed left_of failed_of limit (Equals Apart limit k optimize given)
+          → ReadsPair left failed left_of failed_of limit (Equals usual limit k optimize given)
           first_verdict second_verdict IsOwn r s answer rest other
           → IsProofOf text proof → IfErr answer IsOfNoProof
       equal_taken (Ok u) reads p = tt
       equal_taken (Err (certificate.Query (answers.Refutation e))) reads p =
-          query_taken e p (means_of left failed left_of failed_of (Equals Apart limit k optimize given) r
+          query_taken e p (means_of left failed left_of failed_of (Equals usual limit k optimize given) r
           rest s other is is_also (Err (certificate.Query (answers.Refutation e))) refl refl
           reads)
       equal_taken (Err (certificate.Window (answers.Refutation e))) reads p =
-          absurd (means_of left failed left_of failed_of (Equals Apart limit k optimize given) r rest s
+          absurd (means_of left failed left_of failed_of (Equals usual limit k optimize given) r rest s
           other is is_also (Err (certificate.Window (answers.Refutation e))) refl refl reads)
       equal_taken (Err e) reads p = tt

@@ -10,6 +10,8 @@ use Rattle.aig_circuit.specs.Circuit.{Circuit}
 use Rattle.aig_tool_commands.specs.Running.{IsTextOf}
 use Rattle.aig_edits.specs.Joints.{IsJointOf}
 use Rattle.aig_edits.specs.declared.pairing.Pairing.TheVariants.{Miter}
+use Rattle.aig_join.specs.declared.comparison.Comparison.{Comparison}
+use Rattle.aig_join.specs.declared.comparison.Constraints.TheVariants.{OfBoth}
 use Rattle.aig_join.specs.declared.starts.Starts.TheVariants.{Apart}
 use Rattle.aig_encode.specs.Encoding.{IsQuery}
 use Rattle.aig_encode.specs.declared.query_clauses.Query.{Query}
@@ -43,11 +45,16 @@ AreObligationsOf optimize file certificate text =
     (f : File) × (g : File) × Accepts file (2 ^ 24) f × Accepts certificate (2 ^ 24) g
     × IsObligationsText optimize (Some file) (Some certificate) f g text
 
+-- how files are compared: on runs that meet the constraints of both, whose registers with open
+-- start begin each as it likes
+abbrev pub usual : Comparison
+usual = record { starts = Apart; constraints = OfBoth }
+
 -- that of `aigedit miter FILE OTHER`
 abbrev pub IsMiterTextOf : List ℕ → List ℕ → List ℕ → Type 0
 IsMiterTextOf file other text =
     (f : File) × (g : File) × Accepts file (2 ^ 24) f × Accepts other (2 ^ 24) g
-    × ((m : Circuit) × IsJointOf (Miter Apart) f g m × (text ≡ text_of m))
+    × ((m : Circuit) × IsJointOf (Miter usual) f g m × (text ≡ text_of m))
 
 -- that of `aigtool query FILE K`
 abbrev pub IsQueryTextOf : ℕ → Bool → List ℕ → List ℕ → Type 0

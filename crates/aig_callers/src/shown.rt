@@ -8,10 +8,17 @@ ghost use Rattle.aig_format.specs.Fits.{Accepts};
 
 use aig_answers::{AnswerError, check_step};
 use aig_base::Source;
+use aig_edits::{Comparison, Constraints, Starts};
 use std::alloc::Global;
 
 /// The limit on nodes.
 pub(crate) const LIMIT: usize = 1 << 24;
+
+/// How files are compared: on runs that meet the constraints of both, whose registers with open start begin each as it likes.
+pub(crate) const COMPARISON: Comparison = Comparison {
+    starts: Starts::Apart,
+    constraints: Constraints::OfBoth,
+};
 
 /// Whether a proof is taken that the machine of a file reaches no bad state at step `k`. What it says of the file is said where
 /// the bytes are known, as those of a slice are.

@@ -7,7 +7,7 @@ ghost use Rattle.aig_callers.specs.Taking.{IsBoundedHindrance, IsHindrance, IsOf
 ghost use Rattle.aig_callers.specs.Texts.{AreObligationsOf, IsBoundedTextOf, IsClausesTextOf, IsMiterQueryTextOf, IsMiterTextOf, IsQueryTextOf, IsWindowTextOf};
 
 use crate::laws::joint_files_ask_the_same;
-use crate::shown::LIMIT;
+use crate::shown::{COMPARISON, LIMIT};
 use aig_answers::{
     AnswerError, BoundedAnswerError, CertificateError, check_bounded, check_certified, check_equal,
     check_step, check_window,
@@ -17,7 +17,7 @@ use aig_check_commands::{
     CheckError, print_bounded, print_clauses, print_obligations, print_window,
 };
 use aig_command_line::FlushedWriter;
-use aig_edits::{PairError, Pairing, Starts, print_joint};
+use aig_edits::{PairError, Pairing, print_joint};
 use aig_format::reads_exactly;
 use aig_join::miters_are_one;
 use aig_refutation::{
@@ -189,7 +189,7 @@ fn miter_text(alloc: Global, file: &[u8], other: &[u8]) -> Result<Vec<u8>, PairE
     let (file, other) = (&mut source_of(file), &mut source_of(other));
     print_joint(
         alloc,
-        Pairing::Miter(Starts::Apart),
+        Pairing::Miter(COMPARISON),
         file,
         other,
         LIMIT,
@@ -265,7 +265,7 @@ pub fn taken_as_equal(
         alloc,
         file,
         other,
-        Starts::Apart,
+        COMPARISON,
         LIMIT,
         k,
         optimize,

@@ -5,7 +5,7 @@ use Rattle.aig_base.specs.declared.std_stream.FromRead.{FromRead}
 use Rattle.aig_base.specs.declared.std_stream.ToWrite.{ToWrite}
 use Rattle.aig_answers.specs.declared.bounded_checks.error.BoundedAnswerError.{BoundedAnswerError}
 use Rattle.aig_check_commands.specs.Comparing.{RunsComparing}
-use Rattle.aig_join.specs.declared.starts.Starts.{Starts}
+use Rattle.aig_join.specs.declared.comparison.Comparison.{Comparison}
 use Rattle.aig_check_commands.specs.Pairs.{RunsPair}
 use Rattle.aig_check_commands.specs.Printed.{EndsWith, Printed}
 use Rattle.aig_check_commands.specs.Running.{Runs, nothing_fails, nothing_given}
@@ -391,12 +391,12 @@ module _ {W : Type 0} {held : W → Option (List ℕ)} {write_failed : W → Boo
       seen_printed (λ x. proofs_seen read bytes_of has_failed x read bytes_of has_failed read bytes_of
       has_failed)
 
-  pub comparing_seen : {starts : Starts} {optimize : Bool} {r rest s other c tried p used q spent : Reader}
+  pub comparing_seen : {comparison : Comparison} {optimize : Bool} {r rest s other c tried p used q spent : Reader}
       → RunsComparing bytes_left read_failed bytes_left read_failed bytes_left read_failed
-      bytes_left read_failed bytes_left read_failed held write_failed starts optimize limit r s c p q w
+      bytes_left read_failed bytes_left read_failed held write_failed comparison optimize limit r s c p q w
       result rest other tried used spent made
       → RunsComparing bytes_of has_failed bytes_of has_failed bytes_of has_failed bytes_of
-      has_failed bytes_of has_failed bytes_of has_failed starts optimize limit (read r) (read s) (read c)
+      has_failed bytes_of has_failed bytes_of has_failed comparison optimize limit (read r) (read s) (read c)
       (read p) (read q) (seen held write_failed w) result (read rest) (read other) (read tried)
       (read used) (read spent) (seen held write_failed made)
   comparing_seen =

@@ -8,11 +8,11 @@ use Rattle.aig_answers.specs.Answers as answering
 use Rattle.aig_answers.specs.Answers.{IsAsked, IsOfQuery, asked_verdict}
 use Rattle.aig_answers.specs.declared.error.AnswerError.{AnswerError}
 use Rattle.aig_check_commands.specs.Comparing.{RunsComparing}
-use Rattle.aig_join.specs.declared.starts.Starts.TheVariants.{Apart}
 use Rattle.aig_check_commands.specs.Pairs.{RunsPair}
 use Rattle.aig_check_commands.specs.Running.{Runs}
 use Rattle.aig_check_commands.specs.Safe.{RunsSafe}
 use Rattle.aig_check_commands.specs.Simulating.{RunsSimulated}
+use Rattle.aig_calls.specs.declared.pairs.TheConstants.{COMPARISON}
 use Rattle.aig_simulated.specs.Simulated.{Proofs, proofs_of}
 use Rattle.aig_check_commands.specs.declared.command.FileCommand.{FileCommand}
 use Rattle.aig_check_commands.specs.declared.command.PairCommand.{PairCommand}
@@ -99,8 +99,8 @@ RunsOnMiter limit optimize file other certificate base step result w made =
     On (Some file) (λ r rest. On (Some other) (λ s left. On (Some certificate) (λ c tried.
     On (Some base) (λ p used. On (Some step) (λ q spent.
     RunsComparing bytes_of has_failed bytes_of has_failed bytes_of has_failed bytes_of has_failed
-    bytes_of has_failed bytes_of has_failed Apart optimize limit r s c p q w result rest left tried
-    used spent made)))))
+    bytes_of has_failed bytes_of has_failed COMPARISON optimize limit r s c p q w result rest left
+    tried used spent made)))))
 
 -- `certified` was run on those of a file, a witness circuit and a proof for each condition
 abbrev pub RunsOnWitness : ℕ → Bool → List ℕ → List ℕ → Proofs (List ℕ) → Result Unit CheckError

@@ -2,12 +2,12 @@
 
 ghost use Rattle.std.specs.Prelude.{◌<◌, ◌^◌, None, Some};
 ghost use Rattle.aig_check_commands.specs.declared.command.PairCommand.TheVariants as commands;
-ghost use Rattle.aig_join.specs.declared.starts.Starts.TheVariants.{Apart};
 ghost use Rattle.aig_simulated.specs.Simulated.{proofs_of};
 ghost use Rattle.aig_calls.specs.Calls.{Checks, ChecksAt, RunsOnMiter, RunsOnPair, RunsOnWitness, form_of};
 ghost use Rattle.aig_calls.specs.Memory.{Unseen};
 ghost use Rattle.aig_calls.specs.Statuses.{check_status};
 
+use crate::pairs::COMPARISON;
 use crate::status::status_of;
 use crate::steps::{step_of, window_form};
 use aig_answers::Window;
@@ -16,7 +16,6 @@ use aig_check_commands::{
     CheckError, print_always_equal, print_certified, print_equal, print_equal_by, print_simulated,
 };
 use aig_command_line::Discarded;
-use aig_edits::Starts;
 use aig_tool_commands::LIMIT;
 use std::alloc::Global;
 
@@ -57,8 +56,8 @@ fn equate(
     optimize: bool,
     proof: &[u8],
 ) -> Result<(), CheckError>
-    ensures { Unseen (RunsOnPair LIMIT (commands.Equal Apart k optimize) file.now other.now (Some
-        proof.now) None result) }
+    ensures { Unseen (RunsOnPair LIMIT (commands.Equal COMPARISON k optimize) file.now other.now
+        (Some proof.now) None result) }
 {
     let mut first = FromRead::new(file);
     let mut second = FromRead::new(other);
@@ -66,7 +65,7 @@ fn equate(
     print_equal(
         alloc,
         LIMIT,
-        Starts::Apart,
+        COMPARISON,
         k,
         optimize,
         &mut first,
@@ -89,7 +88,7 @@ fn equate_always(
     step: &[u8],
 ) -> Result<(), CheckError>
     requires { k < 2 ^ 32 }
-    ensures { Unseen (RunsOnPair LIMIT (commands.AlwaysEqual Apart k form base_optimize
+    ensures { Unseen (RunsOnPair LIMIT (commands.AlwaysEqual COMPARISON k form base_optimize
         step_optimize) file.now other.now (Some base.now) (Some step.now) result) }
 {
     let mut first = FromRead::new(file);
@@ -99,7 +98,7 @@ fn equate_always(
     print_always_equal(
         alloc,
         LIMIT,
-        Starts::Apart,
+        COMPARISON,
         k,
         form,
         base_optimize,
@@ -133,7 +132,7 @@ fn equate_by(
     print_equal_by(
         alloc,
         LIMIT,
-        Starts::Apart,
+        COMPARISON,
         optimize,
         &mut first,
         &mut second,
@@ -232,7 +231,7 @@ pub extern "C" fn aig_check_equal(
     optimize: bool,
     proof: &[u8],
 ) -> u32
-    ensures { ChecksAt k check_status (λ done. Unseen (RunsOnPair LIMIT (commands.Equal Apart k
+    ensures { ChecksAt k check_status (λ done. Unseen (RunsOnPair LIMIT (commands.Equal COMPARISON k
         optimize) file.now other.now (Some proof.now) None done)) result }
 {
     match step_of(k) {
@@ -255,9 +254,9 @@ pub extern "C" fn aig_check_always_equal(
     step_optimize: bool,
     step: &[u8],
 ) -> u32
-    ensures { ChecksAt k check_status (λ done. Unseen (RunsOnPair LIMIT (commands.AlwaysEqual Apart
-        k (form_of distinct) base_optimize step_optimize) file.now other.now (Some base.now) (Some
-        step.now) done)) result }
+    ensures { ChecksAt k check_status (λ done. Unseen (RunsOnPair LIMIT (commands.AlwaysEqual
+        COMPARISON k (form_of distinct) base_optimize step_optimize) file.now other.now
+        (Some base.now) (Some step.now) done)) result }
 {
     match step_of(k) {
         Ok(k) => {

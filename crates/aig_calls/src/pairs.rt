@@ -3,16 +3,21 @@
 ghost use Rattle.std.specs.Prelude.{None};
 ghost use Rattle.aig_check_commands.specs.declared.command.PairCommand.TheVariants as commands;
 ghost use Rattle.aig_edits.specs.declared.pairing.Pairing.TheVariants.{Certificate, Merge, Miter};
-ghost use Rattle.aig_join.specs.declared.starts.Starts.TheVariants.{Apart};
 ghost use Rattle.aig_calls.specs.Calls.{GivesResult, MakesJoint, Prints, RunsOnPair, items_in};
 ghost use Rattle.aig_calls.specs.Statuses.{check_status, pair_status};
 
 use crate::buffer::put;
 use aig_base::{FromRead, ToWrite};
 use aig_check_commands::{CheckError, print_obligations};
-use aig_edits::{PairError, Pairing, Starts, print_joint};
+use aig_edits::{Comparison, Constraints, PairError, Pairing, Starts, print_joint};
 use aig_tool_commands::LIMIT;
 use std::alloc::Global;
+
+/// How calls compare two files: on runs that meet the constraints of both, whose registers with open start begin each as it likes.
+pub(crate) const COMPARISON: Comparison = Comparison {
+    starts: Starts::Apart,
+    constraints: Constraints::OfBoth,
+};
 
 /// The text of the circuit of two files.
 fn joint_text(
@@ -55,17 +60,11 @@ pub extern "C" fn aig_miter(
     out: &mut [u8],
     needed: &mut usize,
 ) -> u32
-    ensures { GivesResult pair_status (Prints (MakesJoint LIMIT (Miter Apart) file.now other.now))
-        result out.old out.new needed.old needed.new }
+    ensures { GivesResult pair_status
+        (Prints (MakesJoint LIMIT (Miter COMPARISON) file.now other.now)) result
+        out.old out.new needed.old needed.new }
 {
-    print_pair(
-        alloc,
-        Pairing::Miter(Starts::Apart),
-        file,
-        other,
-        out,
-        needed,
-    )
+    print_pair(alloc, Pairing::Miter(COMPARISON), file, other, out, needed)
 }
 
 /// The text form of a file's circuit beside its certificate.

@@ -30,14 +30,14 @@ up_to P t before here s h = elim (cases_lt s t) [
 ]
 
 -- it says what its name does
-held_forth : (c : Circuit) (x : ℕ → ℕ → Bool) (t : ℕ) → held_before c x t ≡ true → (s : ℕ) → s < t → all_hold c (x s) ≡ true
+pub held_forth : (c : Circuit) (x : ℕ → ℕ → Bool) (t : ℕ) → held_before c x t ≡ true → (s : ℕ) → s < t → all_hold c (x s) ≡ true
 unfolding held_before
 held_forth c x zero h s lt = absurd (omega arith)
 held_forth c x (suc t) h s lt =
     let both = and_parts (held_before c x t) (all_hold c (x t)) h in
     up_to (λ s. all_hold c (x s) ≡ true) t (held_forth c x t both.0) both.1 s (omega arith)
 
-held_back : (c : Circuit) (x : ℕ → ℕ → Bool) (t : ℕ) → ((s : ℕ) → s < t → all_hold c (x s) ≡ true) → held_before c x t ≡ true
+pub held_back : (c : Circuit) (x : ℕ → ℕ → Bool) (t : ℕ) → ((s : ℕ) → s < t → all_hold c (x s) ≡ true) → held_before c x t ≡ true
 unfolding held_before
 held_back c x zero all = refl
 held_back c x (suc t) all = and_from (held_before c x t) (all_hold c (x t)) (held_back c x t (λ s lt. all s (omega arith))) (all t (omega arith))

@@ -1,12 +1,12 @@
-mod Lists
+pub mod Lists
 mod Values
 pub mod Merging
 pub mod Merged
-mod Grown
-mod Held
+pub mod Grown
+pub mod Held
 mod FirstStep
 mod First
-mod Moving
+pub mod Moving
 mod Compressing
 mod Constraining
 mod Examples

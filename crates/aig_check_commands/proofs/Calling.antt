@@ -13,6 +13,10 @@ use Rattle.aig_command_line.specs.declared.arguments.Given.{Given}
 use Rattle.aig_command_line.specs.Limits.{IsLimited}
 use Rattle.aig_command_line.proofs.Apart as apart
 use Rattle.aig_command_line.proofs.Limits.{asked_alone, one_limit}
+use Rattle.aig_edits.specs.Words.{AreConstraints}
+use Rattle.aig_edits.proofs.ConstraintWords.{one_constraints}
+use Rattle.aig_join.specs.declared.comparison.Constraints.{Constraints}
+use Rattle.aig_join.specs.declared.comparison.Constraints.TheVariants.{OfBoth}
 use Rattle.aig_join.specs.declared.starts.Matching.TheVariants.{ByName, ByOrder}
 use Rattle.aig_join.specs.declared.starts.Starts.TheVariants.{Alike, Apart}
 use Rattle.aig_check_commands.specs.declared.command.Action.{Action}
@@ -29,7 +33,7 @@ use Rattle.aig_simulation.specs.declared.condition.Condition.{Condition}
 use Rattle.aig_simulation.specs.declared.condition.Condition.TheVariants as conditions
 use Rattle.aig_check_commands.specs.declared.justice.Justice.{Justice}
 use Rattle.aig_check_commands.specs.Justice.{AreJustice, IsNumbered, is_asked}
-use Rattle.aig_check_commands.specs.CommandWords.{AreCommand, FitNone, Give, IsAlone, IsCall, IsOf, IsOnWitness, IsWhole, beside_of, command_of, form_of, name_of, paths_of, raw_alone, raw_word, witness_form, witness_name}
+use Rattle.aig_check_commands.specs.CommandWords.{AreCommand, FitNone, Give, IsAlone, IsCall, IsOf, IsOnWitness, IsWhole, beside_of, command_of, form_of, name_of, paths_of, raw_alone, raw_word, under, witness_form, witness_name}
 
 -- where a command stands in a list, by a test that computes
 abbrev place_in : {A : Type 0} → (A → List ℕ) → (A → ArgumentForm) → A → List A → ℕ
@@ -354,20 +358,36 @@ same_asked c d justice command =
     the : Option Justice → Command → Asked
     the j e = record { justice = j; command = e }
 
--- what words give after their limit and their justice property, where they give a command
-given_is : (words rest more : List (List ℕ)) (limit : ℕ) (a : Option Justice) (u : Command)
-    (x : Arguments) → IsLimited words limit rest → AreJustice a rest more → AreCommand more u x
+-- what words give first, where they give a call: their limit, their justice property, and what
+-- constraints say
+first_is : (words rest more others : List (List ℕ)) (limit : ℕ) (a : Option Justice)
+    (constraints : Constraints) → IsLimited words limit rest → AreJustice a rest more
+    → AreConstraints constraints more others
     → (other : ℕ) (c : Asked) (paths further : List (List ℕ))
-    → IsCall words other c paths further
-    → (other ≡ limit) × (c.justice ≡ a) × (c.command ≡ u) × (paths ≡ x.paths)
-    × (further ≡ x.further)
-given_is words rest more limit a u x limited asked gives other c paths further g =
+    → (g : IsCall words other c paths further)
+    → (other ≡ limit) × (c.justice ≡ a) × (g.constraints ≡ constraints) × (g.others ≡ others)
+first_is words rest more others limit a constraints limited asked said other c paths further g =
     let words_are = one_limit words other limit g.rest rest g.limited limited in
     let justice = one_justice rest c.justice a g.more more (rw words_are.1 at g.asked) asked in
-    let same = one_command more c.command u g.arguments x (rw justice.1 at g.gives) gives in (
-      words_are.0,
-      justice.0,
-      same.0,
+    let same = one_constraints more g.constraints constraints g.others others
+    (rw justice.1 at g.said) said in
+    (words_are.0, justice.0, same.0, same.1)
+
+-- what they give after these, where they give a command
+given_is : (words rest more others : List (List ℕ)) (limit : ℕ) (a : Option Justice)
+    (constraints : Constraints) (u : Command) (x : Arguments) → IsLimited words limit rest
+    → AreJustice a rest more → AreConstraints constraints more others → AreCommand others u x
+    → (other : ℕ) (c : Asked) (paths further : List (List ℕ))
+    → IsCall words other c paths further
+    → (other ≡ limit) × (c.justice ≡ a) × (under constraints u ≡ Some c.command)
+    × (paths ≡ x.paths) × (further ≡ x.further)
+given_is words rest more others limit a constraints u x limited asked said gives other c paths further g =
+    let is = first_is words rest more others limit a constraints limited asked said other c paths
+    further g in
+    let same = one_command others g.usual u g.arguments x (rw is.3 at g.gives) gives in (
+      is.0,
+      is.1,
+      ap (λ v. under constraints v) (sym same.0) ∙ ap (λ s. under s g.usual) (sym is.2) ∙ g.command,
       g.on ∙ ap (λ (y : Arguments). y.paths) same.1,
       g.beside ∙ ap (λ (y : Arguments). y.further) same.1,
     )
@@ -377,9 +397,10 @@ pub one_call : (words : List (List ℕ)) (limit other : ℕ) (c d : Asked) (p q 
     → IsCall words limit c p r
     → IsCall words other d q s → (limit ≡ other) × (c ≡ d) × (p ≡ q) × (r ≡ s)
 one_call words limit other c d p q r s g h =
-    let is = given_is words h.rest h.more other d.justice d.command h.arguments h.limited h.asked
-    h.gives limit c p r g in
-    (is.0, same_asked c d is.1 is.2, is.3 ∙ sym h.on, is.4 ∙ sym h.beside)
+    let is = given_is words h.rest h.more h.others other d.justice h.constraints h.usual h.arguments
+    h.limited h.asked h.said h.gives limit c p r g in
+    let same : Some c.command ≡ Some d.command = sym is.2 ∙ h.command in
+    (is.0, same_asked c d is.1 (same_Some _ _ same), is.3 ∙ sym h.on, is.4 ∙ sym h.beside)
 
 -- words after a limit that give no justice property rightly give no command
 pub unjust_none : (words rest : List (List ℕ)) (limit : ℕ) → IsLimited words limit rest
@@ -389,27 +410,57 @@ unjust_none words rest limit limited none other c paths further g =
     let same = (one_limit words other limit g.rest rest g.limited limited).1 in
     none c.justice g.more (rw same at g.asked)
 
--- nor do words after these that are none
-pub fits_none : (words rest more : List (List ℕ)) (limit : ℕ) (a : Option Justice)
+-- nor do words after these that don't say rightly what constraints say
+pub unsaid_none : (words rest more : List (List ℕ)) (limit : ℕ) (a : Option Justice)
     → IsLimited words limit rest → AreJustice a rest more
-    → ((c : Command) (x : Arguments) → ¬ AreCommand more c x)
+    → ((constraints : Constraints) (others : List (List ℕ)) → ¬ AreConstraints constraints more others)
     → (other : ℕ) (c : Asked) (paths further : List (List ℕ)) → ¬ IsCall words other c paths
     further
-fits_none words rest more limit a limited asked none other c paths further g =
+unsaid_none words rest more limit a limited asked none other c paths further g =
     let words_are = one_limit words other limit g.rest rest g.limited limited in
     let justice = one_justice rest c.justice a g.more more (rw words_are.1 at g.asked) asked in
-    none c.command g.arguments (rw justice.1 at g.gives)
+    none g.constraints g.others (rw justice.1 at g.said)
 
--- nor where no justice property is asked about by what they are
-pub unasked_none : (words rest more : List (List ℕ)) (limit : ℕ) (a : Option Justice) (u : Command)
-    (x : Arguments) → IsLimited words limit rest → AreJustice a rest more → AreCommand more u x
-    → is_asked a u ≡ false
+-- nor words after all of these that are no command
+pub fits_none : (words rest more others : List (List ℕ)) (limit : ℕ) (a : Option Justice)
+    (constraints : Constraints) → IsLimited words limit rest → AreJustice a rest more
+    → AreConstraints constraints more others
+    → ((c : Command) (x : Arguments) → ¬ AreCommand others c x)
     → (other : ℕ) (c : Asked) (paths further : List (List ℕ)) → ¬ IsCall words other c paths
     further
-unasked_none words rest more limit a u x limited asked gives none other c paths further g =
-    let is = given_is words rest more limit a u x limited asked gives other c paths further g in
-    true≢false (sym g.allowed ∙ ap (λ j. is_asked j c.command) is.1 ∙ ap (λ d. is_asked a d) is.2
-    ∙ none)
+fits_none words rest more others limit a constraints limited asked said none other c paths further g =
+    let is = first_is words rest more others limit a constraints limited asked said other c paths
+    further g in
+    none g.usual g.arguments (rw is.3 at g.gives)
+
+-- nor where what they are doesn't compare, and constraints don't say what is usual
+pub uncompared_none : (words rest more others : List (List ℕ)) (limit : ℕ) (a : Option Justice)
+    (constraints : Constraints) (u : Command) (x : Arguments) → IsLimited words limit rest
+    → AreJustice a rest more → AreConstraints constraints more others → AreCommand others u x
+    → under constraints u ≡ None
+    → (other : ℕ) (c : Asked) (paths further : List (List ℕ)) → ¬ IsCall words other c paths
+    further
+uncompared_none words rest more others limit a constraints u x limited asked said gives none other c paths
+    further g =
+    let is = given_is words rest more others limit a constraints u x limited asked said gives other c
+    paths further g in
+    let not : None ≡ Some c.command = sym none ∙ is.2 in
+    cc
+
+-- nor where no justice property is asked about by what they are
+pub unasked_none : (words rest more others : List (List ℕ)) (limit : ℕ) (a : Option Justice)
+    (constraints : Constraints) (u d : Command) (x : Arguments) → IsLimited words limit rest
+    → AreJustice a rest more → AreConstraints constraints more others → AreCommand others u x
+    → under constraints u ≡ Some d → is_asked a d ≡ false
+    → (other : ℕ) (c : Asked) (paths further : List (List ℕ)) → ¬ IsCall words other c paths
+    further
+unasked_none words rest more others limit a constraints u d x limited asked said gives is_under none other c
+    paths further g =
+    let is = given_is words rest more others limit a constraints u x limited asked said gives other c
+    paths further g in
+    let command : Some c.command ≡ Some d = sym is.2 ∙ is_under in
+    true≢false (sym g.allowed ∙ ap (λ j. is_asked j c.command) is.1
+    ∙ ap (λ e. is_asked a e) (same_Some _ _ command) ∙ none)
 
 -- so what they give is told exactly
 pub gives_exactly : (words : List (List ℕ)) (limit : ℕ) (c : Asked) (paths further : List (List ℕ))
@@ -426,15 +477,25 @@ pub no_command : (words : List (List ℕ)) (q : Help) (limit : ℕ) (c : Asked)
     → ¬ IsCall words limit c paths further
 no_command words q limit c paths further are g =
     let alone = asked_alone words g.rest q limit are g.limited in
-    let rest = (no_justice (word_of q ∷ []) c.justice g.more (no_asked q) (rw alone at g.asked)).1
+    let more = (no_justice (word_of q ∷ []) c.justice g.more (no_asked q) (rw alone at g.asked)).1
     in
-    no_question q c.command g.arguments (rw rest at g.gives)
+    let others = (one_constraints (word_of q ∷ []) g.constraints OfBoth g.others (word_of q ∷ [])
+    (rw more at g.said) (no_said q, refl)).1 in
+    no_question q g.usual g.arguments (rw others at g.gives)
   where
     no_asked : (q : Help) (more : List (List ℕ)) → ¬ (word_of q ∷ [] ≡ codes "--justice" ∷ more)
     no_asked Usage more is =
         let letter = ap (λ (words : List (List ℕ)). slice_index (slice_index_or words 0 []) 2) is in
         omega (arith, letter)
     no_asked Version more is =
+        let letter = ap (λ (words : List (List ℕ)). slice_index (slice_index_or words 0 []) 2) is in
+        omega (arith, letter)
+
+    no_said : (q : Help) (more : List (List ℕ)) → ¬ (word_of q ∷ [] ≡ codes "--constraints" ∷ more)
+    no_said Usage more is =
+        let letter = ap (λ (words : List (List ℕ)). slice_index (slice_index_or words 0 []) 2) is in
+        omega (arith, letter)
+    no_said Version more is =
         let letter = ap (λ (words : List (List ℕ)). slice_index (slice_index_or words 0 []) 2) is in
         omega (arith, letter)
 

@@ -9,7 +9,7 @@ use Rattle.aig_answers.specs.declared.certificates.compare_error.MiterError.TheV
 use Rattle.aig_answers.specs.declared.certificates.error.CertificateError.TheVariants as certificate
 use Rattle.aig_edits.proofs.Reading.{reads_on}
 use Rattle.aig_edits.specs.Pairs.{ReadsPair}
-use Rattle.aig_join.specs.declared.starts.Starts.{Starts}
+use Rattle.aig_join.specs.declared.comparison.Comparison.{Comparison}
 use Rattle.aig_refutation.specs.declared.error.RefutationError.TheVariants as refutation
 use Rattle.aig_check_commands.specs.Comparing.{ChecksComparing, IsErrorOfComparing, TellsOfComparing}
 use Rattle.aig_check_commands.specs.Pairs.{always_line, other_verdict_of}
@@ -29,13 +29,13 @@ inner e x is = err_of e x (same_miter e x (is_error (List ℕ) CheckError _ _ is
 module _ {R S C P Q : Type 0} {left : R → Option (List ℕ)} {failed : R → Bool}
     {left_of : S → Option (List ℕ)} {failed_of : S → Bool} {given : C → Option (List ℕ)}
     {given_failed : C → Bool} {base_left : P → Option (List ℕ)} {base_failed : P → Bool}
-    {step_left : Q → Option (List ℕ)} {step_failed : Q → Bool} {starts : Starts} {optimize : Bool}
+    {step_left : Q → Option (List ℕ)} {step_failed : Q → Bool} {comparison : Comparison} {optimize : Bool}
     {limit : ℕ}
     {r rest : R} {s other : S} {c tried : C} {p used : P} {q spent : Q} where
   -- a file is refused, or a proof
   pub compare_refused : (e : MiterError)
       → ReadsPair left failed left_of failed_of limit
-      (EqualsBy starts given given_failed limit optimize (base_left p) (step_left q) c tried)
+      (EqualsBy comparison given given_failed limit optimize (base_left p) (step_left q) c tried)
       comparing.first_verdict comparing.second_verdict comparing.IsOwn r s (Err e) rest other
       → (comparing.LeavesCertificate (Err e) → tried ≡ c)
       → (comparing.LeavesQuery (Err e) → used ≡ p) → (comparing.LeavesWindow (Err e) → spent ≡ q)
@@ -46,11 +46,11 @@ module _ {R S C P Q : Type 0} {left : R → Option (List ℕ)} {failed : R → B
       (miter.Certificate (certificate.Window (answers.Refutation refutation.Stream)))
       → IsTrue (step_failed spent))
       → ChecksComparing left failed left_of failed_of given given_failed base_left base_failed
-      step_left step_failed starts optimize limit r s c p q rest other tried used spent
+      step_left step_failed comparison optimize limit r s c p q rest other tried used spent
       (Err (errors.Miter e))
   compare_refused e told certificate base step base_stream step_stream = record {
     reads = reads_on left failed left_of failed_of limit r s rest other
-        (TellsOfComparing given given_failed starts optimize limit (base_left p) (step_left q) c tried)
+        (TellsOfComparing given given_failed comparison optimize limit (base_left p) (step_left q) c tried)
         verdict_of other_verdict_of IsErrorOfComparing (Err (errors.Miter e)) told refl refl
         told.own (λ f g bytes others fits also means. means);
     certificate_unread = certificate;
@@ -62,14 +62,14 @@ module _ {R S C P Q : Type 0} {left : R → Option (List ℕ)} {failed : R → B
 
   -- both are equal
   pub compare_answered : ReadsPair left failed left_of failed_of limit
-      (EqualsBy starts given given_failed limit optimize (base_left p) (step_left q) c tried)
+      (EqualsBy comparison given given_failed limit optimize (base_left p) (step_left q) c tried)
       comparing.first_verdict comparing.second_verdict comparing.IsOwn r s (Ok tt) rest other
       → ChecksComparing left failed left_of failed_of given given_failed base_left base_failed
-      step_left step_failed starts optimize limit r s c p q rest other tried used spent (Ok (always_line starts))
+      step_left step_failed comparison optimize limit r s c p q rest other tried used spent (Ok (always_line comparison))
   compare_answered told = record {
     reads = reads_on left failed left_of failed_of limit r s rest other
-        (TellsOfComparing given given_failed starts optimize limit (base_left p) (step_left q) c tried)
-        verdict_of other_verdict_of IsErrorOfComparing (Ok (always_line starts)) told refl refl tt
+        (TellsOfComparing given given_failed comparison optimize limit (base_left p) (step_left q) c tried)
+        verdict_of other_verdict_of IsErrorOfComparing (Ok (always_line comparison)) told refl refl tt
         (λ f g bytes others fits also means. (refl, means));
     certificate_unread = tt;
     base_unread = tt;

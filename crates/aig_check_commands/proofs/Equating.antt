@@ -9,7 +9,7 @@ use Rattle.aig_answers.specs.Equality.{AlwaysEquals, TellsOfMiter}
 use Rattle.aig_answers.specs.declared.equality.error.EqualityError.{EqualityError}
 use Rattle.aig_answers.specs.declared.equality.error.EqualityError.TheVariants as always
 use Rattle.aig_format.specs.File.{File}
-use Rattle.aig_join.specs.declared.starts.Starts.{Starts}
+use Rattle.aig_join.specs.declared.comparison.Comparison.{Comparison}
 use Rattle.aig_runs.specs.declared.window.Window.{Window}
 use Rattle.aig_answers.specs.Safety.{ShowsCircuit}
 use Rattle.aig_answers.specs.declared.safety.error.SafetyError.{SafetyError}
@@ -29,7 +29,7 @@ pub no_certificate : (e : EqualityError) (x : CertificateError)
 no_certificate e x is = cc
 
 module _ {P Q : Type 0} (left : P → Option (List ℕ)) (left_of : Q → Option (List ℕ))
-    (starts : Starts) (limit k : ℕ) (base_optimize step_optimize : Bool) (form : Window)
+    (comparison : Comparison) (limit k : ℕ) (base_optimize step_optimize : Bool) (form : Window)
     (p rest : P) (q : Q) where
   base_text : (c : Circuit) (r : Result Unit BoundedAnswerError)
       → AnswersCircuit left k base_optimize p rest c r
@@ -58,15 +58,15 @@ module _ {P Q : Type 0} (left : P → Option (List ℕ)) (left_of : Q → Option
       record { said = told.said; large = told.large; shown = λ taken. shown_text m r (told.shown taken) }
 
   pub text_of : (f g : File)
-      → AlwaysEquals starts left left_of limit k base_optimize form step_optimize p rest q f g (Ok tt)
-      → (always_line starts ≡ always_line starts)
-      × AlwaysEqualsBy starts limit k form base_optimize step_optimize (left p) (left_of q) f g (Ok tt)
+      → AlwaysEquals comparison left left_of limit k base_optimize form step_optimize p rest q f g (Ok tt)
+      → (always_line comparison ≡ always_line comparison)
+      × AlwaysEqualsBy comparison limit k form base_optimize step_optimize (left p) (left_of q) f g (Ok tt)
   text_of f g equal =
       (refl, (equal.0, (equal.1.0, equal.1.1, miter_text equal.1.0 (Ok tt) equal.1.2)))
 
   pub why_of : (e : EqualityError) (f g : File)
-      → AlwaysEquals starts left left_of limit k base_optimize form step_optimize p rest q f g (Err e)
-      → AlwaysEqualsBy starts limit k form base_optimize step_optimize (left p) (left_of q) f g (Err e)
+      → AlwaysEquals comparison left left_of limit k base_optimize form step_optimize p rest q f g (Err e)
+      → AlwaysEqualsBy comparison limit k form base_optimize step_optimize (left p) (left_of q) f g (Err e)
   why_of (always.Pair e) f g refused = refused
   why_of (always.Miter e) f g refused =
       (refused.0, refused.1, miter_text refused.0 (Err e) refused.2)

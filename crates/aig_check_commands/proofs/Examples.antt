@@ -1,6 +1,6 @@
 -- The comments of a small query, computed; and wrong words and lines, of which the definitions are
 -- false.
-use Rattle.aig_base.proofs.Words.{◌≡◌, ◌≢◌, ◌⊎◌, ℕ, Bool, true, false, None, Option, List, [], ◌∷◌, ◌++◌, length, refl, ap, subst, sym, arith, length-append, ◌∙◌, inl, inr, Some}
+use Rattle.aig_base.proofs.Words.{◌≡◌, ◌≢◌, ◌⊎◌, ℕ, Bool, true, false, None, Option, List, [], ◌∷◌, ◌++◌, length, refl, ap, subst, sym, arith, length-append, ◌∙◌, inl, inr, Some, same_Some}
 use Rattle.std.specs.Prelude.{◌^◌, IsTrue, codes, decimal, not, slice_get, slice_index, slice_index_or}
 use Rattle.std.specs.Fmt.{digits}
 use Rattle.aig_base.specs.Clauses.{lit_to}
@@ -9,7 +9,10 @@ use Rattle.aig_circuit.proofs.Words.{Circuit, only_false, edge_to, no_properties
 use Rattle.aig_format.specs.File.{File}
 use Rattle.aig_format.specs.Text.{IsNumber}
 use Rattle.aig_join.specs.declared.starts.Matching.TheVariants.{ByName}
-use Rattle.aig_join.specs.declared.starts.Starts.{Starts}
+use Rattle.aig_edits.proofs.ConstraintWords.{one_constraints}
+use Rattle.aig_join.specs.declared.comparison.Comparison.{Comparison}
+use Rattle.aig_join.specs.declared.comparison.Constraints.{Constraints}
+use Rattle.aig_join.specs.declared.comparison.Constraints.TheVariants.{Compared, OfBoth, OfFirst}
 use Rattle.aig_join.specs.declared.starts.Starts.TheVariants.{Alike, Apart}
 use Rattle.aig_reader.specs.Verdicts.{Accepted, Judges}
 use Rattle.aig_refutation.specs.declared.error.RefutationError.{RefutationError}
@@ -32,11 +35,11 @@ use Rattle.aig_check_commands.specs.declared.command.Action.{Action}
 use Rattle.aig_check_commands.specs.declared.command.Action.TheVariants as actions
 use Rattle.aig_check_commands.specs.declared.command.Command.TheVariants as asked
 use Rattle.aig_check_commands.specs.declared.command.PairCommand.TheVariants as on_pair
-use Rattle.aig_check_commands.specs.Pairs.{IsObligationsText, PairAnswers, RefusesPair, equal_line, safe_line, starts_text}
+use Rattle.aig_check_commands.specs.Pairs.{IsObligationsText, PairAnswers, RefusesPair, always_line, equal_line, safe_line, starts_text}
 use Rattle.aig_answers.specs.declared.certificates.error.CertificateError.TheVariants as certificate
 use Rattle.aig_check_commands.specs.declared.command.FileCommand.TheVariants as commands
 use Rattle.aig_check_commands.specs.Comments.{comments_of, input_lines, literal_line}
-use Rattle.aig_check_commands.specs.CommandWords.{AreCommand, FitNone, Give, IsAlone, IsOf, IsOnWitness, IsWhole, command_of, form_of, name_of, raw_alone}
+use Rattle.aig_check_commands.specs.CommandWords.{AreCommand, FitNone, Give, IsAlone, IsOf, IsOnWitness, IsWhole, command_of, form_of, name_of, of_both, raw_alone, under}
 use Rattle.aig_check_commands.specs.declared.command.WitnessAction.{WitnessAction}
 use Rattle.aig_check_commands.specs.declared.command.WitnessAction.TheVariants as on_witness
 
@@ -64,7 +67,7 @@ whole_of words c d x is (inr other) = absurd (none other.1)
   where
     never : (step : Bool) (c : Command) → ¬ (raw_alone step c ≡ Some (asked.File d))
     never step (asked.Safe k form o p) is = cc
-    never step (asked.Pair (on_pair.AlwaysEqual starts k form o p)) is = cc
+    never step (asked.Pair (on_pair.AlwaysEqual comparison k form o p)) is = cc
     never step c is = cc
 
     no_file : (a : WitnessAction) (given : Arguments) (further : List (List ℕ))
@@ -85,21 +88,39 @@ no_limit : (words : List (List ℕ)) (limit : ℕ) (rest : List (List ℕ))
 no_limit words limit rest other (inl g) = absurd (other _ g.spelled)
 no_limit words limit rest other (inr g) = g.all
 
+-- words that don't begin with a dash begin with no word of a setting
+no_setting : (first : List ℕ) (rest : List (List ℕ)) → slice_index first 0 ≢ 45
+    → (word : List ℕ) (more : List (List ℕ)) → slice_index word 0 ≡ 45
+    → ¬ (first ∷ rest ≡ word ∷ more)
+no_setting first rest other word more dash is =
+    let same : first ≡ word = cc in other (ap (λ (w : List ℕ). slice_index w 0) same ∙ dash)
+
+-- they are a command on a file whole, where they give one
+plain_whole : (first : List ℕ) (rest : List (List ℕ)) (a : Option Justice) (d : FileCommand)
+    → slice_index first 0 ≢ 45 → Give (first ∷ rest) (of_property a (asked.File d))
+    → (x : Arguments) × IsWhole (first ∷ rest) (asked.File d) x
+plain_whole first rest a d other give =
+    let words = first ∷ rest in
+    let none = no_setting first rest other in
+    let call = give.3 in
+    let all = no_limit words give.0 call.rest (λ more. none (codes "--limit") more refl) call.limited in
+    let every = (no_justice words a call.more (λ more. none (codes "--justice") more refl)
+    (rw all at call.asked)).1 in
+    let said = one_constraints words call.constraints OfBoth call.others words (rw every at call.said)
+    ((λ more. none (codes "--constraints") more refl), refl) in
+    let usual : Some call.usual ≡ Some (asked.File d) =
+    ap (λ s. under s call.usual) (sym said.0) ∙ call.command in
+    let is = same_Some _ _ usual in
+    (call.arguments, whole_of words (asked.File d) d call.arguments refl (rw (is, said.1) at call.gives))
+
 -- a witness, and a word more
 no_more_words : (file witness more : List ℕ) (a : Option Justice)
     → ¬ Give (codes "run" ∷ file ∷ witness ∷ more ∷ []) (of_property a (asked.File commands.Run))
 no_more_words file witness more a give =
-    let call = give.3 in
-    let x = call.arguments in
-    let all = no_limit (codes "run" ∷ file ∷ witness ∷ more ∷ []) give.0 call.rest (λ further is.
-    let letter = ap (λ (words : List (List ℕ)). slice_index (slice_index_or words 0 []) 0) is in
-    omega (arith, letter)) call.limited in
-    let every = (no_justice (codes "run" ∷ file ∷ witness ∷ more ∷ []) a call.more
-    (λ further is.
-    let letter = ap (λ (words : List (List ℕ)). slice_index (slice_index_or words 0 []) 0) is in
-    omega (arith, letter)) (rw all at call.asked)).1 in
-    let whole = whole_of (codes "run" ∷ file ∷ witness ∷ more ∷ []) (asked.File commands.Run) _ x refl
-    (rw every at call.gives) in
+    let of = plain_whole (codes "run") (file ∷ witness ∷ more ∷ []) a commands.Run
+    (λ is. omega (arith, is)) give in
+    let x = of.0 in
+    let whole = of.1 in
     let run = is_run whole.action x.step x.distinct x.optimize whole.command in
     let gives = subst (λ a. GivesArguments (name_of a) (form_of a)
     (codes "run" ∷ file ∷ witness ∷ more ∷ [])
@@ -124,17 +145,10 @@ no_other_name : (file steps proof : List ℕ) (k : ℕ) (optimize : Bool) (a : O
     → ¬ Give (codes "refuted" ∷ file ∷ steps ∷ proof ∷ []) (of_property a (asked.File
     (commands.Witness k optimize)))
 no_other_name file steps proof k optimize a give =
-    let call = give.3 in
-    let x = call.arguments in
-    let all = no_limit (codes "refuted" ∷ file ∷ steps ∷ proof ∷ []) give.0 call.rest (λ further is.
-    let letter = ap (λ (words : List (List ℕ)). slice_index (slice_index_or words 0 []) 0) is in
-    omega (arith, letter)) call.limited in
-    let every = (no_justice (codes "refuted" ∷ file ∷ steps ∷ proof ∷ []) a call.more
-    (λ further is.
-    let letter = ap (λ (words : List (List ℕ)). slice_index (slice_index_or words 0 []) 0) is in
-    omega (arith, letter)) (rw all at call.asked)).1 in
-    let whole = whole_of (codes "refuted" ∷ file ∷ steps ∷ proof ∷ []) (asked.File (commands.Witness k optimize)) _ x refl
-    (rw every at call.gives) in
+    let of = plain_whole (codes "refuted") (file ∷ steps ∷ proof ∷ []) a (commands.Witness k optimize)
+    (λ is. omega (arith, is)) give in
+    let x = of.0 in
+    let whole = of.1 in
     let is = is_witness whole.action x.step k x.distinct x.optimize optimize whole.command
     in
     let letter = ap (λ (words : List (List ℕ)). slice_index (slice_index_or words 0 []) 0)
@@ -155,52 +169,107 @@ number_3 = record {
 }
 
 -- they begin with no word of a setting
-no_setting : (word : List ℕ) (more : List (List ℕ)) → slice_index word 0 ≡ 45
+no_alike_setting : (word : List ℕ) (more : List (List ℕ)) → slice_index word 0 ≡ 45
     → ¬ (alike_words ≡ word ∷ more)
-no_setting word more dash is =
-    let letter = ap (λ (words : List (List ℕ)). slice_index (slice_index_or words 0 []) 0) is in
-    omega (arith, letter, dash)
+no_alike_setting = no_setting (codes "equal-alike-by-name") _ (λ is. omega (arith, is))
+
+-- what they give
+abbrev alike_arguments : Arguments
+alike_arguments = record {
+  paths = codes "a" ∷ codes "b" ∷ [];
+  step = 3;
+  further = codes "p" ∷ [];
+  distinct = false;
+  optimize = true;
+}
 
 -- files are compared with registers that are alike by name
-alike_by_name : Give alike_words (of_property None (asked.Pair (on_pair.Equal (Alike ByName) 3 true)))
+abbrev alike : Constraints → Asked
+alike constraints = of_property None
+    (asked.Pair (on_pair.Equal (record { starts = Alike ByName; constraints = constraints }) 3 true))
+
+alike_whole : IsWhole alike_words (alike OfBoth).command alike_arguments
+alike_whole = record {
+  action = actions.Equal (Alike ByName);
+  gives = record {
+    steps = codes "3" ∷ [];
+    spelled = refl;
+    paths = refl;
+    step = (codes "3", refl, number_3);
+    further = refl;
+    distinct = λ is. is;
+    raw = λ is. refl;
+  };
+  command = refl;
+}
+
+alike_by_name : Give alike_words (alike OfBoth)
 alike_by_name = (
   2 ^ 24,
-  codes "a" ∷ codes "b" ∷ [],
-  codes "p" ∷ [],
+  alike_arguments.paths,
+  alike_arguments.further,
   record {
     rest = alike_words;
     limited = inr (record {
-      other = λ more. no_setting (codes "--limit") more refl;
+      other = λ more. no_alike_setting (codes "--limit") more refl;
       all = refl;
       usual = refl;
     });
     more = alike_words;
-    asked = (λ more. no_setting (codes "--justice") more refl, refl);
-    arguments = record {
-      paths = codes "a" ∷ codes "b" ∷ [];
-      step = 3;
-      further = codes "p" ∷ [];
-      distinct = false;
-      optimize = true;
-    };
-    gives = inl (record {
-      action = actions.Equal (Alike ByName);
-      gives = record {
-        steps = codes "3" ∷ [];
-        spelled = refl;
-        paths = refl;
-        step = (codes "3", refl, number_3);
-        further = refl;
-        distinct = λ is. is;
-        raw = λ is. refl;
-      };
-      command = refl;
-    });
+    asked = (λ more. no_alike_setting (codes "--justice") more refl, refl);
+    constraints = OfBoth;
+    others = alike_words;
+    said = (λ more. no_alike_setting (codes "--constraints") more refl, refl);
+    usual = (alike OfBoth).command;
+    arguments = alike_arguments;
+    gives = inl alike_whole;
+    command = refl;
     allowed = refl;
     on = refl;
     beside = refl;
   },
 )
+
+-- and their constraints are compared, too
+abbrev compared_words : List (List ℕ)
+compared_words = codes "--constraints" ∷ codes "compared" ∷ alike_words
+
+no_compared_setting : (word : List ℕ) (more : List (List ℕ)) → slice_index word 2 ≢ 99
+    → ¬ (compared_words ≡ word ∷ more)
+no_compared_setting word more other is =
+    let letter = ap (λ (words : List (List ℕ)). slice_index (slice_index_or words 0 []) 2) is in
+    other (sym letter)
+
+constraints_compared : Give compared_words (alike Compared)
+constraints_compared = (
+  2 ^ 24,
+  alike_arguments.paths,
+  alike_arguments.further,
+  record {
+    rest = compared_words;
+    limited = inr (record {
+      other = λ more. no_compared_setting (codes "--limit") more (λ is. omega (arith, is));
+      all = refl;
+      usual = refl;
+    });
+    more = compared_words;
+    asked = (λ more. no_compared_setting (codes "--justice") more (λ is. omega (arith, is)), refl);
+    constraints = Compared;
+    others = alike_words;
+    said = refl;
+    usual = (alike OfBoth).command;
+    arguments = alike_arguments;
+    gives = inl alike_whole;
+    command = refl;
+    allowed = refl;
+    on = refl;
+    beside = refl;
+  },
+)
+
+-- only a comparison has them
+no_first_run : (c : Command) → under OfFirst (asked.File commands.Run) ≢ Some c
+no_first_run c is = cc
 
 -- ---- comments
 
@@ -265,22 +334,33 @@ no_one_step_told optimize given bytes f answers =
     let word : 97 ≡ 117 = ap (λ text. slice_index text 13) answers.0 in omega (arith, word)
 
 -- equal machines are told as a safe one
-no_safety_told : (starts : Starts) (k limit : ℕ) (optimize : Bool)
+no_safety_told : (comparison : Comparison) (k limit : ℕ) (optimize : Bool)
     (base step bytes others : Option (List ℕ)) (f g : File)
-    → ¬ PairAnswers (on_pair.Equal starts k optimize) limit base step bytes others f g safe_line
-no_safety_told starts k limit optimize base step bytes others f g answers =
+    → ¬ PairAnswers (on_pair.Equal comparison k optimize) limit base step bytes others f g safe_line
+no_safety_told comparison k limit optimize base step bytes others f g answers =
     let letter : 110 ≡ 101 = ap (λ text. slice_index text 0) answers.0 in omega (arith, letter)
 
 -- machines whose registers start alike are told as those are whose registers start apart
 no_apart_told : (k limit : ℕ) (optimize : Bool) (base step bytes others : Option (List ℕ))
     (f g : File)
-    → ¬ PairAnswers (on_pair.Equal (Alike ByName) k optimize) limit base step bytes others f g
-    (equal_line Apart k)
+    → ¬ PairAnswers (on_pair.Equal (of_both (Alike ByName)) k optimize) limit base step bytes others f g
+    (equal_line (of_both Apart) k)
 no_apart_told k limit optimize base step bytes others f g answers =
     let count = ap length answers.0 in
     let parts = length-append (decimal k) (10 ∷ []) in
     let more = length-append (decimal k) (starts_text (Alike ByName) ++ 10 ∷ []) in
     omega (arith, count, parts, more)
+
+-- what constraints say is told before how registers begin
+constraints_told : equal_line (record { starts = Alike ByName; constraints = OfFirst }) 7
+    ≡ codes "equal at step 7, under the constraints of the first alone"
+    ++ codes ", registers with open start alike by name\n"
+unfolding digits
+constraints_told = refl
+
+compared_told : always_line (record { starts = Apart; constraints = Compared })
+    ≡ codes "equal at every step, constraints too\n"
+compared_told = refl
 
 -- the clauses of BASE under the name of those of STEP
 no_step_first : (optimize : Bool) (bytes others : Option (List ℕ)) (f g : File)
@@ -300,10 +380,10 @@ no_bare_clauses optimize bytes others f g rest is =
 -- ---- errors
 
 -- one proof is refused as the second of two
-no_second_proof : (starts : Starts) (k limit : ℕ) (optimize : Bool) (base step : Option (List ℕ))
+no_second_proof : (comparison : Comparison) (k limit : ℕ) (optimize : Bool) (base step : Option (List ℕ))
     (f g : File) (e : AnswerError)
-    → ¬ RefusesPair (on_pair.Equal starts k optimize) limit base step f g (certificate.Window e)
-no_second_proof starts k limit optimize base step f g e refuses = refuses
+    → ¬ RefusesPair (on_pair.Equal comparison k optimize) limit base step f g (certificate.Window e)
+no_second_proof comparison k limit optimize base step f g e refuses = refuses
 
 -- clauses are refused as a proof would be
 no_proof_of_clauses : (k : ℕ) (optimize : Bool) (e : RefutationError)

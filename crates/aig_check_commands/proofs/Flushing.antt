@@ -4,17 +4,12 @@ use Rattle.std.specs.Prelude.{IfErr, IsTrue, Result}
 use Rattle.aig_command_line.proofs.Kept.{appends_kept, stops_unflushed}
 use Rattle.aig_command_line.specs.declared.files.OpenError.{OpenError}
 use Rattle.aig_edits.proofs.ReadFiles.{file_on}
-use Rattle.aig_edits.proofs.Reading.{reads_on}
-use Rattle.aig_edits.specs.Pairs.{ReadsPair}
 use Rattle.aig_format.specs.File.{File}
 use Rattle.aig_output.specs.Sinks.{Stops}
 use Rattle.aig_reader.specs.Verdicts.{Accepted, verdict_by}
-use Rattle.aig_runs.specs.declared.window.Window.{Window}
 use Rattle.aig_check_commands.specs.declared.command.Asked.{Asked}
 use Rattle.aig_check_commands.specs.declared.command.Command.{Command}
 use Rattle.aig_check_commands.specs.declared.command.Command.TheVariants as commands
-use Rattle.aig_check_commands.specs.declared.command.FileCommand.{FileCommand}
-use Rattle.aig_check_commands.specs.declared.command.PairCommand.{PairCommand}
 use Rattle.aig_check_commands.specs.declared.justice.Justice.{Justice}
 use Rattle.aig_check_commands.specs.declared.error.CheckError.{CheckError}
 use Rattle.aig_check_commands.specs.declared.error.CheckError.TheVariants as errors
@@ -264,7 +259,7 @@ module _ {W : Type 0} (held : W → Option (List ℕ)) (write_failed : W → Boo
         become = ran.become;
         runs = printed ran.runs;
       }
-  ran_ended left failed left_of failed_of (commands.EqualBy starts optimize) r rest
+  ran_ended left failed left_of failed_of (commands.EqualBy comparison optimize) r rest
       (s ∷ c ∷ p ∷ q ∷ []) (other ∷ tried ∷ used ∷ spent ∷ []) ran =
       printed ran
   ran_ended left failed left_of failed_of (commands.Simulated optimize) r rest

@@ -43,7 +43,7 @@ use Rattle.aig_check_commands.specs.Pairs.{ChecksPair, IsErrorOfPair, safe_line}
 use Rattle.aig_check_commands.specs.Running.{ChecksFile, IsErrorOf}
 use Rattle.aig_check_commands.specs.Safe.{IsErrorOfSafe}
 use Rattle.aig_check_commands.specs.SafeBySteps.{IsErrorOfSteps}
-use Rattle.aig_check_commands.specs.Simulating.{IsErrorOfObligation, IsErrorOfSimulated, RunsObligation, RunsSimulated}
+use Rattle.aig_check_commands.specs.Simulating.{RunsObligation, RunsSimulated}
 use Rattle.aig_simulated.specs.Simulated.{Proofs, proofs_of}
 use Rattle.aig_simulation.specs.declared.condition.Condition.{Condition}
 use Rattle.aig_check_commands.specs.CommandWords.{beside_of, prints}
@@ -200,7 +200,7 @@ module _ (runs_are : AreLassos) (limit : ℕ) (a : Justice) (f : File) (m : Circ
   ran_shows left_of failed_of (commands.SafeBySteps k form base_optimize step_optimize) files
       others some asked ran =
       absurd (true≢false (sym asked))
-  ran_shows left_of failed_of (commands.EqualBy starts optimize) files others some asked ran =
+  ran_shows left_of failed_of (commands.EqualBy comparison optimize) files others some asked ran =
       absurd (true≢false (sym asked))
   ran_shows left_of failed_of (commands.Simulated optimize) (s ∷ p ∷ q ∷ x ∷ y ∷ z ∷ [])
       (other ∷ p_rest ∷ q_rest ∷ x_rest ∷ y_rest ∷ z_rest ∷ []) some asked runs =
@@ -486,7 +486,7 @@ module _ {R S W : Type 0} (left : R → Option (List ℕ)) (failed : R → Bool)
       apart_as (λ x told. each_error safe_apart x told.own) ran
   ran_apart result (commands.SafeBySteps k form o y) files others ran =
       apart_as (λ x told. each_error (steps_apart k) x told.own) ran.runs
-  ran_apart result (commands.EqualBy starts o) (s ∷ c ∷ p ∷ q ∷ [])
+  ran_apart result (commands.EqualBy comparison o) (s ∷ c ∷ p ∷ q ∷ [])
       (other ∷ tried ∷ used ∷ spent ∷ []) ran =
       apart_as (λ x told. each_error compare_apart x told.reads.own) ran
   ran_apart result (commands.Simulated o) (s ∷ a ∷ b ∷ c ∷ d ∷ f ∷ [])

@@ -27,7 +27,7 @@ use Rattle.aig_edits.specs.declared.pairing.Pairing.TheVariants.{Certificate}
 use Rattle.aig_answers.specs.declared.equality.error.EqualityError.{EqualityError}
 use Rattle.aig_answers.specs.declared.equality.error.EqualityError.TheVariants as always
 use Rattle.aig_format.specs.File.{File}
-use Rattle.aig_join.specs.declared.starts.Starts.{Starts}
+use Rattle.aig_join.specs.declared.comparison.Comparison.{Comparison}
 use Rattle.aig_output.proofs.Putting.{Stops-before, Stops-put, failed_put}
 use Rattle.aig_output.specs.Sinks.{Stops, WritesOrStops}
 use Rattle.aig_reader.specs.Verdicts.{Verdict}
@@ -168,8 +168,11 @@ summed_under left failed left_of failed_of under under_of start start_of sum bes
     )
 
 -- equal machines have no window
-pub no_window : {starts : Starts} {R S : Type 0} {left : R → Option (List ℕ)} {failed : R → Bool} {left_of : S → Option (List ℕ)} {failed_of : S → Bool} {limit k : ℕ} {optimize : Bool} {proof : Option (List ℕ)} {r rest : R} {s other : S} (e : CertificateError) (x : AnswerError)
-    → ReadsPair left failed left_of failed_of limit (Equals starts limit k optimize proof) certificates.first_verdict certificates.second_verdict certificates.IsOwn r s (Err e) rest other
+pub no_window : {comparison : Comparison} {R S : Type 0} {left : R → Option (List ℕ)} {failed : R → Bool}
+    {left_of : S → Option (List ℕ)} {failed_of : S → Bool} {limit k : ℕ} {optimize : Bool}
+    {proof : Option (List ℕ)} {r rest : R} {s other : S} (e : CertificateError) (x : AnswerError)
+    → ReadsPair left failed left_of failed_of limit (Equals comparison limit k optimize proof)
+    certificates.first_verdict certificates.second_verdict certificates.IsOwn r s (Err e) rest other
     → e ≢ certificate.Window x
 no_window (certificate.Pair y) x reads is = cc
 no_window (certificate.Query y) x reads is = cc

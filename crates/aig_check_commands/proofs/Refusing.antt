@@ -1,5 +1,5 @@
 -- What is asked is refused again, of which one input is counted.
-use Rattle.aig_base.proofs.Words.{◌≡◌, ◌+◌, ◌<◌, ℕ, zero, suc, Bool, List, [], ◌∷◌, Option, Some, Ok, Err, ap, arith, get_or, length, map, map-map, refl, subst, sym, ◌∙◌}
+use Rattle.aig_base.proofs.Words.{◌≡◌, ◌<◌, ℕ, zero, suc, Bool, List, [], ◌∷◌, Option, Some, Ok, Err, ap, arith, get_or, length, map, map-map, refl, sym, ◌∙◌}
 use Rattle.std.specs.Prelude.{IfOk, Result, slice_get}
 use Rattle.std.specs.List.{insert, remove}
 use Rattle.aig_command_line.specs.declared.discarded.Discarded.{Discarded}

@@ -11,7 +11,7 @@ use Rattle.aig_answers.specs.declared.certificates.compare_error.MiterError.TheV
 use Rattle.aig_answers.specs.declared.certificates.error.CertificateError.{CertificateError}
 use Rattle.aig_circuit.specs.Circuit.{Circuit}
 use Rattle.aig_format.specs.File.{File}
-use Rattle.aig_join.specs.declared.starts.Starts.{Starts}
+use Rattle.aig_join.specs.declared.comparison.Comparison.{Comparison}
 use Rattle.aig_reader.specs.Reading.{IsReadAs}
 use Rattle.aig_runs.specs.declared.window.Window.{Window}
 use Rattle.aig_answers.specs.Safety.{Shows, ShowsCircuit}
@@ -181,28 +181,28 @@ module _ {S B : Type 0} (on : S → B) (left_of : B → Option (List ℕ)) (k : 
       ∙ sym (slice_get-map on bases n)
 
 module _ {S B : Type 0} (on : S → B) (left_of : B → Option (List ℕ)) (failed_of : B → Bool)
-    (starts : Starts) (optimize : Bool) (limit : ℕ) (base step : Option (List ℕ)) (c tried : S) where
+    (comparison : Comparison) (optimize : Bool) (limit : ℕ) (base step : Option (List ℕ)) (c tried : S) where
   certifies_seen : (f g : File) (x : Result (Unit {0}) CertificateError)
-      → CertifiesMiter starts (λ y. left_of (on y)) (λ y. failed_of (on y)) limit optimize
+      → CertifiesMiter comparison (λ y. left_of (on y)) (λ y. failed_of (on y)) limit optimize
       base step c tried f g x
-      → CertifiesMiter starts left_of failed_of limit optimize base step (on c)
+      → CertifiesMiter comparison left_of failed_of limit optimize base step (on c)
       (on tried) f g x
   certifies_seen f g x told =
       (told.0, told.1, record { verdict = told.2.verdict; answer = told.2.answer })
 
   equals_seen : (f g : File) (x : Result (Unit {0}) MiterError)
-      → EqualsBy starts (λ y. left_of (on y)) (λ y. failed_of (on y)) limit optimize base step c
+      → EqualsBy comparison (λ y. left_of (on y)) (λ y. failed_of (on y)) limit optimize base step c
       tried f g x
-      → EqualsBy starts left_of failed_of limit optimize base step (on c)
+      → EqualsBy comparison left_of failed_of limit optimize base step (on c)
       (on tried) f g x
   equals_seen f g (Ok u) told = (told.0, certifies_seen f g (Ok tt) told.1)
   equals_seen f g (Err (miter.Pair e)) told = told
   equals_seen f g (Err (miter.Certificate e)) told = certifies_seen f g (Err e) told
 
   told_seen : (f g : File) (x : Result (List ℕ) CheckError)
-      → TellsOfComparing (λ y. left_of (on y)) (λ y. failed_of (on y)) starts optimize limit base step
+      → TellsOfComparing (λ y. left_of (on y)) (λ y. failed_of (on y)) comparison optimize limit base step
       c tried f g x
-      → TellsOfComparing left_of failed_of starts optimize limit base step (on c) (on tried) f g x
+      → TellsOfComparing left_of failed_of comparison optimize limit base step (on c) (on tried) f g x
   told_seen f g (Ok text) told = (told.0, equals_seen f g (Ok tt) told.1)
   told_seen f g (Err (errors.Miter e)) told = equals_seen f g (Err e) told
   told_seen f g (Err e) told = absurd told
@@ -334,15 +334,15 @@ module _ {R A : Type 0} (to : R → A) (left : A → Option (List ℕ)) (failed 
           step_stream = told.step_stream;
         }
 
-    pub miter_seen : {starts : Starts} {optimize : Bool} {s other c tried p used q spent : S}
+    pub miter_seen : {comparison : Comparison} {optimize : Bool} {s other c tried p used q spent : S}
         → ChecksComparing (λ y. left (to y)) (λ y. failed (to y)) (λ y. left_of (on y))
         (λ y. failed_of (on y)) (λ y. left_of (on y)) (λ y. failed_of (on y)) (λ y. left_of (on y))
-        (λ y. failed_of (on y)) (λ y. left_of (on y)) (λ y. failed_of (on y)) starts optimize limit
+        (λ y. failed_of (on y)) (λ y. left_of (on y)) (λ y. failed_of (on y)) comparison optimize limit
         r s c p q rest other tried used spent x
         → ChecksComparing left failed left_of failed_of left_of failed_of left_of failed_of left_of
-        failed_of starts optimize limit (to r) (on s) (on c) (on p) (on q) (to rest) (on other) (on tried)
+        failed_of comparison optimize limit (to r) (on s) (on c) (on p) (on q) (to rest) (on other) (on tried)
         (on used) (on spent) x
-    miter_seen {starts = starts} {optimize = optimize} {c = c} {tried = tried} {p = p} {used = used} {q = q}
+    miter_seen {comparison = comparison} {optimize = optimize} {c = c} {tried = tried} {p = p} {used = used} {q = q}
         {spent = spent} told =
         let reads = reads_under left failed left_of failed_of to on told.reads in
         record {
@@ -352,7 +352,7 @@ module _ {R A : Type 0} (to : R → A) (left : A → Option (List ℕ)) (failed 
             unread = reads.unread;
             own = reads.own;
             answer = λ first second. read_as _ _ (λ f. read_as _ _ (λ g. told_seen on left_of
-                failed_of starts optimize limit (left_of (on p)) (left_of (on q)) c tried f g x))
+                failed_of comparison optimize limit (left_of (on p)) (left_of (on q)) c tried f g x))
                 (reads.answer first second);
           };
           certificate_unread = left_as on _ c tried x told.certificate_unread;
@@ -447,7 +447,7 @@ module _ {R A : Type 0} (to : R → A) (left : A → Option (List ℕ)) (failed 
             ∙ map-append on ran.used (ran.spent ∷ []);
         runs = still_printed (λ x. steps_seen to left failed x on left_of failed_of) ran.runs;
       }
-  ran_seen on left_of failed_of (commands.EqualBy starts optimize) (s ∷ c ∷ p ∷ q ∷ [])
+  ran_seen on left_of failed_of (commands.EqualBy comparison optimize) (s ∷ c ∷ p ∷ q ∷ [])
       (other ∷ tried ∷ used ∷ spent ∷ []) ran =
       still_printed (λ x. miter_seen to left failed x on left_of failed_of) ran
   ran_seen on left_of failed_of (commands.Simulated optimize) (s ∷ a ∷ b ∷ c ∷ d ∷ e ∷ [])

@@ -8,6 +8,10 @@ use Rattle.aig_command_line.specs.declared.arguments.Step.{Step}
 use Rattle.aig_command_line.specs.declared.arguments.Step.TheVariants.{Absent, At, UpTo, By, Each}
 use Rattle.aig_command_line.specs.Arguments.{Arguments, GivesArguments}
 use Rattle.aig_command_line.specs.Limits.{IsLimited}
+use Rattle.aig_edits.specs.Words.{AreConstraints}
+use Rattle.aig_join.specs.declared.comparison.Comparison.{Comparison}
+use Rattle.aig_join.specs.declared.comparison.Constraints.{Constraints}
+use Rattle.aig_join.specs.declared.comparison.Constraints.TheVariants.{OfBoth}
 use Rattle.aig_join.specs.declared.starts.Matching.TheVariants.{ByName, ByOrder}
 use Rattle.aig_join.specs.declared.starts.Starts.{Starts}
 use Rattle.aig_join.specs.declared.starts.Starts.TheVariants.{Alike, Apart}
@@ -71,6 +75,10 @@ name_of a = (row_of a).0
 abbrev pub form_of : Action → ArgumentForm
 form_of a = (row_of a).1
 
+-- the comparison of such machines, with constraints that say what is usual: runs meet those of both
+abbrev pub of_both : Starts → Comparison
+of_both starts = record { starts = starts; constraints = OfBoth }
+
 -- the form of windows
 abbrev pub window_of : Bool → Window
 window_of true = Distinct
@@ -88,7 +96,7 @@ command_of actions.Witness k distinct optimize = commands.File (on_file.Witness 
 command_of actions.Run k distinct optimize = commands.File on_file.Run
 command_of actions.Certified k distinct optimize = commands.Pair (on_pair.Certified optimize)
 command_of (actions.Equal starts) k distinct optimize =
-    commands.Pair (on_pair.Equal starts k optimize)
+    commands.Pair (on_pair.Equal (of_both starts) k optimize)
 command_of actions.Obligations k distinct optimize = commands.Pair (on_pair.Obligations optimize)
 command_of actions.Bounded k distinct optimize = commands.File (on_file.Bounded k optimize)
 command_of actions.RefutedTo k distinct optimize = commands.File (on_file.RefutedTo k optimize)
@@ -96,8 +104,9 @@ command_of actions.WitnessTo k distinct optimize = commands.File (on_file.Witnes
 command_of actions.Safe k distinct optimize =
     commands.Safe k (window_of distinct) optimize optimize
 command_of (actions.AlwaysEqual starts) k distinct optimize =
-    commands.Pair (on_pair.AlwaysEqual starts k (window_of distinct) optimize optimize)
-command_of (actions.EqualBy starts) k distinct optimize = commands.EqualBy starts optimize
+    commands.Pair (on_pair.AlwaysEqual (of_both starts) k (window_of distinct) optimize optimize)
+command_of (actions.EqualBy starts) k distinct optimize =
+    commands.EqualBy (of_both starts) optimize
 command_of actions.SafeBySteps k distinct optimize =
     commands.SafeBySteps k (window_of distinct) optimize optimize
 
@@ -111,8 +120,8 @@ raw_word false = codes "raw-step"
 abbrev pub raw_alone : Bool → Command → Option Command
 raw_alone step (commands.Safe k form base_optimize step_optimize) =
     Some (commands.Safe k form (not step) step)
-raw_alone step (commands.Pair (on_pair.AlwaysEqual starts k form base_optimize step_optimize)) =
-    Some (commands.Pair (on_pair.AlwaysEqual starts k form (not step) step))
+raw_alone step (commands.Pair (on_pair.AlwaysEqual comparison k form base_optimize step_optimize)) =
+    Some (commands.Pair (on_pair.AlwaysEqual comparison k form (not step) step))
 raw_alone step (commands.SafeBySteps k form base_optimize step_optimize) =
     Some (commands.SafeBySteps k form (not step) step)
 raw_alone step c = None
@@ -171,16 +180,43 @@ AreCommand words c a =
     ⊎ (FitNone (IsWhole words)
     × (IsAlone words c a ⊎ (FitNone (IsAlone words) × IsOnWitness words c a)))
 
--- the words give the limit, then the justice property that is asked about, if there is one, and
--- then the command, with its files and what is given beside them
+-- the comparison with constraints that say this
+abbrev pub compared_under : Constraints → Comparison → Comparison
+compared_under constraints comparison = record comparison { constraints = constraints }
+
+-- the command that compares, with constraints that say this
+abbrev pub constrained : Constraints → Command → Option Command
+constrained constraints (commands.Pair (on_pair.Equal comparison k optimize)) =
+    Some (commands.Pair (on_pair.Equal (compared_under constraints comparison) k optimize))
+constrained constraints
+    (commands.Pair (on_pair.AlwaysEqual comparison k form base_optimize step_optimize)) =
+    Some (commands.Pair (on_pair.AlwaysEqual (compared_under constraints comparison) k form
+    base_optimize step_optimize))
+constrained constraints (commands.EqualBy comparison optimize) =
+    Some (commands.EqualBy (compared_under constraints comparison) optimize)
+constrained constraints c = None
+
+-- the command with constraints that say this: only one that compares has others than the usual ones
+abbrev pub under : Constraints → Command → Option Command
+under OfBoth c = Some c
+under constraints c = constrained constraints c
+
+-- the words give the limit, then the justice property that is asked about, if there is one, then
+-- what constraints say, if it isn't what is usual, and then the command, with its files and what is
+-- given beside them
 pub record IsCall (words : List (List ℕ)) (limit : ℕ) (c : Asked) (paths further : List (List ℕ))
     : Type 0 where
   pub rest : List (List ℕ)
   pub limited : IsLimited words limit rest
   pub more : List (List ℕ)
   pub asked : AreJustice c.justice rest more
+  pub constraints : Constraints
+  pub others : List (List ℕ)
+  pub said : AreConstraints constraints more others
+  pub usual : Command
   pub arguments : Arguments
-  pub gives : AreCommand more c.command arguments
+  pub gives : AreCommand others usual arguments
+  pub command : under constraints usual ≡ Some c.command
   pub allowed : IsTrue (is_asked c.justice c.command)
   pub on : paths ≡ arguments.paths
   pub beside : further ≡ arguments.further
@@ -202,8 +238,8 @@ step_of (commands.File (on_file.Witness k optimize)) = k
 step_of (commands.File (on_file.Bounded k optimize)) = k
 step_of (commands.File (on_file.RefutedTo k optimize)) = k
 step_of (commands.File (on_file.WitnessTo k optimize)) = k
-step_of (commands.Pair (on_pair.Equal starts k optimize)) = k
-step_of (commands.Pair (on_pair.AlwaysEqual starts k form base_optimize step_optimize)) = k
+step_of (commands.Pair (on_pair.Equal comparison k optimize)) = k
+step_of (commands.Pair (on_pair.AlwaysEqual comparison k form base_optimize step_optimize)) = k
 step_of (commands.Safe k form base_optimize step_optimize) = k
 step_of (commands.SafeBySteps k form base_optimize step_optimize) = k
 step_of c = 0
@@ -214,7 +250,7 @@ paths_of (commands.File c) = 1
 paths_of (commands.Pair c) = 2
 paths_of (commands.Safe k form base_optimize step_optimize) = 1
 paths_of (commands.SafeBySteps k form base_optimize step_optimize) = 1
-paths_of (commands.EqualBy starts optimize) = 2
+paths_of (commands.EqualBy comparison optimize) = 2
 paths_of (commands.Simulated optimize) = 2
 paths_of (commands.Obligation condition optimize) = 2
 
@@ -225,10 +261,10 @@ beside_of (commands.File (on_file.Window k form optimize)) = 0
 beside_of (commands.File (on_file.Bounded k optimize)) = 0
 beside_of (commands.Pair (on_pair.Certified optimize)) = 2
 beside_of (commands.Pair (on_pair.Obligations optimize)) = 0
-beside_of (commands.Pair (on_pair.AlwaysEqual starts k form base_optimize step_optimize)) = 2
+beside_of (commands.Pair (on_pair.AlwaysEqual comparison k form base_optimize step_optimize)) = 2
 beside_of (commands.Safe k form base_optimize step_optimize) = 2
 beside_of (commands.SafeBySteps k form base_optimize step_optimize) = k + 2
-beside_of (commands.EqualBy starts optimize) = 3
+beside_of (commands.EqualBy comparison optimize) = 3
 beside_of (commands.Simulated optimize) = 5
 beside_of (commands.Obligation condition optimize) = 0
 beside_of c = 1

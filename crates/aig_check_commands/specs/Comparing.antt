@@ -9,7 +9,7 @@ use Rattle.aig_answers.specs.declared.certificates.compare_error.MiterError.TheV
 use Rattle.aig_answers.specs.declared.certificates.error.CertificateError.TheVariants as certificate
 use Rattle.aig_edits.specs.Pairs.{ReadsPair}
 use Rattle.aig_format.specs.File.{File}
-use Rattle.aig_join.specs.declared.starts.Starts.{Starts}
+use Rattle.aig_join.specs.declared.comparison.Comparison.{Comparison}
 use Rattle.aig_refutation.specs.declared.error.RefutationError.TheVariants as refutation
 use Rattle.aig_check_commands.specs.declared.error.CheckError.{CheckError}
 use Rattle.aig_check_commands.specs.declared.error.CheckError.TheVariants as errors
@@ -37,28 +37,29 @@ abbrev pub LeavesStep : CheckError → Type 0
 LeavesStep (errors.Miter e) = comparing.LeavesWindow (Err e)
 LeavesStep e = ⊥
 
--- what is told of two files that were taken: that their machines, whose registers start so, are
--- equal at every step, as the certificate shows, or why that isn't shown
-abbrev pub TellsOfComparing : {C : Type 0} → (C → Option (List ℕ)) → (C → Bool) → Starts → Bool → ℕ
-    → Option (List ℕ) → Option (List ℕ) → C → C → File → File → Result (List ℕ) CheckError → Type 0
-TellsOfComparing left failed starts optimize limit base step s rest f g (Ok text) =
-    (text ≡ always_line starts)
-    × EqualsBy starts left failed limit optimize base step s rest f g (Ok tt)
-TellsOfComparing left failed starts optimize limit base step s rest f g (Err (errors.Miter e)) =
-    EqualsBy starts left failed limit optimize base step s rest f g (Err e)
-TellsOfComparing left failed starts optimize limit base step s rest f g (Err e) = ⊥
+-- what is told of two files that were taken: that their machines, compared so, are equal at every
+-- step, as the certificate shows, or why that isn't shown
+abbrev pub TellsOfComparing : {C : Type 0} → (C → Option (List ℕ)) → (C → Bool) → Comparison → Bool
+    → ℕ → Option (List ℕ) → Option (List ℕ) → C → C → File → File → Result (List ℕ) CheckError
+    → Type 0
+TellsOfComparing left failed comparison optimize limit base step s rest f g (Ok text) =
+    (text ≡ always_line comparison)
+    × EqualsBy comparison left failed limit optimize base step s rest f g (Ok tt)
+TellsOfComparing left failed comparison optimize limit base step s rest f g (Err (errors.Miter e)) =
+    EqualsBy comparison left failed limit optimize base step s rest f g (Err e)
+TellsOfComparing left failed comparison optimize limit base step s rest f g (Err e) = ⊥
 
 -- What the command makes of its files: r, s, c, p and q are before it the readers of FILE, OTHER,
 -- CERT, BASE and STEP; rest, other, tried, used and spent are these after it.
 pub record ChecksComparing {R S C P Q : Type 0} (left : R → Option (List ℕ)) (failed : R → Bool)
     (left_of : S → Option (List ℕ)) (failed_of : S → Bool) (given : C → Option (List ℕ))
     (given_failed : C → Bool) (base_left : P → Option (List ℕ)) (base_failed : P → Bool)
-    (step_left : Q → Option (List ℕ)) (step_failed : Q → Bool) (starts : Starts) (optimize : Bool)
-    (limit : ℕ) (r : R) (s : S) (c : C) (p : P) (q : Q) (rest : R) (other : S) (tried : C)
-    (used : P) (spent : Q) (answer : Result (List ℕ) CheckError) : Type 0 where
+    (step_left : Q → Option (List ℕ)) (step_failed : Q → Bool) (comparison : Comparison)
+    (optimize : Bool) (limit : ℕ) (r : R) (s : S) (c : C) (p : P) (q : Q) (rest : R) (other : S)
+    (tried : C) (used : P) (spent : Q) (answer : Result (List ℕ) CheckError) : Type 0 where
   -- what is said of the bytes of both files, and where they are taken, of their machines
   pub reads : ReadsPair left failed left_of failed_of limit
-      (TellsOfComparing given given_failed starts optimize limit (base_left p) (step_left q) c
+      (TellsOfComparing given given_failed comparison optimize limit (base_left p) (step_left q) c
       tried)
       verdict_of other_verdict_of IsErrorOfComparing r s answer rest other
   -- a file is read only where what comes before it is taken
@@ -77,12 +78,12 @@ pub record ChecksComparing {R S C P Q : Type 0} (left : R → Option (List ℕ))
 abbrev pub RunsComparing : {R S C P Q W : Type 0} → (R → Option (List ℕ)) → (R → Bool)
     → (S → Option (List ℕ)) → (S → Bool) → (C → Option (List ℕ)) → (C → Bool)
     → (P → Option (List ℕ)) → (P → Bool) → (Q → Option (List ℕ)) → (Q → Bool)
-    → (W → Option (List ℕ)) → (W → Bool) → Starts → Bool → ℕ → R → S → C → P → Q → W
+    → (W → Option (List ℕ)) → (W → Bool) → Comparison → Bool → ℕ → R → S → C → P → Q → W
     → Result Unit CheckError → R → S → C → P → Q → W → Type 0
 RunsComparing left failed left_of failed_of given given_failed base_left base_failed step_left
-    step_failed held write_failed starts optimize limit r s c p q w result rest other tried used
+    step_failed held write_failed comparison optimize limit r s c p q w result rest other tried used
     spent made =
     Printed held write_failed
     (ChecksComparing left failed left_of failed_of given given_failed base_left base_failed
-    step_left step_failed starts optimize limit r s c p q rest other tried used spent) w result
+    step_left step_failed comparison optimize limit r s c p q rest other tried used spent) w result
     made

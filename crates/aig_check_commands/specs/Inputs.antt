@@ -46,11 +46,11 @@ Ran left failed left_of failed_of held write_failed limit
     (commands.SafeBySteps k form base_optimize step_optimize) r proofs w result rest others made =
     RunsOnProofs left failed left_of failed_of held write_failed k form base_optimize step_optimize
     limit r proofs w result rest others made
-Ran left failed left_of failed_of held write_failed limit (commands.EqualBy starts optimize) r
+Ran left failed left_of failed_of held write_failed limit (commands.EqualBy comparison optimize) r
     (s ∷ c ∷ p ∷ q ∷ []) w result rest (other ∷ tried ∷ used ∷ spent ∷ []) made =
     RunsComparing left failed left_of failed_of left_of failed_of left_of failed_of left_of
-    failed_of held write_failed starts optimize limit r s c p q w result rest other tried used spent
-    made
+    failed_of held write_failed comparison optimize limit r s c p q w result rest other tried used
+    spent made
 Ran left failed left_of failed_of held write_failed limit (commands.Simulated optimize) r
     (s ∷ reset ∷ transition ∷ property ∷ base ∷ step ∷ []) w result rest
     (other ∷ reset_rest ∷ transition_rest ∷ property_rest ∷ base_rest ∷ step_rest ∷ []) made =

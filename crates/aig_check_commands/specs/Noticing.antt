@@ -7,6 +7,8 @@ use Rattle.aig_command_line.specs.declared.notice.Headers.{Headers}
 use Rattle.aig_command_line.specs.declared.notice.Regard.{Regard}
 use Rattle.aig_command_line.specs.declared.status.Ending.{Ending}
 use Rattle.aig_command_line.specs.declared.status.Ending.TheVariants as endings
+use Rattle.aig_join.specs.declared.comparison.Constraints.{Constraints}
+use Rattle.aig_join.specs.declared.comparison.Constraints.TheVariants.{OfBoth}
 use Rattle.aig_check_commands.specs.declared.command.Asked.{Asked}
 use Rattle.aig_check_commands.specs.declared.command.Command.{Command}
 use Rattle.aig_check_commands.specs.declared.command.Command.TheVariants as commands
@@ -23,11 +25,18 @@ abbrev pub leaves_out : Option Justice → Command → Bool
 leaves_out a (commands.File on_file.Run) = false
 leaves_out a c = is_none a
 
--- `equal` compares files
+-- it is told that only runs are compared that constraints allow: not where the words say what
+-- constraints say
+abbrev pub is_within : Constraints → Bool
+is_within OfBoth = true
+is_within constraints = false
+
+-- `equal` compares files on runs that constraints allow
 abbrev pub compares : Command → Bool
-compares (commands.Pair (on_pair.Equal starts k optimize)) = true
-compares (commands.Pair (on_pair.AlwaysEqual starts k form base_optimize step_optimize)) = true
-compares (commands.EqualBy starts optimize) = true
+compares (commands.Pair (on_pair.Equal comparison k optimize)) = is_within comparison.constraints
+compares (commands.Pair (on_pair.AlwaysEqual comparison k form base_optimize step_optimize)) =
+    is_within comparison.constraints
+compares (commands.EqualBy comparison optimize) = is_within comparison.constraints
 compares c = false
 
 -- what is done with parts of its files that its answer is not about

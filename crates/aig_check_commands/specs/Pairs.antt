@@ -20,6 +20,9 @@ use Rattle.aig_answers.specs.Equality.{AlwaysEquals}
 use Rattle.aig_answers.specs.declared.equality.error.EqualityError.{EqualityError}
 use Rattle.aig_answers.specs.declared.equality.error.EqualityError.TheVariants as always
 use Rattle.aig_format.specs.File.{File}
+use Rattle.aig_join.specs.declared.comparison.Comparison.{Comparison}
+use Rattle.aig_join.specs.declared.comparison.Constraints.{Constraints}
+use Rattle.aig_join.specs.declared.comparison.Constraints.TheVariants.{Compared, OfBoth, OfFirst}
 use Rattle.aig_join.specs.declared.starts.Matching.TheVariants.{ByName, ByOrder}
 use Rattle.aig_join.specs.declared.starts.Starts.{Starts}
 use Rattle.aig_join.specs.declared.starts.Starts.TheVariants.{Alike, Apart}
@@ -43,20 +46,32 @@ use Rattle.aig_check_commands.specs.Titling.{pair_title}
 abbrev pub safe_line : List ℕ
 safe_line = codes "no bad state at any step" ++ 10 ∷ []
 
--- how registers with open start begin, as it is told behind that machines are equal: nothing where
--- each starts apart
+-- what constraints say, as it is told behind that machines are equal: nothing where they are those
+-- of both
+abbrev pub constraints_text : Constraints → List ℕ
+constraints_text OfBoth = []
+constraints_text OfFirst = codes ", under the constraints of the first alone"
+constraints_text Compared = codes ", constraints too"
+
+-- how registers with open start begin, as it is told there: nothing where each starts apart
 abbrev pub starts_text : Starts → List ℕ
 starts_text Apart = []
 starts_text (Alike ByOrder) = codes ", registers with open start alike by order"
 starts_text (Alike ByName) = codes ", registers with open start alike by name"
 
--- the line of machines, whose registers start so, that are equal at a step
-abbrev pub equal_line : Starts → ℕ → List ℕ
-equal_line starts k = codes "equal at step " ++ (decimal k ++ (starts_text starts ++ 10 ∷ []))
+-- how machines are compared, as it is told there
+abbrev pub comparison_text : Comparison → List ℕ
+comparison_text comparison =
+    constraints_text comparison.constraints ++ starts_text comparison.starts
+
+-- the line of machines, compared so, that are equal at a step
+abbrev pub equal_line : Comparison → ℕ → List ℕ
+equal_line comparison k =
+    codes "equal at step " ++ (decimal k ++ (comparison_text comparison ++ 10 ∷ []))
 
 -- the line of those that are equal at every step
-abbrev pub always_line : Starts → List ℕ
-always_line starts = codes "equal at every step" ++ (starts_text starts ++ 10 ∷ [])
+abbrev pub always_line : Comparison → List ℕ
+always_line comparison = codes "equal at every step" ++ (comparison_text comparison ++ 10 ∷ [])
 
 -- the clauses with the further ones
 abbrev pub formula_of : WindowClauses → List (List Lit)
@@ -92,12 +107,13 @@ pub record IsObligationsText (optimize : Bool) (bytes others : Option (List ℕ)
 abbrev pub own_text : Option (List ℕ) → Option (List ℕ)
 own_text text = text
 
--- the machines, whose registers start so, are equal at every step, or it is said why the proofs of
--- these texts don't show so
-abbrev pub AlwaysEqualsBy : Starts → ℕ → ℕ → Window → Bool → Bool → Option (List ℕ)
+-- the machines, compared so, are equal at every step, or it is said why the proofs of these texts
+-- don't show so
+abbrev pub AlwaysEqualsBy : Comparison → ℕ → ℕ → Window → Bool → Bool → Option (List ℕ)
     → Option (List ℕ) → File → File → Result Unit EqualityError → Type 0
-AlwaysEqualsBy starts limit k form base_optimize step_optimize base step =
-    AlwaysEquals starts own_text own_text limit k base_optimize form step_optimize base base step
+AlwaysEqualsBy comparison limit k form base_optimize step_optimize base step =
+    AlwaysEquals comparison own_text own_text limit k base_optimize form step_optimize base base
+    step
 
 -- What the command puts into its writer for FILE and the file beside it, which are of these bytes
 -- and whose counts fit, what is then so of their machines, and what the texts of BASE, or of the
@@ -106,14 +122,14 @@ abbrev pub PairAnswers : PairCommand → ℕ → Option (List ℕ) → Option (L
     → Option (List ℕ) → File → File → List ℕ → Type 0
 PairAnswers (commands.Certified optimize) limit base step bytes others f g text =
     (text ≡ safe_line) × Certifies limit optimize base step f g (Ok tt)
-PairAnswers (commands.Equal starts k optimize) limit base step bytes others f g text =
-    (text ≡ equal_line starts k) × Equals starts limit k optimize base f g (Ok tt)
+PairAnswers (commands.Equal comparison k optimize) limit base step bytes others f g text =
+    (text ≡ equal_line comparison k) × Equals comparison limit k optimize base f g (Ok tt)
 PairAnswers (commands.Obligations optimize) limit base step bytes others f g text =
     IsObligationsText optimize bytes others f g text
-PairAnswers (commands.AlwaysEqual starts k form base_optimize step_optimize) limit base step bytes
-    others f g text =
-    (text ≡ always_line starts)
-    × AlwaysEqualsBy starts limit k form base_optimize step_optimize base step f g (Ok tt)
+PairAnswers (commands.AlwaysEqual comparison k form base_optimize step_optimize) limit base step
+    bytes others f g text =
+    (text ≡ always_line comparison)
+    × AlwaysEqualsBy comparison limit k form base_optimize step_optimize base step f g (Ok tt)
 
 -- ---- errors
 
@@ -129,10 +145,11 @@ other_verdict_of e = Refused
 abbrev pub IsErrorOfPair : PairCommand → CheckError → Type 0
 IsErrorOfPair c errors.Write = ⊥
 IsErrorOfPair (commands.Obligations optimize) (errors.Certificate e) = certificates.IsOfClauses e
-IsErrorOfPair (commands.AlwaysEqual starts k form base_optimize step_optimize)
+IsErrorOfPair (commands.AlwaysEqual comparison k form base_optimize step_optimize)
     (errors.Certificate e) =
     ⊥
-IsErrorOfPair (commands.AlwaysEqual starts k form base_optimize step_optimize) (errors.Equality e) =
+IsErrorOfPair (commands.AlwaysEqual comparison k form base_optimize step_optimize)
+    (errors.Equality e) =
     equality.IsOwn e
 IsErrorOfPair c (errors.Certificate e) = certificates.IsOwn e
 IsErrorOfPair c e = ⊥
@@ -142,20 +159,20 @@ abbrev pub RefusesPair : PairCommand → ℕ → Option (List ℕ) → Option (L
     → CertificateError → Type 0
 RefusesPair (commands.Certified optimize) limit base step f g e =
     Certifies limit optimize base step f g (Err e)
-RefusesPair (commands.Equal starts k optimize) limit base step f g e =
-    Equals starts limit k optimize base f g (Err e)
+RefusesPair (commands.Equal comparison k optimize) limit base step f g e =
+    Equals comparison limit k optimize base f g (Err e)
 RefusesPair (commands.Obligations optimize) limit base step f g e =
     Obliges limit optimize f g (Err e)
-RefusesPair (commands.AlwaysEqual starts k form base_optimize step_optimize) limit base step f g
+RefusesPair (commands.AlwaysEqual comparison k form base_optimize step_optimize) limit base step f g
     e =
     ⊥
 
 -- why it isn't shown that they are equal at every step
 abbrev pub RefusesAlways : PairCommand → ℕ → Option (List ℕ) → Option (List ℕ) → File → File
     → EqualityError → Type 0
-RefusesAlways (commands.AlwaysEqual starts k form base_optimize step_optimize) limit base step f g
-    e =
-    AlwaysEqualsBy starts limit k form base_optimize step_optimize base step f g (Err e)
+RefusesAlways (commands.AlwaysEqual comparison k form base_optimize step_optimize) limit base step f
+    g e =
+    AlwaysEqualsBy comparison limit k form base_optimize step_optimize base step f g (Err e)
 RefusesAlways c limit base step f g e = ⊥
 
 -- BASE, or the proof of `equal`, isn't read

@@ -3,7 +3,7 @@
 ghost use Rattle.std.specs.Prelude.{◌≡◌, ◌↔◌, ◌<◌, ◌^◌, ◌⊎◌, ◌∷◌, Bool, IfNone, IfSome, List, Some, ℕ, length, map, string_bytes};
 ghost use Rattle.aig_command_line.specs.Arguments.{seen};
 ghost use Rattle.aig_check_commands.specs.Fits.{Fits};
-ghost use Rattle.aig_check_commands.specs.CommandWords.{AreCommand, FitNone, Give, IsAlone, IsCall, IsOnWitness, IsWhole, beside_of, command_of, equal_name, form_of, name_of, on_certificate, on_step, paths_of, raw_alone, raw_word, step_of, window_of, witness_form, witness_name};
+ghost use Rattle.aig_check_commands.specs.CommandWords.{AreCommand, FitNone, Give, IsAlone, IsCall, IsOnWitness, IsWhole, beside_of, command_of, constrained, equal_name, form_of, name_of, of_both, on_certificate, on_step, paths_of, raw_alone, raw_word, step_of, under, window_of, witness_form, witness_name};
 ghost use Rattle.aig_check_commands.specs.declared.command.Asked.{Asked};
 ghost use Rattle.aig_check_commands.specs.declared.command.Command.{Command};
 ghost use Rattle.aig_simulation.specs.Names.{condition_name};
@@ -12,7 +12,7 @@ ghost use Rattle.aig_simulation.specs.declared.condition.Condition.{Condition};
 use crate::justice::{Justice, is_asked, is_word, justice_first};
 use aig_answers::Window;
 use aig_command_line::{ArgumentForm, Given, HasArguments, Step, find, limited};
-use aig_edits::{Matching, Starts};
+use aig_edits::{Comparison, Constraints, Matching, Starts, constraints_first};
 use aig_simulated::Condition;
 
 /// What the program is asked to do with a file.
@@ -114,8 +114,8 @@ pub enum PairCommand {
     },
     /// Check a proof that the files' machines are equal at step `k`.
     Equal {
-        /// How registers with open start begin.
-        starts: Starts,
+        /// How registers with open start begin, and what constraints say.
+        comparison: Comparison,
         /// The step.
         k: usize,
         /// Whether exclusive ors and choices have clauses of their own.
@@ -123,8 +123,8 @@ pub enum PairCommand {
     },
     /// Check proofs that the files' machines are equal at every step.
     AlwaysEqual {
-        /// How registers with open start begin.
-        starts: Starts,
+        /// How registers with open start begin, and what constraints say.
+        comparison: Comparison,
         /// How many steps come before the last two of a window.
         k: usize,
         /// Which windows are looked at.
@@ -167,8 +167,8 @@ pub enum Command {
     },
     /// Check that a certificate of the miter shows that the machines of FILE and OTHER are equal at every step.
     EqualBy {
-        /// How registers with open start begin.
-        starts: Starts,
+        /// How registers with open start begin, and what constraints say.
+        comparison: Comparison,
         /// Whether exclusive ors and choices have clauses of their own.
         optimize: bool,
     },
@@ -200,12 +200,13 @@ pub struct Asked {
 pub const USAGE: &str =
     "usage: aigcheck [--limit N] [--justice J [--rounds N]] clauses FILE K [raw], window FILE K [distinct] [raw], \
     refuted FILE K PROOF [raw], inductive FILE K PROOF [distinct] [raw], witness FILE K SOLUTION [raw], run FILE WITNESS, \
-    certified FILE CERT BASE STEP [raw], equal FILE OTHER K PROOF [raw], obligations FILE CERT [raw], \
+    certified FILE CERT BASE STEP [raw], [--constraints first|compared] equal FILE OTHER K PROOF [raw], \
+    obligations FILE CERT [raw], \
     bounded FILE K [raw], refuted FILE to K PROOF [raw], witness FILE to K SOLUTION [raw], \
     safe FILE to K BASE STEP [distinct] [raw | raw-base | raw-step], \
     safe FILE each K P0 .. PK STEP [distinct] [raw | raw-base | raw-step], \
-    equal FILE OTHER to K BASE STEP [distinct] [raw | raw-base | raw-step], \
-    equal FILE OTHER by CERT BASE STEP [raw], equal-alike-by-order and equal-alike-by-name as equal, \
+    [--constraints first|compared] equal FILE OTHER to K BASE STEP [distinct] [raw | raw-base | raw-step], \
+    [--constraints first|compared] equal FILE OTHER by CERT BASE STEP [raw], equal-alike-by-order and equal-alike-by-name as equal, \
     certified FILE WITNESS RESET TRANSITION PROPERTY BASE STEP [raw], obligations FILE WITNESS CONDITION [raw]";
 
 /// A command without K and its settings.
@@ -262,6 +263,16 @@ fn equal_name(starts: Starts) -> &'static str
         Starts::Apart => "equal",
         Starts::Alike(Matching::ByOrder) => "equal-alike-by-order",
         Starts::Alike(Matching::ByName) => "equal-alike-by-name",
+    }
+}
+
+/// The comparison of machines whose registers with open start begin so, with constraints that say what is usual: runs meet those of both.
+fn of_both(starts: Starts) -> Comparison
+    ensures { result ≡ of_both starts }
+{
+    Comparison {
+        starts,
+        constraints: Constraints::OfBoth,
     }
 }
 
@@ -421,7 +432,7 @@ impl Action {
             Action::Run => Command::File(FileCommand::Run),
             Action::Certified => Command::Pair(PairCommand::Certified { optimize }),
             Action::Equal(starts) => Command::Pair(PairCommand::Equal {
-                starts,
+                comparison: of_both(starts),
                 k,
                 optimize,
             }),
@@ -436,13 +447,16 @@ impl Action {
                 step_optimize: optimize,
             },
             Action::AlwaysEqual(starts) => Command::Pair(PairCommand::AlwaysEqual {
-                starts,
+                comparison: of_both(starts),
                 k,
                 form,
                 base_optimize: optimize,
                 step_optimize: optimize,
             }),
-            Action::EqualBy(starts) => Command::EqualBy { starts, optimize },
+            Action::EqualBy(starts) => Command::EqualBy {
+                comparison: of_both(starts),
+                optimize,
+            },
             Action::SafeBySteps => Command::SafeBySteps {
                 k,
                 form,
@@ -503,14 +517,14 @@ fn raw_alone(step_optimize: bool, command: Command) -> Option<Command>
         }),
         Command::Pair(
             PairCommand::AlwaysEqual {
-                starts,
+                comparison,
                 k,
                 form,
                 ..
             },
         ) => {
             Some(Command::Pair(PairCommand::AlwaysEqual {
-                starts,
+                comparison,
                 k,
                 form,
                 base_optimize,
@@ -637,9 +651,81 @@ fn command_first(words: &[String]) -> Option<(Command, Given<'_>)>
     }
 }
 
-/// What the words after the program's name give, or none where they are wrong: N of `--limit N`, or 2^24, then J of `--justice J`, and
-/// N of `--rounds N`, where these come, and then the command and what it takes. Words that fit no command may end with `raw-base` or
-/// `raw-step` behind those of `safe` or of `equal` with `to`, without `raw`. It takes no memory.
+/// The command that compares, with constraints that say this, or none where it doesn't compare.
+fn constrained(constraints: Constraints, command: Command) -> Option<Command>
+    ensures exact { result ≡ constrained constraints command }
+    ensures paths { IfSome result (λ c. paths_of c ≡ paths_of command) }
+    ensures beside { IfSome result (λ c. beside_of c ≡ beside_of command) }
+    ensures step { IfSome result (λ c. step_of c ≡ step_of command) }
+{
+    match command {
+        Command::Pair(
+            PairCommand::Equal {
+                comparison,
+                k,
+                optimize,
+            },
+        ) => {
+            Some(Command::Pair(PairCommand::Equal {
+                comparison: Comparison {
+                    constraints,
+                    ..comparison
+                },
+                k,
+                optimize,
+            }))
+        }
+        Command::Pair(
+            PairCommand::AlwaysEqual {
+                comparison,
+                k,
+                form,
+                base_optimize,
+                step_optimize,
+            },
+        ) => {
+            Some(Command::Pair(PairCommand::AlwaysEqual {
+                comparison: Comparison {
+                    constraints,
+                    ..comparison
+                },
+                k,
+                form,
+                base_optimize,
+                step_optimize,
+            }))
+        }
+        Command::EqualBy {
+            comparison,
+            optimize,
+        } => Some(Command::EqualBy {
+            comparison: Comparison {
+                constraints,
+                ..comparison
+            },
+            optimize,
+        }),
+        _ => None,
+    }
+}
+
+/// The command with constraints that say this. Only one that compares has others than the usual ones.
+fn under(constraints: Constraints, command: Command) -> Option<Command>
+    ensures exact { result ≡ under constraints command }
+    ensures paths { IfSome result (λ c. paths_of c ≡ paths_of command) }
+    ensures beside { IfSome result (λ c. beside_of c ≡ beside_of command) }
+    ensures step { IfSome result (λ c. step_of c ≡ step_of command) }
+{
+    match constraints {
+        Constraints::OfBoth => Some(command),
+        Constraints::OfFirst | Constraints::Compared => constrained(constraints, command),
+    }
+}
+
+/// What the words after the program's name give, or none where they are wrong: N of `--limit N`, or 2^24, then J of `--justice J`, and N of
+/// `--rounds N`, where these come, then `first` or `compared` of `--constraints`, where it comes, and then the command and what it takes.
+/// Only a command that compares has these constraints. Words that fit no command may end with `raw-base` or `raw-step` behind those of
+/// `safe` or of `equal` with `to`, without `raw`. It takes no memory.
 pub fn call_of(words: &[String]) -> Option<Call<'_>>
     ensures some { IfSome result (λ c. IsCall (map string_bytes words.now) c.limit c.asked
         (map string_bytes c.paths.now) (map string_bytes c.further.now)) }
@@ -649,7 +735,9 @@ pub fn call_of(words: &[String]) -> Option<Call<'_>>
 {
     let (limit, rest) = limited(words)?;
     let (justice, rest) = justice_first(rest)?;
-    let (command, given) = command_first(rest)?;
+    let (constraints, rest) = constraints_first(rest)?;
+    let (usual, given) = command_first(rest)?;
+    let command = under(constraints, usual)?;
     if !is_asked(justice, command) {
         return None;
     }
@@ -664,15 +752,17 @@ pub fn call_of(words: &[String]) -> Option<Call<'_>>
 /// What the words after the program's name ask for, or none where they are wrong.
 ///
 /// The words `--limit` and N may come first, and then `--justice` and J, and then `--rounds` and N. The word after the command's name is
-/// FILE. The next is WITNESS of `run`, CERT of `certified` and `obligations`, and OTHER of `equal`. Then comes K, where the command has one,
-/// after the word `to` where it is on the steps up to K, and the words after that are PROOF of `refuted`, `inductive` and `equal`, SOLUTION
-/// of `witness`, and BASE and STEP of `certified`, `safe` and `equal` with `to`. Of `equal` with the word `by` it is CERT, BASE and STEP that
-/// come after that, and of `safe` with the words `each` and K it is P0 to PK, one for each of the steps 0 to K, and STEP. The words
-/// `distinct` and `raw` may come last, where the command may have them, and in place of `raw` the word `raw-base` or `raw-step` of `safe` and
-/// of `equal` with `to`: the clauses of BASE alone, or those of all of P0 to PK, are then raw, or those of STEP alone. With a witness circuit
-/// in the place of CERT the words after it are five proofs of `certified`, one for each condition, and the name of a condition of
-/// `obligations`. In place of `equal` the word `equal-alike-by-order` or `equal-alike-by-name` says how registers with open start begin. It
-/// takes no memory.
+/// FILE. The next is WITNESS of `run`, CERT of `certified` and `obligations`, and OTHER of `equal`. Then comes K, where the command has
+/// one, after the word `to` where it is on the steps up to K, and the words after that are PROOF of `refuted`, `inductive` and `equal`,
+/// SOLUTION of `witness`, and BASE and STEP of `certified`, `safe` and `equal` with `to`. Of `equal` with the word `by` it is CERT, BASE
+/// and STEP that come after that, and of `safe` with the words `each` and K it is P0 to PK, one for each of the steps 0 to K, and STEP. The
+/// words `distinct` and `raw` may come last, where the command may have them, and in place of `raw` the word `raw-base` or `raw-step` of
+/// `safe` and of `equal` with `to`: the clauses of BASE alone, or those of all of P0 to PK, are then raw, or those of STEP alone. With a
+/// witness circuit in the place of CERT the words after it are five proofs of `certified`, one for each condition, and the name of a
+/// condition of `obligations`. In place of `equal` the word `equal-alike-by-order` or `equal-alike-by-name` says how registers with open
+/// start begin. Right before the name of such a command two words may say what constraints say: after `--constraints first` runs meet those
+/// of FILE alone, and after `--constraints compared` the constraints of both are compared, too. Without these words runs meet those of
+/// both. It takes no memory.
 pub fn parse(words: &[String]) -> Option<Asked>
     ensures exact { (c : Asked) → (result ≡ Some c) ↔ Give (map string_bytes words.now) c }
     ensures small { IfSome result (λ c. step_of c.command < 2 ^ 32) }

@@ -8,16 +8,16 @@ use crate::error::CheckError;
 use crate::printing::after_writing;
 use aig_answers::check_equal_by;
 use aig_base::{Sink, Source};
-use aig_edits::Starts;
+use aig_edits::Comparison;
 use std::alloc::Global;
 
-/// Checks that a certificate of their miter shows that two files' machines, whose registers with open start begin as is said, are equal
-/// at every step, and prints so: `base` and `step` are the proofs that `print_certified` takes for the file that the miter's text is and
-/// the certificate.
+/// Checks that a certificate of their miter shows that two files' machines are equal at every step, and prints so: `base` and `step` are
+/// the proofs that `print_certified` takes for the file that the miter's text is and the certificate. `comparison` says how registers
+/// with open start begin, and what constraints say.
 pub fn print_equal_by<R: Source, S: Source, C: Source, P: Source, Q: Source, W: Sink>(
     alloc: Global,
     limit: usize,
-    starts: Starts,
+    comparison: Comparison,
     optimize: bool,
     file: &mut R,
     other: &mut S,
@@ -28,7 +28,7 @@ pub fn print_equal_by<R: Source, S: Source, C: Source, P: Source, Q: Source, W: 
 ) -> Result<(), CheckError>
     requires { IsLimit limit }
     ensures { RunsComparing R.left R.failed S.left S.failed C.left C.failed P.left P.failed
-        Q.left Q.failed W.held W.failed starts optimize limit
+        Q.left Q.failed W.held W.failed comparison optimize limit
         file.old other.old certificate.old base.old step.old w.old result
         file.new other.new certificate.new base.new step.new w.new }
 {
@@ -36,12 +36,12 @@ pub fn print_equal_by<R: Source, S: Source, C: Source, P: Source, Q: Source, W: 
         alloc,
         file,
         other,
-        starts,
+        comparison,
         certificate,
         limit,
         optimize,
         base,
         step,
     )?;
-    after_writing(write_always(w, starts))
+    after_writing(write_always(w, comparison))
 }

@@ -10,16 +10,16 @@ use crate::error::CheckError;
 use crate::printing::after_writing;
 use aig_answers::{Window, check_always_equal};
 use aig_base::{Sink, Source};
-use aig_edits::Starts;
+use aig_edits::Comparison;
 use std::alloc::Global;
 
-/// Checks proofs that two files' machines, whose registers with open start begin as is said, are equal at every step, and prints so:
-/// `base`, that the clauses of `print_bounded` of their miter can't be satisfied, and `step`, that those of `print_window` can't.
-/// Requires that `k` is below 2^32.
+/// Checks proofs that two files' machines are equal at every step, and prints so: `base`, that the clauses of `print_bounded` of their
+/// miter can't be satisfied, and `step`, that those of `print_window` can't. `comparison` says how registers with open start begin, and
+/// what constraints say. Requires that `k` is below 2^32.
 pub fn print_always_equal<R: Source, S: Source, P: Source, Q: Source, W: Sink>(
     alloc: Global,
     limit: usize,
-    starts: Starts,
+    comparison: Comparison,
     k: usize,
     form: Window,
     base_optimize: bool,
@@ -32,7 +32,7 @@ pub fn print_always_equal<R: Source, S: Source, P: Source, Q: Source, W: Sink>(
 ) -> Result<(), CheckError>
     requires limit { IsLimit limit }
     requires small { k < 2 ^ 32 }
-    ensures { let command = PairCommand.AlwaysEqual starts k form base_optimize step_optimize in
+    ensures { let command = PairCommand.AlwaysEqual comparison k form base_optimize step_optimize in
         RunsPair R.left R.failed S.left S.failed P.left P.failed Q.left Q.failed W.held W.failed
         command limit file.old other.old base.old step.old w.old result
         file.new other.new base.new step.new w.new }
@@ -41,7 +41,7 @@ pub fn print_always_equal<R: Source, S: Source, P: Source, Q: Source, W: Sink>(
         alloc,
         file,
         other,
-        starts,
+        comparison,
         limit,
         k,
         base_optimize,
@@ -50,5 +50,5 @@ pub fn print_always_equal<R: Source, S: Source, P: Source, Q: Source, W: Sink>(
         step_optimize,
         step,
     )?;
-    after_writing(write_always(w, starts))
+    after_writing(write_always(w, comparison))
 }

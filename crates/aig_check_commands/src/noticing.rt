@@ -1,15 +1,24 @@
 //! What an answer isn't about.
 
 ghost use Rattle.std.specs.Prelude.{◌≡◌, ◌↔◌, true, IfOk, IfSome, IsErr, IsNone, map, string_bytes};
-ghost use Rattle.aig_check_commands.specs.Noticing.{IsAnswer, TellsBeside, regard_of};
+ghost use Rattle.aig_check_commands.specs.Noticing.{IsAnswer, TellsBeside, is_within, regard_of};
 
 use crate::command::{Asked, Command, FileCommand, PairCommand, call_of};
 use crate::error::CheckError;
 use aig_base::MemoryError;
 use aig_command_line::{Ending, Headers, Regard, Teller, tell_of_files};
+use aig_edits::Constraints;
+
+/// Whether it is told that only runs are compared that constraints allow: not where the words say what constraints say.
+fn is_within(constraints: Constraints) -> bool
+    ensures { result ≡ is_within constraints }
+{
+    matches!(constraints, Constraints::OfBoth)
+}
 
 /// What a command does with parts of its files that its answer isn't about: it answers without a look at justice and fairness, but where a
-/// justice property is asked about, and `run`, which names the property that the witness shows.
+/// justice property is asked about, and `run`, which names the property that the witness shows. Where it compares, it looks only at runs
+/// that the constraints of both files allow, if the words don't say what constraints say.
 fn regard_of(asked: Asked) -> Regard
     ensures { result ≡ regard_of asked }
 {
@@ -19,8 +28,10 @@ fn regard_of(asked: Asked) -> Regard
             _ => asked.justice.is_none(),
         },
         compares: match asked.command {
-            Command::Pair(PairCommand::Equal { .. } | PairCommand::AlwaysEqual { .. }) => true,
-            Command::EqualBy { .. } => true,
+            Command::Pair(
+                PairCommand::Equal { comparison, .. } | PairCommand::AlwaysEqual { comparison, .. },
+            ) => is_within(comparison.constraints),
+            Command::EqualBy { comparison, .. } => is_within(comparison.constraints),
             _ => false,
         },
     }

@@ -19,7 +19,7 @@ use aig_base::{Sink, Source, StreamFault};
 use aig_circuit::CircuitView;
 use aig_command_line::{Origin, write_text};
 use aig_dimacs::write_circuit;
-use aig_edits::Starts;
+use aig_edits::Comparison;
 use std::alloc::Global;
 use std::marker::Brand;
 
@@ -45,11 +45,12 @@ pub fn print_certified<R: Source, S: Source, P: Source, Q: Source, W: Sink>(
     after_writing(write_text(w, b"no bad state at any step"))
 }
 
-/// Checks a proof that two files' machines, whose registers with open start begin as is said, are equal at step `k`, and prints so.
+/// Checks a proof that two files' machines are equal at step `k`, and prints so. `comparison` says how registers with open start begin, and
+/// what constraints say.
 pub fn print_equal<R: Source, S: Source, P: Source, W: Sink>(
     alloc: Global,
     limit: usize,
-    starts: Starts,
+    comparison: Comparison,
     k: usize,
     optimize: bool,
     file: &mut R,
@@ -58,13 +59,13 @@ pub fn print_equal<R: Source, S: Source, P: Source, W: Sink>(
     w: &mut W,
 ) -> Result<(), CheckError>
     requires { IsLimit limit }
-    ensures { let command = PairCommand.Equal starts k optimize in
+    ensures { let command = PairCommand.Equal comparison k optimize in
         RunsPair R.left R.failed S.left S.failed P.left P.failed nothing_given nothing_fails W.held
         W.failed command limit file.old other.old proof.old tt w.old result
         file.new other.new proof.new tt w.new }
 {
-    check_equal(alloc, file, other, starts, limit, k, optimize, proof)?;
-    after_writing(write_equal(w, starts, k))
+    check_equal(alloc, file, other, comparison, limit, k, optimize, proof)?;
+    after_writing(write_equal(w, comparison, k))
 }
 
 /// Writes the clauses of a circuit and further ones, after a line that names them. No list of them is made.

@@ -103,16 +103,16 @@ fn check_pair<R: Source, S: Source, W: Sink>(
     let (base, proofs) = first_of(proofs);
     match command {
         PairCommand::Equal {
-            starts,
+            comparison,
             k,
             optimize,
-        } => { print_equal(alloc, limit, starts, k, optimize, file, other, base, w) }
+        } => { print_equal(alloc, limit, comparison, k, optimize, file, other, base, w) }
         PairCommand::Certified { optimize } => {
             let (step, _) = first_of(proofs);
             print_certified(alloc, limit, optimize, file, other, base, step, w)
         }
         PairCommand::AlwaysEqual {
-            starts,
+            comparison,
             k,
             form,
             base_optimize,
@@ -122,7 +122,7 @@ fn check_pair<R: Source, S: Source, W: Sink>(
             print_always_equal(
                 alloc,
                 limit,
-                starts,
+                comparison,
                 k,
                 form,
                 base_optimize,
@@ -229,7 +229,10 @@ fn check<R: Source, S: Source, W: Sink>(
             inputs,
             w,
         ),
-        Command::EqualBy { starts, optimize } => {
+        Command::EqualBy {
+            comparison,
+            optimize,
+        } => {
             let (other, others) = first_of(inputs);
             let (certificate, others) = first_of(others);
             let (base, others) = first_of(others);
@@ -237,7 +240,7 @@ fn check<R: Source, S: Source, W: Sink>(
             print_equal_by(
                 alloc,
                 limit,
-                starts,
+                comparison,
                 optimize,
                 file,
                 other,

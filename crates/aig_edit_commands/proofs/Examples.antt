@@ -17,8 +17,11 @@ use Rattle.aig_command_line.specs.declared.tally.Place.TheVariants as places
 use Rattle.aig_edits.specs.declared.edit_error.EditError.TheVariants as edit
 use Rattle.aig_edits.specs.declared.pair_error.PairError.{PairError}
 use Rattle.aig_edits.specs.declared.pair_error.PairError.TheVariants as pair
+use Rattle.aig_edits.specs.Words.{AreConstraints}
 use Rattle.aig_edits.specs.declared.pairing.Pairing.{Pairing}
 use Rattle.aig_edits.specs.declared.pairing.Pairing.TheVariants as pairings
+use Rattle.aig_join.specs.declared.comparison.Constraints.{Constraints}
+use Rattle.aig_join.specs.declared.comparison.Constraints.TheVariants.{Compared, OfBoth, OfFirst}
 use Rattle.aig_join.specs.declared.starts.Starts.TheVariants.{Apart}
 use Rattle.aig_format.specs.Text.{IsNumber}
 use Rattle.aig_format.specs.declared.FileKind.TheVariants.{Text}
@@ -37,20 +40,25 @@ use Rattle.aig_edit_commands.specs.Explaining.{TellsPlaced}
 use Rattle.aig_edit_commands.specs.Help.{answer_of}
 use Rattle.aig_edit_commands.specs.Noticing.{TellsBeside, regard_of}
 use Rattle.aig_edit_commands.specs.Subjects.{about_error}
-use Rattle.aig_edit_commands.proofs.Calling.{one_call}
+use Rattle.aig_edit_commands.proofs.Calling.{one_call, under_none}
 
 -- ---- words
 
-abbrev first_letter : List (List ℕ) → ℕ
-first_letter words = slice_index (slice_index_or words 0 []) 0
+-- a letter of the first word
+abbrev letter_at : ℕ → List (List ℕ) → ℕ
+letter_at k words = slice_index (slice_index_or words 0 []) k
 
 -- words that don't begin with `--limit` have the usual limit
-usual : (words : List (List ℕ)) → first_letter words ≢ 45 → IsLimited words (2 ^ 24) words
+usual : (words : List (List ℕ)) → letter_at 2 words ≢ 108 → IsLimited words (2 ^ 24) words
 usual words apart = inr (record {
-  other = λ more is. apart (ap first_letter is);
+  other = λ more is. apart (ap (letter_at 2) is);
   all = refl;
   usual = refl;
 })
+
+-- in words that don't begin with `--constraints` these say what is usual
+unsaid : (words : List (List ℕ)) → letter_at 2 words ≢ 99 → AreConstraints OfBoth words words
+unsaid words apart = (λ more is. apart (ap (letter_at 2) is), refl)
 
 number_1 : IsNumber 1 (codes "1")
 number_1 = record {
@@ -77,7 +85,11 @@ rounds_call : (file : List ℕ)
 rounds_call file = record {
   rest = rounds_words file;
   limited = usual (rounds_words file)
-      (λ is. let letter : 114 ≡ 45 = is in omega (arith, letter));
+      (λ is. let letter : 117 ≡ 108 = is in omega (arith, letter));
+  constraints = OfBoth;
+  more = rounds_words file;
+  said = unsaid (rounds_words file)
+      (λ is. let letter : 117 ≡ 99 = is in omega (arith, letter));
   action = actions.Rounds;
   arguments = record {
     paths = file ∷ [];
@@ -95,7 +107,9 @@ rounds_call file = record {
     distinct = λ is. is;
     raw = λ is. is;
   };
+  usual = commands.File (files.Rounds 1 2);
   command = (2, (codes "2", refl, number_2), refl);
+  compares = refl;
   on = refl;
 }
 
@@ -124,7 +138,10 @@ join_call : IsCall join_words (2 ^ 24) (commands.Pair pairings.Certificate)
     (codes "file.aag" ∷ codes "cert.aag" ∷ [])
 join_call = record {
   rest = join_words;
-  limited = usual join_words (λ is. let letter : 106 ≡ 45 = is in omega (arith, letter));
+  limited = usual join_words (λ is. let letter : 105 ≡ 108 = is in omega (arith, letter));
+  constraints = OfBoth;
+  more = join_words;
+  said = unsaid join_words (λ is. let letter : 105 ≡ 99 = is in omega (arith, letter));
   action = actions.Join;
   arguments = record {
     paths = codes "file.aag" ∷ codes "cert.aag" ∷ [];
@@ -142,15 +159,21 @@ join_call = record {
     distinct = λ is. is;
     raw = λ is. is;
   };
+  usual = commands.Pair pairings.Certificate;
   command = refl;
+  compares = refl;
   on = refl;
 }
 
+-- the miter of both, whose constraints say this
+abbrev miter_by : Constraints → Command
+miter_by constraints =
+    commands.Pair (pairings.Miter (record { starts = Apart; constraints = constraints }))
+
 -- the miter of both, and the certificate before its file
-no_miter : (limit : ℕ) (paths : List (List ℕ))
-    → ¬ IsCall join_words limit (commands.Pair (pairings.Miter Apart)) paths
+no_miter : (limit : ℕ) (paths : List (List ℕ)) → ¬ IsCall join_words limit (miter_by OfBoth) paths
 no_miter limit paths call =
-    let same = one_call join_words limit (2 ^ 24) (commands.Pair (pairings.Miter Apart))
+    let same = one_call join_words limit (2 ^ 24) (miter_by OfBoth)
     (commands.Pair pairings.Certificate) paths (codes "file.aag" ∷ codes "cert.aag" ∷ []) call
     join_call in
     let other = same.1 in
@@ -162,8 +185,74 @@ no_certificate_first limit c call =
     let same = one_call join_words limit (2 ^ 24) c (commands.Pair pairings.Certificate)
     (codes "cert.aag" ∷ codes "file.aag" ∷ []) (codes "file.aag" ∷ codes "cert.aag" ∷ []) call
     join_call in
-    let letter : 99 ≡ 102 = ap first_letter same.2 in
+    let letter : 99 ≡ 102 = ap (letter_at 0) same.2 in
     omega (arith, letter)
+
+abbrev miter_words : List (List ℕ)
+miter_words = codes "miter" ∷ codes "file.aag" ∷ codes "other.aag" ∷ []
+
+-- a word for constraints before others
+abbrev said_before : List ℕ → List (List ℕ) → List (List ℕ)
+said_before word words = codes "--constraints" ∷ word ∷ words
+
+said_limited : (word : List ℕ) (words : List (List ℕ))
+    → IsLimited (said_before word words) (2 ^ 24) (said_before word words)
+said_limited word words =
+    usual (said_before word words) (λ is. let letter : 99 ≡ 108 = is in omega (arith, letter))
+
+-- the miter that compares constraints, too
+compared_call : IsCall (said_before (codes "compared") miter_words) (2 ^ 24) (miter_by Compared)
+    (codes "file.aag" ∷ codes "other.aag" ∷ [])
+compared_call = record {
+  rest = said_before (codes "compared") miter_words;
+  limited = said_limited (codes "compared") miter_words;
+  constraints = Compared;
+  more = miter_words;
+  said = refl;
+  action = actions.Miter Apart;
+  arguments = record {
+    paths = codes "file.aag" ∷ codes "other.aag" ∷ [];
+    step = 0;
+    further = [];
+    distinct = false;
+    optimize = true;
+  };
+  gives = record {
+    steps = [];
+    spelled = refl;
+    paths = refl;
+    step = (refl, refl);
+    further = refl;
+    distinct = λ is. is;
+    raw = λ is. is;
+  };
+  usual = miter_by OfBoth;
+  command = refl;
+  compares = refl;
+  on = refl;
+}
+
+-- the word says nothing, or is taken for the other one
+no_other_said : (other : Constraints) → other ≢ Compared → (limit : ℕ) (paths : List (List ℕ))
+    → ¬ IsCall (said_before (codes "compared") miter_words) limit (miter_by other) paths
+no_other_said other differs limit paths call =
+    let same = one_call (said_before (codes "compared") miter_words) limit (2 ^ 24)
+    (miter_by other) (miter_by Compared) paths (codes "file.aag" ∷ codes "other.aag" ∷ []) call
+    compared_call in
+    differs (ap said_in same.1)
+  where
+    said_in : Command → Constraints
+    said_in (commands.Pair (pairings.Miter comparison)) = comparison.constraints
+    said_in c = OfBoth
+
+-- a joint file that compares nothing is made all the same
+no_constraints_joined : (limit : ℕ) (c : Command) (paths : List (List ℕ))
+    → ¬ IsCall (said_before (codes "first") join_words) limit c paths
+unfolding join_call
+no_constraints_joined =
+    under_none (said_before (codes "first") join_words) (said_before (codes "first") join_words)
+    join_words (2 ^ 24) OfFirst (said_limited (codes "first") join_words) refl join_call.action
+    join_call.arguments join_call.usual join_call.gives join_call.command refl
 
 -- a question is answered as words that give nothing
 no_silence : {F W : Type 0} (opens : List ℕ → Result F OpenError → Type 0)
@@ -258,12 +347,16 @@ second_seen = record {
   });
 }
 
--- a miter compares on runs of the second file; a joint file doesn't
-miter-lines : lines_of (codes "aigedit") two_paths (regard_of (commands.Pair (pairings.Miter Apart)))
-    second_seen
+-- a miter compares on runs of the second file; one that compares constraints too, and a joint
+-- file, don't
+miter-lines : lines_of (codes "aigedit") two_paths (regard_of (miter_by OfBoth)) second_seen
     ≡ codes "aigedit: cert.aag: justice and fairness were not looked at"
     ∷ codes "aigedit: cert.aag: compared only on runs that its constraints allow" ∷ []
 miter-lines = refl
+
+compared-lines : lines_of (codes "aigedit") two_paths (regard_of (miter_by Compared)) second_seen
+    ≡ codes "aigedit: cert.aag: justice and fairness were not looked at" ∷ []
+compared-lines = refl
 
 join-lines : lines_of (codes "aigedit") two_paths
     (regard_of (commands.Pair pairings.Certificate)) second_seen

@@ -1,5 +1,5 @@
 -- What was printed of files is all there once it is flushed.
-use Rattle.aig_base.proofs.Words.{◌≡◌, ℕ, Bool, false, List, Option, Result, Ok, Err, Appends, Keeps}
+use Rattle.aig_base.proofs.Words.{◌≡◌, ℕ, Bool, false, List, Option, Ok, Err, Appends, Keeps}
 use Rattle.std.specs.Prelude.{IsTrue}
 use Rattle.aig_command_line.proofs.Kept.{appends_kept, stops_unflushed}
 use Rattle.aig_format.specs.File.{File}

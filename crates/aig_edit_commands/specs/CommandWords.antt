@@ -1,13 +1,16 @@
 -- Part of what is promised.
 -- Which words give which command.
-use Rattle.std.specs.Prelude.{◌≡◌, ℕ, List, codes}
+use Rattle.std.specs.Prelude.{◌≡◌, ℕ, List, None, Option, Some, codes}
 use Rattle.aig_command_line.specs.declared.arguments.ArgumentForm.{ArgumentForm}
 use Rattle.aig_command_line.specs.declared.arguments.Step.TheVariants.{At}
 use Rattle.aig_command_line.specs.Arguments.{AreStep, Arguments, GivesArguments, of_paths}
 use Rattle.aig_command_line.specs.Limits.{IsLimited}
+use Rattle.aig_edits.specs.Words.{AreConstraints}
 use Rattle.aig_edits.specs.declared.editing.Edit.{Edit}
 use Rattle.aig_edits.specs.declared.editing.Edit.TheVariants as edits
 use Rattle.aig_edits.specs.declared.pairing.Pairing.TheVariants as pairings
+use Rattle.aig_join.specs.declared.comparison.Constraints.{Constraints}
+use Rattle.aig_join.specs.declared.comparison.Constraints.TheVariants.{OfBoth}
 use Rattle.aig_join.specs.declared.starts.Matching.TheVariants.{ByName, ByOrder}
 use Rattle.aig_join.specs.declared.starts.Starts.{Starts}
 use Rattle.aig_join.specs.declared.starts.Starts.TheVariants.{Alike, Apart}
@@ -76,7 +79,8 @@ command_of actions.Question k = commands.File (files.Question k)
 command_of actions.Live k = commands.File (files.Live k)
 command_of actions.Rounds k = commands.File (files.Rounds k 0)
 command_of actions.Info k = commands.File files.Info
-command_of (actions.Miter starts) k = commands.Pair (pairings.Miter starts)
+command_of (actions.Miter starts) k =
+    commands.Pair (pairings.Miter (record { starts = starts; constraints = OfBoth }))
 command_of actions.Join k = commands.Pair pairings.Certificate
 command_of actions.Merge k = commands.Pair pairings.Merge
 
@@ -86,18 +90,31 @@ IsCommandOf actions.Rounds k further c =
     (count : ℕ) × AreStep At count further × (c ≡ commands.File (files.Rounds k count))
 IsCommandOf action k further c = c ≡ command_of action k
 
+-- the command with constraints that say this, where it compares
+abbrev pub under : Constraints → Command → Option Command
+under OfBoth c = Some c
+under constraints (commands.Pair (pairings.Miter comparison)) =
+    Some (commands.Pair (pairings.Miter (record comparison { constraints = constraints })))
+under constraints c = None
+
 -- how many files it is run on
 abbrev pub paths_of : Command → ℕ
 paths_of (commands.File command) = 1
 paths_of (commands.Pair pairing) = 2
 
--- the words give the limit, and then the command, with these paths
+-- the words give the limit, then what constraints say, and then the command, with these paths
 pub record IsCall (words : List (List ℕ)) (limit : ℕ) (c : Command) (paths : List (List ℕ)) : Type 0
   where
     pub rest : List (List ℕ)
     pub limited : IsLimited words limit rest
+    pub constraints : Constraints
+    pub more : List (List ℕ)
+    pub said : AreConstraints constraints rest more
     pub action : Action
     pub arguments : Arguments
-    pub gives : GivesArguments (name_of action) (form_of action) rest arguments
-    pub command : IsCommandOf action arguments.step arguments.further c
+    pub gives : GivesArguments (name_of action) (form_of action) more arguments
+    -- what the action gives where constraints say what is usual
+    pub usual : Command
+    pub command : IsCommandOf action arguments.step arguments.further usual
+    pub compares : under constraints usual ≡ Some c
     pub on : paths ≡ arguments.paths

@@ -4,17 +4,18 @@ ghost use Rattle.std.specs.Prelude.{◌≡◌, List, ℕ, IfNone, IfSome, length
 ghost use Rattle.aig_command_line.specs.Limits.{IsLimit};
 ghost use Rattle.aig_command_line.specs.Arguments.{AreStep};
 ghost use Rattle.aig_command_line.specs.declared.arguments.Step.TheVariants.{At};
-ghost use Rattle.aig_edit_commands.specs.CommandWords.{IsCall, IsCommandOf, command_of, edit_by, form_of, miter_name, name_of, paths_of};
+ghost use Rattle.aig_edit_commands.specs.CommandWords.{IsCall, IsCommandOf, command_of, edit_by, form_of, miter_name, name_of, paths_of, under};
 ghost use Rattle.aig_edit_commands.specs.declared.command.Command.{Command};
 
 use aig_command_line::{ArgumentForm, HasArguments, Step, find, limited, steps};
-use aig_edits::{Edit, Matching, Pairing, Starts};
+use aig_edits::{Comparison, Constraints, Edit, Matching, Pairing, Starts, constraints_first};
 
 /// How the program is used.
 pub const USAGE: &str =
     "usage: aigedit [--limit N] refine FILE, reencode FILE, unroll FILE K, move FILE, compress FILE, bads FILE, \
     property FILE N, possible FILE, reduce FILE, cone FILE N, question FILE K, live FILE J, rounds FILE J N, info FILE, \
-    miter FILE OTHER, miter-alike-by-order FILE OTHER, miter-alike-by-name FILE OTHER, join FILE CERT, merge FILE OTHER";
+    [--constraints first|compared] miter FILE OTHER, [--constraints first|compared] miter-alike-by-order FILE OTHER, \
+    [--constraints first|compared] miter-alike-by-name FILE OTHER, join FILE CERT, merge FILE OTHER";
 
 /// What the program is asked to do with one file.
 #[derive(Drop)]
@@ -191,7 +192,10 @@ impl Action {
             Action::Live => Command::File(FileCommand::Live(k)),
             Action::Rounds => Command::File(FileCommand::Rounds(k, 0)),
             Action::Info => Command::File(FileCommand::Info),
-            Action::Miter(starts) => Command::Pair(Pairing::Miter(starts)),
+            Action::Miter(starts) => Command::Pair(Pairing::Miter(Comparison {
+                starts,
+                constraints: Constraints::OfBoth,
+            })),
             Action::Join => Command::Pair(Pairing::Certificate),
             Action::Merge => Command::Pair(Pairing::Merge),
         }
@@ -228,6 +232,22 @@ fn edit_by(edit: Edit) -> Command
     Command::File(FileCommand::Edit(edit))
 }
 
+/// The command with constraints that say this. Only a miter has any that say something else than is usual.
+fn under(constraints: Constraints, command: Command) -> Option<Command>
+    ensures { result ≡ under constraints command }
+{
+    match (constraints, command) {
+        (Constraints::OfBoth, command) => Some(command),
+        (_, Command::Pair(Pairing::Miter(comparison))) => {
+            Some(Command::Pair(Pairing::Miter(Comparison {
+                constraints,
+                ..comparison
+            })))
+        }
+        _ => None,
+    }
+}
+
 /// What words give.
 #[derive(Drop)]
 pub struct Call<'a> {
@@ -239,8 +259,8 @@ pub struct Call<'a> {
     pub paths: &'a [String],
 }
 
-/// What the words after the program's name give, or none where they are wrong: N of `--limit N`, or 2^24, and then the command and the
-/// paths of its files. It takes no memory.
+/// What the words after the program's name give, or none where they are wrong: N of `--limit N`, or 2^24, then what constraints say by
+/// `--constraints`, where that comes, and then the command and the paths of its files. It takes no memory.
 pub fn call_of(words: &[String]) -> Option<Call<'_>>
     ensures some { IfSome result (λ c. IsCall (map string_bytes words.now) c.limit c.command
         (map string_bytes c.paths.now)) }
@@ -250,8 +270,10 @@ pub fn call_of(words: &[String]) -> Option<Call<'_>>
     ensures paths { IfSome result (λ c. length c.paths.now ≡ paths_of c.command) }
 {
     let (limit, rest) = limited(words)?;
+    let (constraints, rest) = constraints_first(rest)?;
     let (action, given) = find(&Action::ALL, rest)?;
-    let command = action.command(given.step, given.further)?;
+    let usual = action.command(given.step, given.further)?;
+    let command = under(constraints, usual)?;
     Some(Call {
         limit,
         command,

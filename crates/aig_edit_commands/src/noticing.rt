@@ -1,13 +1,20 @@
 //! What an answer isn't about.
 
 ghost use Rattle.std.specs.Prelude.{◌≡◌, IfOk, IfSome, IsErr, IsNone, map, string_bytes};
-ghost use Rattle.aig_edit_commands.specs.Noticing.{TellsBeside, regard_of};
+ghost use Rattle.aig_edit_commands.specs.Noticing.{TellsBeside, is_within, regard_of};
 
 use crate::acting::CommandError;
 use crate::command::{Command, FileCommand, call_of};
 use aig_base::MemoryError;
 use aig_command_line::{Ending, Headers, Placed, Regard, Teller, tell_of_files};
-use aig_edits::{Edit, Pairing};
+use aig_edits::{Constraints, Edit, Pairing};
+
+/// Whether it is told that only runs are compared that constraints allow: not where the words say what constraints say.
+fn is_within(constraints: Constraints) -> bool
+    ensures { result ≡ is_within constraints }
+{
+    matches!(constraints, Constraints::OfBoth)
+}
 
 /// What a command does with parts of its files that its answer isn't about: which leave out justice and fairness, and which compares.
 fn regard_of(command: &Command) -> Regard
@@ -20,7 +27,7 @@ fn regard_of(command: &Command) -> Regard
         _ => false,
     };
     let compares = match command {
-        Command::Pair(Pairing::Miter(_)) => true,
+        Command::Pair(Pairing::Miter(comparison)) => is_within(comparison.constraints),
         _ => false,
     };
     Regard {

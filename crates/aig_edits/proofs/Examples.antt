@@ -18,7 +18,7 @@ use Rattle.aig_edits.specs.declared.editing.Edit.TheVariants as edits
 use Rattle.aig_edits.specs.declared.edit_error.EditError.TheVariants as errors
 use Rattle.aig_edits.specs.declared.misfit.Misfit.TheVariants as misfits
 use Rattle.aig_edits.specs.declared.pairing.Pairing.TheVariants.{Certificate, Miter}
-use Rattle.aig_join.specs.declared.starts.Starts.TheVariants.{Apart}
+use Rattle.aig_join.specs.declared.comparison.Comparison.{Comparison}
 use Rattle.aig_edits.specs.Edits.{AreStepsWithin, CanEdit, EditShows, IsEdited, IsEditOwn, IsEditRefusal}
 use Rattle.aig_edits.specs.Info.{HasPath, IsDepth, counts_of, info_text}
 use Rattle.aig_edits.specs.Joints.{Counted, DoFit, IsMisfit}
@@ -275,18 +275,22 @@ one_output = record { inputs = 2; latches = 1; outputs = 1; bads = 0 }
 abbrev two_outputs : Counted
 two_outputs = record { inputs = 2; latches = 0; outputs = 2; bads = 1 }
 
-outputs_differ : IsMisfit (Miter Apart) one_output two_outputs (misfits.Outputs 1 2)
-outputs_differ = (refl, refl, refl, λ same. omega (arith, same))
+outputs_differ : (comparison : Comparison)
+    → IsMisfit (Miter comparison) one_output two_outputs (misfits.Outputs 1 2)
+outputs_differ comparison = (refl, refl, refl, λ same. omega (arith, same))
 
 -- the counts turned round, a later misfit, and latches, of which a miter asks nothing
-no_turned_counts : ¬ IsMisfit (Miter Apart) one_output two_outputs (misfits.Outputs 2 1)
-no_turned_counts is = let first = is.1 in omega (arith, first)
+no_turned_counts : (comparison : Comparison)
+    → ¬ IsMisfit (Miter comparison) one_output two_outputs (misfits.Outputs 2 1)
+no_turned_counts comparison is = let first = is.1 in omega (arith, first)
 
-no_later_misfit : (m n : ℕ) → ¬ IsMisfit (Miter Apart) one_output two_outputs (misfits.Bads m n)
-no_later_misfit m n is = let outputs = is.1 in omega (arith, outputs)
+no_later_misfit : (comparison : Comparison) (m n : ℕ)
+    → ¬ IsMisfit (Miter comparison) one_output two_outputs (misfits.Bads m n)
+no_later_misfit comparison m n is = let outputs = is.1 in omega (arith, outputs)
 
-no_latches_of_a_miter : (a b : Counted) (m n : ℕ) → ¬ IsMisfit (Miter Apart) a b (misfits.Latches m n)
-no_latches_of_a_miter a b m n is = is
+no_latches_of_a_miter : (comparison : Comparison) (a b : Counted) (m n : ℕ)
+    → ¬ IsMisfit (Miter comparison) a b (misfits.Latches m n)
+no_latches_of_a_miter comparison a b m n is = is
 
 -- a certificate may have more latches than its file, and no fewer
 no_misfit_of_more : ¬ IsMisfit Certificate two_outputs one_output (misfits.Latches 0 1)

@@ -5,7 +5,7 @@ use Rattle.aig_circuit.specs.declared.view.CircuitLists.{CircuitLists}
 use Rattle.aig_format.proofs.Words.{IsReadAgain, circuit_of, edge_of, file_of, latch_of, File, Accepts, node_of_variable, FitsFormat}
 use Rattle.aig_format.specs.declared.FileKind.TheVariants.{Text}
 use Rattle.aig_format.proofs.Circuits.{IsCircuit-of_file}
-use Rattle.aig_join.proofs.AlikeWritten.{written-miter_from}
+use Rattle.aig_join.proofs.ConstrainedWritten.{written-miter_by}
 use Rattle.aig_join.proofs.Written.{written-certified}
 use Rattle.aig_reader.specs.Verdicts.{Accepted, IsOfFile, verdict_by}
 use Rattle.aig_reader.proofs.Verdicts.{of_no_file}
@@ -34,7 +34,7 @@ counted-of f =
 
 pub fits_back : (pairing : Pairing) (f g : File) → CanPair pairing (circuit_of f) (circuit_of g)
     → DoFit pairing f g
-fits_back (Miter starts) f g can = record {
+fits_back (Miter comparison) f g can = record {
   inputs = sym (inputs-of f) ∙ can.inputs ∙ inputs-of g;
   outputs = sym (length-map f.properties.outputs (edge_of f)) ∙ can.outputs
       ∙ length-map g.properties.outputs (edge_of g);
@@ -59,8 +59,8 @@ module _ (limit : ℕ) (low : limit ≤ 2 ^ 31) (f g : File) (bytes others : Lis
   written : (pairing : Pairing) (m : Circuit) → DoFit pairing f g
       → IsJoint pairing (circuit_of f) (circuit_of g) m → IsCircuit m → FitsFormat m
       → IsReadAgain m (file_of Text m) × ShowsOf pairing f g (file_of Text m)
-  written (Miter starts) m fit joint circuit small = written-miter_from f g limit limit bytes others
-      m low low is also fit starts joint circuit small
+  written (Miter comparison) m fit joint circuit small = written-miter_by f g limit limit bytes
+      others m low low is also fit comparison joint circuit small
   written Certificate m fit joint circuit small =
       let Goal : Circuit → Type 0 =
       λ c. IsReadAgain c (file_of Text c) × ShowsOf Certificate f g (file_of Text c) in

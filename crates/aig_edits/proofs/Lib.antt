@@ -13,5 +13,6 @@ mod Sets
 mod Written
 mod LiveFiles
 mod RoundsFiles
+pub mod ConstraintWords
 pub mod Again
 pub mod Examples

@@ -16,7 +16,7 @@ use Rattle.aig_edits.specs.Joints.{Counted, IsJoint, IsMisfit}
 
 -- the circuits' counts fit
 abbrev pub CanPair : Pairing → Circuit → Circuit → Type 0
-CanPair (Miter starts) a b = HaveSameCounts a b
+CanPair (Miter comparison) a b = HaveSameCounts a b
 CanPair Certificate a b = HasLeavesOf b a
 CanPair Merge a b = Unit {0}
 

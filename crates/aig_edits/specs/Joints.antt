@@ -13,8 +13,8 @@ use Rattle.aig_format.specs.declared.FileKind.TheVariants.{Text}
 use Rattle.aig_format.specs.File.{File}
 use Rattle.aig_format.specs.Writable.{FitsFormat}
 use Rattle.aig_join.specs.Certificate.{certified}
+use Rattle.aig_join.specs.Constraints.{AreEqualMachinesBy, IsMiterBy}
 use Rattle.aig_join.specs.Files.{HasLinesOf, HaveSameFileCounts}
-use Rattle.aig_join.specs.Alike.{AreEqualMachinesFrom, IsMiterFrom}
 use Rattle.aig_output.specs.Sinks.{Stops}
 use Rattle.aig_reader.specs.declared.error.ReadError.TheVariants as read
 use Rattle.aig_reader.specs.Verdicts.{Accepted, Verdict, verdict_of}
@@ -46,10 +46,10 @@ counted f = record {
 
 -- the first counts that don't fit: those before fit, and these are the numbers of both
 abbrev pub IsMisfit : Pairing → Counted → Counted → Misfit → Type 0
-IsMisfit (Miter starts) a b (misfits.Inputs m n) = (m ≡ a.inputs) × (n ≡ b.inputs) × (m ≢ n)
-IsMisfit (Miter starts) a b (misfits.Outputs m n) =
+IsMisfit (Miter comparison) a b (misfits.Inputs m n) = (m ≡ a.inputs) × (n ≡ b.inputs) × (m ≢ n)
+IsMisfit (Miter comparison) a b (misfits.Outputs m n) =
     (a.inputs ≡ b.inputs) × (m ≡ a.outputs) × (n ≡ b.outputs) × (m ≢ n)
-IsMisfit (Miter starts) a b (misfits.Bads m n) =
+IsMisfit (Miter comparison) a b (misfits.Bads m n) =
     (a.inputs ≡ b.inputs) × (a.outputs ≡ b.outputs) × (m ≡ a.bads) × (n ≡ b.bads) × (m ≢ n)
 IsMisfit Certificate a b (misfits.Inputs m n) = (m ≡ a.inputs) × (n ≡ b.inputs) × (n < m)
 IsMisfit Certificate a b (misfits.Latches m n) =
@@ -60,23 +60,23 @@ IsMisfit pairing a b m = ⊥
 
 -- the files' counts fit
 abbrev pub DoFit : Pairing → File → File → Type 0
-DoFit (Miter starts) f g = HaveSameFileCounts f g
+DoFit (Miter comparison) f g = HaveSameFileCounts f g
 DoFit Certificate f g = HasLinesOf g f
 DoFit Merge f g = Unit {0}
 
 -- the circuit is the joint one of these two
 abbrev pub IsJoint : Pairing → Circuit → Circuit → Circuit → Type 0
-IsJoint (Miter starts) a b m = IsMiterFrom starts a b m
+IsJoint (Miter comparison) a b m = IsMiterBy comparison a b m
 IsJoint Certificate a b m = m ≡ certified a b
 IsJoint Merge a b m = (m ≡ merged a b) × PairsRuns a b m (shifted (length a.nodes))
 
 -- What the safety of the file h shows of the machines of f and g: that of a miter at a step that
--- their outputs and bad literals are equal there, and that of a file beside its certificate up to a
+-- they are equal there, as they are compared, and that of a file beside its certificate up to a
 -- step that the file is safe up to there. Two files merged have a witness where one of them has one
 -- and the other an allowed run from an initial state.
 abbrev pub ShowsOf : Pairing → File → File → File → Type 0
-ShowsOf (Miter starts) f g h =
-    (k : ℕ) → IsSafeAt h k ↔ AreEqualMachinesFrom starts f g k
+ShowsOf (Miter comparison) f g h =
+    (k : ℕ) → IsSafeAt h k ↔ AreEqualMachinesBy comparison f g k
 ShowsOf Certificate f g h = (n : ℕ) → IsSafeTo h n → IsSafeTo f n
 ShowsOf Merge f g h =
     (k : ℕ)

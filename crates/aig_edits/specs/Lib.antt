@@ -14,3 +14,4 @@ pub mod Lives
 pub mod LiveParts
 pub mod Rounds
 pub mod RoundsParts
+pub mod Words

@@ -17,21 +17,21 @@ use crate::reading_pairs::read_pair;
 use aig_base::Source;
 use aig_change::{merge, merging_is_circuit, merging_pairs_runs};
 use aig_circuit::{CircuitLists, CircuitView};
-use aig_join::{Starts, certified_by, miter_from};
+use aig_join::{Comparison, certified_by, miter_by};
 use std::alloc::Global;
 
-/// The miter of two circuits, with registers that start so, if they fit.
+/// The miter of two circuits, which are compared so, if they fit.
 fn miter_of(
-    starts: Starts,
+    comparison: Comparison,
     first: &CircuitView<'_>,
     second: &CircuitView<'_>,
 ) -> Result<CircuitLists, PairError>
-    ensures { IsPaired (Miter starts) first.now second.now result }
+    ensures { IsPaired (Miter comparison) first.now second.now result }
 {
     if let Some(misfit) = miter_misfit(first, second) {
         return Err(PairError::Misfit(misfit));
     }
-    Ok(miter_from(starts, first, second)?)
+    Ok(miter_by(comparison, first, second)?)
 }
 
 /// The first circuit beside the second, if they fit.
@@ -71,7 +71,7 @@ fn pair_of(
     ensures { IsPaired pairing first.now second.now result }
 {
     match pairing {
-        Pairing::Miter(starts) => miter_of(starts, first, second),
+        Pairing::Miter(comparison) => miter_of(comparison, first, second),
         Pairing::Certificate => certificate_of(first, second),
         Pairing::Merge => merged_of(first, second),
     }
@@ -98,8 +98,9 @@ pub(crate) fn join_of(
 /// Reads two files in the AIGER format, and joins their circuits. The second file is read only where the first is taken.
 /// Requires `1 <= limit <= 2^31`.
 ///
-/// Inputs and latches are matched by position, and registers that start alike as a miter says. A miter is made of files with as many inputs, as
-/// many outputs and as many bad literals. A certificate has as many inputs and latches as the file that it stands beside, or more. Any two files are merged.
+/// Inputs and latches are matched by position, and registers that start alike as a miter says, which says what constraints say, too. A
+/// miter is made of files with as many inputs, as many outputs and as many bad literals. A certificate has as many inputs and latches as
+/// the file that it stands beside, or more. Any two files are merged.
 ///
 /// # Errors
 ///

@@ -18,8 +18,9 @@ mod reading_beside;
 mod reading_pairs;
 mod reducing;
 mod rounding;
+mod words;
 
-pub use aig_join::{Matching, Starts};
+pub use aig_join::{Comparison, Constraints, Matching, Starts};
 pub use edit_error::EditError;
 pub use editing::Edit;
 pub use info::{Counts, print_info, write_info};
@@ -34,3 +35,4 @@ pub use printing_question::{print_question, write_question};
 pub use printing_reduction::{print_reduction, write_reduction};
 pub use reading_beside::read_beside;
 pub use rounding::{print_rounds, write_rounds};
+pub use words::constraints_first;

@@ -2,7 +2,7 @@
 
 ghost use Rattle.aig_edits.specs.JointParts.{MayMisfit};
 ghost use Rattle.aig_edits.specs.declared.pairing.Pairing.TheVariants.{Certificate, Miter};
-ghost use Rattle.aig_join.specs.declared.starts.Starts.{Starts};
+ghost use Rattle.aig_join.specs.declared.comparison.Comparison.{Comparison};
 
 use aig_circuit::CircuitView;
 use thiserror::Error;
@@ -26,7 +26,7 @@ pub enum Misfit {
 
 /// The first counts by which two circuits have no miter: as many inputs, outputs and bad edges are wanted.
 pub(crate) fn miter_misfit(first: &CircuitView<'_>, second: &CircuitView<'_>) -> Option<Misfit>
-    ensures { (starts : Starts) → MayMisfit (Miter starts) first.now second.now result }
+    ensures { (comparison : Comparison) → MayMisfit (Miter comparison) first.now second.now result }
 {
     let (own, other) = (first.inputs().len(), second.inputs().len());
     if own != other {

@@ -322,7 +322,7 @@ registers-are f limit k fits x run values =
 module _ (matching : Matching) (f g : File) (limit bound k : ℕ) (fits : Fits f limit)
     (also : Fits g bound) where
   -- the circuits' registers are alike where the machines' are
-  registers-alike : (x run y other : ℕ → ℕ → Bool) → HasNodeValues f k x run
+  pub registers-alike : (x run y other : ℕ → ℕ → Bool) → HasNodeValues f k x run
       → HasNodeValues g k y other
       → AreAlike matching (circuit_registers (circuit_of f)) (circuit_registers (circuit_of g))
       (x 0) (y 0) ↔ AreAlike matching (file_registers f) (file_registers g) (run 0) (other 0)

@@ -102,7 +102,7 @@ named-partners nodes ours (r ∷ rs) all = (
 )
 
 -- partners are leaves of the first circuit, and registers that have them are open
-partners-are : (matching : Matching) (nodes : List AigNode) (ours rs : List Register)
+pub partners-are : (matching : Matching) (nodes : List AigNode) (ours rs : List Register)
     → All (λ r. IsLeaf nodes r.place) ours
     → AllZip (IsPartner nodes) (partners matching ours rs) rs
 partners-are ByOrder nodes ours rs all = in_turn-partners nodes (open_places ours) rs
@@ -119,7 +119,7 @@ register names l = record {
 }
 
 -- registers of a circuit have leaves
-registers-leaves : (c : Circuit) → IsCircuit c → All (λ r. IsLeaf c.nodes r.place)
+pub registers-leaves : (c : Circuit) → IsCircuit c → All (λ r. IsLeaf c.nodes r.place)
     (circuit_registers c)
 registers-leaves c is = All-map (λ r. IsLeaf c.nodes r.place) (register c.names) c.latchs
     (λ k d h. (is.latchs k d h).leaf)
@@ -139,7 +139,7 @@ StartsLike-agrees nodes x y v w same (Some n) r here fits like = sym (same n fit
 StartsLike-agrees nodes x y v w same None r here fits like = tt
 
 -- registers that are alike are so of other values of the same leaves
-alike-agrees : (nodes : List AigNode) (x y v w : ℕ → Bool)
+pub alike-agrees : (nodes : List AigNode) (x y v w : ℕ → Bool)
     → ((n : ℕ) → IsLeaf nodes n → x n ≡ v n) → (ps : List (Option ℕ)) (rs : List Register)
     → All (λ r. y r.place ≡ w r.place) rs → AllZip (IsPartner nodes) ps rs
     → AllZip (StartsLike x y) ps rs → AllZip (StartsLike v w) ps rs

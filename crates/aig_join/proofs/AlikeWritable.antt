@@ -1,12 +1,9 @@
 -- A miter whose registers start alike has a written form, where it isn't too large.
-use Rattle.aig_base.proofs.Words.{◌≡◌, ◌⊎◌, ◌^◌, ℕ, ◌+◌, ◌<◌, ◌≤◌, Bool, true, false, cond, eqb, Option, Some, None, List, [], ◌∷◌, ◌++◌, length, map, take, drop, zip, get, get_or, refl, sym, ap, ap₂, subst, ◌∙◌, arith, inl, inr, All, AllByRecursion, Contains, IfSome, IsSomeAnd, if◌then◌else◌, option_to_list, slice_get, is_some, append_assoc, take-append-drop, cases_eq, cases_lt, eqb-true, length-append, length-drop, length-map, map-append, All-append, All-cons, All-from_recursion, All-head, All-map, All-nil, All-tail, Contains-append_left, Contains-append_right}
+use Rattle.aig_base.proofs.Words.{◌≡◌, ◌⊎◌, ◌^◌, ℕ, ◌+◌, ◌<◌, ◌≤◌, Bool, true, false, cond, eqb, Option, Some, None, List, [], ◌∷◌, ◌++◌, length, map, take, drop, zip, get_or, refl, sym, ap, ap₂, subst, ◌∙◌, arith, inl, inr, All, AllByRecursion, Contains, IfSome, if◌then◌else◌, option_to_list, slice_get, append_assoc, take-append-drop, cases_eq, eqb-true, length-append, length-drop, length-map, map-append, All-append, All-cons, All-from_recursion, All-head, All-map, All-nil, All-tail}
 use Rattle.aig_circuit.specs.declared.edge.AigEdge.{AigEdge}
 use Rattle.aig_circuit.specs.declared.node.AigLatch.{AigLatch}
 use Rattle.aig_circuit.specs.declared.node.AigNode.{AigNode}
-use Rattle.aig_circuit.specs.declared.node.AigNodeType.TheVariants.{And, Leaf}
-use Rattle.aig_circuit.proofs.Words.{AddsGates, Circuit, IsCircuit, IsClosed, latch_leaves, HasConstantInit, renumbered_latch, with_node}
-use Rattle.aig_circuit.proofs.Building.{Grows-kept}
-use Rattle.aig_circuit.proofs.Trees.{kind_at-within}
+use Rattle.aig_circuit.proofs.Words.{AreNodes, Circuit, IsCircuit, IsClosed, latch_leaves, HasConstantInit, renumbered_latch}
 use Rattle.aig_change.specs.Changes.{ConstrainsInits, constant_start, first_step_latch, with_constant_start}
 use Rattle.aig_format.specs.Writable.{FitsFormat, HasLineFeed, IsWritable, list_lengths, named_nodes}
 use Rattle.aig_join.specs.Alike.{IsAlikeMiter, started, started_miter}
@@ -16,7 +13,7 @@ use Rattle.aig_join.specs.Starts.{Register, circuit_registers, in_turn, named_pl
 use Rattle.aig_join.specs.declared.starts.Matching.{Matching}
 use Rattle.aig_join.specs.declared.starts.Matching.TheVariants.{ByName, ByOrder}
 use Rattle.aig_join.proofs.Miters.{IsCircuit-miter}
-use Rattle.aig_join.proofs.Writable.{IsWritable-miter}
+use Rattle.aig_join.proofs.Writable.{IsWritable-miter, IsWritableIfSmall, closed-with_leaf, names-with_leaf, unnamed-past}
 
 -- the latch's leaf
 abbrev leaf_of : AigLatch → ℕ
@@ -92,49 +89,17 @@ module _ (old new : Circuit) (says : ConstrainsInits old new) where
       (λ k d h. constant_start-constant (get_or old.latchs k d).init))
       (All-from_recursion HasConstantInit added (first-constant says.leaf)))
 
-  -- where an initial edge isn't constant, the leaf of the added latch is the only new one
-  closed-new : says.leaf ≡ Some (length old.nodes)
-      → AddsGates (with_node old.nodes Leaf) new.nodes → IsClosed old → IsClosed new
-  closed-new leaf_is adds closed n leaf = subst (λ ns. Contains ns n) (sym named-new)
-      (elim (cases_lt n (length old.nodes)) [
-        | inl low ↦ Contains-append_left (named_nodes old) (option_to_list says.leaf) n
-            (closed n (sym (Grows-kept old.nodes new.nodes says.nodes n low) ∙ leaf))
-        | inr past ↦ elim (cases_eq n (length old.nodes)) [
-          | inl same ↦ Contains-append_right (named_nodes old) (option_to_list says.leaf) n
-              (subst (λ o. Contains (option_to_list o) n) (sym leaf_is)
-              (0, omega arith, sym same))
-          | inr other ↦ (
-              let gate = adds.gates n (omega (
-                arith,
-                length-append old.nodes
-                    (record { node_id = length old.nodes; typ = Leaf } ∷ []),
-                other,
-              ))
-              (kind_at-within new.nodes n Leaf leaf) in
-              absurd (no_leaf gate.0 gate.1 (sym gate.2 ∙ leaf)))
-        ]
-      ])
-    where
-      no_leaf : (a b : AigEdge) → Some (And a b) ≡ Some Leaf → ⊥
-      no_leaf a b e = cc
-
-  -- and it has no name
-  names-new : says.leaf ≡ Some (length old.nodes) → ¬ HasLineFeed old.names (length old.nodes)
-      → All (λ n. ¬ HasLineFeed old.names n) (named_nodes old)
-      → All (λ n. ¬ HasLineFeed new.names n) (named_nodes new)
-  names-new leaf_is fresh names =
-      let Plain = λ (n : ℕ). ¬ HasLineFeed old.names n in
-      let last = subst (λ (o : Option ℕ). All Plain (option_to_list o)) (sym leaf_is)
-      (All-cons Plain (length old.nodes) [] fresh (All-nil Plain)) in
-      subst (λ m. All (λ n. ¬ HasLineFeed m n) (named_nodes new))
-      (sym (ap (λ (c : Circuit). c.names) says.rest))
-      (subst (All Plain) (sym named-new)
-      (All-append Plain (named_nodes old) (option_to_list says.leaf) names last))
+  -- where the added latch is on a new leaf, that is named last
+  named-last : says.leaf ≡ Some (length old.nodes)
+      → named_nodes new ≡ named_nodes old ++ length old.nodes ∷ []
+  named-last leaf_is =
+      named-new ∙ ap (λ (o : Option ℕ). named_nodes old ++ option_to_list o) leaf_is
 
   -- so a circuit whose initial edges constraints replaced has a written form
-  IsWritable-constrained : IsClosed old → All (λ n. ¬ HasLineFeed old.names n) (named_nodes old)
+  IsWritable-constrained : AreNodes old.nodes → IsClosed old
+      → All (λ n. ¬ HasLineFeed old.names n) (named_nodes old)
       → ¬ HasLineFeed old.names (length old.nodes) → FitsFormat new → IsWritable new
-  IsWritable-constrained closed names fresh small = elim (all-or_not old.latchs) [
+  IsWritable-constrained are closed names fresh small = elim (all-or_not old.latchs) [
     | inl all ↦ subst IsWritable (sym (says.none all)) (record {
       closed = closed;
       start = all;
@@ -142,9 +107,11 @@ module _ (old new : Circuit) (says : ConstrainsInits old new) where
       small = subst FitsFormat (says.none all) small;
     })
     | inr variable ↦ record {
-      closed = closed-new (says.some variable).0 (says.some variable).1 closed;
+      closed = closed-with_leaf old new (named-last (says.some variable).0) are
+          (says.some variable).1 closed;
       start = starts-new;
-      names = names-new (says.some variable).0 fresh names;
+      names = names-with_leaf old new (named-last (says.some variable).0)
+          (ap (λ (c : Circuit). c.names) says.rest) fresh names;
       small = small;
     }
   ]
@@ -263,32 +230,20 @@ module _ (matching : Matching) (a b m : Circuit) (is_a : IsCircuit a) (is_b : Is
       (omega (arith, latchs, starts, same)) (omega (arith, constraints))
       (subst FitsFormat says.rest small)
 
-  -- a node that the plain miter doesn't have has no name there
-  fresh : ¬ HasLineFeed miters.plain.names (length miters.plain.nodes)
-  fresh feed = by_name (get miters.plain.names (length miters.plain.nodes)) refl feed
-    where
-      by_name : (o : Option (List ℕ))
-          → get miters.plain.names (length miters.plain.nodes) ≡ o
-          → IsSomeAnd o (λ (name : List ℕ). Contains name 10) → ⊥
-      by_name (Some name) at has =
-          let low = (IsCircuit-miter a b miters.plain is_a is_b counts miters.miter).named
-          (length miters.plain.nodes) (ap is_some at) in
-          absurd (omega arith)
-      by_name None at has = has
-
   -- the names are those of the joint circuit
   pub names-alike : m.names ≡ (joined 0 a b).names
   names-alike = ap (λ (c : Circuit). c.names) miters.constrains.rest
       ∙ ap (λ (c : Circuit). c.names) miters.miter.rest
 
   -- the miter has a written form
-  pub IsWritable-alike : IsWritable a → IsWritable b → FitsFormat m → IsWritable m
+  pub IsWritable-alike : IsWritableIfSmall a → IsWritableIfSmall b → FitsFormat m → IsWritable m
   IsWritable-alike one two small =
+      let is = IsCircuit-miter a b miters.plain is_a is_b counts miters.miter in
       let plain = IsWritable-miter a b miters.plain is_a is_b counts miters.miter one two
       (plain-small small) in
       let same = leaves-started in
-      IsWritable-constrained old m miters.constrains
+      IsWritable-constrained old m miters.constrains is.nodes
       (λ n leaf. subst (λ ns. Contains (miters.plain.inputs ++ ns) n) (sym same)
       (plain.closed n leaf))
       (subst (λ ns. All (λ n. ¬ HasLineFeed miters.plain.names n) (miters.plain.inputs ++ ns))
-      (sym same) plain.names) fresh small
+      (sym same) plain.names) (unnamed-past miters.plain is) small

@@ -5,8 +5,8 @@ use Rattle.aig_circuit.proofs.Words.{Circuit, IsLeaf, HasConstantInit, AllProper
 use Rattle.aig_circuit.proofs.Listed.{AllProperties-weaker}
 use Rattle.aig_circuit.proofs.Lists.{All-from_map}
 use Rattle.aig_circuit.proofs.Trees.{node_value-leaf}
-use Rattle.aig_change.specs.Runs.{IsAllowedRun}
-use Rattle.aig_format.proofs.Words.{circuit_of, edge_of, latch_of, File, Fits, IsMachineRun, value_of_literal, node_of_variable, IsKnown}
+use Rattle.aig_change.specs.Runs.{IsAllowedRun, IsRunFromInitial}
+use Rattle.aig_format.proofs.Words.{circuit_of, edge_of, latch_of, File, Fits, IsMachineInitial, IsMachineRun, value_of_literal, node_of_variable, IsKnown}
 use Rattle.aig_format.proofs.Circuits.{IsCircuit-of_file, used_by_section}
 use Rattle.aig_format.proofs.Numbers.{used_known}
 use Rattle.aig_format_laws.specs.Nodes.{HasNodeValues, values_over}
@@ -16,10 +16,11 @@ use Rattle.aig_format_laws.proofs.Writable.{plain_starts}
 use Rattle.aig_runs.proofs.SafeSteps.{safe_is}
 use Rattle.aig_runs.proofs.Witnesses.{witness_forth}
 use Rattle.aig_runs.specs.Queries.{IsSafeTo}
-use Rattle.aig_runs.specs.Safety.{IsCircuitSafeAt, IsSafeAt}
+use Rattle.aig_runs.specs.Safety.{IsCircuitSafeAt, IsConstrained, IsSafeAt}
 use Rattle.aig_join.specs.Certificate.{HasConstantFurtherInits, HasLeavesOf, certified}
 use Rattle.aig_join.specs.Files.{AreEqualMachinesAt, FilesCompareEqual, HasLinesOf, HaveSameFileCounts, HaveSameFileInputs, IsAllowedMachineRun}
 use Rattle.aig_join.specs.Miter.{AreEqualAt, CompareEqual, HaveSameCounts, HaveSameInputs, IsMiter, compared}
+use Rattle.aig_join.specs.Pairs.{MeetsConstraints}
 use Rattle.aig_join.proofs.Certified.{safe-certified}
 use Rattle.aig_join.proofs.Miters.{safe-is_equal}
 
@@ -81,31 +82,44 @@ module _ (f : File) (limit k : ℕ) (fits : Fits f limit) (x run : ℕ → ℕ �
       let all = literals-are k (omega arith) in
       All-append (LiteralIs k) f.properties.outputs f.properties.bads all.outputs all.bads
 
+  -- the circuit meets its constraints where the machine does
+  pub constraints-same : (t : ℕ) → t ≤ k
+      → MeetsConstraints (circuit_of f) (x t) ↔ IsConstrained f (run t)
+  constraints-same t h =
+      let Is = λ (e : AigEdge). IsTrue (edge_value (circuit_of f).nodes (x t) e) in
+      let Holds = λ (e : ℕ). IsTrue (value_of_literal (run t) e) in
+      let literals = f.properties.constraints in (
+        λ meets.
+            let holds = All-from_map (edge_of f) Is literals meets in
+            recursion_from_All Holds literals
+            (λ j d l. sym ((literals-are t h).constraints j d l) ∙ holds j d l),
+        λ constrained.
+            let holds = All-from_recursion Holds literals constrained in
+            All-map Is (edge_of f) literals
+            (λ j d l. (literals-are t h).constraints j d l ∙ holds j d l),
+      )
+
+  pub start-forth : IsRun (circuit_of f) k x → IsMachineInitial f run
+      → IsRunFromInitial (circuit_of f) k x
+  start-forth is start =
+      record { run = is; start = (starts_agree f limit k x run fits values).0 start }
+
+  pub start-back : IsRunFromInitial (circuit_of f) k x → IsMachineInitial f run
+  start-back from = (starts_agree f limit k x run fits values).1 from.start
+
   pub allowed-forth : IsRun (circuit_of f) k x → IsAllowedMachineRun f k run
       → IsAllowedRun (circuit_of f) k x
   allowed-forth is allowed = record {
-    from_start = record {
-      run = is;
-      start = (starts_agree f limit k x run fits values).0
-          allowed.start;
-    };
-    allowed = λ t h.
-        let holds = All-from_recursion (λ e. IsTrue (value_of_literal (run t) e))
-        f.properties.constraints (allowed.constraints t h) in
-        All-map (λ e. IsTrue (edge_value (circuit_of f).nodes (x t) e)) (edge_of f)
-        f.properties.constraints (λ j d l. (literals-are t h).constraints j d l ∙ holds j d l);
+    from_start = start-forth is allowed.start;
+    allowed = λ t h. (constraints-same t h).1 (allowed.constraints t h);
   }
 
   pub allowed-back : IsMachineRun f k run → IsAllowedRun (circuit_of f) k x
       → IsAllowedMachineRun f k run
   allowed-back is allowed = record {
     is_run = is;
-    start = (starts_agree f limit k x run fits values).1 allowed.from_start.start;
-    constraints = λ t h.
-        let holds = All-from_map (edge_of f) (λ e. IsTrue (edge_value (circuit_of f).nodes (x t) e))
-        f.properties.constraints (allowed.allowed t h) in
-        recursion_from_All (λ e. IsTrue (value_of_literal (run t) e)) f.properties.constraints
-        (λ j d l. sym ((literals-are t h).constraints j d l) ∙ holds j d l);
+    start = start-back allowed.from_start;
+    constraints = λ t h. (constraints-same t h).0 (allowed.allowed t h);
   }
 
 -- what is compared of the file

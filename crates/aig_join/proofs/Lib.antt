@@ -22,3 +22,11 @@ mod Examples
 mod Refuted
 pub mod Partners
 pub mod Started
+pub mod JoinedEach
+pub mod ClosedRegisters
+pub mod DeferredCircuit
+pub mod Deferred
+pub mod Unconstrained
+pub mod ConstrainedFiles
+pub mod ConstrainedWritable
+pub mod ConstrainedWritten

@@ -1,16 +1,14 @@
 -- Two circuits have one miter.
-use Rattle.aig_base.proofs.Words.{◌≡◌, ◌==◌, ℕ, Bool, true, false, not, cond, Option, Some, None, List, [], ◌∷◌, refl, sym, ap, ap₂, subst, ◌∙◌, arith, inl, inr, eq-eqb, eqb-true, true≢false, same_Some}
+use Rattle.aig_base.proofs.Words.{◌≡◌, List, [], ◌∷◌, refl, sym, ap, ap₂, subst, ◌∙◌, inl, inr, same_Some}
 use Rattle.aig_circuit.specs.declared.edge.AigEdge.{AigEdge}
 use Rattle.aig_circuit.specs.declared.node.AigNode.{AigNode}
-use Rattle.aig_circuit.proofs.Words.{edge_to, inverse, literal_of, Circuit, FoldsOrAdds}
+use Rattle.aig_circuit.proofs.Words.{inverse, Circuit, FoldsOrAdds}
 use Rattle.aig_circuit.specs.Build.{Folds, FoldsOrAddsEq}
-use Rattle.aig_circuit.specs.Build.Folds.{true_first, true_second, false_first, false_second, same, opposite}
 use Rattle.aig_circuit.specs.Properties.{no_properties}
 use Rattle.aig_circuit.proofs.Joining.{inverse_twice}
 use Rattle.aig_unroll.proofs.Framed.{folded-Folds}
-use Rattle.aig_unroll.specs.Frame.{folded}
 use Rattle.aig_join.specs.Joined.{joined}
-use Rattle.aig_join.specs.Miter.{Differs, DifferInSteps, IsMiter, compared, moved_compared}
+use Rattle.aig_join.specs.Miter.{DifferInSteps, IsMiter, compared, moved_compared}
 
 -- two edges fold to one
 fold_one : (a b e f : AigEdge) → Folds a b e → Folds a b f → e ≡ f

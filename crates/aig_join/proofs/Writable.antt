@@ -1,6 +1,6 @@
 -- What is joined of circuits that have a written form has one, where it isn't too large.
 use lib.Utf8.{encode}
-use Rattle.aig_base.proofs.Words.{◌≡◌, ◌⊎◌, ℕ, ◌<◌, eqb, Option, Some, None, List, ◌++◌, length, map, take, drop, get_or, refl, sym, ap, subst, ◌∙◌, inl, inr, All, Contains, IfSome, IsSomeAnd, IsUtf8, is_some, option_map, get, cases_lt, eq-eqb, false≢true, All-append, All-contains, All-drop, All-map, Contains-append_cases, Contains-append_left, Contains-append_right, Contains-get_or, list_any_at}
+use Rattle.aig_base.proofs.Words.{◌≡◌, ◌⊎◌, ℕ, ◌<◌, arith, eqb, Option, Some, None, List, [], ◌∷◌, ◌++◌, length, map, take, drop, get_or, refl, sym, ap, subst, ◌∙◌, inl, inr, All, Contains, IfSome, IsSomeAnd, IsUtf8, is_some, option_map, get, cases_lt, eq-eqb, false≢true, All-append, All-cons, All-contains, All-drop, All-map, All-nil, Contains-append_cases, Contains-append_left, Contains-append_right, Contains-get_or, list_any_at}
 use Rattle.std.specs.Str.{chars, is_utf8}
 use Rattle.std.proofs.lemmas.List.{drop-map, map-append, take-append-drop, take-map}
 use Rattle.std.proofs.lemmas.Str.{IsUtf8-append, IsUtf8-from_is_utf8}
@@ -9,10 +9,11 @@ use Rattle.aig_circuit.specs.declared.node.AigLatch.{AigLatch}
 use Rattle.aig_circuit.specs.declared.node.AigNode.{AigNode}
 use Rattle.aig_circuit.specs.declared.node.AigNodeType.{AigNodeType}
 use Rattle.aig_circuit.specs.declared.node.AigNodeType.TheVariants.{False, Leaf, And}
-use Rattle.aig_circuit.proofs.Words.{AddsGates, Circuit, IsCircuit, IsClosed, IsLeaf, latch_leaves, HasConstantInit, Properties, no_properties, renumbered_edge, renumbered_kind, renumbered_latch}
+use Rattle.aig_circuit.proofs.Words.{AddsGates, AreNodes, Circuit, IsCircuit, IsClosed, IsLeaf, latch_leaves, HasConstantInit, Properties, no_properties, renumbered_edge, renumbered_kind, renumbered_latch, with_node}
 use Rattle.aig_circuit.proofs.Building.{Grows-kept, and_of-cases}
 use Rattle.aig_circuit.proofs.Circuits.{AreLeaves-of_circuit}
 use Rattle.aig_circuit.proofs.Trees.{kind_at-within}
+use Rattle.aig_change.proofs.Grown.{AddsLeaf-gates}
 use Rattle.aig_format.specs.Writable.{AreTexts, FitsFormat, HasLineFeed, IsWritable, named_nodes}
 use Rattle.aig_renumber.proofs.Circuits.{latch_leaves-map}
 use Rattle.aig_renumber.proofs.Kept.{is_in-there}
@@ -259,19 +260,70 @@ module _ (latches : ℕ) (first second : Circuit) (is : IsCircuit first) (other 
     small = small;
   }
 
--- ---- more gates, other properties
+-- no refusal applies but that it may be too large
+pub record IsWritableIfSmall (c : Circuit) : Type 0 where
+  pub closed : IsClosed c
+  pub start : All HasConstantInit c.latchs
+  pub names : All (λ n. ¬ HasLineFeed c.names n) (named_nodes c)
 
-gates-closed : (c : Circuit) (nodes : List AigNode) (properties : Properties AigEdge)
-    → AddsGates c.nodes nodes → IsClosed c
-    → IsClosed (record c { nodes = nodes; properties = properties })
-gates-closed c nodes properties adds closed n leaf = elim (cases_lt n (length c.nodes)) [
-  | inl low ↦ closed n (sym (Grows-kept c.nodes nodes adds.grows n low) ∙ leaf)
-  | inr past ↦ (let gate = adds.gates n past (kind_at-within nodes n Leaf leaf) in absurd
+pub if_small : (c : Circuit) → IsWritable c → IsWritableIfSmall c
+if_small c writable =
+    record { closed = writable.closed; start = writable.start; names = writable.names }
+
+-- ---- one more leaf
+
+-- where gates alone are added a leaf is an old one
+leaf-kept : (old new : List AigNode) → AddsGates old new → (n : ℕ) → IsLeaf new n → IsLeaf old n
+leaf-kept old new adds n leaf = elim (cases_lt n (length old)) [
+  | inl low ↦ sym (Grows-kept old new adds.grows n low) ∙ leaf
+  | inr past ↦ (let gate = adds.gates n past (kind_at-within new n Leaf leaf) in absurd
       (no_leaf gate.0 gate.1 (sym gate.2 ∙ leaf)))
 ]
   where
     no_leaf : (a b : AigEdge) → Some (And a b) ≡ Some Leaf → ⊥
     no_leaf a b e = cc
+
+-- a node that the circuit doesn't have has no name
+pub unnamed-past : (c : Circuit) → IsCircuit c → ¬ HasLineFeed c.names (length c.nodes)
+unnamed-past c is feed = by_name (get c.names (length c.nodes)) refl feed
+  where
+    by_name : (o : Option (List ℕ)) → get c.names (length c.nodes) ≡ o
+        → IsSomeAnd o (λ (name : List ℕ). Contains name 10) → ⊥
+    by_name (Some name) at has =
+        let low = is.named (length c.nodes) (ap is_some at) in absurd (omega arith)
+    by_name None at has = has
+
+module _ (old new : Circuit)
+    (named : named_nodes new ≡ named_nodes old ++ length old.nodes ∷ []) where
+  -- where a leaf is added, that is listed, and else gates alone, all leaves are listed
+  pub closed-with_leaf : AreNodes old.nodes → AddsGates (with_node old.nodes Leaf) new.nodes
+      → IsClosed old → IsClosed new
+  closed-with_leaf are adds closed n leaf =
+      let last = length old.nodes in
+      subst (λ ns. Contains ns n) (sym named)
+      (elim ((AddsLeaf-gates old.nodes new.nodes are adds).only n leaf) [
+        | inl was ↦ Contains-append_left (named_nodes old) (last ∷ []) n (closed n was)
+        | inr same ↦ Contains-append_right (named_nodes old) (last ∷ []) n
+            (0, omega arith, sym same)
+      ])
+
+  -- and where it has no name, no name that is written holds a line feed
+  pub names-with_leaf : new.names ≡ old.names → ¬ HasLineFeed old.names (length old.nodes)
+      → All (λ n. ¬ HasLineFeed old.names n) (named_nodes old)
+      → All (λ n. ¬ HasLineFeed new.names n) (named_nodes new)
+  names-with_leaf same fresh names =
+      let Plain = λ (n : ℕ). ¬ HasLineFeed old.names n in
+      subst (λ m. All (λ n. ¬ HasLineFeed m n) (named_nodes new)) (sym same)
+      (subst (All Plain) (sym named) (All-append Plain (named_nodes old) (length old.nodes ∷ [])
+      names (All-cons Plain (length old.nodes) [] fresh (All-nil Plain))))
+
+-- ---- more gates, other properties
+
+gates-closed : (c : Circuit) (nodes : List AigNode) (properties : Properties AigEdge)
+    → AddsGates c.nodes nodes → IsClosed c
+    → IsClosed (record c { nodes = nodes; properties = properties })
+gates-closed c nodes properties adds closed n leaf =
+    closed n (leaf-kept c.nodes nodes adds n leaf)
 
 IsWritable-over : (c d : Circuit) → d.inputs ≡ c.inputs → d.latchs ≡ c.latchs → d.names ≡ c.names
     → IsClosed d → All HasConstantInit c.latchs → All (λ n. ¬ HasLineFeed c.names n) (named_nodes c)
@@ -288,7 +340,7 @@ IsWritable-over c d inputs latchs names closed start texts small =
 
 -- a miter has a written form
 pub IsWritable-miter : (a b m : Circuit) → IsCircuit a → IsCircuit b → HaveSameCounts a b
-    → IsMiter a b m → IsWritable a → IsWritable b → FitsFormat m → IsWritable m
+    → IsMiter a b m → IsWritableIfSmall a → IsWritableIfSmall b → FitsFormat m → IsWritable m
 IsWritable-miter a b m is_a is_b counts miters one two small =
     let share = can a b m is_a is_b counts miters in
     let both = joined 0 a b in

@@ -18,7 +18,7 @@ use Rattle.aig_join.specs.Miter.{IsMiter}
 use Rattle.aig_join.proofs.Certified.{IsCircuit-certified, can-share}
 use Rattle.aig_join.proofs.Files.{HasLeavesOf-files, HaveSameCounts-files, safe-certified_machine, safe-is_equal_machines}
 use Rattle.aig_join.proofs.Miters.{IsCircuit-miter, can}
-use Rattle.aig_join.proofs.Writable.{AreTexts-joined, IsWritable-certified, IsWritable-miter}
+use Rattle.aig_join.proofs.Writable.{AreTexts-joined, IsWritable-certified, IsWritable-miter, if_small}
 
 -- a file that is read again as a circuit is as safe as that
 module _ (c : Circuit) (h : File) (again : IsReadAgain c h) where
@@ -69,8 +69,8 @@ written-miter f g limit bound bytes others m low also_low accepts also counts mi
     let is_g = IsCircuit-of_file g bound also.1 in
     let same = HaveSameCounts-files f g counts in
     let writable = IsWritable-miter (circuit_of f) (circuit_of g) m is_f is_g same miters
-    (IsWritable-of_file f limit bytes low accepts)
-    (IsWritable-of_file g bound others also_low also) small in
+    (if_small (circuit_of f) (IsWritable-of_file f limit bytes low accepts))
+    (if_small (circuit_of g) (IsWritable-of_file g bound others also_low also)) small in
     let texts : AreTexts m.names = subst AreTexts (sym (ap (λ (c : Circuit). c.names) miters.rest))
     (AreTexts-joined 0 (circuit_of f) (circuit_of g) is_f is_g
     (can (circuit_of f) (circuit_of g) m is_f is_g same miters) (names_are_texts f limit accepts.1)

@@ -7,3 +7,4 @@ pub mod Certificate
 pub mod Files
 pub mod Starts
 pub mod Alike
+pub mod Constraints

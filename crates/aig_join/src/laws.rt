@@ -16,6 +16,9 @@ ghost use Rattle.aig_join.specs.Pairs.{JoinsRuns};
 ghost use Rattle.aig_join.specs.Miter.{AreEqualAt, ComparesRuns, HaveSameCounts, IsMiter};
 ghost use Rattle.aig_join.specs.Files.{AreEqualMachinesAt, HasLinesOf, HaveSameFileCounts};
 ghost use Rattle.aig_join.specs.Alike.{AreEqualAlikeAt, AreEqualMachinesFrom, IsAlikeMiter, IsMiterFrom};
+ghost use Rattle.aig_join.specs.Constraints.{AreEqualConstrainedAt, AreEqualMachinesBy, IsMiterBy};
+ghost use Rattle.aig_join.specs.declared.comparison.Comparison.{Comparison};
+ghost use Rattle.aig_join.specs.declared.comparison.Constraints.TheVariants.{Compared};
 ghost use Rattle.aig_join.specs.declared.starts.Matching.{Matching};
 ghost use Rattle.aig_join.specs.declared.starts.Starts.{Starts};
 ghost use Rattle.aig_join.specs.Certificate.{Certifies, HasConstantFurtherInits, HasLeavesOf, certified};
@@ -127,6 +130,17 @@ pub fn alike_miters_compare_runs()
         → IsCircuitSafeAt m k ↔ AreEqualAlikeAt matching a b k }
 {}
 
+/// Law: a miter of two circuits whose constraints are compared, too, is safe at a step exactly where
+/// this is true of all runs with the same inputs whose registers start as is said and that meet the
+/// constraints of both at every step before: both meet theirs there, or neither does, and outputs and
+/// bad edges are equal where both do.
+pub fn constrained_miters_compare_runs()
+    ensures { (starts : Starts) (a b m : Circuit) (k : ℕ) → IsCircuit a → IsCircuit b
+        → HaveSameCounts a b
+        → IsMiterBy (record { starts = starts; constraints = Compared }) a b m
+        → IsCircuitSafeAt m k ↔ AreEqualConstrainedAt starts a b k }
+{}
+
 /// Law: the text of the miter of two accepted files' circuits, with registers that start as is said, is an accepted file where it isn't too
 /// large, and its machine is safe at a step exactly where outputs and bad literals of the two machines are equal there on all runs whose
 /// registers start so.
@@ -137,6 +151,18 @@ pub fn written_miters_compare_machines_from()
         → FitsFormat m
         → IsReadAgain m (file_of Text m)
         × ((k : ℕ) → IsSafeAt (file_of Text m) k ↔ AreEqualMachinesFrom starts f g k) }
+{}
+
+/// Law: the text of the miter of two accepted files' circuits, which are compared as is said, is an
+/// accepted file where it isn't too large, and its machine is safe at a step exactly where the two
+/// machines are equal there by this comparison.
+pub fn written_miters_compare_machines_by()
+    ensures { (comparison : Comparison) (f g : File) (limit bound : ℕ) (bytes others : List ℕ)
+        (m : Circuit) → limit ≤ 2 ^ 31 → bound ≤ 2 ^ 31 → Accepts bytes limit f
+        → Accepts others bound g → HaveSameFileCounts f g
+        → IsMiterBy comparison (circuit_of f) (circuit_of g) m → IsCircuit m → FitsFormat m
+        → IsReadAgain m (file_of Text m)
+        × ((k : ℕ) → IsSafeAt (file_of Text m) k ↔ AreEqualMachinesBy comparison f g k) }
 {}
 
 /// Law: two circuits have one miter.

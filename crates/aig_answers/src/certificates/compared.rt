@@ -15,7 +15,7 @@ use crate::certificates::compare_error::MiterError;
 use crate::certificates::error::CertificateError;
 use aig_base::Source;
 use aig_circuit::CircuitLists;
-use aig_edits::{Pairing, Starts, read_beside, read_joint};
+use aig_edits::{Comparison, Pairing, read_beside, read_joint};
 use aig_refutation::RefutationError;
 use aig_runs::{inductive_windows_are_safe, refuted_windows_are_inductive, safe_steps_are_safe};
 use aig_unroll::unrolls_by_none;
@@ -53,8 +53,9 @@ fn check_beside<C: Source, P: Source, Q: Source>(
 }
 
 /// Reads two files in the AIGER format and a certificate of their miter, and checks two proofs, in the LRAT or the DRAT format, that
-/// it is one. Then their machines are equal at every step: on all runs of both from initial states that have the same inputs and meet
-/// the constraints of both, and whose registers with open start begin as is said, outputs and bad literals are the same. Requires `1 <= limit <= 2^31`.
+/// it is one. Then their machines are equal at every step: on all runs of both from initial states that have the same inputs, and whose
+/// registers with open start begin as is said, outputs and bad literals are the same. Runs meet the constraints of both, or those of the
+/// first file alone, or constraints are compared, too, as is said (`aig_edits::Constraints`). Requires `1 <= limit <= 2^31`.
 ///
 /// The certificate and the proofs are those that `check_certified` takes of the file that the miter's text is
 /// (`aig_edits::write_joint` with `Pairing::Miter`): `base` proves that the query of the joint circuit, the miter beside the
@@ -69,7 +70,7 @@ pub fn check_equal_by<R: Source, S: Source, C: Source, P: Source, Q: Source>(
     alloc: Global,
     file: &mut R,
     other: &mut S,
-    starts: Starts,
+    comparison: Comparison,
     certificate: &mut C,
     limit: usize,
     optimize: bool,
@@ -81,7 +82,7 @@ pub fn check_equal_by<R: Source, S: Source, C: Source, P: Source, Q: Source>(
     // The bytes that were read are two files, whose machines are equal at every step. A refusal says why. Where the certificate is
     // read, the answer is that of `check_certified` for the file that the miter's text is.
     ensures reads { ReadsPair R.left R.failed S.left S.failed limit
-        (EqualsBy starts C.left C.failed limit optimize (P.left base.old) (Q.left step.old)
+        (EqualsBy comparison C.left C.failed limit optimize (P.left base.old) (Q.left step.old)
         certificate.old certificate.new)
         first_verdict second_verdict IsOwn file.old other.old result file.new other.new }
     // Nothing is read after what is refused.
@@ -100,7 +101,7 @@ pub fn check_equal_by<R: Source, S: Source, C: Source, P: Source, Q: Source>(
     inductive_windows_are_safe();
     refuted_windows_are_inductive();
     unrolls_by_none();
-    let miter = read_joint(alloc, Pairing::Miter(starts), file, other, limit)?;
+    let miter = read_joint(alloc, Pairing::Miter(comparison), file, other, limit)?;
     check_beside(alloc, miter, certificate, limit, optimize, base, step)?;
     Ok(())
 }

@@ -17,7 +17,7 @@ use crate::certificates::joint::{ask_query, unroll_joint};
 use crate::{AnswerError, WindowClauses, circuit_clauses_are_one, refute};
 use aig_base::Source;
 use aig_circuit::CircuitLists;
-use aig_edits::{Pairing, Starts, read_joint};
+use aig_edits::{Comparison, Pairing, read_joint};
 use aig_refutation::RefutationError;
 use aig_runs::refuted_circuit_queries_have_no_witness;
 use std::alloc::Global;
@@ -100,8 +100,9 @@ fn check_query<P: Source>(
 }
 
 /// Reads two files in the AIGER format, and checks a proof that their machines are equal at step `k`: on all runs of both from
-/// initial states that have the same inputs and meet the constraints of both, and whose registers with open start begin as is said,
-/// outputs and bad literals are the same at that step. Requires `1 <= limit <= 2^31`.
+/// initial states that have the same inputs, and whose registers with open start begin as is said, outputs and bad literals are the
+/// same at that step. Runs meet the constraints of both, or those of the first file alone, or constraints are compared, too, as is said
+/// (`aig_edits::Constraints`). Requires `1 <= limit <= 2^31`.
 ///
 /// The proof is that the query of the miter for step `k` can't be satisfied (`aig_edits::Pairing::Miter`). Of `Ok` for
 /// 0 to `k` it follows that the machines are equal up to there.
@@ -115,7 +116,7 @@ pub fn check_equal<R: Source, S: Source, P: Source>(
     alloc: Global,
     file: &mut R,
     other: &mut S,
-    starts: Starts,
+    comparison: Comparison,
     limit: usize,
     k: usize,
     optimize: bool,
@@ -126,13 +127,13 @@ pub fn check_equal<R: Source, S: Source, P: Source>(
     // The bytes that were read are two files, whose machines are equal at step k. A refusal says why. Where the proof is looked at,
     // the answer is what its text shows of the clauses of the miter's query.
     ensures reads { let text = P.left proof.old in
-        ReadsPair R.left R.failed S.left S.failed limit (Equals starts limit k optimize text)
+        ReadsPair R.left R.failed S.left S.failed limit (Equals comparison limit k optimize text)
         first_verdict second_verdict IsOwn file.old other.old result file.new other.new }
     ensures unread { LeavesQuery result → proof.new ≡ proof.old }
     // Stream only where a read failed in this call.
     ensures stream { IsErrOf result (errors.Query (answers.Refutation RefutationError.Stream))
         → IsTrue (P.failed proof.new) }
 {
-    let joint = read_joint(alloc, Pairing::Miter(starts), file, other, limit)?;
+    let joint = read_joint(alloc, Pairing::Miter(comparison), file, other, limit)?;
     check_query(alloc, joint, limit, k, optimize, proof)
 }

@@ -12,13 +12,14 @@ use crate::Window;
 use crate::equality::error::EqualityError;
 use crate::safety::check_safe_of;
 use aig_base::Source;
-use aig_edits::{Pairing, Starts, read_joint};
+use aig_edits::{Comparison, Pairing, read_joint};
 use aig_refutation::RefutationError;
 use std::alloc::Global;
 
 /// Reads two files in the AIGER format, and checks two proofs, in the LRAT or the DRAT format, that their machines are equal at every
-/// step: on all runs of both from initial states that have the same inputs and meet the constraints of both, and whose registers with
-/// open start begin as is said, outputs and bad literals are the same. Requires `1 <= limit <= 2^31`.
+/// step: on all runs of both from initial states that have the same inputs, and whose registers with open start begin as is said, outputs
+/// and bad literals are the same. Runs meet the constraints of both, or those of the first file alone, or constraints are compared, too,
+/// as is said (`aig_edits::Constraints`). Requires `1 <= limit <= 2^31`.
 ///
 /// The proofs are of the clauses of the files' miter (`aig_edits::Pairing::Miter`), each with its own setting: `base`, that those of
 /// its question for the steps 0 to `k` can't be satisfied, and `step`, that those of its window of `k + 2` steps can't, as
@@ -32,7 +33,7 @@ pub fn check_always_equal<R: Source, S: Source, P: Source, Q: Source>(
     alloc: Global,
     file: &mut R,
     other: &mut S,
-    starts: Starts,
+    comparison: Comparison,
     limit: usize,
     k: usize,
     base_optimize: bool,
@@ -47,7 +48,7 @@ pub fn check_always_equal<R: Source, S: Source, P: Source, Q: Source>(
     // The bytes that were read are two files, whose machines are equal at every step. A refusal says why. Where the proofs are looked
     // at, the answer is what their texts show of the clauses of the miter's question and of its window.
     ensures reads { ReadsPair R.left R.failed S.left S.failed limit
-        (AlwaysEquals starts P.left Q.left limit k base_optimize form step_optimize base.old
+        (AlwaysEquals comparison P.left Q.left limit k base_optimize form step_optimize base.old
         base.new step.old)
         first_verdict second_verdict IsOwn file.old other.old result file.new other.new }
     // No proof is read after one that is refused, nor of files that are.
@@ -61,7 +62,7 @@ pub fn check_always_equal<R: Source, S: Source, P: Source, Q: Source>(
         (errors.Miter (safety.Step (answers.Refutation RefutationError.Stream)))
         → IsTrue (Q.failed step.new) }
 {
-    let miter = read_joint(alloc, Pairing::Miter(starts), file, other, limit)?;
+    let miter = read_joint(alloc, Pairing::Miter(comparison), file, other, limit)?;
     check_safe_of(
         alloc,
         miter,

@@ -1,8 +1,9 @@
 //! Proofs of joint circuits, in both settings of clauses.
 
+use crate::shown::COMPARISON;
 use aig_answers::{AnswerError, CertificateError, check_certified, check_equal};
 use aig_base::FromRead;
-use aig_edits::{Misfit, PairError, Starts};
+use aig_edits::{Misfit, PairError};
 use aig_refutation::RefutationError;
 use std::alloc::Global;
 
@@ -43,14 +44,7 @@ fn equal(alloc: Global, optimize: bool, other: &[u8], proof: &[u8]) -> Option<Ce
     let mut other = FromRead::new(other);
     let mut proof = FromRead::new(proof);
     check_equal(
-        alloc,
-        &mut file,
-        &mut other,
-        Starts::Apart,
-        LIMIT,
-        0,
-        optimize,
-        &mut proof,
+        alloc, &mut file, &mut other, COMPARISON, LIMIT, 0, optimize, &mut proof,
     )
     .err()
 }

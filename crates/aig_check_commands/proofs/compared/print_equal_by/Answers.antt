@@ -16,5 +16,5 @@ returns-in_err-check_equal_by g c =
 
 pub returns : goal.returns
 returns g c =
-    rw c.after_writing.ensures (text_printed c.write_always.result (always_line c.args.starts)
+    rw c.after_writing.ensures (text_printed c.write_always.result (always_line c.args.comparison)
     (compare_answered c.in_ok-check_equal_by.ensures.reads) c.write_always.ensures)

@@ -1,14 +1,15 @@
 use Rattle.std.proofs.Common.{[], ◌∷◌, ◌++◌, rules}
-use Rattle.aig_check_commands.specs.Pairs.{starts_text}
+use Rattle.aig_check_commands.specs.Pairs.{comparison_text}
 use Rattle.aig_output.proofs.Putting.{failed_first, then_call}
 use Rattle.aig_check_commands.proofs.equal_lines.buffer_always.Goals as goal
 
 pub returns-in_err-write_bytes : goal.returns-in_err-write_bytes
 returns-in_err-write_bytes g c =
-    failed_first ((starts_text c.args.starts ++ 10 ∷ []) ∷ []) c.in_err-write_bytes.ensures
+    failed_first ((comparison_text c.args.comparison ++ 10 ∷ []) ∷ []) c.in_err-write_bytes.ensures
     (search rules)
 
 pub returns : goal.returns
 returns g c =
     then_call c.in_ok-write_bytes.ensures.ok
-    (rw (c.as_bytes.ensures.value, c.starts_end.ensures) at c.write_bytes-2.ensures)
+    (rw (c.as_bytes.ensures.value, c.as_bytes-2.ensures.value, c.comparison_end.ensures.text)
+    at c.buffer_both.ensures)

@@ -14,9 +14,9 @@ returns-in_err-check_always_equal g c =
     let e = c.in_err-check_always_equal.field-0.0 in
     let a = c.args in
     rw (p.1, p.2) (error_printed (errors.Equality e) (refused_so
-    (AlwaysEquals a.starts g.P.Source.left g.Q.Source.left a.limit a.k a.base_optimize a.form
+    (AlwaysEquals a.comparison g.P.Source.left g.Q.Source.left a.limit a.k a.base_optimize a.form
     a.step_optimize a.base.now _ a.step.now) e (errors.Equality e) told.reads refl refl (λ own. own)
-    (why_of g.P.Source.left g.Q.Source.left a.starts a.limit a.k a.base_optimize a.step_optimize a.form
+    (why_of g.P.Source.left g.Q.Source.left a.comparison a.limit a.k a.base_optimize a.step_optimize a.form
     a.base.now _ a.step.now e)
     told.base_unread told.step_unread
     (λ is. absurd (no_certificate e _ is)) (λ is. absurd (no_certificate e _ is))
@@ -26,9 +26,9 @@ returns-in_err-check_always_equal g c =
 pub returns : goal.returns
 returns g c =
     let a = c.args in
-    rw c.after_writing.ensures (text_printed c.write_always.result (always_line a.starts) (pair_answered
-    (AlwaysEquals a.starts g.P.Source.left g.Q.Source.left a.limit a.k a.base_optimize a.form
-    a.step_optimize a.base.now _ a.step.now) tt (always_line a.starts)
+    rw c.after_writing.ensures (text_printed c.write_always.result (always_line a.comparison) (pair_answered
+    (AlwaysEquals a.comparison g.P.Source.left g.Q.Source.left a.limit a.k a.base_optimize a.form
+    a.step_optimize a.base.now _ a.step.now) tt (always_line a.comparison)
     c.in_ok-check_always_equal.ensures.reads
-    (text_of g.P.Source.left g.Q.Source.left a.starts a.limit a.k a.base_optimize a.step_optimize a.form
+    (text_of g.P.Source.left g.Q.Source.left a.comparison a.limit a.k a.base_optimize a.step_optimize a.form
     a.base.now _ a.step.now)) c.write_always.ensures)

@@ -1,5 +1,4 @@
 use Rattle.aig_base.proofs.Words.{◌++◌, ◌∷◌, [], ◌∙◌, Err, Ok, List, String, Global, ap, append-nil, append_assoc, arith, err_from_is_err_and, length, length-append, length-map, length-take-le, map, map_more, refl, string_bytes, subst, sym, take, take_all}
-use Rattle.aig_check_commands.specs.Fits.{LacksOne}
 use Rattle.aig_check_commands.specs.Opening.{AreOpened}
 use Rattle.aig_check_commands.proofs.Opened.{all_opened, lacks_at, opened_length}
 use Rattle.aig_check_commands.proofs.inputs.open_beside.Goals as goal

@@ -15,14 +15,14 @@ returns-in_err-check_equal g c =
     let told = c.in_err-check_equal.ensures in
     let e = c.in_err-check_equal.field-0.0 in
     rw (p.1, p.2) (error_printed (errors.Certificate e) (pair_refused
-    (Equals c.args.starts c.args.limit c.args.k c.args.optimize (g.P.Source.left c.args.proof.now)) e told.reads
+    (Equals c.args.comparison c.args.limit c.args.k c.args.optimize (g.P.Source.left c.args.proof.now)) e told.reads
     (λ own. own) (λ f h refuses. refuses) told.unread (λ leaves. refl)
     (λ is. told.stream (err_of e (certificate.Query (answers.Refutation refutation.Stream)) is))
     (λ is. absurd (no_window e (answers.Refutation refutation.Stream) told.reads is))) refl)
 
 pub returns : goal.returns
 returns g c =
-    rw c.after_writing.ensures (text_printed c.write_equal.result (equal_line c.args.starts c.args.k)
-    (pair_answered (Equals c.args.starts c.args.limit c.args.k c.args.optimize (g.P.Source.left c.args.proof.now))
-    tt (equal_line c.args.starts c.args.k) c.in_ok-check_equal.ensures.reads (λ f h equal. (refl, equal)))
+    rw c.after_writing.ensures (text_printed c.write_equal.result (equal_line c.args.comparison c.args.k)
+    (pair_answered (Equals c.args.comparison c.args.limit c.args.k c.args.optimize (g.P.Source.left c.args.proof.now))
+    tt (equal_line c.args.comparison c.args.k) c.in_ok-check_equal.ensures.reads (λ f h equal. (refl, equal)))
     c.write_equal.ensures)

@@ -14,7 +14,7 @@ returns-in_err-miter-clause-reads g c =
     let told = c.in_err-miter.ensures.reads in
     rw (p.1, p.2) (reads_on g.R.Source.left g.R.Source.failed g.S.Source.left g.S.Source.failed
     c.args.limit c.args.file.now c.args.other.now _ _
-    (EqualsBy c.args.starts g.C.Source.left g.C.Source.failed c.args.limit c.args.optimize
+    (EqualsBy c.args.comparison g.C.Source.left g.C.Source.failed c.args.limit c.args.optimize
     (g.P.Source.left c.args.base.now) (g.Q.Source.left c.args.step.now) c.args.certificate.now
     c.args.certificate.now) first_verdict second_verdict IsOwn (Err (errors.Pair e)) told refl refl
     told.own (λ f h bytes others is also refused. refused))
@@ -34,11 +34,11 @@ returns-in_err-check_beside-clause-reads g c =
     } in
     rw (p.1, p.2) (reads_on g.R.Source.left g.R.Source.failed g.S.Source.left g.S.Source.failed
     c.args.limit c.args.file.now c.args.other.now _ _
-    (EqualsBy c.args.starts g.C.Source.left g.C.Source.failed c.args.limit c.args.optimize base step
+    (EqualsBy c.args.comparison g.C.Source.left g.C.Source.failed c.args.limit c.args.optimize base step
     c.args.certificate.now _) first_verdict second_verdict IsOwn (Err (errors.Certificate e))
     c.in_ok-miter.ensures.reads refl refl told.own
     (λ f h bytes others is also joint. certifies_read g.C.Source.left g.C.Source.failed
-    c.unrolls_by_none.ensures known c.args.limit c.requires.few c.args.optimize base step c.args.starts f h
+    c.unrolls_by_none.ensures known c.args.limit c.requires.few c.args.optimize base step c.args.comparison f h
     (lists_circuit c.in_ok-miter.miter) joint c.args.certificate.now _ (Err e) told.reads))
 
 pub returns-clause-reads : goal.returns-clause-reads
@@ -54,17 +54,17 @@ returns-clause-reads g c =
     } in
     reads_on g.R.Source.left g.R.Source.failed g.S.Source.left g.S.Source.failed
     c.args.limit c.args.file.now c.args.other.now _ _
-    (EqualsBy c.args.starts g.C.Source.left g.C.Source.failed c.args.limit c.args.optimize base step
+    (EqualsBy c.args.comparison g.C.Source.left g.C.Source.failed c.args.limit c.args.optimize base step
     c.args.certificate.now _) first_verdict second_verdict IsOwn (Ok tt)
     c.in_ok-miter.ensures.reads refl refl tt
     (λ f h bytes others is also joint. (
       (
         joint.fit,
         equal_read g.C.Source.left g.C.Source.failed c.unrolls_by_none.ensures known c.args.limit
-            c.requires.few c.args.optimize base step c.args.starts f h m joint c.args.certificate.now _
+            c.requires.few c.args.optimize base step c.args.comparison f h m joint c.args.certificate.now _
             told.reads,
       ),
       certifies_read g.C.Source.left g.C.Source.failed c.unrolls_by_none.ensures known c.args.limit
-          c.requires.few c.args.optimize base step c.args.starts f h m joint c.args.certificate.now _ (Ok tt)
+          c.requires.few c.args.optimize base step c.args.comparison f h m joint c.args.certificate.now _ (Ok tt)
           told.reads,
     ))

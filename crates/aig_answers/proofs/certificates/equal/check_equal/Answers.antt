@@ -13,7 +13,7 @@ returns-in_err-joint-clause-reads g c =
     let told = c.in_err-joint.ensures.reads in
     rw (p.1, p.2) (reads_on g.R.Source.left g.R.Source.failed g.S.Source.left g.S.Source.failed
     c.args.limit c.args.file.now c.args.other.now _ _
-    (Equals c.args.starts c.args.limit c.args.k c.args.optimize (g.P.Source.left c.args.proof.now)) first_verdict
+    (Equals c.args.comparison c.args.limit c.args.k c.args.optimize (g.P.Source.left c.args.proof.now)) first_verdict
     second_verdict IsOwn (Err (errors.Pair e)) told refl refl told.own
     (λ f h bytes others is also refused. refused))
 
@@ -27,8 +27,8 @@ returns-clause-reads g c =
     let made = c.check_query.result in
     let told = c.check_query.ensures.holds in
     reads_on g.R.Source.left g.R.Source.failed g.S.Source.left g.S.Source.failed limit
-    c.args.file.now c.args.other.now _ _ (Equals c.args.starts limit k optimize proof) first_verdict
+    c.args.file.now c.args.other.now _ _ (Equals c.args.comparison limit k optimize proof) first_verdict
     second_verdict IsOwn made c.in_ok-joint.ensures.reads
     (first_step limit optimize m k proof made told)
     (second_step limit optimize m k proof made told) (own_step limit optimize m k proof made told)
-    (λ f h bytes others is also joint. equals c.args.starts limit k optimize proof f h m joint made told)
+    (λ f h bytes others is also joint. equals c.args.comparison limit k optimize proof f h m joint made told)

@@ -14,7 +14,7 @@ returns-in_err-miter-clause-reads g c =
     let told = c.in_err-miter.ensures.reads in
     rw (p.1, p.2) (reads_on g.R.Source.left g.R.Source.failed g.S.Source.left g.S.Source.failed
     c.args.limit c.args.file.now c.args.other.now _ _
-    (AlwaysEquals c.args.starts g.P.Source.left g.Q.Source.left c.args.limit c.args.k c.args.base_optimize
+    (AlwaysEquals c.args.comparison g.P.Source.left g.Q.Source.left c.args.limit c.args.k c.args.base_optimize
     c.args.form c.args.step_optimize c.args.base.now c.args.base.now c.args.step.now)
     first_verdict second_verdict IsOwn (Err (errors.Pair e)) told refl refl told.own
     (λ f h bytes others is also refused. refused))
@@ -37,7 +37,7 @@ returns-in_err-check_safe_of-clause-reads g c =
     let told = c.in_err-check_safe_of.ensures in
     rw (p.1, p.2) (reads_on g.R.Source.left g.R.Source.failed g.S.Source.left g.S.Source.failed
     c.args.limit c.args.file.now c.args.other.now _ _
-    (AlwaysEquals c.args.starts g.P.Source.left g.Q.Source.left c.args.limit c.args.k c.args.base_optimize
+    (AlwaysEquals c.args.comparison g.P.Source.left g.Q.Source.left c.args.limit c.args.k c.args.base_optimize
     c.args.form c.args.step_optimize c.args.base.now _ c.args.step.now)
     first_verdict second_verdict IsOwn (Err (errors.Miter e)) c.in_ok-miter.ensures.reads refl refl
     told.own
@@ -53,10 +53,10 @@ returns-clause-reads g c =
     let told = c.in_ok-check_safe_of.ensures in
     reads_on g.R.Source.left g.R.Source.failed g.S.Source.left g.S.Source.failed
     c.args.limit c.args.file.now c.args.other.now _ _
-    (AlwaysEquals c.args.starts g.P.Source.left g.Q.Source.left c.args.limit c.args.k c.args.base_optimize
+    (AlwaysEquals c.args.comparison g.P.Source.left g.Q.Source.left c.args.limit c.args.k c.args.base_optimize
     c.args.form c.args.step_optimize c.args.base.now _ c.args.step.now)
     first_verdict second_verdict IsOwn (Ok tt) c.in_ok-miter.ensures.reads refl refl tt
     (λ f h bytes others is also joint. (
-      (joint.fit, equal_where c.args.starts f h m joint told.answer),
+      (joint.fit, equal_where c.args.comparison f h m joint told.answer),
       (m, joint, record { said = told.said; large = told.large; shown = told.shown }),
     ))
