@@ -22,8 +22,8 @@ ABOUT = {
 }
 ITEM = re.compile(r"^- `(aig\w+) ([^`]*)`: (.*)$", re.MULTILINE)
 STATUSES = "0: it was printed, written or shown. 1: a refusal, a failure, or nothing shown. 2: wrong words."
-CONSTRAINTS = "Before the name of any miter or equal --constraints first says that runs meet the constraints of FILE alone, and --constraints " \
-    "compared that it is compared, too, whether both files meet theirs."
+CONSTRAINTS = "Before the name of any miter or equal --constraints first says that runs meet the constraints of FILE alone, and " \
+    "--constraints compared that it is compared, too, whether both files meet theirs."
 FILES = "FILE is in AIGER form, text or binary; K is a number of steps, and PROOF is in LRAT or DRAT. docs/COMMANDS.md of the repository " \
     "describes files of the other forms."
 

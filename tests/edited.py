@@ -2,8 +2,9 @@
 """Compares the machines of files that aigedit prints with those of the files that it reads: edited.py [--aigedit PATH] [FILES [SEED]]
 
 For the examples and for FILES (300) random files a search over all states says at which of the first steps a bad state or a true
-output is reached by a run that meets the constraints, and at which two files differ, as constraints are taken. What is printed is read by tests/aiger.py, and has to reach bad states at the
-steps that the command says. The files are small, so that the search is over all runs.
+output is reached by a run that meets the constraints, and at which two files differ, as constraints are taken. What is printed is
+read by tests/aiger.py, and has to reach bad states at the steps that the command says. The files are small, so that the search is
+over all runs.
 """
 import dataclasses
 import random

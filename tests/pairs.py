@@ -183,7 +183,7 @@ class Pair(Files):
         """Compares all answers."""
         both = self.machine, self.other_machine, self.starts(), self.setting
         first = first_difference(*both)
-        miter = self.put("miter.aag", output([EDIT, *self.setting_words, f"miter{self.suffix}", self.file, self.other]))
+        miter = self.put("miter.aag", self.mitered(self.other))
         made = machine_of(Path(miter).read_text())
         if made.first_bad() != first:
             self.fail(f"a search finds a difference at step {first}, and the miter is bad at step {made.first_bad()}")
@@ -203,6 +203,10 @@ class Pair(Files):
         self.compare_proved(first, first_unmet(*both))
         self.counts[" ".join([f"{'equal' if first is None else 'different'}{self.suffix}", *self.setting_words[1:]])] += 1
         return self.counts
+
+    def mitered(self, other):
+        """The text of the miter with a file."""
+        return output([EDIT, *self.setting_words, f"miter{self.suffix}", self.file, other])
 
     def compare_abc(self, first):
         """Compares what ABC says."""
@@ -226,6 +230,10 @@ class Pair(Files):
         different = re.search(f"\na difference at step ([0-9]+){behind}{alike}: (.*)\n", lines)
         if (f"\nequal at every step{behind}{alike}\n" in lines) != (first is None) or (different is None) != (first is None):
             self.fail(f"a search finds a difference at step {first}, and aigprove: {printed}")
+        counted = self.machine.constraints + (self.other_machine.constraints if self.setting != "first" else [])
+        unmet_line = f"\nthe assumptions can't be met from step {unmet} on: the answer is empty\n"
+        if first is None and (("\nthe assumptions " in lines) != bool(counted) or (unmet_line in lines) != (unmet is not None)):
+            self.fail(f"a search finds that no run meets constraints from step {unmet} on, and aigprove: {printed}")
         if different:
             self.compare_told(different[2], lines, witness.read_text())
         if different and not alike:
@@ -236,7 +244,9 @@ class Pair(Files):
         self.counts["by registers"] += status == 20
         again = harness.shown_again(keep)
         (keep / "other.aag").write_bytes(inverted((keep / "other.aag").read_bytes()))
-        if again is None or harness.shown_again(keep) is not None:
+        # Where constraints are never met nothing else is in the miter, but in the one by which assumptions are asked about.
+        is_same = self.mitered(str(keep / "other.aag")) == self.mitered(self.other) and not (keep / "both.aag").exists()
+        if again is None or (harness.shown_again(keep) is not None) != is_same:
             self.fail("what is kept isn't shown again, or is with the other file turned")
 
     def has_alike(self):
@@ -262,7 +272,7 @@ class Pair(Files):
             yield machine, values
 
     def compare_told(self, told, lines, witness):
-        """Compares what is told to differ at the end of a run with its values, and which file doesn't meet its constraints, if that is told."""
+        """Compares what is told to differ at the end of a run with its values, and which file doesn't meet its constraints, if told."""
         (ours, own), (theirs, others) = self.ended(witness)
         is_met = {"first": ours.is_allowed(own), "second": theirs.is_allowed(others)}
         if self.setting == "compared" and len(set(is_met.values())) > 1:

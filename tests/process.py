@@ -43,6 +43,7 @@ OPENED = [
     "aigcheck refuted file to 0 proof",
     "aigcheck equal file other 0 proof",
     "aigcheck equal-alike-by-order file other 0 proof",
+    "aigcheck --constraints compared equal file other 0 proof",
     "aigcheck obligations file other",
     "aigcheck certified file other proof step",
     "aigcheck safe file to 0 proof step",

@@ -108,6 +108,10 @@ def what_limits_a_comparison_is_told(room):
     for pair in [("held.aag", "safe.aag"), ("safe.aag", "held.aag"), ("held.aag", "held.aag"), ("safe.aag", "safe.aag")]:
         told = lines(room.checker, [(name, WITHIN) for name in pair if name == "held.aag"])
         ends(room, room.checker, ["equal", *pair, "0", "conflict"], 0, b"equal at step 0\n", told)
+    # Not where the line says what constraints say.
+    words = ["equal", "held.aag", "held.aag", "0", "conflict"]
+    ends(room, room.checker, ["--constraints", "first", *words], 0, b"equal at step 0, under the constraints of the first alone\n", b"")
+    ends(room, room.checker, ["--constraints", "compared", *words], 0, b"equal at step 0, constraints too\n", b"")
     asked = titled("clauses 0", "held.aag", ASKED.replace(b"2 2\n-1 0\n", b"2 3\n-1 0\n-2 0\n"))
     ends(room, room.checker, ["clauses", "held.aag", "0"], 0, asked, b"")
 

@@ -79,11 +79,6 @@ class Pair(Asked):
         which is true while its own have held."""
         return [it.header().latches + (self.constraints == COMPARED) for it in [self.first, self.other]]
 
-    def held(self):
-        """The place of the other file's such latch, with that of the first one's."""
-        first, other = self.latches()
-        return {first + other - 1: first - 1} if self.constraints == COMPARED else {}
-
     def circuits(self):
         return [self.first.circuit(), self.other.circuit()]
 
@@ -150,6 +145,9 @@ class Pair(Asked):
         """The circuit of the miter, whose bad state properties have the names of what they compare."""
         circuit, first = self.judge.circuit(self.asked, "MITER"), self.first.circuit()
         circuit.names.update((("b", i), first.name(*place) if place else b"constraints") for i, place in enumerate(self.compared()))
+        if self.constraints == COMPARED:
+            first, other = self.latches()
+            circuit.names.update({("l", first - 1): b"constraints_held", ("l", first + other - 1): b"other.constraints_held"})
         return circuit
 
     def warnings(self):

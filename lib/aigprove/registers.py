@@ -229,7 +229,7 @@ class Registers(Asking):
         nodes, rng = Nodes(circuit, alike), random.Random(0)
         latches = Classes(nodes, rng).begin([0, *nodes.latches])
         counts = self.source.latches()
-        given = partners(circuit, *counts, {**alike, **self.source.held()})
+        given = partners(circuit, *counts, alike)
         other = {nodes.latches[i]: nodes.latches[it] for i, it in given.items() if it is not None}
         yield nodes, States(paired(latches, other), self.solver)
         yield nodes, States(latches, self.solver)
