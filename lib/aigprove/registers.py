@@ -4,7 +4,6 @@ import copy
 import itertools
 import random
 
-from aigprove.alike import Alike, ordered
 from aigprove.classes import Classes, Different
 from aigprove.engines import Asking, Certificate, Missing
 from aigprove.nodes import Nodes
@@ -13,6 +12,7 @@ from aigprove.plain import Gates
 from aigprove.programs import Fault, Sealed, say
 from aigprove.questions import Undecided
 from aigprove.turns import Turns
+from aigprove.united import United, ordered
 
 # How aigedit begins the names of latches of the other file.
 OTHER = b"other."
@@ -127,7 +127,7 @@ class Steps:
         while found:
             gates = Gates(nodes.latches.stop)
             state = nodes.first(nodes.latches, 1)
-            _, apart = Alike(classes, self.order).literals([*nodes.inputs, *state], gates, {})
+            _, apart = United(classes, self.order).literals([*nodes.inputs, *state], gates, {})
             facts = [(literal, 1) for literal in self.constraints([*nodes.inputs, *state], gates)]
             found = self.solver.differing(gates, facts, [pair for _, pair in apart])
             if found:
@@ -145,28 +145,28 @@ class Steps:
         nodes, classes, proved = self.nodes, self.classes, set()
         inputs = range(nodes.latches.stop, nodes.latches.stop + 2 * len(nodes.inputs), 2)
         while True:
-            alike, gates, merged = Alike(classes, self.order), Gates(inputs.stop), {}
-            now, equal = alike.literals(nodes.leaves(), gates, merged)
+            united, gates, merged = United(classes, self.order), Gates(inputs.stop), {}
+            now, equal = united.literals(nodes.leaves(), gates, merged)
             leaves = [*inputs, *nodes.following(now)]
-            _, apart = alike.literals(leaves, gates, merged)
+            _, apart = united.literals(leaves, gates, merged)
             asked = [it for it in apart if it[0] not in proved]
             facts = [(literal, 1) for literal in [*nodes.allowing(now), *self.constraints(leaves, gates)]]
             found = self.solver.differing(gates, facts + [pair for _, pair in equal], [pair for _, pair in asked])
             if found is None:
                 return
             proved.update(names for names, _ in asked[: found[0]])
-            self.divide(alike, found[1])
+            self.divide(united, found[1])
 
-    def divide(self, alike, true):
+    def divide(self, united, true):
         """Splits what a solution, and others beside it, show to be different in the next step."""
         count = len(self.nodes.leaves())
         values = self.classes.beside([number in true for number in range(1, count + len(self.nodes.inputs) + 1)])
-        state, runs = self.after(alike, values[:count])
+        state, runs = self.after(united, values[:count])
         self.follow([*values[count:], *state], runs)
 
-    def after(self, alike, leaves):
+    def after(self, united, leaves):
         """The latches in the step that follows one in which members of classes are equal, and the runs in which they are."""
-        known = self.nodes.values(alike.leaves(leaves, self.classes.every), self.classes.every)
+        known = self.nodes.values(united.leaves(leaves, self.classes.every), self.classes.every)
         return self.nodes.following(known), self.nodes.allowed(known, self.classes.equal(known))
 
     def settle(self):
@@ -174,7 +174,7 @@ class Steps:
         classes, size = self.classes, None
         while size != (size := classes.size()):
             self.order = ordered(classes)
-            state, runs = self.after(Alike(classes, self.order), classes.drawn(self.nodes.leaves()))
+            state, runs = self.after(United(classes, self.order), classes.drawn(self.nodes.leaves()))
             if runs:
                 classes.follow([*classes.drawn(self.nodes.inputs), *classes.spread(state, runs)], classes.every)
 

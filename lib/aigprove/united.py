@@ -36,7 +36,7 @@ def ordered(classes):
     return order
 
 
-class Alike:
+class United:
     """All nodes in an order, and for each the literal of the one of its class that stands before all others there, if it is another."""
 
     def __init__(self, classes, order):
