@@ -17,6 +17,9 @@ says exactly at a step that differs by that alone that it is equal with register
 As many more of these have constraints, which are others in the second file now and then. The search takes those of the first alone, or
 compares whether both are met, as `--constraints` of the programs does, and what aigprove says to differ at the end of a run does there.
 
+And as many have names, and in the second file inputs, outputs and bad literals are in another order: `aigprove --equal` matches those of a
+kind by name exactly where both files have the same names for all of it, says so, and answers what a search says of them in one order.
+
 Half as many designs of tests/designs are compared so with what ABC makes of them, also by retiming, or with that and a gate changed: no
 answer is another than that of `dsec` where there are no constraints, and a run to a difference shows one, as a simulation here has it.
 
@@ -38,7 +41,7 @@ import harness
 from aiger import Machine, machine_of, starting, step
 from designs import inverted
 from harness import CHECK, EDIT, FORMS, PROVE, TOOL, numbers, output
-from machines import named, random_machine
+from machines import LISTS, NAMES, named, random_machine
 from trials import Files, told
 
 from aigprove.aiger import Circuit, Lines
@@ -224,6 +227,7 @@ class Pair(Files):
         options = ["--keep", str(keep), "--witness", str(witness)]
         status, printed, said = harness.run([PROVE, *self.words, "--equal", self.other, self.file, *options])
         printed = printed.decode()
+        self.compare_matched(printed)
         if status != (10 if first is not None else 20 if unmet is None else 0):
             self.fail(f"a search finds a difference at step {first}, and no run from step {unmet} on, and aigprove: {status} {printed} {said}")
         lines, alike, behind = f"\n{printed}", self.said if self.has_alike() else "", self.setting_behind()
@@ -242,12 +246,16 @@ class Pair(Files):
         if status not in (0, 20) or status == 20 and first is not None:
             self.fail(f"a search finds a difference at step {first}, and registers that correspond: {status} {said}")
         self.counts["by registers"] += status == 20
-        again = harness.shown_again(keep)
-        (keep / "other.aag").write_bytes(inverted((keep / "other.aag").read_bytes()))
+        again, kept = harness.shown_again(keep), str(keep / "other.aag")
+        miter = self.mitered(kept)
+        Path(kept).write_bytes(inverted(Path(kept).read_bytes()))
         # Where constraints are never met nothing else is in the miter, but in the one by which assumptions are asked about.
-        is_same = self.mitered(str(keep / "other.aag")) == self.mitered(self.other) and not (keep / "both.aag").exists()
+        is_same = self.mitered(kept) == miter and not (keep / "both.aag").exists()
         if again is None or (harness.shown_again(keep) is not None) != is_same:
             self.fail("what is kept isn't shown again, or is with the other file turned")
+
+    def compare_matched(self, printed):
+        """Compares what aigprove says of how signals are matched: nothing of files without names."""
 
     def has_alike(self):
         """Whether any registers start alike."""
@@ -338,6 +346,52 @@ class Constrained(Alike):
     def beside(self, rng):
         self.machine = dataclasses.replace(self.machine, constraints=self.machine.constraints or varied(self.machine, rng).constraints)
         return varied(super().beside(rng), rng)
+
+
+class ByName(Pair):
+    """Two machines, in the second of which signals are in another order. Those of a kind have the same names in both files, unless one is
+    missing, is another one or stands twice: these are matched as they stand."""
+
+    KINDS = {"i": "inputs", "o": "outputs", "b": "bad literals"}
+    abc_command = None
+
+    def __init__(self, rng, folder):
+        Files.__init__(self, folder)
+        self.machine = dataclasses.replace(with_outputs(rng), names={})
+        self.other_machine = changed(self.machine, rng) if rng.random() < 0.5 else dataclasses.replace(self.machine)
+        shuffled, self.by_name = dataclasses.replace(self.other_machine, names={}), []
+        for letter, kind in self.KINDS.items():
+            literals = getattr(self.other_machine, LISTS[letter])
+            order, names = rng.sample(range(len(literals)), len(literals)), rng.sample(sorted(set(NAMES)), len(literals))
+            setattr(shuffled, LISTS[letter], [literals[i] for i in order])
+            ours, theirs = dict(enumerate(names)), {i: names[place] for i, place in enumerate(order)}
+            if literals and rng.random() < 0.25:
+                self.spoil(rng, rng.choice([ours, theirs]), len(literals))
+                setattr(self.other_machine, LISTS[letter], getattr(shuffled, LISTS[letter]))
+            elif order != sorted(order):
+                self.by_name.append(kind)
+            self.machine.names.update((f"{letter}{i}", name) for i, name in ours.items())
+            shuffled.names.update((f"{letter}{i}", name) for i, name in theirs.items())
+        self.file, self.other = self.put("file.aag", self.machine.text()), self.put("other.aag", shuffled.text())
+
+    def spoil(self, rng, names, count):
+        """Leaves a name out, or has another in its place, or one that is there already."""
+        place = rng.randrange(count)
+        way = rng.choice([None, "another", names[(place + 1) % count] if count > 1 else None])
+        names.pop(place)
+        names.update({} if way is None else {place: way})
+
+    def compare(self):
+        both = self.machine, self.other_machine, self.starts(), self.setting
+        first = first_difference(*both)
+        self.compare_proved(first, first_unmet(*both))
+        self.counts[f"{'equal' if first is None else 'different'}{' by name' * bool(self.by_name)}"] += 1
+        return self.counts
+
+    def compare_matched(self, printed):
+        told = re.findall("^(.*) are matched by name$", printed, re.MULTILINE)
+        if told != self.by_name:
+            self.fail(f"matched by name are {self.by_name}, and aigprove: {printed}")
 
 
 class Form(Files):
@@ -439,11 +493,11 @@ class Invariant(Files):
 
 def main():
     pairs, seed = numbers(300, 1)
-    tried = [Pair] * pairs + [Invariant] * (pairs // 3) + [Form] * (pairs // 2) + [Alike] * pairs + [Constrained] * pairs
+    tried = [*[Pair, Alike, Constrained, ByName] * pairs, *[Invariant] * (pairs // 3), *[Form] * (pairs // 2)]
     with harness.new_folder() as folder, concurrent.futures.ThreadPoolExecutor(2) as pool:
         compare = lambda i: tried[i](random.Random(f"{seed}-{i}"), folder / str(i)).compare()
         counts = sum(pool.map(compare, range(len(tried))), collections.Counter())
-    print(f"seed {seed}: {3 * pairs} pairs, {pairs // 3} invariants and {pairs // 2} designs agree ({told(counts)})")
+    print(f"seed {seed}: {4 * pairs} pairs, {pairs // 3} invariants and {pairs // 2} designs agree ({told(counts)})")
 
 
 if __name__ == "__main__":

@@ -10,8 +10,9 @@ from aigprove.nodes import sides
 FEWEST, MOST, BITS = 64, 4096, 1 << 28
 # In how many of these something is true that seldom is, and how often two such are tried to be made different.
 SELDOM, TRIED = 32, 3
-# For how many steps from the first states, from random states, and from those that a solver finds.
-BEGUN, DRAWN, FOUND = 16, 4, 8
+# For how many steps from the first states, from random states, and from those that a solver finds; and how many that split no class are
+# the last ones.
+BEGUN, DRAWN, FOUND, IDLE = 16, 4, 8, 3
 
 
 def parts_of(own, values):
@@ -96,11 +97,16 @@ class Classes:
         return runs
 
     def follow(self, leaves, runs, steps=FOUND):
-        """Splits classes by so many steps, from these inputs and latches on, of runs that follow states in which members are equal."""
+        """Splits classes by so many steps, from these inputs and latches on, of runs that follow states in which members are equal, unless
+        some in a row split none."""
+        idle = 0
         for _ in range(steps):
-            known = self.nodes.values(leaves, self.every)
+            known, size = self.nodes.values(leaves, self.every), self.size()
             runs = self.check(known, runs)
             self.split(known, runs)
+            idle = idle + 1 if self.size() == size else 0
+            if idle == IDLE:
+                break
             leaves = [*self.drawn(self.nodes.inputs), *self.nodes.following(known)]
 
     def settle(self):

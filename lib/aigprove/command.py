@@ -70,8 +70,9 @@ An engine that isn't installed, lies or breaks is told of on standard error, and
 
 With --equal outputs and bad states of FILE and OTHER are compared, on all runs of both that have the same inputs, and that the
 constraints of both allow (--constraints): each step by aigcheck equal, and all at once by an answer about their miter, which aigedit
-makes. What two designs have is matched by name: inputs, outputs, assertions, and registers with open start, which begin alike (--starts).
-Justice and fairness are not looked at.
+makes. Inputs, outputs or bad states are matched by name where both files have the same names for all of them, and else by position, which is
+said; two designs have to have the same ones, and their registers with open start begin alike (--starts). Justice and fairness are not looked
+at.
 """
 ENDS = """\
 Exit status 20: no bad state at any step, or no difference. 10: a bad state is reached, or a difference. 0: neither was shown, or no

@@ -5,7 +5,7 @@ import copy
 import re
 
 from aigprove.aiger import KINDS
-from aigprove.misfit import COMPARED
+from aigprove.misfit import SIGNALS
 from aigprove.programs import escaped
 from aigprove.shown import word
 
@@ -102,7 +102,7 @@ def order(letter, first, other):
 
 def orders(first, other):
     """These of all kinds, by their letters."""
-    return {letter: order(letter, first, other) for letter in COMPARED}
+    return {letter: order(letter, first, other) for letter in SIGNALS}
 
 
 def arranged(circuit, places):

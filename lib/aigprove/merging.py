@@ -1,7 +1,11 @@
 """Clauses in which variables are merged whose definitions are equal, or that units say to be equal, and the clauses that say so: each follows
-from those before it by unit propagation, and so a proof may begin with them. Nothing here is believed."""
+from those before it by unit propagation, and so a proof may begin with them. A program that asks cadical so. Nothing here is believed."""
 import itertools
+import json
+import os
 import re
+import subprocess
+import sys
 
 TRUE, FALSE = -1, 1
 # The clauses of an and.
@@ -176,3 +180,28 @@ class Merging:
     def proof(self):
         """The begin of a proof."""
         return b"".join(map(text_of, self.lemmas))
+
+
+def main(folder, words):
+    """Asks cadical, which these words call, about the clauses in a folder, prints its solution or the whole proof, and ends as it ends."""
+    clauses, asked, proof = (os.path.join(folder, name) for name in ["clauses.cnf", "asked", "proof"])
+    with open(clauses, "rb") as file:
+        merging = Merging(file.read())
+    with open(asked, "xb") as out:
+        out.writelines(merging.asked())
+        is_asked = out.tell() > 0
+    status, printed = 20, b""
+    if is_asked:
+        ran = subprocess.run([*json.loads(words), asked, proof], stdin=subprocess.DEVNULL, stdout=subprocess.PIPE)
+        status, printed = ran.returncode, ran.stdout
+    if status == 20:
+        sys.stdout.buffer.write(merging.proof())
+        if is_asked:
+            with open(proof, "rb") as file:
+                printed = file.read()
+    sys.stdout.buffer.write(printed)
+    sys.stdout.flush()
+    # Where it was ended by a signal, this is, too.
+    if status < 0:
+        os.kill(os.getpid(), -status)
+    sys.exit(status)

@@ -4,7 +4,7 @@ from aigprove.shown import word
 # How many names are said of each file.
 NAMED = 10
 # By the letter of a kind: its words, and what it is called in a header.
-COMPARED = {"i": ("inputs", "inputs"), "o": ("outputs", "outputs"), "b": ("bad literals", "bads")}
+SIGNALS = {"i": ("inputs", "inputs"), "o": ("outputs", "outputs"), "b": ("bad literals", "bads")}
 
 
 def names_of(circuit, letter, count):
@@ -23,7 +23,7 @@ def alone(path, own, other):
 
 def told(letter, paths, circuits, is_named):
     """How many signals of a kind two files have, and the names of those that one of them has alone, where they are to have the same."""
-    what, attribute = COMPARED[letter]
+    what, attribute = SIGNALS[letter]
     counts = [getattr(circuit.header, attribute) for circuit in circuits]
     first, other = (names_of(circuit, letter, count) for circuit, count in zip(circuits, counts))
     is_told = is_named or counts[0] != counts[1]
@@ -33,4 +33,4 @@ def told(letter, paths, circuits, is_named):
 
 def misfit(paths, circuits, named=""):
     """The line that says why two files don't fit, whose signals of some kinds, by these letters, have other names."""
-    return f"{' and '.join(paths)} don't fit: {', '.join(told(letter, paths, circuits, letter in named) for letter in COMPARED)}"
+    return f"{' and '.join(paths)} don't fit: {', '.join(told(letter, paths, circuits, letter in named) for letter in SIGNALS)}"

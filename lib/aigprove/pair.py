@@ -6,7 +6,7 @@ from aigprove import matched, simulation
 from aigprove.judge import Claim
 from aigprove.matched import APART, BY_NAME, Starts
 from aigprove.minimal import SMALL, simulated
-from aigprove.misfit import misfit
+from aigprove.misfit import SIGNALS, misfit
 from aigprove.programs import Fault, Sealed
 from aigprove.replay import SIMULATED
 from aigprove.shown import Shown, word
@@ -39,7 +39,11 @@ class Pair(Asked):
             given.take(Sealed(circuit.text()))
         # Where there are none they say nothing.
         self.constraints = words.constraints if words.constraints and any(self.constrained()) else BOTH
-        self.begin(words.starts or (BY_NAME if len(designs) == 2 else APART))
+        way = words.starts or (BY_NAME if len(designs) == 2 else APART)
+        self.begin(way)
+        self.by_name = [] if len(designs) == 2 else self.put_in_order()
+        if self.by_name:
+            self.begin(way)
 
     def arranged(self, designs):
         """The circuits of designs, of which all names of registers are given, too, with those by which registers are matched; of two the
@@ -50,6 +54,16 @@ class Pair(Asked):
         if unlike := [letter for letter, places in orders.items() if places is None]:
             raise Fault(misfit(self.paths, circuits, unlike))
         return [*circuits[:1], *(matched.arranged(circuit, orders) for circuit in circuits[1:])]
+
+    def put_in_order(self):
+        """Puts the second file's signals in the order of the first's, of the kinds of which both files have the same names in another order;
+        the letters of these."""
+        first, other = self.circuits()
+        orders = matched.orders(first, other)
+        changed = {letter: places for letter, places in orders.items() if places and places != sorted(places)}
+        if changed:
+            self.other.take(Sealed(matched.arranged(other, changed).text()))
+        return list(changed)
 
     def begin(self, way):
         """Makes the miter, with registers of open start that begin so."""
@@ -161,16 +175,17 @@ class Pair(Asked):
             yield f"{self.path} have {first} and {other} constraints: {said}"
 
     def about(self):
-        """Lines of what isn't seen: what is asked about designs, and the names of an input in both files."""
+        """Lines of what isn't seen: what is asked about designs, and how inputs, outputs and bad literals are matched."""
         yield from self.first.about()
         yield from self.other.about()
         yield from self.alone
         yield from self.same_free()
+        yield from (f"{SIGNALS[letter][0]} are matched by name" for letter in self.by_name)
         first, other = self.first.circuit().names, self.other.circuit().names
-        for place in sorted(first.keys() & other.keys()):
-            if place[0] == "i" and first[place] != other[place]:
-                names = (word(it[place].decode("utf-8", "surrogateescape")) for it in (first, other))
-                yield f"inputs are matched by position: i{place[1]} is {' and '.join(names)}"
+        for letter, place in sorted(first.keys() & other.keys()):
+            if letter in SIGNALS and first[letter, place] != other[letter, place]:
+                names = (word(it[letter, place].decode("utf-8", "surrogateescape")) for it in (first, other))
+                yield f"{SIGNALS[letter][0]} are matched by position: {letter}{place} is {' and '.join(names)}"
 
     def same_free(self):
         """The line of values that both designs leave open, and that are inputs of one name."""

@@ -23,8 +23,8 @@ SEALS = fcntl.F_SEAL_WRITE | fcntl.F_SEAL_GROW | fcntl.F_SEAL_SHRINK | fcntl.F_S
 SUBREAPER = 36
 # Seconds that an engine may have run longer than another that waits.
 TURN = 0.25
-# Engines that may run longer than others, by how many times: most designs are decided by this one.
-SHARES = {"pdr": 2}
+# Engines that may run longer than others, by how many times: most designs are decided by the first, most pairs of files by the second.
+SHARES = {"pdr": 2, "registers": 8}
 # An engine that showed a step may run half as long as others once it showed none for so many seconds of its own.
 LATELY, SLOWED = 2, 2
 # What stands between the name of an engine and the mark of its question, where several are asked side by side.
@@ -35,6 +35,9 @@ PART = 4
 FILES = 1000
 # How many bytes a file has whose check is told of while it is read.
 LONG = 1 << 22
+# What Python runs, with the module of this package and the folder that the package is in.
+MODULE = "import sys; sys.path.insert(0, sys.argv[1]); from aigprove import {0}; {0}.main(*sys.argv[2:])"
+PACKAGE = os.path.dirname(os.path.dirname(os.path.realpath(__file__)))
 
 
 class Stopped(Exception):
@@ -112,6 +115,11 @@ class Sealed:
 
     def __str__(self):
         return self.path
+
+
+def module(name, *words):
+    """The words that run a module of this package as a program of its own, which doesn't wait for what other threads compute."""
+    return [sys.executable, "-ISc", MODULE.format(name), PACKAGE, *words]
 
 
 def signal_group(group, number):

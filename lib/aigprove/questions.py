@@ -88,13 +88,18 @@ class Solver:
 
     def answer(self, folder, words):
         """Whether what these words ask in a folder has a solution, as it says, and the solution or the proof."""
+        status = self.ended(folder, [*words, folder.place("proof")])
+        return status == 10, folder.taken("out", "answer") if status == 10 else folder.taken("proof", "proof")
+
+    def ended(self, folder, words):
+        """The status of what these words run in a folder, which says that there is a solution, or none."""
         try:
-            status = folder.run(self.programs, [*words, folder.place("proof")])
+            status = folder.run(self.programs, words)
         finally:
             pass_on(folder)
         if status not in (10, 20):
             raise (Fault if status else Undecided)(f"{os.path.basename(self.words[0])} {ending(status)}")
-        return status == 10, folder.taken("out", "answer") if status == 10 else folder.taken("proof", "proof")
+        return status
 
     def told(self, question, folder):
         """The words that call it for a question whose clauses are in a folder."""

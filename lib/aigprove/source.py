@@ -49,7 +49,7 @@ class Given:
     def take(self, file):
         """Takes the file in AIGER form."""
         self.file, self.line = file, file.line()
-        self.name = f"{self.stem}.{'aag' if self.line.startswith(b'aag') else 'aig'}"
+        self.name = f"{self.stem}.{form(self.line)}"
 
     def check_kinds(self, paths, words):
         """Refuses a file among several that is of no design, and what is for designs alone."""
@@ -100,6 +100,8 @@ class Given:
         for i, (kind, file) in enumerate(zip(self.kinds, self.given)):
             if kind:
                 evidence.put(f"{self.name[:-4]}{f'-{i}' if i else ''}{kind}", file)
+            elif file is not self.file:
+                evidence.put(f"{self.stem}-given.{form(file.line())}", file)
 
 
 class Asked:
@@ -315,6 +317,11 @@ def counted(number, one, many=None):
 def outermost(name):
     """Of the names of a signal, with spaces between, the one of fewest modules, and of these the shortest."""
     return min(name.split(b" "), key=lambda it: (it.count(b"."), len(it), it))
+
+
+def form(line):
+    """How the name of a file with this first line ends."""
+    return "aag" if line.startswith(b"aag") else "aig"
 
 
 def is_old(line):

@@ -1,6 +1,7 @@
 """Questions about many literals, or pairs of them, which cadical is asked in turn: it goes on with what it learned."""
-from aigprove.merging import Merging
-from aigprove.programs import Fault, Folder, Sealed
+import json
+
+from aigprove.programs import Fault, Folder, module
 from aigprove.questions import ASSUMING, HINTED, Solver
 
 # How many conflicts cadical has where it is to end soon.
@@ -47,9 +48,9 @@ class Turns(Solver):
     """cadical, which is asked about one literal, or one way in which a pair of literals differs, after the other; another solver is asked
     about all at once."""
 
-    def __init__(self, words, *others):
-        super().__init__(words.solver, *others)
-        self.is_cadical, self.gates = words.is_cadical, None
+    def __init__(self, words, is_cadical, *others):
+        super().__init__(words, *others)
+        self.is_cadical, self.gates = is_cadical, None
         self.turning = [*(word for word in self.words if word != HINTED), ASSUMING]
 
     def ask(self, question, file):
@@ -59,13 +60,8 @@ class Turns(Solver):
         with Folder(self.above) as folder:
             with folder.make("clauses.cnf") as out:
                 self.judge.print_question(question, file, out)
-            with open(folder.place("clauses.cnf"), "rb") as clauses:
-                merging = Merging(clauses.read())
-            with folder.make("asked") as out:
-                out.writelines(merging.asked())
-                is_asked = out.tell() > 0
-            has_solution, given = self.answer(folder, [*self.turning, folder.place("asked")]) if is_asked else (False, self.judge.nothing)
-        return has_solution, given if has_solution else Sealed(merging.proof() + given.bytes())
+            status = self.ended(folder, module("merging", folder.path, json.dumps(self.turning)))
+            return status == 10, folder.taken("out", "answer" if status == 10 else "proof")
 
     def differing(self, gates, facts, pairs, seconds=None):
         """Where gates hold and pairs of facts are equal: the place of a pair that can differ, and the variables that are true then; what
@@ -77,9 +73,12 @@ class Turns(Solver):
         with Folder(self.above) as folder:
             with folder.make("asked") as out:
                 out.writelines(text.encode() for text in self.asked(gates, facts, ways))
-            words = [*self.turning, *(["-t", str(seconds), "-c", str(FEW)] if seconds else [])] if self.is_cadical else self.words
-            has_solution, given = self.answer(folder, [*words, folder.place("asked")])
-        return self.solved(given, pairs) if has_solution else None
+            status = self.ended(folder, [*self.words_for(seconds), folder.place("asked"), *[folder.place("proof")] * (not self.is_cadical)])
+            return self.solved(folder.taken("out", "answer"), pairs) if status == 10 else None
+
+    def words_for(self, seconds):
+        """The words that call it where nobody looks at a proof, which cadical needn't write: it has so many seconds then, and few conflicts."""
+        return [*self.turning, *(["-t", str(seconds), "-c", str(FEW)] if seconds else [])] if self.is_cadical else self.words
 
     def asked(self, gates, facts, ways):
         """The pieces of a question; the clauses of gates are kept for the next one."""
