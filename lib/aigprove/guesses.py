@@ -225,11 +225,10 @@ class Guesses:
         latches = Classes(nodes, rng).begin([0, *nodes.latches])
         given = partners(self.circuit, *self.counts, self.alike)
         other = {nodes.latches[i]: nodes.latches[it] for i, it in given.items() if it is not None}
-        yield nodes, States(paired(latches, other), self.solver)
-        yield nodes, States(latches, self.solver)
         # As many registers are seldom those of another time.
-        ways = [self.present(rng), self.ahead(rng)]
-        for guess in itertools.chain.from_iterable(ways if self.counts[0] == self.counts[1] else reversed(ways)):
+        ways = [[States(latches, self.solver)], self.present(rng), self.ahead(rng)]
+        ways = ways if self.counts[0] == self.counts[1] else reversed(ways)
+        for guess in itertools.chain([States(paired(latches, other), self.solver)], *ways):
             yield guess.nodes, guess
 
     def present(self, rng):

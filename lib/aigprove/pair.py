@@ -19,8 +19,8 @@ BOTH, FIRST, COMPARED = CONSTRAINTS = ["both", "first", "compared"]
 BEHIND = {BOTH: "", FIRST: ", under the constraints of the first alone", COMPARED: ", constraints too"}
 # How many outputs that differ are named, and how many seconds first values are looked for that matter.
 NAMED, SECONDS = 100, 1
-# How many values that both designs leave open are named.
-NAMED_FREE = 10
+# How many values that both designs leave open are named, and how many signals of a kind that have two names.
+FEW = 10
 
 
 class Pair(Asked):
@@ -181,19 +181,25 @@ class Pair(Asked):
         yield from self.alone
         yield from self.same_free()
         yield from (f"{SIGNALS[letter][0]} are matched by name" for letter in self.by_name)
+        yield from self.by_position()
+
+    def by_position(self):
+        """Lines of signals that have two names, of each kind of the first ones."""
         first, other = self.first.circuit().names, self.other.circuit().names
-        for letter, place in sorted(first.keys() & other.keys()):
-            if letter in SIGNALS and first[letter, place] != other[letter, place]:
-                names = (word(it[letter, place].decode("utf-8", "surrogateescape")) for it in (first, other))
-                yield f"{SIGNALS[letter][0]} are matched by position: {letter}{place} is {' and '.join(names)}"
+        for letter, (kind, _) in SIGNALS.items():
+            places = sorted(place for place in first.keys() & other.keys() if place[0] == letter and first[place] != other[place])
+            told = [[word(it[place].decode("utf-8", "surrogateescape")) for it in (first, other)] for place in places[:FEW]]
+            says = [f"{letter}{place} is {' and '.join(names)}" for (_, place), names in zip(places, told)]
+            says += [f"{len(places) - FEW} others have two names, too"] * (len(places) > FEW)
+            yield from (f"{kind} are matched by position: {it}" for it in says)
 
     def same_free(self):
         """The line of values that both designs leave open, and that are inputs of one name."""
         free = [dict.fromkeys(it.design.left_open) for it in [self.first, self.other] if it.design]
         both = [word(name) for name in free[0] if name in free[1]] if len(free) == 2 else []
         if both:
-            others = [f"and {len(both) - NAMED_FREE} others"] * (len(both) > NAMED_FREE)
-            yield f"both leave open, and have the same value for: {' '.join([*both[:NAMED_FREE], *others])}"
+            others = [f"and {len(both) - FEW} others"] * (len(both) > FEW)
+            yield f"both leave open, and have the same value for: {' '.join([*both[:FEW], *others])}"
 
     def others(self, circuit, told):
         """Witnesses of what else differs at the end of a run, or may where it is long."""
