@@ -10,6 +10,8 @@ from aigprove.nodes import sides
 FEWEST, MOST, BITS = 64, 4096, 1 << 28
 # In how many of these something is true that seldom is, and how often two such are tried to be made different.
 SELDOM, TRIED = 32, 3
+# Of more bits than these few are inverted one by one.
+MANY = 400
 # For how many steps from the first states, from random states, and from those that a solver finds; and how many that split no class are
 # the last ones.
 BEGUN, DRAWN, FOUND, IDLE = 16, 4, 8, 3
@@ -160,9 +162,16 @@ class Classes:
         self.split(sides([*[0] * len(self.nodes.inputs), *state], self.every), runs)
 
     def beside(self, row):
-        """Bits as the first of many runs, and in each other one with one to three of them inverted."""
-        made = [self.every * bit for bit in row]
-        for run in range(1, self.every.bit_length()):
-            for _ in range(1 + run % 3):
-                made[self.rng.randrange(len(row))] ^= 1 << run
+        """Bits as the first of many runs, and in each other one with some of them inverted, two to four as a rule."""
+        made, count = [self.every * bit for bit in row], self.every.bit_length()
+        if len(row) > MANY:
+            for run in range(1, count):
+                for _ in range(1 + run % 3):
+                    made[self.rng.randrange(len(row))] ^= 1 << run
+            return made
+        for place in range(len(row)):
+            inverted = self.every - 1
+            for _ in range(len(row).bit_length() - 2):
+                inverted &= self.rng.getrandbits(count)
+            made[place] ^= inverted
         return made

@@ -18,8 +18,9 @@ from aigprove.united import United, ordered
 
 # How aigedit begins the names of latches of the other file.
 OTHER = b"other."
-# How many seconds of cadical's are few: so many, and one for so many gates.
-LEAST, QUICK = 1, 3000
+# How many seconds of cadical's are few: so many, and one for so many gates; and how many conflicts, where there are no more gates than these:
+# of more it takes long to look for nodes inside that are equal.
+LEAST, QUICK, FEW, MANY = 1, 1000, 300, 20000
 # For how many steps nodes are looked at ahead of those that there are, at first and then.
 AHEAD = [2, 6]
 
@@ -69,11 +70,11 @@ class States:
         """These pairs; None where classes were split."""
         classes, size, states, proved = self.classes, self.classes.size(), self.classes.pairs(), 0
         nodes, known = self.nodes.merged(classes.merged(self.nodes.leaves(), 1))
-        inner, seconds = self.inner(nodes), None if self.is_hard else LEAST + len(nodes.gates.rows) // QUICK
+        inner, limits = self.inner(nodes), [] if self.is_hard else limits_for(len(nodes.gates.rows))
         nexts = [(nodes.next(left), nodes.next(right)) for left, right in states] + [(bad, 0) for bad in nodes.bads]
         while classes.size() == size:
             pairs, facts = inner.pairs(), [(literal, 1) for literal in nodes.constraints]
-            found = self.solver.differing(nodes.gates, facts + pairs[:proved], pairs[proved:] + nexts, seconds)
+            found = self.solver.differing(nodes.gates, facts + pairs[:proved], pairs[proved:] + nexts, limits)
             if found is None:
                 return states + of_nodes(pairs, known)
             proved += min(found[0], len(pairs) - proved)
@@ -100,6 +101,11 @@ class States:
             classes.follow([*classes.drawn(nodes.inputs), *state], runs)
         if classes.size() + inner.size() == size:
             raise Fault("the solver's solution is none")
+
+
+def limits_for(gates):
+    """The words of cadical's limits where it is to end soon, of so many gates."""
+    return ["-t", str(LEAST + gates // QUICK), *(["-c", str(FEW)] if gates <= MANY else [])]
 
 
 def of_nodes(pairs, known):

@@ -28,6 +28,8 @@ TICK = 0.1
 # How many seconds values that don't matter are looked for in a run, and of how many properties that it shows; and how many cadical has for
 # what is so where registers start alike.
 SECONDS, SHOWN, ALIKE = 1, 8, 5
+# Engines that begin once the one for two files has ended, or after so many seconds.
+LATER, HEAD_START = {"pdr", "windows"}, 0.5
 
 
 def header_of(file):
@@ -47,8 +49,8 @@ class Race:
         self.deadline = words.deadline
         # What the progress line says, and the last line that was printed.
         self.doing, self.last = {}, None
-        # The run that was found.
-        self.told = None
+        # The run that was found, and that later engines may begin.
+        self.told, self.is_free = None, threading.Event()
         self.evidence = words.keep and Evidence(words.keep, words.limit)
         if self.evidence:
             source.keep(self.evidence)
@@ -315,6 +317,7 @@ class Race:
         try:
             engine = make()
         except Missing as why:
+            self.freed(name)
             self.fail(name, f"passed over: {why}")
             return False
         threading.Thread(target=self.work, args=[name, engine], name=name, daemon=True).start()
@@ -322,6 +325,8 @@ class Race:
 
     def work(self, name, engine):
         """Runs an engine in its thread."""
+        if name in LATER:
+            self.is_free.wait(HEAD_START)
         try:
             engine.run()
             self.events.put(lambda: self.end(name))
@@ -330,6 +335,12 @@ class Race:
         # Whatever an engine's program leaves, the other engines go on.
         except Exception as why:
             self.events.put(functools.partial(self.end, name, reason(why)))
+        self.freed(name)
+
+    def freed(self, name):
+        """Lets later engines begin, once the one for two files ended."""
+        if name == "registers":
+            self.is_free.set()
 
     def end(self, name, why=None):
         """Takes that an engine ended without an answer."""
@@ -372,6 +383,8 @@ class Race:
 
     def raced(self, engines):
         """Runs engines until there is an answer, or none can come any more: the exit status of the answer, or None."""
+        if "registers" not in engines:
+            self.is_free.set()
         self.left = sum([self.start(name, make) for name, make in engines.items()])
         status = None
         while status is None and time.monotonic() < self.deadline and (self.left or not self.events.empty()):

@@ -4,9 +4,6 @@ import json
 from aigprove.programs import Fault, Folder, module
 from aigprove.questions import ASSUMING, HINTED, Solver
 
-# How many conflicts cadical has where it is to end soon.
-FEW = 300
-
 
 def apart(left, right):
     """Both ways in which two literals differ, each as literals that are all true then."""
@@ -63,22 +60,20 @@ class Turns(Solver):
             status = self.ended(folder, module("merging", folder.path, json.dumps(self.turning)))
             return status == 10, folder.taken("out", "answer" if status == 10 else "proof")
 
-    def differing(self, gates, facts, pairs, seconds=None):
+    def differing(self, gates, facts, pairs, limits=()):
         """Where gates hold and pairs of facts are equal: the place of a pair that can differ, and the variables that are true then; what
-        stands before that place can't. None where none can, as the solver says: nobody has looked at a proof. cadical has so many seconds,
-        and few conflicts then."""
+        stands before that place can't. None where none can, as the solver says: nobody has looked at a proof. cadical keeps to limits, which
+        are words."""
         ways = [way for pair in pairs for way in apart(*pair)]
         if not ways:
             return None
         with Folder(self.above) as folder:
             with folder.make("asked") as out:
                 out.writelines(text.encode() for text in self.asked(gates, facts, ways))
-            status = self.ended(folder, [*self.words_for(seconds), folder.place("asked"), *[folder.place("proof")] * (not self.is_cadical)])
+            # Only of cadical is it known that it needn't write a proof.
+            words = [*self.turning, *limits] if self.is_cadical else self.words
+            status = self.ended(folder, [*words, folder.place("asked"), *[folder.place("proof")] * (not self.is_cadical)])
             return self.solved(folder.taken("out", "answer"), pairs) if status == 10 else None
-
-    def words_for(self, seconds):
-        """The words that call it where nobody looks at a proof, which cadical needn't write: it has so many seconds then, and few conflicts."""
-        return [*self.turning, *(["-t", str(seconds), "-c", str(FEW)] if seconds else [])] if self.is_cadical else self.words
 
     def asked(self, gates, facts, ways):
         """The pieces of a question; the clauses of gates are kept for the next one."""
