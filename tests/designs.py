@@ -7,8 +7,8 @@ in the rows of tests/verilog, and some have paths that are patterns or commands 
 isn't with the first bad literal of the file's copy or of the certificate inverted, with another bad state or no end in the witness, or
 with a sign before a proof that is no step, where unit propagation alone doesn't show the line.
 
-Then some of the files are compared with what ABC makes of them, by the engine that guesses which registers correspond: that is equal, as
-ABC's dsec says too, and with an output or the bad literal inverted the engine has no answer."""
+Then some of the files are compared with what ABC makes of them, by each engine that guesses what corresponds: that is equal, as ABC's dsec
+says too, and with an output or the bad literal inverted the engine has no answer."""
 import os
 import shlex
 import shutil
@@ -154,15 +154,16 @@ def register_faults(design, command, folder, seconds):
     plain, made, is_equal = rewritten(design, command, folder)
     if not is_equal:
         yield f"{command} makes another design, as dsec says"
-    words = ["-q", "--engine", "registers", "--timeout", seconds, "--equal", plain]
-    told = answered(["--keep", folder / "kept", *words, made])
-    if told != (20, "equal at every step\n", ""):
-        yield f"by {command}: {told}"
-    yield from kept_faults(folder / "kept")
     (folder / "wrong.aig").write_bytes(inverted(made.read_bytes()))
-    told = answered([*words, folder / "wrong.aig"])
-    if told != (0, "nothing was shown\n", ""):
-        yield f"by {command}, inverted: {told}"
+    for engine in ["registers", "scorr"]:
+        words = ["-q", "--engine", engine, "--timeout", seconds, "--equal", plain]
+        told = answered(["--keep", folder / engine, *words, made])
+        if told != (20, "equal at every step\n", ""):
+            yield f"{engine} by {command}: {told}"
+        yield from kept_faults(folder / engine)
+        told = answered([*words, folder / "wrong.aig"])
+        if told != (0, "nothing was shown\n", ""):
+            yield f"{engine} by {command}, inverted: {told}"
 
 
 def verilog_faults(words, wanted_status, wanted, folder):

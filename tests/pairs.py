@@ -7,7 +7,7 @@ and that at which the machine of `aigedit miter` is bad, by a search over its st
 cadical's proof, and at that step it takes neither that proof nor the empty clause. ABC's `dsec`, and `cec` without latches, say the same
 of files that ABC reads, and `bin/aigprove --equal` of all; what that keeps isn't shown with an output of the other file inverted.
 
-The engine that guesses which registers correspond says nothing else alone, if anything.
+The engines that guess what corresponds say nothing else alone, if anything.
 
 As many pairs have registers that may start with either value, most of which have names, beside the same in another order, and perhaps a
 gate more. Where those that are matched by order or by name start alike, the search begins with states in which they do, and is compared with
@@ -242,10 +242,11 @@ class Pair(Files):
             self.compare_told(different[2], lines, witness.read_text())
         if different and not alike:
             self.compare_alike(int(different[1]), lines)
-        status, _, said = harness.run([PROVE, *self.words, "-q", "--engine", "registers", "--equal", self.other, self.file])
-        if status not in (0, 20) or status == 20 and first is not None:
-            self.fail(f"a search finds a difference at step {first}, and registers that correspond: {status} {said}")
-        self.counts["by registers"] += status == 20
+        for engine in ["registers", "scorr"]:
+            status, _, said = harness.run([PROVE, *self.words, "-q", "--engine", engine, "--equal", self.other, self.file])
+            if status not in (0, 20) or status == 20 and first is not None:
+                self.fail(f"a search finds a difference at step {first}, and {engine}: {status} {said}")
+            self.counts[f"by {engine}"] += status == 20
         again, kept = harness.shown_again(keep), str(keep / "other.aag")
         miter = self.mitered(kept)
         Path(kept).write_bytes(inverted(Path(kept).read_bytes()))
@@ -435,13 +436,13 @@ class Form(Files):
     def compare(self):
         """Compares what aigprove says with what ABC says."""
         told, witness = self.by_abc(), self.folder / "witness"
-        for words in [["--witness", str(witness)], ["--engine", "registers"]]:
-            status, printed, said = harness.run([PROVE, *words, "--timeout", SECONDS, "--equal", self.other, self.file])
+        for option, given in [("--witness", str(witness)), ("--engine", "registers"), ("--engine", "scorr")]:
+            status, printed, said = harness.run([PROVE, option, given, "--timeout", SECONDS, "--equal", self.other, self.file])
             if status not in (0, 10, 20) or told and status == (20 if told[1] else 10):
                 self.fail(f"ABC says {told and told[0]}, and aigprove: {status} {printed} {said}")
             if status == 10 and not self.differ(witness.read_text()):
                 self.fail("nothing differs at the end of the witness")
-            self.counts[f"designs {['open', 'different', 'equal'][status // 10]}" + " by registers" * ("--engine" in words)] += 1
+            self.counts[f"designs {['open', 'different', 'equal'][status // 10]}" + f" by {given}" * (option == "--engine")] += 1
         return self.counts
 
 

@@ -29,8 +29,8 @@ from aigprove.yosys import Late
 TOP = os.path.dirname(os.path.dirname(os.path.dirname(os.path.realpath(__file__))))
 # Engines, those first whose answers may come at once.
 ENGINES = ["bmc3", "pdr", "bounded", "steps", "windows"]
-# One for two files.
-REGISTERS = "registers"
+# Those for two files.
+FOR_PAIRS = ["scorr", "registers"]
 # One for justice properties.
 ROUNDS = "rounds"
 BELIEVED = ["aigtool", "aigedit", "aigcheck"]
@@ -65,6 +65,7 @@ Engines look for an answer side by side, and the first that is checked is printe
   steps     asks it about step 0, 1 and so on
   windows   asks it about K + 2 steps from any state, bad at the last alone (k-induction)
   registers guesses which registers of two files are always equal, and asks it whether a step keeps them so
+  scorr     has ABC find which nodes of two files are always equal, which becomes a certificate
   rounds    asks pdr whether 1, 2, 4 and so on rounds of a justice property can end
 An engine that isn't installed, lies or breaks is told of on standard error, and changes nothing else.
 
@@ -149,7 +150,7 @@ def parameter(word):
 
 def engines(word):
     names = word.replace("abc", "bmc3,pdr").split(",")
-    known = [*ENGINES, REGISTERS, ROUNDS]
+    known = [*ENGINES, *FOR_PAIRS, ROUNDS]
     if not set(names) <= set(known):
         raise argparse.ArgumentTypeError(f"{word} names others than {', '.join(known)} and abc")
     return names
@@ -293,7 +294,7 @@ def parse(line):
         made.error("--write-certificate is about an answer of our own, and not with --certificate and --run")
     words.deadline = math.inf if words.timeout is None else time.monotonic() + words.timeout
     given = words.certificate or words.run
-    words.engines = words.engine or ([] if given else [*[REGISTERS] * bool(words.equal), *ENGINES])
+    words.engines = words.engine or ([] if given else [*(FOR_PAIRS if words.equal else []), *ENGINES])
     words.certificate, words.run = (path and sealed(path, words.limit) for path in [words.certificate, words.run])
     words.believed = [believed(name, vars(words)[name]) for name in BELIEVED]
     words.is_cadical, words.solver = not words.solver, words.solver or cadical()

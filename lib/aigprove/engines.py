@@ -32,6 +32,14 @@ class Missing(Fault):
     """Why an engine is passed over."""
 
 
+def abc(words):
+    """The path of ABC."""
+    program = words.abc or next(filter(None, map(shutil.which, ABCS)), None)
+    if program is None:
+        raise Missing(f"none of {', '.join(ABCS)} is installed")
+    return program
+
+
 def powers(bound):
     """0, 1, 2, 4 and so on, up to the bound."""
     return itertools.takewhile(lambda k: bound is None or k <= bound, itertools.chain([0], (1 << i for i in itertools.count())))
@@ -191,10 +199,7 @@ class Abc:
     """A command of ABC on the plain machine of the file."""
 
     def __init__(self, name, race):
-        self.name, self.race = name, race
-        self.program = race.words.abc or next(filter(None, map(shutil.which, ABCS)), None)
-        if self.program is None:
-            raise Missing(f"none of {', '.join(ABCS)} is installed")
+        self.name, self.race, self.program = name, race, abc(race.words)
 
     def run(self):
         self.race.progress(self.name)

@@ -121,6 +121,7 @@ class Steps:
         self.classes, self.nodes, self.solver = classes, classes.nodes, solver
 
     def pairs(self):
+        """All pairs of them, by which first states were seen to have them, and a step to keep them."""
         size = None
         self.settle()
         while size != self.classes.size():
@@ -212,15 +213,15 @@ class Guesses:
     """What may be equal in a circuit of two files, of which it has so many latches each, and some start like others: classes of nodes, first
     of latches alone, which are split until a step keeps them."""
 
-    def __init__(self, circuit, alike, counts, solver):
-        self.circuit, self.alike, self.counts, self.solver = circuit, alike, counts, solver
+    def __init__(self, circuit, alike, counts, solver, abc):
+        self.circuit, self.alike, self.counts, self.solver, self.abc = circuit, alike, counts, solver, abc
 
     def certificate(self):
         """The certificate of the first guess that a step keeps; None where there is none."""
         try:
-            for nodes, guess in self.guesses():
+            for guess in self.guesses():
                 if (pairs := self.kept(guess)) is not None:
-                    return certificate(nodes, pairs)
+                    return certificate(guess.nodes, pairs)
         except Different:
             pass
         return None
@@ -234,8 +235,7 @@ class Guesses:
         # As many registers are seldom those of another time.
         ways = [[States(latches, self.solver)], self.present(rng), self.ahead(rng)]
         ways = ways if self.counts[0] == self.counts[1] else reversed(ways)
-        for guess in itertools.chain([States(paired(latches, other), self.solver)], *ways):
-            yield guess.nodes, guess
+        yield from itertools.chain([States(paired(latches, other), self.solver)], *ways)
 
     def present(self, rng):
         """Nodes of one step."""
@@ -246,14 +246,19 @@ class Guesses:
         """Also nodes of the next steps, first without those that are equal to such alone."""
         whole = []
         for steps in AHEAD:
-            nodes = Nodes(self.circuit, self.alike)
-            stop = nodes.all().stop
-            for _ in range(steps):
-                nodes.look_ahead()
+            stop, nodes = self.nodes_ahead(steps)
             whole.append(Classes(nodes, rng).begin(nodes.all()))
             yield Steps(whole[-1].of_first(stop), self.solver)
         for classes in whole:
             yield Steps(classes, self.solver)
+
+    def nodes_ahead(self, steps):
+        """Nodes, and also those of so many next steps, behind the place before which the others are."""
+        nodes = Nodes(self.circuit, self.alike)
+        stop = nodes.all().stop
+        for _ in range(steps):
+            nodes.look_ahead()
+        return stop, nodes
 
     def kept(self, guess):
         try:
@@ -262,17 +267,21 @@ class Guesses:
             return None
 
 
-def main(folder, asked):
-    """Prints the certificate for the file `file.aag` of a folder, if there is one; what is asked says with which solver, which latches start
-    like others, and how many are of each file."""
+def run(make, folder, asked):
+    """Prints the certificate for the file `file.aag` of a folder, if there is one, of what is made of what is asked: its circuit, which
+    latches start like others, how many are of each file, the solver, and ABC."""
     given = json.loads(asked)
     with open(os.path.join(folder, "file.aag"), "rb") as file:
         circuit = Circuit(Lines(file.read(), "FILE"), given["limit"])
     alike = {int(place): partner for place, partner in given["alike"].items()}
     solver = Turns(given["solver"], given["is_cadical"], Programs(1), None, folder)
     try:
-        made = Guesses(circuit, alike, given["counts"], solver).certificate()
+        made = make(circuit, alike, given["counts"], solver, given["abc"]).certificate()
     except Fault as why:
         sys.exit(str(why))
     if made is not None:
         sys.stdout.buffer.write(made)
+
+
+def main(*words):
+    run(Guesses, *words)

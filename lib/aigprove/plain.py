@@ -48,6 +48,13 @@ class Gates:
         return self.both(self.both(condition, left) ^ 1, self.both(condition ^ 1, right) ^ 1) ^ 1
 
 
+def binary(inputs, nexts, outputs, gates):
+    """The binary form of a machine of so many inputs, whose latches are 0 at first, by literals."""
+    header = f"aig {inputs + len(nexts) + len(gates.rows)} {inputs} {len(nexts)} {len(outputs)} {len(gates.rows)}"
+    lines = "".join(f"{line}\n" for line in [header, *nexts, *outputs])
+    return lines.encode() + b"".join(difference(gate - left) + difference(left - right) for gate, left, right in gates.rows)
+
+
 def literals_of(circuit, gates, leaves):
     """The literals that stand for those of a circuit, whose leaves stand for these: a function."""
     known = {0: 0, **leaves}
@@ -95,13 +102,8 @@ class Plain:
 
     def binary(self):
         """Its binary form."""
-        inputs, latches, gates = len(self.inputs), len(self.latches), self.gates.rows
-        header = f"aig {inputs + latches + len(gates)} {inputs} {latches} {len(self.bads)} {len(gates)}"
-        lines = [header, *self.nexts, *self.bads]
-        names = [f"{letter}{i} {name}" for letter, own in [("i", self.inputs), ("l", self.latches)] for i, name in enumerate(own)]
-        names = "".join(f"{name}\n" for name in names).encode()
-        differences = b"".join(difference(gate - left) + difference(left - right) for gate, left, right in gates)
-        return "".join(f"{line}\n" for line in lines).encode() + differences + names
+        names = [f"{letter}{i} {name}\n" for letter, own in [("i", self.inputs), ("l", self.latches)] for i, name in enumerate(own)]
+        return binary(len(self.inputs), self.nexts, self.bads, self.gates) + "".join(names).encode()
 
     def run(self, text):
         """The first state and the inputs of each step in a counterexample of the plain machine, as `write_cex -n` of ABC writes

@@ -23,8 +23,8 @@ SEALS = fcntl.F_SEAL_WRITE | fcntl.F_SEAL_GROW | fcntl.F_SEAL_SHRINK | fcntl.F_S
 SUBREAPER = 36
 # Seconds that an engine may have run longer than another that waits.
 TURN = 0.25
-# Engines that may run longer than others, by how many times: most designs are decided by the first, most pairs of files by the second.
-SHARES = {"pdr": 2, "registers": 8}
+# Engines that may run longer than others, by how many times: most designs are decided by the first, most pairs of files by the others.
+SHARES = {"pdr": 2, "scorr": 8, "registers": 8}
 # An engine that showed a step may run half as long as others once it showed none for so many seconds of its own.
 LATELY, SLOWED = 2, 2
 # What stands between the name of an engine and the mark of its question, where several are asked side by side.

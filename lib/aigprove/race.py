@@ -15,7 +15,7 @@ from aigprove.evidence import Evidence
 from aigprove.minimal import SMALL, minimal, simulated
 from aigprove.programs import Fault, Sealed, Stopped, reason, say, tell
 from aigprove.questions import Question, Solver
-from aigprove.registers import Registers
+from aigprove.registers import Registers, Signals
 from aigprove.replay import SIMULATED
 from aigprove.rounds import Rounds
 from aigprove.shown import Shown
@@ -28,7 +28,7 @@ TICK = 0.1
 # How many seconds values that don't matter are looked for in a run, and of how many properties that it shows; and how many cadical has for
 # what is so where registers start alike.
 SECONDS, SHOWN, ALIKE = 1, 8, 5
-# Engines that begin once the one for two files has ended, or after so many seconds.
+# Engines that begin once `registers` has ended, or after so many seconds.
 LATER, HEAD_START = {"pdr", "windows"}, 0.5
 
 
@@ -307,7 +307,7 @@ class Race:
             given["certificate"] = lambda: Certificate(self, words.certificate)
         if words.run:
             given["run"] = lambda: Run(self, words.run)
-        own = {"steps": Steps, "bounded": Bounded, "windows": Windows, "registers": Registers, "rounds": Rounds}
+        own = {"steps": Steps, "bounded": Bounded, "windows": Windows, "registers": Registers, "scorr": Signals, "rounds": Rounds}
         own.update((name, functools.partial(Abc, name)) for name in COMMANDS)
         names = [*words.engines, *["rounds"] * (self.source.counts and not words.engine)]
         return given | {name: functools.partial(own[name], self) for name in names}

@@ -2,7 +2,7 @@
 for what other engines compute. Nothing here is believed."""
 import json
 
-from aigprove.engines import Asking, Certificate, Missing
+from aigprove.engines import Asking, Certificate, Missing, abc
 from aigprove.pair import Pair
 from aigprove.programs import Fault, Folder, ending, module, say
 from aigprove.questions import pass_on
@@ -12,6 +12,10 @@ from aigprove.turns import Turns
 class Registers(Asking):
     """Has classes of nodes guessed that are always equal, and their certificate checked."""
 
+    # The engine, and the module that guesses.
+    name, guesses = "registers", "guesses"
+    abc = None
+
     def __init__(self, race):
         super().__init__(race)
         if not isinstance(race.source, Pair):
@@ -19,26 +23,36 @@ class Registers(Asking):
         self.solver = Turns(race.words.solver, race.words.is_cadical, self.solver.programs, self.judge, race.above)
 
     def run(self):
-        self.race.progress("registers")
+        self.race.progress(self.name)
         certificate = self.guessed()
         if certificate.size():
             made = Certificate(self.race, certificate)
             made.solver = self.solver
             made.run()
         elif self.race.words.verbose:
-            say("registers: something differs where all are equal that may be")
+            say(f"{self.name}: something differs where all are equal that may be")
 
     def guessed(self):
         """The certificate that is guessed, sealed; empty where there is none."""
         words = self.race.words
         asked = {"solver": words.solver, "is_cadical": words.is_cadical, "limit": self.judge.limit}
-        asked |= {"alike": self.source.started(), "counts": self.source.latches()}
+        asked |= {"alike": self.source.started(), "counts": self.source.latches(), "abc": self.abc}
         with Folder(self.race.above) as folder:
             with folder.make("file.aag") as out:
                 out.write(self.race.text.bytes())
-            status = folder.run(self.race.programs, module("guesses", folder.path, json.dumps(asked)))
+            status = folder.run(self.race.programs, module(self.guesses, folder.path, json.dumps(asked)))
             if status:
                 *_, last = folder.text("err", "message").strip().split("\n")
                 raise Fault(last or f"its program {ending(status)}")
             pass_on(folder)
             return folder.taken("out", "certificate")
+
+
+class Signals(Registers):
+    """Has ABC find the classes."""
+
+    name = guesses = "scorr"
+
+    def __init__(self, race):
+        super().__init__(race)
+        self.abc = abc(race.words)

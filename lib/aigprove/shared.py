@@ -1,8 +1,7 @@
 """ABC on several properties of a file at once: one run of pdr finds runs to those that are reached, and one invariant for all others."""
 import re
-import shutil
 
-from aigprove.engines import ABCS, Missing
+from aigprove.engines import abc
 from aigprove.plain import Plain
 from aigprove.programs import Fault, Folder, Sealed, ending
 
@@ -10,14 +9,6 @@ from aigprove.programs import Fault, Folder, Sealed, ending
 PDR = "pdr -a -x -d -I inv.pla -H {each}"
 BMC = "bmc3 -a -x -F {steps} -T {seconds}"
 FOUND = re.compile(r"^# CEX for output ([0-9]{1,9})$", re.MULTILINE)
-
-
-def abc(words):
-    """The path of ABC."""
-    program = words.abc or next(filter(None, map(shutil.which, ABCS)), None)
-    if program is None:
-        raise Missing(f"none of {', '.join(ABCS)} is installed")
-    return program
 
 
 class Shared:
