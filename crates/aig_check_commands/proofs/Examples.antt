@@ -1,6 +1,6 @@
 -- The comments of a small query, computed; and wrong words and lines, of which the definitions are
 -- false.
-use Rattle.aig_base.proofs.Words.{◌≡◌, ◌≢◌, ◌⊎◌, ℕ, Bool, true, false, None, Option, List, [], ◌∷◌, ◌++◌, length, refl, ap, subst, sym, arith, length-append, ◌∙◌, inl, inr, Some, same_Some}
+use Rattle.aig_base.proofs.Words.{◌≡◌, ◌≢◌, ◌⊎◌, ℕ, Bool, true, false, None, Ok, Option, List, [], ◌∷◌, ◌++◌, length, refl, ap, subst, sym, arith, length-append, ◌∙◌, inl, inr, Some, same_Some}
 use Rattle.std.specs.Prelude.{◌^◌, IsTrue, codes, decimal, not, slice_get, slice_index, slice_index_or}
 use Rattle.std.specs.Fmt.{digits}
 use Rattle.aig_base.specs.Clauses.{lit_to}
@@ -19,6 +19,9 @@ use Rattle.aig_refutation.specs.declared.error.RefutationError.{RefutationError}
 use Rattle.aig_answers.specs.declared.error.AnswerError.{AnswerError}
 use Rattle.aig_answers.specs.declared.error.AnswerError.TheVariants as answers
 use Rattle.aig_check_commands.specs.Titles.{title_text}
+use Rattle.aig_simulation.specs.declared.condition.Condition.{Condition}
+use Rattle.aig_simulated.specs.Simulated.{TellsOfCondition}
+use Rattle.aig_check_commands.specs.Simulating.{TellsOfSimulated}
 use Rattle.aig_witness.specs.declared.error.WitnessError.TheVariants as witness
 use Rattle.aig_witness.specs.declared.file.ShowError.TheVariants as shows
 use Rattle.aig_witness.specs.declared.fair.file.ShownProperty.TheVariants as properties
@@ -409,3 +412,10 @@ no_answer_after_a_failure : (c : FileCommand) (limit : ℕ) (old new : Option (L
     → ¬ Judges (file_verdict c limit) limit old new true Accepted
 no_answer_after_a_failure c limit old new said =
     let failed : true ≡ false = (said.whole tt).0 in cc
+
+-- a machine is told to be safe, though a condition of the certificate isn't shown
+no_condition_left_out : {W : Type 0} (held : W → Option (List ℕ)) (write_failed : W → Bool)
+    (optimize : Bool) (limit : ℕ) (texts : Condition → Option (List ℕ)) (w made : W) (f g : File)
+    (condition : Condition) → ¬ TellsOfCondition limit optimize texts f g condition (Ok tt)
+    → ¬ TellsOfSimulated held write_failed optimize limit texts w made f g (Ok tt)
+no_condition_left_out _ _ _ _ _ _ _ _ _ condition refused told = refused (told.0.2 condition)
