@@ -1,6 +1,7 @@
 """Registers that correspond: a program that guesses, by names and by random runs, which latches, and other nodes, of a circuit of two files
 are always equal, or each other's inverse, and prints a certificate that says so. Nothing here is believed."""
 import copy
+import gc
 import itertools
 import json
 import os
@@ -121,14 +122,19 @@ class Steps:
         self.classes, self.nodes, self.solver = classes, classes.nodes, solver
 
     def pairs(self):
-        """All pairs of them, by which first states were seen to have them, and a step to keep them."""
+        """Pairs of them, by which first states were seen to have them, and a step to keep them."""
         size = None
         self.settle()
         while size != self.classes.size():
             size = self.classes.size()
             self.keep_first()
             self.keep_next()
-        return self.classes.pairs()
+        return self.apart()
+
+    def apart(self):
+        """The pairs of classes, but for those that are one by themselves where the others are."""
+        _, found = United(self.classes, self.order).literals(self.nodes.leaves(), Gates(self.nodes.latches.stop), {})
+        return sorted((names for names, _ in found), key=lambda pair: pair[1] >> 1)
 
     def keep_first(self):
         """Splits classes until first states have them."""
@@ -213,8 +219,8 @@ class Guesses:
     """What may be equal in a circuit of two files, of which it has so many latches each, and some start like others: classes of nodes, first
     of latches alone, which are split until a step keeps them."""
 
-    def __init__(self, circuit, alike, counts, solver, abc):
-        self.circuit, self.alike, self.counts, self.solver, self.abc = circuit, alike, counts, solver, abc
+    def __init__(self, circuit, alike, solver, given):
+        self.circuit, self.alike, self.solver, self.given, self.counts = circuit, alike, solver, given, given["counts"]
 
     def certificate(self):
         """The certificate of the first guess that a step keeps; None where there is none."""
@@ -268,15 +274,17 @@ class Guesses:
 
 
 def run(make, folder, asked):
-    """Prints the certificate for the file `file.aag` of a folder, if there is one, of what is made of what is asked: its circuit, which
-    latches start like others, how many are of each file, the solver, and ABC."""
+    """Prints the certificate for the file `file.aag` of a folder, if there is one, of what is made of its circuit and of what is asked: which
+    latches start like others, how many are of each file, and which solver asks."""
+    # It soon ends, and what it makes isn't looked through for what could go.
+    gc.disable()
     given = json.loads(asked)
     with open(os.path.join(folder, "file.aag"), "rb") as file:
         circuit = Circuit(Lines(file.read(), "FILE"), given["limit"])
     alike = {int(place): partner for place, partner in given["alike"].items()}
     solver = Turns(given["solver"], given["is_cadical"], Programs(1), None, folder)
     try:
-        made = make(circuit, alike, given["counts"], solver, given["abc"]).certificate()
+        made = make(circuit, alike, solver, given).certificate()
     except Fault as why:
         sys.exit(str(why))
     if made is not None:

@@ -1,5 +1,6 @@
 """Clauses in which variables are merged whose definitions are equal, or that units say to be equal, and the clauses that say so: each follows
 from those before it by unit propagation, and so a proof may begin with them. A program that asks cadical so. Nothing here is believed."""
+import gc
 import itertools
 import json
 import os
@@ -41,7 +42,9 @@ def largest(clause):
 def gate_of(variable, clauses):
     """The operands of the gate that clauses define a variable by: two of an and, three of a choice, c, t and e; None where it is none."""
     if list(map(len, clauses)) == [2, 2, 3]:
-        return tuple(-it for it in clauses[2] if it != variable)
+        operands = tuple(-it for it in clauses[2] if it != variable)
+        ways = [[-variable, it] for it in operands]
+        return operands if clauses[:2] in (ways, ways[::-1]) else None
     below = [set(own) - {-variable} for own in clauses if -variable in own]
     if list(map(len, clauses)) != [3] * 4 or len(below) != 2:
         return None
@@ -105,7 +108,7 @@ class Merging:
         count, place = parsed(clauses)
         last = clauses.rindex(b"\n", 0, -1) + 1
         # By a variable and by its inverse, which counts from the end.
-        self.same, (self.last,) = [*range(count + 1), *range(-count, 0)], lists(clauses[last:])
+        self.count, self.same, (self.last,) = count, [*range(count + 1), *range(-count, 0)], lists(clauses[last:])
         self.lemmas, self.others = [], []
         gates = self.gates(clauses[:last], place)
         self.others, units = [own for own in self.others if len(own) > 1], [own for own in self.others if len(own) == 1]
@@ -116,6 +119,7 @@ class Merging:
         gates = self.merge(gates)
         self.merge_equal(gates)
         self.left = self.merge(gates)
+        self.resolve()
 
     def gates(self, clauses, place):
         """The variables that clauses define, and their operands; clauses that define none are left as they are."""
@@ -134,15 +138,22 @@ class Merging:
 
     def literal(self, of):
         """What stands for a literal."""
-        it = self.same[of]
-        return it if it in (of, -of, TRUE, FALSE) else self.literal(it)
+        return self.same[of]
+
+    def resolve(self):
+        """Has nothing stand for a literal for which another stands."""
+        for variable in range(2, self.count + 1):
+            it = self.same[self.same[variable]]
+            self.same[variable], self.same[-variable] = it, -it
 
     def merge(self, gates):
         """The gates that are left when variables of the same definition are merged."""
-        made, left = {}, []
+        self.resolve()
+        same, made, left = self.same, {}, []
         for variable, operands in gates:
-            values = tuple(map(self.literal, operands))
-            if self.same[variable] == variable:
+            # What stood for an operand may have been merged here.
+            values = tuple([same[same[it]] for it in operands])
+            if same[variable] == variable:
                 side, key = and_of(*values) if len(values) == 2 else choice_by(*values)
                 other = side if key is None else side * made.setdefault(key, side * variable)
                 if other != variable:
@@ -184,6 +195,8 @@ class Merging:
 
 def main(folder, words):
     """Asks cadical, which these words call, about the clauses in a folder, prints its solution or the whole proof, and ends as it ends."""
+    # It soon ends, and what it makes isn't looked through for what could go.
+    gc.disable()
     clauses, asked, proof = (os.path.join(folder, name) for name in ["clauses.cnf", "asked", "proof"])
     with open(clauses, "rb") as file:
         merging = Merging(file.read())

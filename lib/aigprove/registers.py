@@ -12,9 +12,8 @@ from aigprove.turns import Turns
 class Registers(Asking):
     """Has classes of nodes guessed that are always equal, and their certificate checked."""
 
-    # The engine, and the module that guesses.
-    name, guesses = "registers", "guesses"
-    abc = None
+    # The engine, the module that guesses, and what else that is told.
+    name, guesses, further = "registers", "guesses", {}
 
     def __init__(self, race):
         super().__init__(race)
@@ -36,7 +35,7 @@ class Registers(Asking):
         """The certificate that is guessed, sealed; empty where there is none."""
         words = self.race.words
         asked = {"solver": words.solver, "is_cadical": words.is_cadical, "limit": self.judge.limit}
-        asked |= {"alike": self.source.started(), "counts": self.source.latches(), "abc": self.abc}
+        asked |= {"alike": self.source.started(), "counts": self.source.latches(), **self.further}
         with Folder(self.race.above) as folder:
             with folder.make("file.aag") as out:
                 out.write(self.race.text.bytes())
@@ -49,10 +48,17 @@ class Registers(Asking):
 
 
 class Signals(Registers):
-    """Has ABC find the classes."""
+    """Has ABC find the classes, of which a certificate is made at once, and, where it is none, once a step was seen to keep some."""
 
     name = guesses = "scorr"
 
     def __init__(self, race):
         super().__init__(race)
-        self.abc = abc(race.words)
+        self.further = {"abc": abc(race.words), "is_taken": True}
+
+    def run(self):
+        try:
+            super().run()
+        except Fault:
+            self.further["is_taken"] = False
+            super().run()

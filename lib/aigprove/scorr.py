@@ -49,7 +49,17 @@ def rows(nodes, literals):
 
 
 class Found(Steps):
-    """Classes that ABC found, which random steps don't split."""
+    """Classes that ABC found, which random steps don't split. That a step keeps them may be taken as it is."""
+
+    def __init__(self, classes, solver, is_taken):
+        super().__init__(classes, solver)
+        self.is_taken = is_taken
+
+    def pairs(self):
+        if not self.is_taken:
+            return super().pairs()
+        self.settle()
+        return self.apart()
 
     def settle(self):
         self.order = ordered(self.classes)
@@ -68,14 +78,14 @@ class Signals(Guesses):
             if set(nodes.bads) <= set(own[0]):
                 classes = Classes(nodes, random.Random(0))
                 classes.rows = [row for row in own if len(row) > 1]
-                yield Found(classes.of_first(stop), self.solver)
+                yield Found(classes.of_first(stop), self.solver, self.given["is_taken"])
 
     def united(self, nodes):
         """What stands for each node, from the first latch on, in the circuit that ABC leaves."""
         with Folder(self.solver.above) as folder:
             with folder.make("nodes.aig") as out:
                 out.write(machine(nodes))
-            if status := folder.run(self.solver.programs, [self.abc, "-q", UNITE]):
+            if status := folder.run(self.solver.programs, [self.given["abc"], "-q", UNITE]):
                 raise Fault(f"ABC {ending(status)}")
             return outputs(folder.taken("united.aig", "circuit").bytes())
 
