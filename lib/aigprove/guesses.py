@@ -129,12 +129,7 @@ class Steps:
             size = self.classes.size()
             self.keep_first()
             self.keep_next()
-        return self.apart()
-
-    def apart(self):
-        """The pairs of classes, but for those that are one by themselves where the others are."""
-        _, found = United(self.classes, self.order).literals(self.nodes.leaves(), Gates(self.nodes.latches.stop), {})
-        return sorted((names for names, _ in found), key=lambda pair: pair[1] >> 1)
+        return self.classes.pairs()
 
     def keep_first(self):
         """Splits classes until first states have them."""

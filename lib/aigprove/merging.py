@@ -175,8 +175,16 @@ class Merging:
         ands = [operands for variable, operands in gates if self.same[variable] == FALSE and len(operands) == 2]
         apart = {tuple(sorted(map(self.literal, own), key=abs)) for own in ands}
         for left, right in apart:
-            if (-left, -right) in apart and self.same[abs(right)] == abs(right):
-                self.same[right], self.same[-right] = -left, left
+            if (-left, -right) in apart:
+                left, right = sorted(map(self.last_of, (left, right)), key=abs)
+                if abs(left) < abs(right):
+                    self.same[right], self.same[-right] = -left, left
+
+    def last_of(self, literal):
+        """What stands for a literal, and for that, and so on."""
+        while (it := self.same[literal]) != literal:
+            literal = it
+        return literal
 
     def asked(self):
         """A file of cadical's that asks about the literals of the last clause in turn, the last first; nothing where all are false."""

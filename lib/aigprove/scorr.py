@@ -56,10 +56,7 @@ class Found(Steps):
         self.is_taken = is_taken
 
     def pairs(self):
-        if not self.is_taken:
-            return super().pairs()
-        self.settle()
-        return self.apart()
+        return self.classes.pairs() if self.is_taken else super().pairs()
 
     def settle(self):
         self.order = ordered(self.classes)
