@@ -211,13 +211,16 @@ def main(folder, words):
     with open(asked, "xb") as out:
         out.writelines(merging.asked())
         is_asked = out.tell() > 0
-    status, printed = 20, b""
-    if is_asked:
-        ran = subprocess.run([*json.loads(words), asked, proof], stdin=subprocess.DEVNULL, stdout=subprocess.PIPE)
-        status, printed = ran.returncode, ran.stdout
+    # It runs while the begin of the proof is made.
+    streams = {"stdin": subprocess.DEVNULL, "stdout": subprocess.PIPE}
+    solver = subprocess.Popen([*json.loads(words), asked, proof], **streams) if is_asked else None
+    begin, printed, status = merging.proof(), b"", 20
+    if solver:
+        printed, _ = solver.communicate()
+        status = solver.returncode
     if status == 20:
-        sys.stdout.buffer.write(merging.proof())
-        if is_asked:
+        sys.stdout.buffer.write(begin)
+        if solver:
             with open(proof, "rb") as file:
                 printed = file.read()
     sys.stdout.buffer.write(printed)
