@@ -12,8 +12,9 @@ from aigprove.turns import Turns
 class Registers(Asking):
     """Has classes of nodes guessed that are always equal, and their certificate checked."""
 
-    # The engine, the module that guesses, and what else that is told.
+    # The engine, the module that guesses, what else that is told, and why it has no certificate.
     name, guesses, further = "registers", "guesses", {}
+    unshown = "something differs where all are equal that may be"
 
     def __init__(self, race):
         super().__init__(race)
@@ -29,7 +30,7 @@ class Registers(Asking):
             made.solver = self.solver
             made.run()
         elif self.race.words.verbose:
-            say(f"{self.name}: something differs where all are equal that may be")
+            say(f"{self.name}: {self.unshown}")
 
     def guessed(self):
         """The certificate that is guessed, sealed; empty where there is none."""
@@ -51,6 +52,7 @@ class Signals(Registers):
     """Has ABC find the classes, of which a certificate is made at once, and, where it is none, once a step was seen to keep some."""
 
     name = guesses = "scorr"
+    unshown = "what ABC finds to be equal doesn't show it"
 
     def __init__(self, race):
         super().__init__(race)
