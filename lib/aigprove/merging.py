@@ -25,14 +25,18 @@ def lists(text):
     return [list(map(int, line.split()[:-1])) for line in text.splitlines()]
 
 
-def pieces(clauses, place):
+def pieces(clauses):
     """The variable and the operands of each and, whose clauses are such, and the text of the clauses between them."""
-    for found in AND.finditer(clauses, place):
-        variable, first, second, left, right = map(int, found.groups())
-        if variable > max(abs(left), abs(right)) and {-left, -right} == {first, second}:
-            yield clauses[place:found.start()], (variable, (-left, -right))
-            place = found.end()
-    yield clauses[place:], None
+    words, between = AND.split(clauses), []
+    for text, variable, *others in zip(words[::6], *(map(int, words[place::6]) for place in range(1, 6))):
+        first, second, left, right = others
+        between.append(text)
+        if -variable < left < variable and -variable < right < variable and {-left, -right} == {first, second}:
+            yield b"".join(between), (variable, (-left, -right))
+            between = []
+        else:
+            between.append(b"-%d %d 0\n-%d %d 0\n%d %d %d 0\n" % (variable, first, variable, second, variable, left, right))
+    yield b"".join([*between, words[-1]]), None
 
 
 def largest(clause):
@@ -110,7 +114,7 @@ class Merging:
         # By a variable and by its inverse, which counts from the end.
         self.count, self.same, (self.last,) = count, [*range(count + 1), *range(-count, 0)], lists(clauses[last:])
         self.lemmas, self.others = [], []
-        gates = self.gates(clauses[:last], place)
+        gates = self.gates(clauses[place:last])
         self.others, units = [own for own in self.others if len(own) > 1], [own for own in self.others if len(own) == 1]
         self.others[:0] = units
         for (it,) in units:
@@ -121,10 +125,10 @@ class Merging:
         self.left = self.merge(gates)
         self.resolve()
 
-    def gates(self, clauses, place):
+    def gates(self, clauses):
         """The variables that clauses define, and their operands; clauses that define none are left as they are."""
         found = []
-        for text, gate in pieces(clauses, place):
+        for text, gate in pieces(clauses):
             for variable, group in itertools.groupby(lists(text) if text else [], largest):
                 group = list(group)
                 operands = gate_of(variable, group)
@@ -150,16 +154,17 @@ class Merging:
         """The gates that are left when variables of the same definition are merged."""
         self.resolve()
         same, made, left = self.same, {}, []
-        for variable, operands in gates:
-            # What stood for an operand may have been merged here.
-            values = tuple([same[same[it]] for it in operands])
+        for gate in gates:
+            variable, operands = gate
             if same[variable] == variable:
+                # What stood for an operand may have been merged here.
+                values = [same[same[it]] for it in operands]
                 side, key = and_of(*values) if len(values) == 2 else choice_by(*values)
                 other = side if key is None else side * made.setdefault(key, side * variable)
                 if other != variable:
                     self.join(variable, other, values[0] if len(values) == 3 else 1)
                     continue
-            left.append((variable, operands))
+            left.append(gate)
         return left
 
     def join(self, variable, other, case):
