@@ -278,6 +278,18 @@ def together():
         yield scripts, (10, REACHED, []), (status, out[-len(REACHED):], left)
 
 
+def yielding():
+    """An engine whose program waits while the answer of another is checked, and goes on where that takes long."""
+    first, waits = "echo $$ > $FOLDER/first; sleep 0.5", "while [ ! -s $FOLDER/first ]; do sleep 0.01; done"
+    state, window = "ps -o stat= -p $(cat $FOLDER/first) > $FOLDER/state", "no bad state at any step, if none up to step 0\n"
+    for check, engine, printed, wanted in [(state, "pdr", SAFE, "T"), ("sleep 1000", "windows", window + SAFE, "")]:
+        solver = f"if mkdir $FOLDER/asked 2> /dev/null; then {first}; else {check}; fi; {FILES} {REFUTES}"
+        with running(STUCK, solver, f"{waits}; {ANYTHING}", {"state": ""}) as run:
+            given = run.result(["--engine", "windows,pdr", "--jobs", "4", "-v"])
+            yield compared(check, (20, printed, f"aigprove: {engine} answered after "), given)
+            yield check, wanted, (run.folder / "state").read_text()[:1]
+
+
 def closed():
     """Standard output that is closed, or takes nothing: one line, and no traceback. Standard error that is so changes nothing."""
     with running(TOGGLE, "exit 3", RUN) as run:
@@ -338,7 +350,7 @@ def main():
     # Where this is run in the background, what it starts has to end by SIGINT still.
     signal.signal(signal.SIGINT, signal.default_int_handler)
     tally = harness.Tally()
-    parts = [answers, files, fed, worded, faulty, kept, limited, bounded_memory, hung, together, closed, ended, killed, missing, installed]
+    parts = [answers, files, fed, worded, faulty, kept, limited, bounded_memory, hung, together, yielding, closed, ended, killed, missing, installed]
     for part in parts:
         with tally.test(part.__name__):
             for what, wanted, given in part():

@@ -248,10 +248,10 @@ class Certificate(Asking):
         """Has the certificate checked, by proofs about the file and it, and hands it in."""
         if PLA.search(self.certificate.bytes()):
             self.certificate = self.of_invariant()
-        self.race.programs.answers()
-        joint = self.joint()
-        claim = self.source.certified(self.certificate, self.joined(joint) if joint else self.simulated())
-        self.judge.check(claim)
+        with self.race.answering():
+            joint = self.joint()
+            claim = self.source.certified(self.certificate, self.joined(joint) if joint else self.simulated())
+            self.judge.check(claim)
         self.race.certificate(claim, self.certificate)
 
     def joint(self):

@@ -23,6 +23,8 @@ SEALS = fcntl.F_SEAL_WRITE | fcntl.F_SEAL_GROW | fcntl.F_SEAL_SHRINK | fcntl.F_S
 SUBREAPER = 36
 # Seconds that an engine may have run longer than another that waits.
 TURN = 0.25
+# Seconds for which an engine's answer is checked before others go on.
+ALONE = 1
 # Engines that may run longer than others, by how many times: most designs are decided by the first, most pairs of files by the others.
 SHARES = {"pdr": 2, "scorr": 8, "registers": 8}
 # An engine that showed a step may run half as long as others once it showed none for so many seconds of its own.
@@ -216,8 +218,8 @@ class Programs:
         self.looked = time.monotonic()
         # By the engine: for how long its programs ran, and for how long when it last got further.
         self.used, self.further = collections.Counter(), {}
-        # Engines that have an answer which has to be checked: these go first.
-        self.answering = set()
+        # Engines that have an answer which has to be checked: these go first. Others that look for the same, and from when on they run again.
+        self.answering, self.resting = set(), {}
 
     def start(self, words, **options):
         """Starts a program, which waits for its turn where there is none free."""
@@ -227,7 +229,7 @@ class Programs:
             if self.memory:
                 group.limit_memory(self.memory)
             self.keeper.tell(group.process.pid)
-            (self.running if len(self.running) < self.jobs else self.waiting).append(group)
+            (self.running if len(self.running) < self.jobs and not self.rests(group) else self.waiting).append(group)
             if group in self.waiting:
                 group.signal(signal.SIGSTOP)
                 self.turn()
@@ -243,10 +245,28 @@ class Programs:
         with self.lock:
             return [text for group in self.running for text in group.reading()]
 
-    def answers(self):
-        """Takes that the engine whose thread this is has an answer."""
+    def answers(self, engines):
+        """Takes that the engine whose thread this is has an answer, and has the others of those that look for the same wait a while."""
         with self.lock:
+            self.count()
             self.answering.add(engine_here())
+            self.resting.update(dict.fromkeys(set(engines) - self.answering, time.monotonic() + ALONE))
+            for group in filter(self.rests, list(self.running)):
+                self.suspend(group)
+                self.waiting.append(group)
+            self.fill()
+
+    def has_none(self, engines):
+        """Takes that the answer of the engine whose thread this is wasn't right, and has the others go on."""
+        with self.lock:
+            self.answering.discard(engine_here())
+            for engine in engines:
+                self.resting.pop(engine, None)
+            self.fill()
+
+    def rests(self, group):
+        """Whether a program is to wait while another engine's answer is checked."""
+        return self.resting.get(group.engine, 0) > time.monotonic()
 
     def weighed(self, group):
         """For how long the engine of a program ran, as that counts."""
@@ -286,8 +306,8 @@ class Programs:
 
     def fill(self):
         """Continues programs that wait, while there is a turn free."""
-        while self.waiting and len(self.running) < self.jobs:
-            group = min(self.waiting, key=self.weighed)
+        while len(self.running) < self.jobs and (ready := self.ready()):
+            group = min(ready, key=self.weighed)
             self.waiting.remove(group)
             self.running.append(group)
             group.counted = time.monotonic()
@@ -304,12 +324,21 @@ class Programs:
     def turn(self):
         """Gives the turn of the program whose engine ran longest to the one whose engine ran least, where that is a turn less."""
         self.count()
-        longest, least = max(self.running, key=self.weighed, default=None), min(self.waiting, key=self.weighed, default=None)
+        self.fill()
+        longest, least = max(self.running, key=self.weighed, default=None), min(self.ready(), key=self.weighed, default=None)
         if longest and least and self.weighed(longest) - self.weighed(least) > TURN:
-            self.running.remove(longest)
-            longest.signal(signal.SIGSTOP)
+            self.suspend(longest)
             self.fill()
             self.waiting.append(longest)
+
+    def ready(self):
+        """The programs that wait for a turn."""
+        return [group for group in self.waiting if not self.rests(group)]
+
+    def suspend(self, group):
+        """Stops a program that runs, which is to wait."""
+        self.running.remove(group)
+        group.signal(signal.SIGSTOP)
 
     def check_limits(self):
         """Ends programs that wrote more than they may."""

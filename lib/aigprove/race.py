@@ -46,6 +46,8 @@ class Race:
         # Steps that were shown, from 0 on, those before a window that was, proofs of questions about the steps up to K, by K, and engines
         # that failed.
         self.steps, self.windowed, self.bounded, self.faults = 0, 0, {}, []
+        # The names of the engines that were started.
+        self.started = []
         self.deadline = words.deadline
         # What the progress line says, and the last line that was printed.
         self.doing, self.last = {}, None
@@ -120,6 +122,16 @@ class Race:
         """Takes the claim that an inductive machine makes."""
         self.hand_in(lambda: self.print_safe(claim) if self.words.certificate else self.print_inductive(claim, machine))
 
+    @contextlib.contextmanager
+    def answering(self):
+        """Has the answer of the engine whose thread this is be checked before others go on."""
+        self.programs.answers(self.started)
+        try:
+            yield
+        except Fault:
+            self.programs.has_none(self.started)
+            raise
+
     def hand_in(self, answer):
         """Takes an answer of the engine whose thread this is."""
         name = threading.current_thread().name
@@ -129,10 +141,10 @@ class Race:
         """Has aigcheck check a run to a bad state, and takes it."""
         header = self.circuit.header
         told = witness.read(aiger.Lines(data, "WITNESS"), header.latches, header.inputs)
-        self.programs.answers()
-        self.judge.check(self.claimed(told))
-        others = self.source.others(self.circuit, told)
-        shown = [it for it in others if self.judge.holds(self.claimed(it))]
+        with self.answering():
+            self.judge.check(self.claimed(told))
+            others = self.source.others(self.circuit, told)
+            shown = [it for it in others if self.judge.holds(self.claimed(it))]
         self.hand_in(lambda: self.print_run(self.source.mattering([told, *shown])))
 
     def bound_reached(self):
@@ -320,6 +332,7 @@ class Race:
             self.freed(name)
             self.fail(name, f"passed over: {why}")
             return False
+        self.started.append(name)
         threading.Thread(target=self.work, args=[name, engine], name=name, daemon=True).start()
         return True
 

@@ -34,7 +34,8 @@ class Counting:
 
     def __init__(self, race, count):
         self.race, self.source, self.is_reached = race, Counted(race.source, count), False
-        self.words, self.programs, self.judge, self.above, self.needs_solver = race.words, race.programs, race.judge, race.above, race.needs_solver
+        self.words, self.programs, self.judge, self.above = race.words, race.programs, race.judge, race.above
+        self.needs_solver, self.answering = race.needs_solver, race.answering
 
     @functools.cached_property
     def circuit(self):
