@@ -199,9 +199,8 @@ class Steps:
 def certificate(nodes, pairs):
     """The text of a certificate whose bad states are those in which a pair differs; of what stands on others first, as they are asked about
     the last first."""
-    gates = Gates(nodes.latches.stop)
-    known = nodes.literals(nodes.leaves(), gates)
-    ways = [gates.both(*way) for left, right in pairs for way in [(known[left], known[right] ^ 1), (known[left] ^ 1, known[right])]]
+    gates = nodes.gates
+    ways = [gates.both(*way) for left, right in pairs for way in [(left, right ^ 1), (left ^ 1, right)]]
     bads = [bad for bad in reversed(ways) if bad] or [0]
     states = [f"{latch} {latch} {reset if reset < 2 else latch}" for latch, reset in zip(nodes.latches, nodes.resets)]
     count = len(nodes.leaves()) + len(gates.rows)

@@ -22,7 +22,12 @@ def parsed(clauses):
 
 def lists(text):
     """Clauses, as lists."""
-    return [list(map(int, line.split()[:-1])) for line in text.splitlines()]
+    numbers, made, place = list(map(int, text.split())), [], 0
+    while place < len(numbers):
+        end = numbers.index(0, place)
+        made.append(numbers[place:end])
+        place = end + 1
+    return made
 
 
 def pieces(clauses):
