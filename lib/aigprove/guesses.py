@@ -198,7 +198,7 @@ class Steps:
 
 def certificate(nodes, pairs):
     """The text of a certificate whose bad states are those in which a pair differs; of what stands on others first, as they are asked about
-    the last first."""
+    the last first. The nodes get its gates."""
     gates = nodes.gates
     ways = [gates.both(*way) for left, right in pairs for way in [(left, right ^ 1), (left ^ 1, right)]]
     bads = [bad for bad in reversed(ways) if bad] or [0]

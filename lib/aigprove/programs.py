@@ -250,6 +250,8 @@ class Programs:
         with self.lock:
             self.count()
             self.answering.add(engine_here())
+            # It may wait for another's.
+            self.resting.pop(engine_here(), None)
             self.resting.update(dict.fromkeys(set(engines) - self.answering, time.monotonic() + ALONE))
             for group in filter(self.rests, list(self.running)):
                 self.suspend(group)
