@@ -350,7 +350,8 @@ def main():
     # Where this is run in the background, what it starts has to end by SIGINT still.
     signal.signal(signal.SIGINT, signal.default_int_handler)
     tally = harness.Tally()
-    parts = [answers, files, fed, worded, faulty, kept, limited, bounded_memory, hung, together, yielding, closed, ended, killed, missing, installed]
+    parts = [answers, files, fed, worded, faulty, kept, limited, bounded_memory]
+    parts += [hung, together, yielding, closed, ended, killed, missing, installed]
     for part in parts:
         with tally.test(part.__name__):
             for what, wanted, given in part():
