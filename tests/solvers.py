@@ -283,7 +283,7 @@ def yielding():
     first, waits = "echo $$ > $FOLDER/first; sleep 0.5", "while [ ! -s $FOLDER/first ]; do sleep 0.01; done"
     state, window = "sed 's/.*) //' /proc/$(cat $FOLDER/first)/stat > $FOLDER/state", "no bad state at any step, if none up to step 0\n"
     for check, engine, printed, wanted in [(state, "pdr", SAFE, "T"), ("sleep 1000", "windows", window + SAFE, "")]:
-        solver = f"if mkdir $FOLDER/asked 2> /dev/null; then {first}; else {check}; fi; {FILES} {REFUTES}"
+        solver = f"if mkdir $FOLDER/asked 2> /dev/null; then {first}; else {check}; fi; {REFUTES}"
         with running(STUCK, solver, f"{waits}; {ANYTHING}", {"state": ""}) as run:
             given = run.result(["--engine", "windows,pdr", "--jobs", "4", "-v"])
             yield compared(check, (20, printed, f"aigprove: {engine} answered after "), given)
