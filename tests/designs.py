@@ -10,6 +10,7 @@ with a sign before a proof that is no step, where unit propagation alone doesn't
 Then some of the files are compared with what ABC makes of them, by each engine that guesses what corresponds: that is equal, as ABC's dsec
 says too, and with an output or the bad literal inverted the engine has no answer."""
 import os
+import re
 import shlex
 import shutil
 import subprocess
@@ -241,6 +242,24 @@ def odd_faults(folder):
             yield f"{words}: ended with status {done.returncode}: {done.stdout}"
 
 
+def beside_faults(folder):
+    """What is wrong where two designs are read side by side: where the first is refused, nothing waits for the other, and what isn't asked
+    about is said of the first before it is of the other, whichever is read first."""
+    folder.mkdir()
+    text = "module top (input a, output b);\n  assign b = !a;\n  always @* cover (a);\nendmodule\n"
+    files = {"wrong.v": "module top (\n", "never.ys": "exec -- sleep 60\n", "first.txt": text, "other.v": text}
+    files["late.ys"] = "exec -- sleep 1\nread_verilog -formal -sv first.txt\n"
+    for name, written in files.items():
+        (folder / name).write_text(written)
+    done = subprocess.run([PROVE, "--equal", "never.ys", "wrong.v"], cwd=folder, capture_output=True, encoding="utf-8", timeout=30)
+    if done.returncode != 1 or done.stdout or not done.stderr.startswith("aigprove: wrong.v:"):
+        yield f"wrong.v: ended with status {done.returncode}: {done.stdout}{done.stderr}"
+    done = subprocess.run([PROVE, "--equal", "other.v", "late.ys"], cwd=folder, capture_output=True, encoding="utf-8")
+    said = re.findall(r"\((\S+):3\.\S+ is not asked about$", done.stderr, re.MULTILINE)
+    if done.returncode != 20 or said != ["first.txt", "other.v"]:
+        yield f"ended with status {done.returncode}: {done.stdout}{done.stderr}"
+
+
 def main():
     tally, seconds = harness.Tally(), str(*harness.numbers(60))
     with harness.new_folder() as folder:
@@ -251,6 +270,7 @@ def main():
         if shutil.which("yosys"):
             tally.wants("paths", [], list(path_faults(folder)))
             tally.wants("paths of several files", [], list(odd_faults(folder)))
+            tally.wants("two designs", [], list(beside_faults(folder / "beside")))
             for i, (words, status, *wanted) in enumerate(rows(TESTS / "verilog" / "answers.tsv")):
                 tally.wants(words, [], list(verilog_faults(words, status, wanted, folder / str(i))))
         else:

@@ -13,8 +13,8 @@ machines: there yosys chose what the design leaves open. Else the answer is wron
 design alone has a free value for an x; what is open after 20 seconds; what it says of files that both have such values; and what yosys
 doesn't say.
 
-It ends with status 1 where an answer is wrong, and prints these, and one line with the counts, and with the median seconds, beside those of
-ABC's `dsec` on the same files. The tools are yosys, cadical and ABC."""
+It ends with status 1 where an answer is wrong, and prints these; those pairs that take more than a second longer than ABC's `dsec` takes on
+the files in AIGER form; and one line with the counts, and the median seconds of both. The tools are yosys, cadical and ABC."""
 import collections
 import itertools
 import json
@@ -190,6 +190,9 @@ class Pair:
         self.file, self.top, self.folder, self.flow, self.name, self.is_changed = file, top, folder, flow, name, name == "mutant"
         self.netlist, self.kept = folder / f"{name}.v", folder / f"{name}-kept"
 
+    def __str__(self):
+        return f"{self.file.name}, {self.top}, {self.flow}, {self.name}"
+
     def ask(self):
         """Asks aigprove: what it answers."""
         words = ["--equal", self.netlist, self.file, "--top", self.top, "--timeout", str(SECONDS), "--keep", self.kept]
@@ -316,7 +319,7 @@ def taken(folder, count, seed):
 
 def main():
     count, seed = numbers(60, 1)
-    counts, wrong, seconds = collections.Counter(), [], []
+    counts, wrong, slow, seconds = collections.Counter(), [], [], []
     with harness.new_folder() as folder:
         if not fetched(folder):
             print("the tests of yosys can't be had: passed over")
@@ -325,12 +328,14 @@ def main():
         for pair in pairs:
             kind, is_wrong = pair.judged()
             counts[f"{pair.name}s {kind}"] += 1
-            wrong += [f"{pair.file.relative_to(folder)}, {pair.top}, {pair.flow}, {pair.name}: {kind}: {pair.printed}"] * bool(is_wrong)
+            wrong += [f"{pair}: {kind}: {pair.printed}"] * bool(is_wrong)
             if pair.status in (10, 20):
                 seconds.append((pair.seconds, pair.dsec()))
-    print("".join(f"WRONG: {line}\n" for line in wrong), end="")
+                slow += [f"{pair}: {pair.seconds:.2f} s"] * (pair.seconds > seconds[-1][1] + 1)
+    print("".join(f"WRONG: {line}\n" for line in wrong) + "".join(f"SLOW: {line}\n" for line in slow), end="")
     medians = " and ".join(f"{statistics.median(it):.2f}" for it in zip(*seconds))
-    print(f"seed {seed}: {told(counts)}; {len(wrong)} wrong; median seconds, and those of dsec: {medians}")
+    within = f"{len(seconds) - len(slow)} of {len(seconds)} within a second more than dsec"
+    print(f"seed {seed}: {told(counts)}; {len(wrong)} wrong; {within}; median seconds, and those of dsec: {medians}")
     return 1 if wrong or not seconds else 0
 
 

@@ -1,5 +1,6 @@
 """Two files that are compared: their miter, which aigedit makes, is asked about."""
 import argparse
+import concurrent.futures
 import copy
 
 from aigprove import matched, simulation
@@ -7,7 +8,7 @@ from aigprove.judge import Claim
 from aigprove.matched import APART, BY_NAME, Starts
 from aigprove.minimal import SMALL, simulated
 from aigprove.misfit import SIGNALS, misfit
-from aigprove.programs import Fault, Sealed
+from aigprove.programs import Fault, Sealed, engine_here
 from aigprove.replay import SIMULATED
 from aigprove.shown import Shown, word
 from aigprove.source import Asked, Given
@@ -32,8 +33,7 @@ class Pair(Asked):
     def __init__(self, words, above, judge):
         self.judge, self.paths = judge, [words.files[0], words.equal]
         self.path = " and ".join(self.paths)
-        self.first = Given(words.files, words, above, judge)
-        self.other = Given([words.equal], argparse.Namespace(**{**vars(words), **of_first(words)}), above, judge, "other")
+        self.first, self.other = self.read(words, above)
         designs = [it for it in [self.first, self.other] if it.design]
         for given, circuit in zip(designs, self.arranged([it.named() for it in designs])):
             given.take(Sealed(circuit.text()))
@@ -44,6 +44,20 @@ class Pair(Asked):
         self.by_name = [] if len(designs) == 2 else self.put_in_order()
         if self.by_name:
             self.begin(way)
+
+    def read(self, words, above):
+        """Both files, which are read side by side. Where the first can't be, the other isn't read to its end."""
+        beside = argparse.Namespace(**{**vars(words), **of_first(words)})
+        hushed = argparse.Namespace(**{**vars(beside), "quiet": True})
+        with concurrent.futures.ThreadPoolExecutor(1, engine_here()) as pool:
+            other = pool.submit(Given, [words.equal], hushed, above, self.judge, "other")
+            try:
+                first = Given(words.files, words, above, self.judge)
+            except BaseException:
+                self.judge.programs.stop()
+                raise
+            other.result().say_left_out(beside)
+            return first, other.result()
 
     def arranged(self, designs):
         """The circuits of designs, of which all names of registers are given, too, with those by which registers are matched; of two the

@@ -41,10 +41,14 @@ class Given:
             folder = tempfile.mkdtemp(prefix="design-", dir=above)
             files = [File(path, file.bytes()) for path, file in zip(paths, self.given)]
             self.design = Design(files, words, folder, judge.programs)
+        self.take(sealed(self.design.file, judge.limit) if self.design else self.given[0])
+        self.say_left_out(words)
+
+    def say_left_out(self, words):
+        """Says what of a design isn't asked about, nor later."""
         for kind, line in self.design.left_out if self.design and not words.quiet else []:
             if kind not in words.later:
                 say(line)
-        self.take(sealed(self.design.file, judge.limit) if self.design else self.given[0])
 
     def take(self, file):
         """Takes the file in AIGER form."""
