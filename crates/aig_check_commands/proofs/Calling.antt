@@ -343,12 +343,11 @@ neither words whole alone on c x (inr g) = other g.1
     other (inr h) = on c x h.1
 
 -- the same of a result
-pub neither_if : (words : List (List ℕ)) → FitNone (IsWhole words)
-    → (o : Option (Command × Given))
-    → IfNone o (FitNone (IsAlone words) × FitNone (IsOnWitness words))
+pub neither_if : (words : List (List ℕ)) → FitNone (IsWhole words) → FitNone (IsAlone words)
+    → (o : Option (Command × Given)) → IfNone o (FitNone (IsOnWitness words))
     → IfNone o (FitNone (AreCommand words))
-neither_if words whole (Some g) none = tt
-neither_if words whole None none = neither words whole none.0 none.1
+neither_if words whole alone (Some g) none = tt
+neither_if words whole alone None none = neither words whole alone none
 
 -- what is asked is its justice property and its command
 same_asked : (c d : Asked) → c.justice ≡ d.justice → c.command ≡ d.command → c ≡ d

@@ -620,23 +620,6 @@ fn witness_command(words: &[String]) -> Option<(Command, Given<'_>)>
     }
 }
 
-/// The command that words fit that fit none whole, and what they give it.
-fn command_else(words: &[String]) -> Option<(Command, Given<'_>)>
-    ensures some { IfSome result (λ p. IsAlone (map string_bytes words.now) p.0 (seen p.1)
-        ⊎ (FitNone (IsAlone (map string_bytes words.now))
-        × IsOnWitness (map string_bytes words.now) p.0 (seen p.1))) }
-    ensures none { IfNone result (FitNone (IsAlone (map string_bytes words.now))
-        × FitNone (IsOnWitness (map string_bytes words.now))) }
-    ensures paths { IfSome result (λ p. length p.1.paths.now ≡ paths_of p.0) }
-    ensures further { IfSome result (λ p. length p.1.further.now ≡ beside_of p.0) }
-    ensures small { IfSome result (λ p. step_of p.0 < 2 ^ 32) }
-{
-    match alone_command(words) {
-        Some(given) => Some(given),
-        None => witness_command(words),
-    }
-}
-
 /// The command that words give, and what they give it.
 fn command_first(words: &[String]) -> Option<(Command, Given<'_>)>
     ensures some { IfSome result (λ p. AreCommand (map string_bytes words.now) p.0 (seen p.1)) }
@@ -645,9 +628,12 @@ fn command_first(words: &[String]) -> Option<(Command, Given<'_>)>
     ensures further { IfSome result (λ p. length p.1.further.now ≡ beside_of p.0) }
     ensures small { IfSome result (λ p. step_of p.0 < 2 ^ 32) }
 {
-    match whole_command(words) {
+    if let Some(given) = whole_command(words) {
+        return Some(given);
+    }
+    match alone_command(words) {
         Some(given) => Some(given),
-        None => command_else(words),
+        None => witness_command(words),
     }
 }
 

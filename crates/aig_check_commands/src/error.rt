@@ -25,46 +25,46 @@ pub enum CheckError {
     #[error("out of memory")]
     Memory,
     /// There is no answer.
-    #[error("{0}")]
+    #[error(transparent)]
     Answer(AnswerError),
     /// The solver's answer gives no witness of a bad state.
-    #[error("{0}")]
+    #[error(transparent)]
     Solution(SolutionError),
     /// The witness is refused, or shows no bad state.
-    #[error("{0}")]
+    #[error(transparent)]
     Show(ShowError),
     /// There is no answer about two files.
-    #[error("{0}")]
+    #[error(transparent)]
     Certificate(CertificateError),
     /// The answer wasn't written.
     #[error("write failed")]
     Write,
     /// There is no answer about the steps up to one.
-    #[error("{0}")]
+    #[error(transparent)]
     Bounded(BoundedAnswerError),
     /// No bad state is reached up to this step, so that there are no clauses to solve.
     #[error("no bad state up to step {0}")]
     Settled(usize),
     /// It isn't shown that no bad state is reached at any step.
-    #[error("{0}")]
+    #[error(transparent)]
     Safe(SafetyError),
     /// It isn't shown that two files' machines are equal at every step.
-    #[error("{0}")]
+    #[error(transparent)]
     Equality(EqualityError),
     /// The witness shows no fair lasso.
-    #[error("{0}")]
+    #[error(transparent)]
     Lasso(LassoFault),
     /// A certificate doesn't show that two files' machines are equal at every step.
-    #[error("{0}")]
+    #[error(transparent)]
     Miter(MiterError),
     /// The file is refused, or nothing is made of it to ask about a justice property.
-    #[error("{0}")]
+    #[error(transparent)]
     Unmade(EditError),
     /// It isn't shown, by a proof for each step, that no bad state is reached at any.
-    #[error("{0}")]
+    #[error(transparent)]
     Steps(StepsError),
     /// A witness circuit doesn't show that no bad state is reached at any step.
-    #[error("{0}")]
+    #[error(transparent)]
     Simulation(SimulationError),
 }
 

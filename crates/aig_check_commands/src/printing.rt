@@ -38,27 +38,14 @@ use aig_witness::{Places, checked_witness, known_witnesses_show, write_witness};
 use std::alloc::Global;
 use std::marker::Brand;
 
-/// Buffers a text, a number and a line feed.
-fn buffer_line<W: Sink>(
-    buffer: &mut OutputBuffer,
-    w: &mut W,
-    text: &[u8],
-    k: usize,
-) -> Result<(), StreamFault>
-    ensures { let line = text.now ++ (decimal k ++ 10 ∷ []) in
-        BuffersOrStops W.held W.failed buffer.old w.old result line buffer.new w.new }
-{
-    buffer.write_bytes(w, text)?;
-    buffer.write_number(w, k, b'\n')
-}
-
 /// Writes a text, a number and a line feed.
 pub(crate) fn write_line<W: Sink>(w: &mut W, text: &[u8], k: usize) -> Result<(), StreamFault>
     ensures { let line = text.now ++ (decimal k ++ 10 ∷ []) in
         WritesOrStops W.held W.failed w.old result line w.new }
 {
     let mut buffer = OutputBuffer::new();
-    buffer_line(&mut buffer, w, text, k)?;
+    buffer.write_bytes(w, text)?;
+    buffer.write_number(w, k, b'\n')?;
     buffer.flush(w)
 }
 
@@ -82,27 +69,6 @@ pub(crate) fn after_writing(written: Result<(), StreamFault>) -> Result<(), Chec
     }
 }
 
-/// Writes the clauses of a circuit and further ones, which may be of so many free variables behind those of the nodes, behind their title.
-fn write_free<W: Sink>(
-    w: &mut W,
-    title: &Title,
-    circuit: &CircuitView<'_>,
-    free: usize,
-    optimize: bool,
-    needed: &NeededGates,
-    extra: &LitVvec,
-) -> Result<(), StreamFault>
-    requires few { length circuit.now.nodes + free ≤ 2 ^ 31 }
-    requires needed { AreNeeded circuit.now optimize needed.now.marks.items needed.now.clauses }
-    requires below { AreBelow (length circuit.now.nodes + free) extra.now }
-    ensures { WritesFree W.held W.failed title.now circuit.now free optimize extra.now w.old result
-        w.new }
-{
-    tell_circuit_with(circuit, free, optimize, needed, extra);
-    write_title(w, title)?;
-    write_circuit_with(w, circuit, free, optimize, needed, extra)
-}
-
 /// Writes the clauses of a window behind their title. They are written from the circuit, and no list of those of gates is made.
 fn write_window<W: Sink>(
     w: &mut W,
@@ -116,15 +82,10 @@ fn write_window<W: Sink>(
         window.now.free optimize window.now.extra w.old result w.new }
 {
     let unrolled = CircuitView::new(&window.unrolled);
-    write_free(
-        w,
-        title,
-        &unrolled,
-        window.free,
-        optimize,
-        &window.needed,
-        &window.extra,
-    )
+    let (free, needed, extra) = (window.free, &window.needed, &window.extra);
+    tell_circuit_with(&unrolled, free, optimize, needed, extra);
+    write_title(w, title)?;
+    write_circuit_with(w, &unrolled, free, optimize, needed, extra)
 }
 
 /// Prints the clauses of a window of the file whose bytes are the origin.
@@ -264,24 +225,6 @@ fn tell_circuit_with(
     let _counts = (variables, needed.clauses, optimize, extra.len());
 }
 
-/// Writes the title and the comments of a query.
-fn write_front<'a, W: Sink>(
-    w: &mut W,
-    title: &Title,
-    asked: &'a Unrolled,
-    places: &Places<'_, CircuitView<'a>>,
-) -> Result<(), StreamFault>
-    requires places { places.now ≡ asked.now.circuit }
-    requires few { length asked.now.unrolled.nodes ≤ 2 ^ 31 }
-    requires small { asked.now.steps < 2 ^ 32 }
-    ensures { let text = title_text title.now
-        ++ comments_of asked.now.circuit asked.now.unrolled asked.now.steps in
-        WritesOrStops W.held W.failed w.old result text w.new }
-{
-    write_title(w, title)?;
-    write_comments(w, asked, places)
-}
-
 /// Writes a query: its title, comments that say which literals stand for what, and then its clauses.
 fn write_query<'a, W: Sink>(
     w: &mut W,
@@ -305,7 +248,8 @@ fn write_query<'a, W: Sink>(
 {
     let unrolled = asked.unrolled();
     tell_circuit(&unrolled, optimize, needed, extra);
-    write_front(w, title, asked, places)?;
+    write_title(w, title)?;
+    write_comments(w, asked, places)?;
     write_circuit(w, &unrolled, optimize, needed, extra)
 }
 
