@@ -1,6 +1,6 @@
 //! What the commands of bounded checks do with the bytes of a file, and of a proof or a solver's answer.
 
-ghost use Rattle.std.specs.Prelude.{◌≡◌, ◌<◌, ◌≤◌, ◌^◌, ◌++◌, All, length};
+ghost use Rattle.std.specs.Prelude.{◌≡◌, ◌<◌, ◌^◌, ◌++◌, All, length};
 ghost use Rattle.std.specs.List.{flat_map, zip};
 ghost use Rattle.aig_base.specs.Clauses.{AreBelow};
 ghost use Rattle.aig_base.specs.Formula.{clauses_in};

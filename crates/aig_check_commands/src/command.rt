@@ -1,6 +1,6 @@
 //! The commands, and the words that give them.
 
-ghost use Rattle.std.specs.Prelude.{◌≡◌, ◌↔◌, ◌<◌, ◌^◌, ◌⊎◌, ◌∷◌, Bool, IfNone, IfSome, List, Some, ℕ, length, map, string_bytes};
+ghost use Rattle.std.specs.Prelude.{◌≡◌, ◌↔◌, ◌<◌, ◌^◌, ◌∷◌, Bool, IfNone, IfSome, List, Some, ℕ, length, map, string_bytes};
 ghost use Rattle.aig_command_line.specs.Arguments.{seen};
 ghost use Rattle.aig_check_commands.specs.Fits.{Fits};
 ghost use Rattle.aig_check_commands.specs.CommandWords.{AreCommand, FitNone, Give, IsAlone, IsCall, IsOnWitness, IsWhole, beside_of, command_of, constrained, equal_name, form_of, name_of, of_both, on_certificate, on_step, paths_of, raw_alone, raw_word, step_of, under, window_of, witness_form, witness_name};

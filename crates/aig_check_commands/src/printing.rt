@@ -10,7 +10,7 @@ ghost use Rattle.aig_circuit.specs.View.{lists_circuit};
 ghost use Rattle.aig_cnf.specs.Cnf.{AreNeeded, HasClauses};
 ghost use Rattle.aig_command_line.specs.Limits.{IsLimit};
 ghost use Rattle.aig_dimacs.specs.Text.{IsFormula};
-ghost use Rattle.aig_output.specs.Sinks.{BuffersOrStops, WritesOrStops};
+ghost use Rattle.aig_output.specs.Sinks.{WritesOrStops};
 ghost use Rattle.aig_check_commands.specs.Titles.{title_text};
 ghost use Rattle.aig_unroll.specs.Unroll.{UnrollsTo};
 ghost use Rattle.aig_check_commands.specs.Comments.{comments_of};
