@@ -44,10 +44,10 @@ pub const VERSION: &str = "aigedit 0.1.0";
 #[derive(Clone, Copy, Debug, PartialEq, Eq, Error)]
 pub enum CommandError {
     /// Nothing is made of one file.
-    #[error("{0}")]
+    #[error(transparent)]
     One(EditError),
     /// Nothing is made of two files.
-    #[error("{0}")]
+    #[error(transparent)]
     Two(PairError),
     /// Memory was refused before a file was opened.
     #[error("out of memory")]
@@ -295,21 +295,11 @@ fn print<F: Opens, W: Flush>(
     }
 }
 
-/// Runs a command on one file.
-fn run_file<F: Opens, W: Flush>(
-    alloc: Global,
-    files: &F,
-    limit: usize,
-    command: &FileCommand,
-    paths: &[String],
-    w: &mut W,
-) -> Result<(), Placed<CommandError>>
-    requires limit { IsLimit limit }
-    requires paths { length paths.now ≡ 1 }
-    ensures { Acts (F.opens files.now) F.File.left F.File.failed W.held W.failed W.flushed limit
-        (Command.File command.now) (map string_bytes paths.now) w.old result w.new }
+/// A result of one file, with its error among those of the program.
+fn told_one(done: Result<(), Placed<EditError>>) -> Result<(), Placed<CommandError>>
+    ensures { result ≡ told refusals.One done }
 {
-    match print_file(alloc, files, limit, command, paths[0].as_str(), w) {
+    match done {
         Ok(()) => Ok(()),
         Err(refused) => Err(Placed {
             error: CommandError::One(refused.error),
@@ -318,29 +308,11 @@ fn run_file<F: Opens, W: Flush>(
     }
 }
 
-/// Runs a command on two files.
-fn pair_files<F: Opens, W: Flush>(
-    alloc: Global,
-    files: &F,
-    limit: usize,
-    pairing: Pairing,
-    paths: &[String],
-    w: &mut W,
-) -> Result<(), Placed<CommandError>>
-    requires limit { IsLimit limit }
-    requires paths { length paths.now ≡ 2 }
-    ensures { Acts (F.opens files.now) F.File.left F.File.failed W.held W.failed W.flushed limit
-        (Command.Pair pairing) (map string_bytes paths.now) w.old result w.new }
+/// A result of two files, with its error among those of the program.
+fn told_two(done: Result<(), Placed<PairError>>) -> Result<(), Placed<CommandError>>
+    ensures { result ≡ told refusals.Two done }
 {
-    match print(
-        alloc,
-        files,
-        limit,
-        pairing,
-        paths[0].as_str(),
-        paths[1].as_str(),
-        w,
-    ) {
+    match done {
         Ok(()) => Ok(()),
         Err(refused) => Err(Placed {
             error: CommandError::Two(refused.error),
@@ -363,9 +335,13 @@ fn perform<F: Opens, W: Flush>(
     ensures { Acts (F.opens files.now) F.File.left F.File.failed W.held W.failed W.flushed limit
         command.now (map string_bytes paths.now) w.old result w.new }
 {
+    let file = paths[0].as_str();
     match command {
-        Command::File(command) => run_file(alloc, files, limit, command, paths, w),
-        Command::Pair(pairing) => pair_files(alloc, files, limit, *pairing, paths, w),
+        Command::File(command) => told_one(print_file(alloc, files, limit, command, file, w)),
+        Command::Pair(pairing) => {
+            let other = paths[1].as_str();
+            told_two(print(alloc, files, limit, *pairing, file, other, w))
+        }
     }
 }
 

@@ -1,5 +1,5 @@
 use Rattle.std.proofs.Common.{refl, sym, ◌∙◌}
-use Rattle.aig_edit_commands.proofs.Calling.{fits_none, further_none, under_none, unsaid_none}
+use Rattle.aig_edit_commands.proofs.Calling.{action_paths, fits_none, further_none, under_none, under_paths, unsaid_none}
 use Rattle.aig_edit_commands.proofs.command.call_of.Goals as goal
 
 pub returns-in_err-limit-clause-none : goal.returns-in_err-limit-clause-none
@@ -48,3 +48,14 @@ returns-clause-some c = record {
   compares = sym c.under.ensures ∙ c.in_ok-command.was;
   on = refl;
 }
+
+pub returns-clause-limit : goal.returns-clause-limit
+returns-clause-limit c = c.in_ok-limit.ensures.limit
+
+pub returns-clause-paths : goal.returns-clause-paths
+returns-clause-paths c =
+    let usual = c.in_ok-usual.usual in
+    c.in_ok-action.ensures.paths
+    ∙ action_paths c.in_ok-action.action _ _ usual c.in_ok-usual.ensures.some
+    ∙ under_paths c.in_ok-constraints.constraints usual c.in_ok-command.command
+    (sym c.under.ensures ∙ c.in_ok-command.was)
