@@ -25,7 +25,8 @@ pub returns-in_err-action : goal.returns-in_err-action
 returns-in_err-action c =
     rw c.from_residual-in_err-action.ensures (record {
       some = tt;
-      none = fits_none _ _ _ c.in_ok-limit.limit c.in_ok-constraints.constraints c.in_ok-limit.ensures.some c.in_ok-constraints.ensures.some c.in_err-action.ensures.none;
+      none = fits_none _ _ _ c.in_ok-limit.limit c.in_ok-constraints.constraints
+          c.in_ok-limit.ensures.some c.in_ok-constraints.ensures.some c.in_err-action.ensures.none;
       limit = tt;
       paths = tt;
     })
@@ -34,7 +35,9 @@ pub returns-in_err-usual : goal.returns-in_err-usual
 returns-in_err-usual c =
     rw c.from_residual-in_err-usual.ensures (record {
       some = tt;
-      none = further_none _ _ _ c.in_ok-limit.limit c.in_ok-constraints.constraints c.in_ok-limit.ensures.some c.in_ok-constraints.ensures.some c.in_ok-action.action _ c.in_ok-action.ensures.some c.in_err-usual.ensures.none;
+      none = further_none _ _ _ c.in_ok-limit.limit c.in_ok-constraints.constraints
+          c.in_ok-limit.ensures.some c.in_ok-constraints.ensures.some c.in_ok-action.action _
+          c.in_ok-action.ensures.some c.in_err-usual.ensures.none;
       limit = tt;
       paths = tt;
     })
@@ -43,7 +46,10 @@ pub returns-in_err-command : goal.returns-in_err-command
 returns-in_err-command c =
     rw c.from_residual-in_err-command.ensures (record {
       some = tt;
-      none = under_none _ _ _ c.in_ok-limit.limit c.in_ok-constraints.constraints c.in_ok-limit.ensures.some c.in_ok-constraints.ensures.some c.in_ok-action.action _ _ c.in_ok-action.ensures.some c.in_ok-usual.ensures.some (sym c.under.ensures ∙ c.in_err-command.was);
+      none = under_none _ _ _ c.in_ok-limit.limit c.in_ok-constraints.constraints
+          c.in_ok-limit.ensures.some c.in_ok-constraints.ensures.some c.in_ok-action.action _ _
+          c.in_ok-action.ensures.some c.in_ok-usual.ensures.some
+          (sym c.under.ensures ∙ c.in_err-command.was);
       limit = tt;
       paths = tt;
     })
