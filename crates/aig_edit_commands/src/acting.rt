@@ -12,12 +12,10 @@ ghost use Rattle.aig_format.specs.Fits.{Fits};
 ghost use Rattle.aig_format.specs.Writable.{IsWritable};
 ghost use Rattle.aig_reader.specs.Reading.{AreListsOf};
 ghost use Rattle.aig_reader.specs.Verdicts.{Accepted, verdict_by};
-ghost use Rattle.aig_edits.specs.declared.pair_error.PairError.TheVariants as errors;
-ghost use Rattle.aig_edits.specs.declared.edit_error.EditError.TheVariants as edit_errors;
 ghost use Rattle.aig_edits.specs.Joints.{IsUnwritten, PrintsJoint, first_verdict, second_verdict};
 ghost use Rattle.aig_edits.specs.Pairs.{OfTwoFiles};
 ghost use Rattle.aig_edit_commands.specs.declared.acting.CommandError.TheVariants as refusals;
-ghost use Rattle.aig_edit_commands.specs.Acting.{Acts, Obeys, PrintsOfFile, PrintsBeside, PrintsFile, PrintsFiles, PrintsOpen, PrintsPair, ReadsBoth, edit_unopened, told, unopened};
+ghost use Rattle.aig_edit_commands.specs.Acting.{Acts, Obeys, PrintsOfFile, PrintsBeside, PrintsFile, PrintsFiles, PrintsOpen, PrintsPair, ReadsBoth, told};
 ghost use Rattle.aig_edit_commands.specs.Help.{answer_of};
 ghost use Rattle.aig_edits.specs.Edits.{IsEditUnwritten, edit_verdict};
 ghost use Rattle.aig_edit_commands.specs.CommandWords.{paths_of};
@@ -70,15 +68,6 @@ impl HasStatus for CommandError {
 
     fn status(&self) -> u8 {
         1
-    }
-}
-
-/// What the file is refused for where it isn't opened.
-fn edit_unopened(error: OpenError) -> EditError
-    ensures { result ≡ edit_unopened error }
-{
-    match error {
-        OpenError::Refused => EditError::Read(ReadError::Open),
     }
 }
 
@@ -167,25 +156,7 @@ fn print_file<F: Opens, W: Flush>(
 {
     match files.open(path) {
         Ok(file) => print_open(alloc, limit, command, file, w),
-        Err(error) => Err(Placed::whole(edit_unopened(error))),
-    }
-}
-
-/// What the first file is refused for where it isn't opened.
-fn unopened(error: OpenError) -> PairError
-    ensures { result ≡ unopened errors.Read error }
-{
-    match error {
-        OpenError::Refused => PairError::Read(ReadError::Open),
-    }
-}
-
-/// What the second file is refused for where it isn't opened.
-fn other_unopened(error: OpenError) -> PairError
-    ensures { result ≡ unopened errors.Other error }
-{
-    match error {
-        OpenError::Refused => PairError::Other(ReadError::Open),
+        Err(OpenError::Refused) => Err(Placed::whole(EditError::Read(ReadError::Open))),
     }
 }
 
@@ -271,7 +242,7 @@ fn print_beside<F: Opens, R: Source + Drop, W: Flush>(
 {
     match files.open(other) {
         Ok(second) => print_pair(alloc, limit, pairing, first, second, w),
-        Err(error) => Err(Placed::whole(other_unopened(error))),
+        Err(OpenError::Refused) => Err(Placed::whole(PairError::Other(ReadError::Open))),
     }
 }
 
@@ -291,7 +262,7 @@ fn print<F: Opens, W: Flush>(
 {
     match files.open(file) {
         Ok(first) => print_beside(alloc, files, limit, pairing, first, other, w),
-        Err(error) => Err(Placed::whole(unopened(error))),
+        Err(OpenError::Refused) => Err(Placed::whole(PairError::Read(ReadError::Open))),
     }
 }
 
