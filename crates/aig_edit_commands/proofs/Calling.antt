@@ -1,5 +1,5 @@
 -- Words give one command.
-use Rattle.aig_base.proofs.Words.{◌≡◌, ◌↔◌, ℕ, ◌<◌, ◌≤◌, Option, Some, None, List, [], ◌∷◌, length, get_or, refl, same_Some, sym, ap, subst, ◌∙◌, arith}
+use Rattle.aig_base.proofs.Words.{◌≡◌, ◌↔◌, ℕ, ◌<◌, ◌≤◌, Option, Some, None, List, [], ◌∷◌, length, get_or, refl, same_Some, sym, ap, subst, ◌∙◌, arith, String, Global, map, get_or-map, length-map, string_bytes}
 use Rattle.std.specs.List.{position_or_len}
 use Rattle.std.specs.Prelude.{All, Contains, Err, IfNone, IfSome, Ok, Result, codes, not, slice_index, slice_index_or}
 use Rattle.std.proofs.Common.{lit<}
@@ -16,6 +16,7 @@ use Rattle.aig_format.specs.Text.{IsNumber, value_of}
 use Rattle.aig_command_line.proofs.Limits.{asked_alone, one_limit}
 use Rattle.aig_edits.proofs.ConstraintWords.{one_constraints}
 use Rattle.aig_edits.specs.Words.{AreConstraints}
+use Rattle.aig_edits.specs.declared.pairing.Pairing.TheVariants as pairings
 use Rattle.aig_edit_commands.specs.declared.command.Action.{Action}
 use Rattle.aig_join.specs.declared.comparison.Constraints.{Constraints}
 use Rattle.aig_join.specs.declared.comparison.Constraints.TheVariants.{OfBoth}
@@ -26,7 +27,7 @@ use Rattle.aig_edit_commands.specs.declared.command.Command.{Command}
 use Rattle.aig_edit_commands.specs.declared.command.TheConstants.Action.{ALL}
 use Rattle.aig_edit_commands.specs.declared.command.Command.TheVariants as commands
 use Rattle.aig_edit_commands.specs.declared.command.FileCommand.TheVariants as files
-use Rattle.aig_edit_commands.specs.CommandWords.{IsCall, IsCommandOf, form_of, name_of, under}
+use Rattle.aig_edit_commands.specs.CommandWords.{IsCall, IsCommandOf, form_of, name_of, paths_of, under}
 
 -- each command is in the list, at the place of the first that doesn't exclude it
 among : (a : Action) → Contains ALL a
@@ -91,6 +92,20 @@ one_command : (a : Action) (k : ℕ) (further : List (List ℕ)) (c d : Command)
 one_command actions.Rounds k further c d g h =
     g.2 ∙ ap (λ n. commands.File (files.Rounds k n)) (one_number g.0 h.0 further g.1 h.1) ∙ sym h.2
 one_command a k further c d g h = g ∙ sym h
+
+-- a command is run on as many files as come after its name
+pub action_paths : (a : Action) (k : ℕ) (further : List (List ℕ)) (c : Command)
+    → IsCommandOf a k further c → (form_of a).paths ≡ paths_of c
+action_paths actions.Rounds k further c is = sym (ap paths_of is.2)
+action_paths a k further c is = sym (ap paths_of is)
+
+-- and so with constraints
+pub under_paths : (constraints : Constraints) (usual c : Command) → under constraints usual ≡ Some c
+    → paths_of usual ≡ paths_of c
+under_paths OfBoth usual c is = ap paths_of (same_Some _ _ is)
+under_paths constraints (commands.Pair (pairings.Miter comparison)) c is =
+    ap paths_of (same_Some _ _ is)
+under_paths constraints usual c is = cc
 
 -- words that give a limit, and then what constraints say
 module _ (words rest more : List (List ℕ)) (limit : ℕ) (constraints : Constraints)
@@ -196,3 +211,13 @@ no_command words q limit c paths are g =
 pub never_none : {E : Type 0} (done : Result (Unit {0}) E) → ended done ≡ endings.NoCommand → ⊥
 never_none (Ok u) is = cc
 never_none (Err e) is = cc
+
+-- the word at a place of words
+pub word_at : (words : List (String Global)) (given : List (List ℕ)) (i : ℕ) (word : String Global)
+    → map string_bytes words ≡ given → i < length given → word ≡ get_or words i word
+    → string_bytes word ≡ get_or given i (string_bytes word)
+word_at words given i word are low is =
+    ap string_bytes is
+    ∙ sym (get_or-map string_bytes words i word (string_bytes word)
+    (omega (arith, length-map words string_bytes, ap length are)))
+    ∙ ap (λ l. get_or l i (string_bytes word)) are

@@ -12,12 +12,10 @@ ghost use Rattle.aig_format.specs.Fits.{Fits};
 ghost use Rattle.aig_format.specs.Writable.{IsWritable};
 ghost use Rattle.aig_reader.specs.Reading.{AreListsOf};
 ghost use Rattle.aig_reader.specs.Verdicts.{Accepted, verdict_by};
-ghost use Rattle.aig_edits.specs.declared.pair_error.PairError.TheVariants as errors;
-ghost use Rattle.aig_edits.specs.declared.edit_error.EditError.TheVariants as edit_errors;
 ghost use Rattle.aig_edits.specs.Joints.{IsUnwritten, PrintsJoint, first_verdict, second_verdict};
 ghost use Rattle.aig_edits.specs.Pairs.{OfTwoFiles};
 ghost use Rattle.aig_edit_commands.specs.declared.acting.CommandError.TheVariants as refusals;
-ghost use Rattle.aig_edit_commands.specs.Acting.{Acts, Obeys, PrintsOfFile, PrintsBeside, PrintsFile, PrintsFiles, PrintsOpen, PrintsPair, ReadsBoth, edit_unopened, told, unopened};
+ghost use Rattle.aig_edit_commands.specs.Acting.{Acts, Obeys, PrintsOfFile, PrintsBeside, PrintsFile, PrintsFiles, PrintsOpen, PrintsPair, ReadsBoth, told};
 ghost use Rattle.aig_edit_commands.specs.Help.{answer_of};
 ghost use Rattle.aig_edits.specs.Edits.{IsEditUnwritten, edit_verdict};
 ghost use Rattle.aig_edit_commands.specs.CommandWords.{paths_of};
@@ -44,10 +42,10 @@ pub const VERSION: &str = "aigedit 0.1.0";
 #[derive(Clone, Copy, Debug, PartialEq, Eq, Error)]
 pub enum CommandError {
     /// Nothing is made of one file.
-    #[error("{0}")]
+    #[error(transparent)]
     One(EditError),
     /// Nothing is made of two files.
-    #[error("{0}")]
+    #[error(transparent)]
     Two(PairError),
     /// Memory was refused before a file was opened.
     #[error("out of memory")]
@@ -70,15 +68,6 @@ impl HasStatus for CommandError {
 
     fn status(&self) -> u8 {
         1
-    }
-}
-
-/// What the file is refused for where it isn't opened.
-fn edit_unopened(error: OpenError) -> EditError
-    ensures { result ≡ edit_unopened error }
-{
-    match error {
-        OpenError::Refused => EditError::Read(ReadError::Open),
     }
 }
 
@@ -167,25 +156,7 @@ fn print_file<F: Opens, W: Flush>(
 {
     match files.open(path) {
         Ok(file) => print_open(alloc, limit, command, file, w),
-        Err(error) => Err(Placed::whole(edit_unopened(error))),
-    }
-}
-
-/// What the first file is refused for where it isn't opened.
-fn unopened(error: OpenError) -> PairError
-    ensures { result ≡ unopened errors.Read error }
-{
-    match error {
-        OpenError::Refused => PairError::Read(ReadError::Open),
-    }
-}
-
-/// What the second file is refused for where it isn't opened.
-fn other_unopened(error: OpenError) -> PairError
-    ensures { result ≡ unopened errors.Other error }
-{
-    match error {
-        OpenError::Refused => PairError::Other(ReadError::Open),
+        Err(OpenError::Refused) => Err(Placed::whole(EditError::Read(ReadError::Open))),
     }
 }
 
@@ -271,7 +242,7 @@ fn print_beside<F: Opens, R: Source + Drop, W: Flush>(
 {
     match files.open(other) {
         Ok(second) => print_pair(alloc, limit, pairing, first, second, w),
-        Err(error) => Err(Placed::whole(other_unopened(error))),
+        Err(OpenError::Refused) => Err(Placed::whole(PairError::Other(ReadError::Open))),
     }
 }
 
@@ -291,25 +262,15 @@ fn print<F: Opens, W: Flush>(
 {
     match files.open(file) {
         Ok(first) => print_beside(alloc, files, limit, pairing, first, other, w),
-        Err(error) => Err(Placed::whole(unopened(error))),
+        Err(OpenError::Refused) => Err(Placed::whole(PairError::Read(ReadError::Open))),
     }
 }
 
-/// Runs a command on one file.
-fn run_file<F: Opens, W: Flush>(
-    alloc: Global,
-    files: &F,
-    limit: usize,
-    command: &FileCommand,
-    paths: &[String],
-    w: &mut W,
-) -> Result<(), Placed<CommandError>>
-    requires limit { IsLimit limit }
-    requires paths { length paths.now ≡ 1 }
-    ensures { Acts (F.opens files.now) F.File.left F.File.failed W.held W.failed W.flushed limit
-        (Command.File command.now) (map string_bytes paths.now) w.old result w.new }
+/// A result of one file, with its error among those of the program.
+fn told_one(done: Result<(), Placed<EditError>>) -> Result<(), Placed<CommandError>>
+    ensures { result ≡ told refusals.One done }
 {
-    match print_file(alloc, files, limit, command, paths[0].as_str(), w) {
+    match done {
         Ok(()) => Ok(()),
         Err(refused) => Err(Placed {
             error: CommandError::One(refused.error),
@@ -318,29 +279,11 @@ fn run_file<F: Opens, W: Flush>(
     }
 }
 
-/// Runs a command on two files.
-fn pair_files<F: Opens, W: Flush>(
-    alloc: Global,
-    files: &F,
-    limit: usize,
-    pairing: Pairing,
-    paths: &[String],
-    w: &mut W,
-) -> Result<(), Placed<CommandError>>
-    requires limit { IsLimit limit }
-    requires paths { length paths.now ≡ 2 }
-    ensures { Acts (F.opens files.now) F.File.left F.File.failed W.held W.failed W.flushed limit
-        (Command.Pair pairing) (map string_bytes paths.now) w.old result w.new }
+/// A result of two files, with its error among those of the program.
+fn told_two(done: Result<(), Placed<PairError>>) -> Result<(), Placed<CommandError>>
+    ensures { result ≡ told refusals.Two done }
 {
-    match print(
-        alloc,
-        files,
-        limit,
-        pairing,
-        paths[0].as_str(),
-        paths[1].as_str(),
-        w,
-    ) {
+    match done {
         Ok(()) => Ok(()),
         Err(refused) => Err(Placed {
             error: CommandError::Two(refused.error),
@@ -363,9 +306,13 @@ fn perform<F: Opens, W: Flush>(
     ensures { Acts (F.opens files.now) F.File.left F.File.failed W.held W.failed W.flushed limit
         command.now (map string_bytes paths.now) w.old result w.new }
 {
+    let file = paths[0].as_str();
     match command {
-        Command::File(command) => run_file(alloc, files, limit, command, paths, w),
-        Command::Pair(pairing) => pair_files(alloc, files, limit, *pairing, paths, w),
+        Command::File(command) => told_one(print_file(alloc, files, limit, command, file, w)),
+        Command::Pair(pairing) => {
+            let other = paths[1].as_str();
+            told_two(print(alloc, files, limit, *pairing, file, other, w))
+        }
     }
 }
 

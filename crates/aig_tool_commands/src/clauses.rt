@@ -1,16 +1,12 @@
 //! The clauses of a file's circuit, printed from the circuit itself.
 
-ghost use Rattle.std.specs.Prelude.{◌≡◌, ◌≤◌, ◌↔◌, ◌^◌, IfErr, IfOk, IsErrOf, IsTrue, List, length};
-ghost use Rattle.aig.specs.declared.aiger.WriteError.TheVariants as write;
-ghost use Rattle.aig_base.specs.declared.logic.literal.Lit.{Lit};
+ghost use Rattle.std.specs.Prelude.{◌≡◌, ◌≤◌, ◌↔◌, ◌^◌, IfErr, IfOk, IsErrOf, IsTrue, length};
 ghost use Rattle.aig_base.specs.Clauses.{AreBelow};
 ghost use Rattle.aig_circuit.specs.Circuit.{IsCircuit};
 ghost use Rattle.aig_circuit.specs.View.{lists_circuit};
-ghost use Rattle.aig_cnf.specs.Cnf.{AreNeeded, HasClauses};
-ghost use Rattle.aig_tool_commands.specs.declared.tool.ToolError.TheVariants as errors;
+ghost use Rattle.aig_cnf.specs.Cnf.{AreNeeded};
 ghost use Rattle.aig_tool_commands.specs.Printing.{PrintsClauses};
 ghost use Rattle.aig_tool_commands.specs.Unrolled.{UnrollsOrRefuses};
-ghost use Rattle.aig_dimacs.specs.Text.{IsTextWith};
 ghost use Rattle.aig_encode.specs.Encoding.{encoded_verdict, verdict_of};
 ghost use Rattle.aig_encode.specs.declared.error.EncodeError.TheVariants as encode;
 ghost use Rattle.aig_format.specs.Circuit.{circuit_of};
@@ -94,24 +90,6 @@ fn find_gates(
     Ok(find_needed(alloc, circuit, optimize)?)
 }
 
-/// Prints the clauses of the gates that need them, with further ones after them.
-fn print_text<W: Sink>(
-    w: &mut W,
-    circuit: &CircuitView<'_>,
-    optimize: bool,
-    needed: &NeededGates,
-    extra: &LitVvec,
-) -> Result<(), ToolError>
-    requires few { length circuit.now.nodes ≤ 2 ^ 31 }
-    requires needed { AreNeeded circuit.now optimize needed.now.marks.items needed.now.clauses }
-    requires below { AreBelow (length circuit.now.nodes) extra.now }
-    ensures text { (lists : List (List (List Lit))) × HasClauses circuit.now optimize lists
-        × IsTextWith W.held W.failed w.old result lists extra.now w.new }
-    ensures fault { IfErr result (λ e. e ≡ errors.Write write.Stream) }
-{
-    Ok(write_circuit(w, circuit, optimize, needed, extra)?)
-}
-
 /// Prints the clauses of a circuit, with further ones after them.
 pub(crate) fn print_clauses<W: Sink>(
     alloc: Global,
@@ -125,5 +103,5 @@ pub(crate) fn print_clauses<W: Sink>(
     ensures { PrintsClauses W.held W.failed circuit.now optimize extra.now w.old result w.new }
 {
     let needed = find_gates(alloc, circuit, optimize)?;
-    print_text(w, circuit, optimize, &needed, extra)
+    Ok(write_circuit(w, circuit, optimize, &needed, extra)?)
 }

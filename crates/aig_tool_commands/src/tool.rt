@@ -25,16 +25,16 @@ const _: () = prove!(LIMIT == 16_777_216);
 #[derive(Clone, Copy, Debug, PartialEq, Eq, Error)]
 pub enum ToolError {
     /// FILE was refused.
-    #[error("{0}")]
+    #[error(transparent)]
     Read(ReadError),
     /// FILE was refused, or there are no clauses of it.
-    #[error("{0}")]
+    #[error(transparent)]
     Encode(EncodeError),
     /// Memory ran out outside reading, encoding and writing.
     #[error("out of memory")]
     Memory,
     /// The answer wasn't written.
-    #[error("{0}")]
+    #[error(transparent)]
     Write(WriteError),
 }
 

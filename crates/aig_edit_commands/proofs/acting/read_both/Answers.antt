@@ -35,3 +35,22 @@ returns-in-Err g c =
         place = own.place;
       },
     )
+
+pub returns-in-Err-read_placed : goal.returns-in-Err-read_placed
+returns-in-Err-read_placed g c =
+    let own = c.in-Ok.ensures in
+    let other = c.in-Err-read_placed.ensures in
+    let e = c.in-Err-read_placed.refused.error in (
+      own.rest,
+      other.rest,
+      record {
+        reads = record {
+          verdict = own.verdict;
+          other_verdict = λ _. other.verdict;
+          unread = λ not. absurd (not refl);
+          answer = λ _ is. absurd (of_no_file e (subst IsOfFile (sym is) tt));
+          own = other.own;
+        };
+        place = other.place;
+      },
+    )

@@ -20,3 +20,12 @@ returns-in-Live-clause-prints g c = λ f bound fits is. rw c.in-Live.is
 pub returns-in-Rounds-clause-prints : goal.returns-in-Rounds-clause-prints
 returns-in-Rounds-clause-prints g c = λ f bound fits is. rw c.in-Rounds.is
     (c.write_rounds.ensures.prints f bound fits (c.new-in-Rounds.ensures ∙ is))
+
+pub write_reduction-requires : goal.write_reduction-requires
+write_reduction-requires g c = rw c.new.ensures c.requires.plain
+
+pub write_live-requires : goal.write_live-requires
+write_live-requires g c = rw c.new-in-Live.ensures c.requires.plain
+
+pub write_rounds-requires : goal.write_rounds-requires
+write_rounds-requires g c = rw c.new-in-Rounds.ensures c.requires.plain
