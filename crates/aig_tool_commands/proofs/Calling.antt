@@ -1,5 +1,5 @@
 -- Words give one command.
-use Rattle.aig_base.proofs.Words.{◌≡◌, ◌↔◌, ℕ, List, Some, refl, sym, ap, subst, ◌∙◌, ◌<◌, arith, get_or, get_or-map, length, length-map, map, same_Some, string_bytes, String, Global}
+use Rattle.aig_base.proofs.Words.{◌≡◌, ◌↔◌, ℕ, List, Some, refl, sym, ap, subst, ◌∙◌, arith, same_Some}
 use Rattle.std.specs.List.{position_or_len}
 use Rattle.std.specs.Prelude.{All, Contains, Err, Ok, Result, not}
 use Rattle.std.proofs.Common.{lit<}
@@ -47,13 +47,3 @@ gives_exactly words c paths g d = (
 pub never_none : {E : Type 0} (done : Result (Unit {0}) E) → ended done ≡ endings.NoCommand → ⊥
 never_none (Ok u) is = cc
 never_none (Err e) is = cc
-
--- the word at a place of words
-pub word_at : (words : List (String Global)) (given : List (List ℕ)) (i : ℕ) (word : String Global)
-    → map string_bytes words ≡ given → i < length given → word ≡ get_or words i word
-    → string_bytes word ≡ get_or given i (string_bytes word)
-word_at words given i word are low is =
-    ap string_bytes is
-    ∙ sym (get_or-map string_bytes words i word (string_bytes word)
-    (omega (arith, length-map words string_bytes, ap length are)))
-    ∙ ap (λ l. get_or l i (string_bytes word)) are
