@@ -1,6 +1,6 @@
 -- What a call told of readers and writers it told of the bytes that they have left or hold.
 use Rattle.std.proofs.Common.{Bor}
-use Rattle.aig_base.proofs.Words.{◌≡◌, ◌≢◌, ℕ, Bool, true, false, List, [], Option, None, Some, Result, Ok, Err, Vec, Global, refl, sym, ap, subst, fun_ext, ◌∙◌, IfErr}
+use Rattle.aig_base.proofs.Words.{◌≡◌, ◌≢◌, ℕ, ◌<◌, ◌^◌, Bool, true, false, List, [], Option, None, Some, Result, Ok, Err, Vec, Global, refl, sym, ap, subst, fun_ext, ◌∙◌, arith, IfErr}
 use Rattle.aig_base.specs.declared.std_stream.FromRead.{FromRead}
 use Rattle.aig_base.specs.declared.std_stream.ToWrite.{ToWrite}
 use Rattle.aig_answers.specs.declared.bounded_checks.error.BoundedAnswerError.{BoundedAnswerError}
@@ -51,7 +51,7 @@ use Rattle.aig_reader.specs.Reading.{IsReadAs}
 use Rattle.aig_reader.specs.Verdicts.{Accepted, Judges, Short, Verdict}
 use Rattle.aig_runs.specs.declared.window.Window.{Window}
 use Rattle.aig_answers.specs.declared.safety.error.SafetyError.{SafetyError}
-use Rattle.aig_calls.specs.Calls.{RunsOn}
+use Rattle.aig_calls.specs.Calls.{AtStep, RunsOn}
 use Rattle.aig_calls.specs.Memory.{Into, Memory, On, Unseen, bytes_of, has_failed}
 
 -- what of a reader or a writer is seen
@@ -95,6 +95,11 @@ on r rest same does = (
   ap (λ (b : Bor (List ℕ)). Some b.now) same,
   does,
 )
+
+-- what is done for a step whose number is below 2^32
+pub at_step : {step k status : ℕ} {Kept Does : Type 0} → (step ≡ k) × (k < 2 ^ 32) → Does
+    → AtStep step status Kept Does
+at_step is does = (λ many. absurd (omega (arith, is.0, is.1)), λ few. does)
 
 -- what stays as it was is seen to
 same_seen : {R E : Type 0} (left : R → Option (List ℕ)) (failed : R → Bool) (r rest : R)
