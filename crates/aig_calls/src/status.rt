@@ -1,14 +1,13 @@
 //! The numbers by which calls say how they ended.
 
 ghost use Rattle.std.specs.Prelude.{◌≡◌, ◌<◌, ◌≤◌, ℕ};
-ghost use Rattle.aig_calls.specs.Statuses.{answer_status, base_status, bounded_status, certificate_status, check_status, claim_status, condition_flag, condition_status, edit_status, encode_status, equality_status, fault_status, flagged, lasso_status, live_status, made_status, memory, miter_status, pair_status, read_status, refutation_status, safety_status, section_number, sharing_status, show_status, simulation_status, solution_status, status_by, step_status, steps_status, tool_status, witness_status};
+ghost use Rattle.aig_calls.specs.Statuses.{answer_status, base_status, bounded_status, certificate_status, check_status, claim_status, condition_flag, condition_status, edit_status, encode_status, equality_status, fault_status, flagged, lasso_status, live_status, made_status, miter_status, pair_status, read_status, refutation_status, safety_status, section_number, sharing_status, show_status, simulation_status, solution_status, status_by, step_status, steps_status, tool_status, witness_status};
 
 use aig::ReadError;
 use aig_answers::{
     AnswerError, BoundedAnswerError, CertificateError, EqualityError, LivenessError, MiterError,
     SafetyError, StepsError,
 };
-use aig_base::MemoryError;
 use aig_bounded::BoundedError;
 use aig_check_commands::CheckError;
 use aig_edits::{EditError, PairError};
@@ -523,14 +522,6 @@ pub(crate) trait HasNumber: Drop {
     /// The number.
     fn number(self) -> u32
         ensures { result ≡ number self };
-}
-
-impl HasNumber for MemoryError {
-    ghost number = { λ _. memory };
-
-    fn number(self) -> u32 {
-        MEMORY
-    }
 }
 
 impl HasNumber for ToolError {
