@@ -9,9 +9,7 @@ ghost use Rattle.aig_calls.specs.Statuses.{check_status};
 use crate::status::status_of;
 use crate::steps::{step_of, window_form};
 use aig_base::FromRead;
-use aig_check_commands::{
-    print_inductive, print_refuted, print_refuted_to, print_safe,
-};
+use aig_check_commands::{print_inductive, print_refuted, print_refuted_to, print_safe};
 use aig_command_line::Discarded;
 use aig_tool_commands::LIMIT;
 use std::alloc::Global;

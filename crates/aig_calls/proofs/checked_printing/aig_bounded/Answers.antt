@@ -11,5 +11,7 @@ returns-in-Ok c =
     let step = c.in-Ok.ensures.ok in
     let run = c.print_bounded-done in
     let sink = c.new-sink in
-    let text = printed (RunsOn LIMIT (commands.Bounded c.in-Ok.k c.args.optimize) c.args.file.now None) sink.result run.new.w run.result sink.ensures.writer c.new.ensures.items (alone c.new-source.result run.ensures.0 c.new-source.ensures.reader run.ensures.1) in
+    let text = printed (RunsOn LIMIT (commands.Bounded c.in-Ok.k c.args.optimize) c.args.file.now
+    None) sink.result run.new.w run.result sink.ensures.writer c.new.ensures.items (alone
+    c.new-source.result run.ensures.0 c.new-source.ensures.reader run.ensures.1) in
     rw (← step.0) (at_step step (text_in run.result run.new.w.inner.items, text, c.put.ensures))

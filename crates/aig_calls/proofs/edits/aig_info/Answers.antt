@@ -8,5 +8,8 @@ pub returns : goal.returns
 returns c =
     let run = c.print_info-done in
     let sink = c.new-sink in
-    let text = printed (MakesInfo LIMIT c.args.file.now) sink.result run.new.w run.result sink.ensures.writer c.new.ensures.items (on c.new-source.result run.new.r c.new-source.ensures.reader (file_seen (λ f. info_seen sink.result run.new.w f run.result) run.ensures.reads)) in
+    let text = printed (MakesInfo LIMIT c.args.file.now) sink.result run.new.w run.result
+    sink.ensures.writer c.new.ensures.items (on c.new-source.result run.new.r
+    c.new-source.ensures.reader (file_seen (λ f. info_seen sink.result run.new.w f run.result)
+    run.ensures.reads)) in
     (text_in run.result run.new.w.inner.items, text, c.put.ensures)

@@ -8,5 +8,9 @@ pub returns : goal.returns
 returns c =
     let run = c.print_joint-done in
     let sink = c.new-sink in
-    let text = printed (MakesJoint LIMIT c.args.pairing c.args.file.now c.args.other.now) sink.result run.new.w run.result sink.ensures.writer c.new.ensures.items (on c.new-first.result run.new.first c.new-first.ensures.reader (on c.new-second.result run.new.second c.new-second.ensures.reader (both_seen (λ f g. joint_seen sink.result run.new.w c.args.pairing f g run.result) run.ensures.reads))) in
+    let text = printed (MakesJoint LIMIT c.args.pairing c.args.file.now c.args.other.now)
+    sink.result run.new.w run.result sink.ensures.writer c.new.ensures.items (on c.new-first.result
+    run.new.first c.new-first.ensures.reader (on c.new-second.result run.new.second
+    c.new-second.ensures.reader (both_seen (λ f g. joint_seen sink.result run.new.w c.args.pairing f
+    g run.result) run.ensures.reads))) in
     (text_in run.result run.new.w.inner.items, text, c.put.ensures)

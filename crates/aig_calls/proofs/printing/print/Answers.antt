@@ -8,5 +8,7 @@ pub returns : goal.returns
 returns c =
     let run = c.run-done in
     let sink = c.new-sink in
-    let text = printed (RunsTool LIMIT c.args.c c.args.file.now) sink.result run.new.w run.result sink.ensures.writer c.new.ensures.items (on c.new-source.result run.new.r c.new-source.ensures.reader (tool_seen run.ensures)) in
+    let text = printed (RunsTool LIMIT c.args.c c.args.file.now) sink.result run.new.w run.result
+    sink.ensures.writer c.new.ensures.items (on c.new-source.result run.new.r
+    c.new-source.ensures.reader (tool_seen run.ensures)) in
     (text_in run.result run.new.w.inner.items, text, c.put.ensures)
