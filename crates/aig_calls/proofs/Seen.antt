@@ -53,7 +53,7 @@ use Rattle.aig_runs.specs.declared.window.Window.{Window}
 use Rattle.aig_answers.specs.declared.safety.error.SafetyError.{SafetyError}
 use Rattle.aig_calls.specs.Calls.{AtStep, Prints, RunsOn}
 use Rattle.aig_calls.specs.Listings.{text_in}
-use Rattle.aig_calls.specs.Memory.{Into, Memory, On, Unseen, bytes_of, has_failed}
+use Rattle.aig_calls.specs.Memory.{Memory, On, bytes_of, has_failed}
 
 -- what of a reader or a writer is seen
 abbrev pub seen : {R : Type 0} → (R → Option (List ℕ)) → (R → Bool) → R → Memory

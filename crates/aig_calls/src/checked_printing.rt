@@ -1,6 +1,6 @@
 //! Calls that give what a command of `aigcheck` prints of a file.
 
-ghost use Rattle.std.specs.Prelude.{◌<◌, ◌^◌, None, Some};
+ghost use Rattle.std.specs.Prelude.{None, Some};
 ghost use Rattle.aig_check_commands.specs.declared.command.FileCommand.TheVariants as commands;
 ghost use Rattle.aig_calls.specs.Calls.{GivesAt, Prints, RunsOn, form_of};
 ghost use Rattle.aig_calls.specs.Statuses.{check_status};

@@ -1,6 +1,6 @@
 //! Calls that check proofs about a file.
 
-ghost use Rattle.std.specs.Prelude.{◌<◌, ◌^◌, Some};
+ghost use Rattle.std.specs.Prelude.{Some};
 ghost use Rattle.aig_check_commands.specs.declared.command.FileCommand.TheVariants as commands;
 ghost use Rattle.aig_calls.specs.Calls.{ChecksAt, RunsOn, RunsOnSafe, form_of};
 ghost use Rattle.aig_calls.specs.Memory.{Unseen};

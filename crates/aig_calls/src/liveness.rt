@@ -1,6 +1,5 @@
 //! Calls that check proofs that a file has no fair lasso or no fair run.
 
-ghost use Rattle.std.specs.Prelude.{◌<◌, ◌^◌};
 ghost use Rattle.aig_calls.specs.Calls.{ChecksAt, ChecksLasso, ChecksLassos, ChecksRuns, form_of};
 ghost use Rattle.aig_calls.specs.Statuses.{live_status};
 

@@ -165,17 +165,6 @@ fn of_edit(error: EditError) -> u32
     }
 }
 
-/// The status of a command of `aigtool` that has no answer. What is written to memory stops only where memory is refused.
-fn of_tool(error: ToolError) -> u32
-    ensures exact { result ≡ tool_status error }
-{
-    match error {
-        ToolError::Read(error) => of_read(error),
-        ToolError::Encode(error) => of_encode(error),
-        ToolError::Memory | ToolError::Write(_) => MEMORY,
-    }
-}
-
 /// The status of a proof that is refused.
 fn of_refutation(error: RefutationError) -> u32
     ensures exact { result ≡ refutation_status error }
@@ -455,18 +444,6 @@ fn of_simulation(error: SimulationError) -> u32
     }
 }
 
-/// The status of a file of whose justice property something isn't shown.
-fn of_liveness(error: LivenessError) -> u32
-    ensures { result ≡ live_status error }
-{
-    match error {
-        LivenessError::Live(error) => of_edit(error),
-        LivenessError::Query(error) => flagged(QUERY, of_answer(error)),
-        LivenessError::Question(error) => of_base(error),
-        LivenessError::Safety(error) => of_made(error),
-    }
-}
-
 /// The status of a witness of a justice property that shows no fair lasso. Which step or literal it is isn't told.
 fn of_lasso(fault: LassoFault) -> u32
     ensures { result ≡ lasso_status fault }
@@ -477,41 +454,6 @@ fn of_lasso(fault: LassoFault) -> u32
         LassoFault::NoLoop => LASSO + 1,
         LassoFault::Literal(_) => LASSO + 2,
         LassoFault::Fairness(_) => LASSO + 3,
-    }
-}
-
-/// The status of a file and a witness that show no fair lasso.
-fn of_claim(error: ClaimError) -> u32
-    ensures { result ≡ claim_status error }
-{
-    match error {
-        ClaimError::Show(ShowError::Check(WitnessFault::Memory)) => MEMORY,
-        ClaimError::Show(ShowError::Check(_)) => WITNESS_BAD,
-        ClaimError::Show(error) => of_show(error),
-        ClaimError::Lasso(fault) => of_lasso(fault),
-    }
-}
-
-/// The status of a command of `aigcheck` that has no answer. What is written to memory stops only where memory is refused.
-fn of_check(error: CheckError) -> u32
-    ensures { result ≡ check_status error }
-{
-    match error {
-        CheckError::Open => HEADER,
-        CheckError::Memory | CheckError::Write => MEMORY,
-        CheckError::Settled(_) => SETTLED,
-        CheckError::Answer(error) => of_answer(error),
-        CheckError::Solution(error) => of_solution(error),
-        CheckError::Show(error) => of_show(error),
-        CheckError::Lasso(fault) => of_lasso(fault),
-        CheckError::Bounded(error) => of_bounded(error),
-        CheckError::Safe(error) => of_safety(error),
-        CheckError::Steps(error) => of_steps(error),
-        CheckError::Certificate(error) => of_certificate(error),
-        CheckError::Equality(error) => of_equality(error),
-        CheckError::Miter(error) => of_miter(error),
-        CheckError::Unmade(error) => of_edit(error),
-        CheckError::Simulation(error) => of_simulation(error),
     }
 }
 
@@ -527,8 +469,13 @@ pub(crate) trait HasNumber: Drop {
 impl HasNumber for ToolError {
     ghost number = { tool_status };
 
+    /// The status of a command of `aigtool` that has no answer. What is written to memory stops only where memory is refused.
     fn number(self) -> u32 {
-        of_tool(self)
+        match self {
+            ToolError::Read(error) => of_read(error),
+            ToolError::Encode(error) => of_encode(error),
+            ToolError::Memory | ToolError::Write(_) => MEMORY,
+        }
     }
 }
 
@@ -567,24 +514,53 @@ impl HasNumber for ShowError {
 impl HasNumber for ClaimError {
     ghost number = { claim_status };
 
+    /// The status of a file and a witness that show no fair lasso.
     fn number(self) -> u32 {
-        of_claim(self)
+        match self {
+            ClaimError::Show(ShowError::Check(WitnessFault::Memory)) => MEMORY,
+            ClaimError::Show(ShowError::Check(_)) => WITNESS_BAD,
+            ClaimError::Show(error) => of_show(error),
+            ClaimError::Lasso(fault) => of_lasso(fault),
+        }
     }
 }
 
 impl HasNumber for CheckError {
     ghost number = { check_status };
 
+    /// The status of a command of `aigcheck` that has no answer. What is written to memory stops only where memory is refused.
     fn number(self) -> u32 {
-        of_check(self)
+        match self {
+            CheckError::Open => HEADER,
+            CheckError::Memory | CheckError::Write => MEMORY,
+            CheckError::Settled(_) => SETTLED,
+            CheckError::Answer(error) => of_answer(error),
+            CheckError::Solution(error) => of_solution(error),
+            CheckError::Show(error) => of_show(error),
+            CheckError::Lasso(fault) => of_lasso(fault),
+            CheckError::Bounded(error) => of_bounded(error),
+            CheckError::Safe(error) => of_safety(error),
+            CheckError::Steps(error) => of_steps(error),
+            CheckError::Certificate(error) => of_certificate(error),
+            CheckError::Equality(error) => of_equality(error),
+            CheckError::Miter(error) => of_miter(error),
+            CheckError::Unmade(error) => of_edit(error),
+            CheckError::Simulation(error) => of_simulation(error),
+        }
     }
 }
 
 impl HasNumber for LivenessError {
     ghost number = { live_status };
 
+    /// The status of a file of whose justice property something isn't shown.
     fn number(self) -> u32 {
-        of_liveness(self)
+        match self {
+            LivenessError::Live(error) => of_edit(error),
+            LivenessError::Query(error) => flagged(QUERY, of_answer(error)),
+            LivenessError::Question(error) => of_base(error),
+            LivenessError::Safety(error) => of_made(error),
+        }
     }
 }
 
