@@ -15,5 +15,9 @@ returns-in-Ok c =
     c.args.optimize) c.args.file.now None) sink.result run.new.w run.result sink.ensures.writer
     c.new.ensures.items (alone c.new-source.result run.ensures.0 c.new-source.ensures.reader
     run.ensures.1) in
-    rw (← step.0, ← c.window_form-form.ensures) (at_step step (text_in run.result
-    run.new.w.inner.items, text, c.put.ensures))
+    rw (← step.0, ← c.window_form-form.ensures) (at_step step (
+      text_in run.result
+          run.new.w.inner.items,
+      text,
+      c.put.ensures,
+    ))

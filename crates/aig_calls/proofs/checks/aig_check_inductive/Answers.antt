@@ -7,5 +7,8 @@ returns-in-Ok c =
     let run = c.print_inductive in
     let checked = on c.new.result run.new.r c.new.ensures.reader (on c.new-in-Ok.result
     run.new.proof c.new-in-Ok.ensures.reader (runs_seen run.ensures)) in
-    rw (← step.0, ← c.window_form.ensures) (at_step step (run.result, (nobody, nobody, checked),
-    c.status_of.ensures))
+    rw (← step.0, ← c.window_form.ensures) (at_step step (
+      run.result,
+      (nobody, nobody, checked),
+      c.status_of.ensures,
+    ))

@@ -8,5 +8,8 @@ returns-in-Ok c =
     let checked = on c.new.result run.new.r c.new.ensures.reader (on c.new-in-Ok.result run.new.base
     c.new-in-Ok.ensures.reader (on c.new-in-Ok-2.result run.new.step c.new-in-Ok-2.ensures.reader
     (safe_seen run.ensures))) in
-    rw (← step.0, ← c.window_form.ensures) (at_step step (run.result, (nobody, nobody, checked),
-    c.status_of.ensures))
+    rw (← step.0, ← c.window_form.ensures) (at_step step (
+      run.result,
+      (nobody, nobody, checked),
+      c.status_of.ensures,
+    ))

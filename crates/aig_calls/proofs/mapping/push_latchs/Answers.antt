@@ -20,8 +20,10 @@ pub returns : goal.returns
 returns c =
     let number = λ (latch : AigLatch). variable_number latch.input in
     let before = c.args.numbers.now.items in
-    let whole = take_all c.loop-latch.latch-index c.args.latchs.now (omega (arith,
-    c.loop-latch-test.false)) in
+    let whole = take_all c.loop-latch.latch-index c.args.latchs.now (omega (
+      arith,
+      c.loop-latch-test.false,
+    )) in
     let leaves = map-map variable_number (λ (latch : AigLatch). latch.input) c.args.latchs.now in
     c.loop-latch.invariant ∙ ap (λ latchs. before ++ map number latchs) whole
     ∙ ap (λ ns. before ++ ns) (sym leaves)

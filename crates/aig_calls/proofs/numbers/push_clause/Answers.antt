@@ -16,8 +16,10 @@ returns c =
     let before = c.args.numbers.now.items in
     let number = map dimacs_number in
     let end = pos 0 ∷ [] in
-    let whole = take_all c.loop-lit.lit-index c.args.clause.now (omega (arith,
-    c.loop-lit-test.false)) in
+    let whole = take_all c.loop-lit.lit-index c.args.clause.now (omega (
+      arith,
+      c.loop-lit-test.false,
+    )) in
     let all = c.loop-lit.invariant ∙ ap (λ lits. before ++ number lits) whole in
     c.in_ok-push-2.ensures.items ∙ ap (λ ns. ns ++ end) all ∙ append_assoc before (number
     c.args.clause.now) end

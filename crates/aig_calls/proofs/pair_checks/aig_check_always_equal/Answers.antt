@@ -9,5 +9,8 @@ returns-in-Ok c =
     run.new.other c.new-in-Ok.ensures.reader (on c.new-in-Ok-2.result run.new.base
     c.new-in-Ok-2.ensures.reader (on c.new-in-Ok-3.result run.new.step c.new-in-Ok-3.ensures.reader
     (pair_seen run.ensures)))) in
-    rw (← step.0, ← c.window_form.ensures) (at_step step (run.result, (nobody, nobody, checked),
-    c.status_of.ensures))
+    rw (← step.0, ← c.window_form.ensures) (at_step step (
+      run.result,
+      (nobody, nobody, checked),
+      c.status_of.ensures,
+    ))

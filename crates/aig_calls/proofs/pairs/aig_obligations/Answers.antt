@@ -13,6 +13,15 @@ returns c =
     let text = printed (RunsOnPair LIMIT (commands.Obligations c.args.optimize) c.args.file.now
     c.args.certificate.now None None) sink.result run.new.w run.result sink.ensures.writer
     c.new.ensures.items (on c.new-first.result run.ensures.0 c.new-first.ensures.reader (on
-    c.new-second.result run.ensures.1 c.new-second.ensures.reader (nobody, nobody, refl, (nobody,
-    nobody, refl, pair_seen run.ensures.2)))) in
+    c.new-second.result run.ensures.1 c.new-second.ensures.reader (
+      nobody,
+      nobody,
+      refl,
+      (
+        nobody,
+        nobody,
+        refl,
+        pair_seen run.ensures.2,
+      ),
+    ))) in
     (text_in run.result run.new.w.inner.items, text, c.put.ensures)
