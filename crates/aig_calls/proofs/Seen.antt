@@ -1,6 +1,6 @@
 -- What a call told of readers and writers it told of the bytes that they have left or hold.
 use Rattle.std.proofs.Common.{Bor}
-use Rattle.aig_base.proofs.Words.{◌≡◌, ◌≢◌, ℕ, Bool, true, false, List, [], Option, None, Some, Result, Ok, Err, Vec, Global, refl, sym, ap, subst, fun_ext, ◌∙◌, IfErr}
+use Rattle.aig_base.proofs.Words.{◌≡◌, ◌≢◌, ℕ, ◌<◌, ◌^◌, Bool, true, false, List, [], Option, None, Some, Result, Ok, Err, Vec, Global, refl, sym, ap, subst, fun_ext, ◌∙◌, arith, IfErr}
 use Rattle.aig_base.specs.declared.std_stream.FromRead.{FromRead}
 use Rattle.aig_base.specs.declared.std_stream.ToWrite.{ToWrite}
 use Rattle.aig_answers.specs.declared.bounded_checks.error.BoundedAnswerError.{BoundedAnswerError}
@@ -51,8 +51,9 @@ use Rattle.aig_reader.specs.Reading.{IsReadAs}
 use Rattle.aig_reader.specs.Verdicts.{Accepted, Judges, Short, Verdict}
 use Rattle.aig_runs.specs.declared.window.Window.{Window}
 use Rattle.aig_answers.specs.declared.safety.error.SafetyError.{SafetyError}
-use Rattle.aig_calls.specs.Calls.{RunsOn}
-use Rattle.aig_calls.specs.Memory.{Into, Memory, On, Unseen, bytes_of, has_failed}
+use Rattle.aig_calls.specs.Calls.{AtStep, Prints, RunsOn}
+use Rattle.aig_calls.specs.Listings.{text_in}
+use Rattle.aig_calls.specs.Memory.{Memory, On, bytes_of, has_failed}
 
 -- what of a reader or a writer is seen
 abbrev pub seen : {R : Type 0} → (R → Option (List ℕ)) → (R → Bool) → R → Memory
@@ -95,6 +96,11 @@ on r rest same does = (
   ap (λ (b : Bor (List ℕ)). Some b.now) same,
   does,
 )
+
+-- what is done for a step whose number is below 2^32
+pub at_step : {step k status : ℕ} {Kept Does : Type 0} → (step ≡ k) × (k < 2 ^ 32) → Does
+    → AtStep step status Kept Does
+at_step is does = (λ many. absurd (omega (arith, is.0, is.1)), λ few. does)
 
 -- what stays as it was is seen to
 same_seen : {R E : Type 0} (left : R → Option (List ℕ)) (failed : R → Bool) (r rest : R)
@@ -197,41 +203,18 @@ module _ (w made : Writer) where
   joint_seen pairing f g (Err pair.Write) means = means
   joint_seen pairing f g (Err x) means = means
 
--- a writer that was made of no items holds none, and what it holds is what it is made of
-pub held_nothing : {inner v : Vec ℕ Global} → inner ≡ v → v.items ≡ []
+-- a writer that was made of no items holds none
+held_nothing : {inner v : Vec ℕ Global} → inner ≡ v → v.items ≡ []
     → Some inner.items ≡ Some []
 held_nothing same none = ap (λ (x : Vec ℕ Global). Some x.items) same ∙ ap Some none
 
-pub held_all : {v inner : Vec ℕ Global} → v ≡ inner → Some inner.items ≡ Some v.items
-held_all same = ap (λ (x : Vec ℕ Global). Some x.items) (sym same)
-
--- a text was written into memory that held nothing
-pub put_into : (w made : Writer) {empty text : Vec ℕ Global} {Does : Memory → Memory → Type 0}
-    → w.inner ≡ empty → empty.items ≡ [] → text ≡ made.inner → Does (wrote w) (wrote made)
-    → Into text.items Does
-put_into w made same none all does =
-    (wrote w, wrote made, held_nothing same none, (held_all all, does))
-
--- so a text that was made of a file, or there is none
-module _ {limit : ℕ} {said : EditError → Verdict} {Own : EditError → Type 0}
-    {M : File → Result (Unit {0}) EditError → Type 0}
-    {Does : Memory → Memory → File → Result (Unit {0}) EditError → Type 0} {bytes : Bor (List ℕ)}
-    (r rest : Reader) (w made : Writer) where
-  pub made_into : {empty text : Vec ℕ Global} → r.inner ≡ bytes → w.inner ≡ empty
-      → empty.items ≡ [] → text ≡ made.inner
-      → ((f : File) → M f (Ok tt) → Does (wrote w) (wrote made) f (Ok tt))
-      → ReadsFile bytes_left read_failed limit M said Own r (Ok tt) rest
-      → Into text.items (λ v new. On (Some bytes.now) (λ s left.
-      ReadsFile bytes_of has_failed limit (Does v new) said Own s (Ok tt) left))
-  made_into same none empty all so reads =
-      put_into w made none empty all (on r rest same (file_seen so reads))
-
-  pub unmade : (e : EditError) → r.inner ≡ bytes
-      → ((f : File) → M f (Err e) → Does (wrote w) (wrote made) f (Err e))
-      → ReadsFile bytes_left read_failed limit M said Own r (Err e) rest
-      → Unseen (λ v new. On (Some bytes.now) (λ s left.
-      ReadsFile bytes_of has_failed limit (Does v new) said Own s (Err e) left))
-  unmade e same so reads = (wrote w, wrote made, on r rest same (file_seen so reads))
+-- a text was written into memory that held nothing, or there is none
+pub printed : {E : Type 0} {empty : Vec ℕ Global}
+    (Does : Result (Unit {0}) E → Memory → Memory → Type 0) (w made : Writer)
+    (result : Result (Unit {0}) E) → w.inner ≡ empty → empty.items ≡ []
+    → Does result (wrote w) (wrote made) → Prints Does (text_in result made.inner.items)
+printed Does w made (Ok done) same none does = (wrote w, wrote made, held_nothing same none, (refl, does))
+printed Does w made (Err e) same none does = (wrote w, wrote made, does)
 
 -- a file that is taken, for which memory runs out then
 pub short : {of : File → Verdict} {limit : ℕ} {old new : Option (List ℕ)} {failed : Bool}

@@ -2,8 +2,7 @@
 -- What a call does, by the bytes that it is given: what the program's command, or the library's
 -- call, of the same name does with them, a status for its result, and what is left in the caller's
 -- memory.
-use Rattle.std.specs.Prelude.{◌≡◌, ℕ, ◌<◌, ◌≤◌, ◌^◌, ◌++◌, if◌then◌else◌, Bool, List, length, drop, Option, Some, Result, Ok, Err, IfErr, IfOk, Vec, ℤ}
-use Rattle.std.specs.declared.alloc.Global.{Global}
+use Rattle.std.specs.Prelude.{◌≡◌, ℕ, ◌<◌, ◌≤◌, ◌^◌, ◌++◌, if◌then◌else◌, Bool, List, length, drop, Option, Some, Result, Ok, Err, IfErr, IfOk, ℤ}
 use Rattle.aig_answers.specs.Answers as answering
 use Rattle.aig_answers.specs.Answers.{IsAsked, IsOfQuery, asked_verdict}
 use Rattle.aig_answers.specs.declared.error.AnswerError.{AnswerError}
@@ -223,11 +222,6 @@ pub record IsGiven {X : Type 0} (status : ℕ) (items old new : List X) (needed 
   pub whole : status ≡ done → new ≡ items ++ drop (length items) old
   pub short : status ≡ small → (length old < length items) × (new ≡ old)
   pub only : status < 2
-
--- the items that a result has
-abbrev pub items_in : {X E : Type 0} → Result (Vec X Global) E → Result (List X) E
-items_in (Ok made) = Ok made.items
-items_in (Err e) = Err e
 
 -- the items are given; without an answer the memory stays as it was
 abbrev pub GivesItems : {X E : Type 0} → (E → ℕ) → Result (List X) E → ℕ → List X → List X → ℕ → ℕ

@@ -1,9 +1,12 @@
 //! Memory of the caller.
 
 ghost use Rattle.std.specs.Prelude.{◌≡◌};
-ghost use Rattle.aig_calls.specs.Calls.{GivesItems, IsGiven, items_in};
+ghost use Rattle.aig_base.specs.Wrapped.{writer_of};
+ghost use Rattle.aig_calls.specs.Calls.{GivesItems, IsGiven};
+ghost use Rattle.aig_calls.specs.Listings.{text_in};
 
 use crate::status::{DONE, HasNumber, SMALL};
+use aig_base::ToWrite;
 
 /// Copies items to the front of the caller's memory, where they fit, and says how many there are.
 pub(crate) fn give<T: Copy>(items: &[T], out: &mut [T], needed: &mut usize) -> u32
@@ -18,16 +21,18 @@ pub(crate) fn give<T: Copy>(items: &[T], out: &mut [T], needed: &mut usize) -> u
     DONE
 }
 
-/// Gives what was made, if anything.
-pub(crate) fn put<T: Copy, E: HasNumber>(
-    made: Result<Vec<T>, E>,
-    out: &mut [T],
+/// Gives the text that was written, or says by the error's number why there is none.
+pub(crate) fn put<E: HasNumber>(
+    done: Result<(), E>,
+    sink: ToWrite<Vec<u8>>,
+    out: &mut [u8],
     needed: &mut usize,
 ) -> u32
-    ensures { GivesItems E.number (items_in made) result out.old out.new needed.old needed.new }
+    ensures { let text = text_in done (writer_of sink).items in
+        GivesItems E.number text result out.old out.new needed.old needed.new }
 {
-    match made {
-        Ok(items) => give(items.as_slice(), out, needed),
+    match done {
+        Ok(()) => give(sink.into_inner().as_slice(), out, needed),
         Err(error) => error.number(),
     }
 }

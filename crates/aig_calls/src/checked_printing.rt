@@ -1,109 +1,18 @@
 //! Calls that give what a command of `aigcheck` prints of a file.
 
-ghost use Rattle.std.specs.Prelude.{◌<◌, ◌^◌, None, Some};
+ghost use Rattle.std.specs.Prelude.{None, Some};
 ghost use Rattle.aig_check_commands.specs.declared.command.FileCommand.TheVariants as commands;
-ghost use Rattle.aig_calls.specs.Calls.{GivesAt, Prints, RunsOn, form_of, items_in};
+ghost use Rattle.aig_calls.specs.Calls.{GivesAt, Prints, RunsOn, form_of};
 ghost use Rattle.aig_calls.specs.Statuses.{check_status};
 
 use crate::buffer::put;
 use crate::steps::{step_of, window_form};
-use aig_answers::Window;
 use aig_base::{FromRead, ToWrite};
-use aig_check_commands::CheckError;
+use aig_check_commands::{
+    print_bounded, print_clauses, print_window, print_witness, print_witness_to,
+};
 use aig_tool_commands::LIMIT;
 use std::alloc::Global;
-
-/// The clauses of a file's query, with its comments.
-fn clauses_text(alloc: Global, file: &[u8], k: usize, optimize: bool) -> Result<Vec<u8>, CheckError>
-    requires { k < 2 ^ 32 }
-    ensures { Prints (RunsOn LIMIT (commands.Clauses k optimize) file.now None) (items_in result) }
-{
-    let source = FromRead::new(file);
-    let mut sink = ToWrite::new(Vec::new(alloc));
-    aig_check_commands::print_clauses(alloc, LIMIT, k, optimize, source, &mut sink)?;
-    Ok(sink.into_inner())
-}
-
-/// The clauses of a window of a file's machine.
-fn window_text(
-    alloc: Global,
-    file: &[u8],
-    k: usize,
-    form: Window,
-    optimize: bool,
-) -> Result<Vec<u8>, CheckError>
-    requires { k < 2 ^ 32 }
-    ensures { Prints (RunsOn LIMIT (commands.Window k form optimize) file.now None) (items_in
-        result) }
-{
-    let source = FromRead::new(file);
-    let mut sink = ToWrite::new(Vec::new(alloc));
-    aig_check_commands::print_window(alloc, LIMIT, k, form, optimize, source, &mut sink)?;
-    Ok(sink.into_inner())
-}
-
-/// The clauses of a question, with its comments.
-fn bounded_text(alloc: Global, file: &[u8], k: usize, optimize: bool) -> Result<Vec<u8>, CheckError>
-    ensures { Prints (RunsOn LIMIT (commands.Bounded k optimize) file.now None) (items_in result) }
-{
-    let source = FromRead::new(file);
-    let mut sink = ToWrite::new(Vec::new(alloc));
-    aig_check_commands::print_bounded(alloc, LIMIT, k, optimize, source, &mut sink)?;
-    Ok(sink.into_inner())
-}
-
-/// The witness that a solver's answer to a file's query says.
-fn witness_text(
-    alloc: Global,
-    file: &[u8],
-    k: usize,
-    optimize: bool,
-    solution: &[u8],
-) -> Result<Vec<u8>, CheckError>
-    requires { k < 2 ^ 32 }
-    ensures { Prints (RunsOn LIMIT (commands.Witness k optimize) file.now (Some solution.now))
-        (items_in result) }
-{
-    let mut source = FromRead::new(file);
-    let mut answer = FromRead::new(solution);
-    let mut sink = ToWrite::new(Vec::new(alloc));
-    aig_check_commands::print_witness(
-        alloc,
-        LIMIT,
-        k,
-        optimize,
-        &mut source,
-        &mut answer,
-        &mut sink,
-    )?;
-    Ok(sink.into_inner())
-}
-
-/// The witness that a solver's answer to a question says.
-fn witness_to_text(
-    alloc: Global,
-    file: &[u8],
-    k: usize,
-    optimize: bool,
-    solution: &[u8],
-) -> Result<Vec<u8>, CheckError>
-    ensures { Prints (RunsOn LIMIT (commands.WitnessTo k optimize) file.now (Some solution.now))
-        (items_in result) }
-{
-    let mut source = FromRead::new(file);
-    let mut answer = FromRead::new(solution);
-    let mut sink = ToWrite::new(Vec::new(alloc));
-    aig_check_commands::print_witness_to(
-        alloc,
-        LIMIT,
-        k,
-        optimize,
-        &mut source,
-        &mut answer,
-        &mut sink,
-    )?;
-    Ok(sink.into_inner())
-}
 
 /// The clauses of the query of a file for step `k`, in DIMACS form. Before them stand their title, with the SHA-256 sum of the file, and
 /// comments that say which literals stand for its inputs, latches and bad state properties.
@@ -120,7 +29,12 @@ pub extern "C" fn aig_clauses(
         None)) result out.old out.new needed.old needed.new }
 {
     match step_of(k) {
-        Ok(k) => put(clauses_text(alloc, file, k, optimize), out, needed),
+        Ok(k) => {
+            let source = FromRead::new(file);
+            let mut sink = ToWrite::new(Vec::new(alloc));
+            let done = print_clauses(alloc, LIMIT, k, optimize, source, &mut sink);
+            put(done, sink, out, needed)
+        }
         Err(status) => status,
     }
 }
@@ -142,8 +56,11 @@ pub extern "C" fn aig_window(
 {
     match step_of(k) {
         Ok(k) => {
+            let source = FromRead::new(file);
             let form = window_form(distinct);
-            put(window_text(alloc, file, k, form, optimize), out, needed)
+            let mut sink = ToWrite::new(Vec::new(alloc));
+            let done = print_window(alloc, LIMIT, k, form, optimize, source, &mut sink);
+            put(done, sink, out, needed)
         }
         Err(status) => status,
     }
@@ -164,7 +81,12 @@ pub extern "C" fn aig_bounded(
         None)) result out.old out.new needed.old needed.new }
 {
     match step_of(k) {
-        Ok(k) => put(bounded_text(alloc, file, k, optimize), out, needed),
+        Ok(k) => {
+            let source = FromRead::new(file);
+            let mut sink = ToWrite::new(Vec::new(alloc));
+            let done = print_bounded(alloc, LIMIT, k, optimize, source, &mut sink);
+            put(done, sink, out, needed)
+        }
         Err(status) => status,
     }
 }
@@ -185,11 +107,21 @@ pub extern "C" fn aig_witness(
         (Some solution.now))) result out.old out.new needed.old needed.new }
 {
     match step_of(k) {
-        Ok(k) => put(
-            witness_text(alloc, file, k, optimize, solution),
-            out,
-            needed,
-        ),
+        Ok(k) => {
+            let mut source = FromRead::new(file);
+            let mut answer = FromRead::new(solution);
+            let mut sink = ToWrite::new(Vec::new(alloc));
+            let done = print_witness(
+                alloc,
+                LIMIT,
+                k,
+                optimize,
+                &mut source,
+                &mut answer,
+                &mut sink,
+            );
+            put(done, sink, out, needed)
+        }
         Err(status) => status,
     }
 }
@@ -210,11 +142,21 @@ pub extern "C" fn aig_witness_to(
         (Some solution.now))) result out.old out.new needed.old needed.new }
 {
     match step_of(k) {
-        Ok(k) => put(
-            witness_to_text(alloc, file, k, optimize, solution),
-            out,
-            needed,
-        ),
+        Ok(k) => {
+            let mut source = FromRead::new(file);
+            let mut answer = FromRead::new(solution);
+            let mut sink = ToWrite::new(Vec::new(alloc));
+            let done = print_witness_to(
+                alloc,
+                LIMIT,
+                k,
+                optimize,
+                &mut source,
+                &mut answer,
+                &mut sink,
+            );
+            put(done, sink, out, needed)
+        }
         Err(status) => status,
     }
 }

@@ -1,55 +1,15 @@
 //! Calls that give what is made of one file.
 
 ghost use Rattle.aig_edits.specs.declared.editing.Edit.TheVariants as edits;
-ghost use Rattle.aig_calls.specs.Calls.{GivesResult, GivesAt, MakesEdit, MakesInfo, MakesQuestion, MakesReduction, Prints, items_in};
+ghost use Rattle.aig_calls.specs.Calls.{GivesResult, GivesAt, MakesEdit, MakesInfo, MakesQuestion, MakesReduction, Prints};
 ghost use Rattle.aig_calls.specs.Statuses.{edit_status};
 
 use crate::buffer::put;
 use crate::steps::step_of;
 use aig_base::{FromRead, ToWrite};
-use aig_edits::{Edit, EditError};
+use aig_edits::{Edit, print_info, print_question, print_reduction};
 use aig_tool_commands::LIMIT;
 use std::alloc::Global;
-
-/// The text of what an edit makes of a file.
-fn edit_text(alloc: Global, edit: &Edit, file: &[u8]) -> Result<Vec<u8>, EditError>
-    ensures { Prints (MakesEdit LIMIT edit.now file.now) (items_in result) }
-{
-    let mut source = FromRead::new(file);
-    let mut sink = ToWrite::new(Vec::new(alloc));
-    aig_edits::print_edit(alloc, edit, &mut source, LIMIT, &mut sink)?;
-    Ok(sink.into_inner())
-}
-
-/// The text of what of a file its query needs.
-fn reduction_text(alloc: Global, file: &[u8]) -> Result<Vec<u8>, EditError>
-    ensures { Prints (MakesReduction LIMIT file.now) (items_in result) }
-{
-    let mut source = FromRead::new(file);
-    let mut sink = ToWrite::new(Vec::new(alloc));
-    aig_edits::print_reduction(alloc, &mut source, LIMIT, &mut sink)?;
-    Ok(sink.into_inner())
-}
-
-/// The text of the question whether a bad state of a file's machine is reached up to step `k`.
-fn question_text(alloc: Global, file: &[u8], k: usize) -> Result<Vec<u8>, EditError>
-    ensures { Prints (MakesQuestion LIMIT k file.now) (items_in result) }
-{
-    let mut source = FromRead::new(file);
-    let mut sink = ToWrite::new(Vec::new(alloc));
-    aig_edits::print_question(alloc, k, &mut source, LIMIT, &mut sink)?;
-    Ok(sink.into_inner())
-}
-
-/// The text of a file's counts.
-fn info_text(alloc: Global, file: &[u8]) -> Result<Vec<u8>, EditError>
-    ensures { Prints (MakesInfo LIMIT file.now) (items_in result) }
-{
-    let mut source = FromRead::new(file);
-    let mut sink = ToWrite::new(Vec::new(alloc));
-    aig_edits::print_info(alloc, &mut source, LIMIT, &mut sink)?;
-    Ok(sink.into_inner())
-}
 
 /// Gives the text form of the circuit that an edit makes of a file's circuit.
 fn print_edit(alloc: Global, edit: &Edit, file: &[u8], out: &mut [u8], needed: &mut usize) -> u32
@@ -57,7 +17,10 @@ fn print_edit(alloc: Global, edit: &Edit, file: &[u8], out: &mut [u8], needed: &
         out.new
         needed.old needed.new }
 {
-    put(edit_text(alloc, edit, file), out, needed)
+    let mut source = FromRead::new(file);
+    let mut sink = ToWrite::new(Vec::new(alloc));
+    let done = aig_edits::print_edit(alloc, edit, &mut source, LIMIT, &mut sink);
+    put(done, sink, out, needed)
 }
 
 /// The text form of a file's circuit, cut to its cone of influence.
@@ -200,7 +163,10 @@ pub extern "C" fn aig_reduce(alloc: Global, file: &[u8], out: &mut [u8], needed:
         out.new
         needed.old needed.new }
 {
-    put(reduction_text(alloc, file), out, needed)
+    let mut source = FromRead::new(file);
+    let mut sink = ToWrite::new(Vec::new(alloc));
+    let done = print_reduction(alloc, &mut source, LIMIT, &mut sink);
+    put(done, sink, out, needed)
 }
 
 /// The text form of the question whether a bad state of a file's machine is reached up to step `k`.
@@ -216,7 +182,12 @@ pub extern "C" fn aig_question(
         needed.old needed.new }
 {
     match step_of(k) {
-        Ok(k) => put(question_text(alloc, file, k), out, needed),
+        Ok(k) => {
+            let mut source = FromRead::new(file);
+            let mut sink = ToWrite::new(Vec::new(alloc));
+            let done = print_question(alloc, k, &mut source, LIMIT, &mut sink);
+            put(done, sink, out, needed)
+        }
         Err(status) => status,
     }
 }
@@ -227,5 +198,8 @@ pub extern "C" fn aig_info(alloc: Global, file: &[u8], out: &mut [u8], needed: &
     ensures { GivesResult edit_status (Prints (MakesInfo LIMIT file.now)) result out.old out.new
         needed.old needed.new }
 {
-    put(info_text(alloc, file), out, needed)
+    let mut source = FromRead::new(file);
+    let mut sink = ToWrite::new(Vec::new(alloc));
+    let done = print_info(alloc, &mut source, LIMIT, &mut sink);
+    put(done, sink, out, needed)
 }

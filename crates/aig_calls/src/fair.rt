@@ -1,33 +1,13 @@
 //! Calls that give the files whose bad states are a justice property's lasso or its rounds.
 
-ghost use Rattle.aig_calls.specs.Calls.{GivesResult, MakesLive, MakesRounds, Prints, items_in};
+ghost use Rattle.aig_calls.specs.Calls.{GivesResult, MakesLive, MakesRounds, Prints};
 ghost use Rattle.aig_calls.specs.Statuses.{edit_status};
 
 use crate::buffer::put;
 use aig_base::{FromRead, ToWrite};
-use aig_edits::EditError;
+use aig_edits::{print_live, print_rounds};
 use aig_tool_commands::LIMIT;
 use std::alloc::Global;
-
-/// The text of the live circuit of a file's justice property.
-fn live_text(alloc: Global, file: &[u8], j: usize) -> Result<Vec<u8>, EditError>
-    ensures { Prints (MakesLive LIMIT j file.now) (items_in result) }
-{
-    let mut source = FromRead::new(file);
-    let mut sink = ToWrite::new(Vec::new(alloc));
-    aig_edits::print_live(alloc, j, &mut source, LIMIT, &mut sink)?;
-    Ok(sink.into_inner())
-}
-
-/// The text of the circuit that counts rounds of a file's justice property.
-fn rounds_text(alloc: Global, file: &[u8], j: usize, count: usize) -> Result<Vec<u8>, EditError>
-    ensures { Prints (MakesRounds LIMIT j count file.now) (items_in result) }
-{
-    let mut source = FromRead::new(file);
-    let mut sink = ToWrite::new(Vec::new(alloc));
-    aig_edits::print_rounds(alloc, j, count, &mut source, LIMIT, &mut sink)?;
-    Ok(sink.into_inner())
-}
 
 /// The text form of a circuit whose bad state is reached at a step exactly where a file's justice property `j`, from 0 on, has a fair
 /// lasso that ends there.
@@ -42,7 +22,10 @@ pub extern "C" fn aig_live(
     ensures { GivesResult edit_status (Prints (MakesLive LIMIT j file.now)) result out.old out.new
         needed.old needed.new }
 {
-    put(live_text(alloc, file, j), out, needed)
+    let mut source = FromRead::new(file);
+    let mut sink = ToWrite::new(Vec::new(alloc));
+    let done = print_live(alloc, j, &mut source, LIMIT, &mut sink);
+    put(done, sink, out, needed)
 }
 
 /// The text form of a circuit whose bad state is reached at a step exactly where `count` rounds of a file's justice property `j`, from
@@ -60,5 +43,8 @@ pub extern "C" fn aig_rounds(
         out.new
         needed.old needed.new }
 {
-    put(rounds_text(alloc, file, j, count), out, needed)
+    let mut source = FromRead::new(file);
+    let mut sink = ToWrite::new(Vec::new(alloc));
+    let done = print_rounds(alloc, j, count, &mut source, LIMIT, &mut sink);
+    put(done, sink, out, needed)
 }

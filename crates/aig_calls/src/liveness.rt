@@ -1,80 +1,14 @@
 //! Calls that check proofs that a file has no fair lasso or no fair run.
 
-ghost use Rattle.std.specs.Prelude.{◌<◌, ◌^◌};
 ghost use Rattle.aig_calls.specs.Calls.{ChecksAt, ChecksLasso, ChecksLassos, ChecksRuns, form_of};
 ghost use Rattle.aig_calls.specs.Statuses.{live_status};
 
 use crate::status::status_of;
 use crate::steps::{step_of, window_form};
-use aig_answers::{LivenessError, Window, check_no_fair_run, check_no_lasso, check_no_lasso_to};
+use aig_answers::{check_no_fair_run, check_no_lasso, check_no_lasso_to};
 use aig_base::FromRead;
 use aig_tool_commands::LIMIT;
 use std::alloc::Global;
-
-/// Checks a proof that a justice property has no fair lasso of `k + 1` steps.
-fn refute_lasso(
-    alloc: Global,
-    file: &[u8],
-    j: usize,
-    k: usize,
-    optimize: bool,
-    proof: &[u8],
-) -> Result<(), LivenessError>
-    ensures { ChecksLasso LIMIT j k optimize file.now proof.now result }
-{
-    let mut source = FromRead::new(file);
-    let mut lines = FromRead::new(proof);
-    check_no_lasso(alloc, j, &mut source, LIMIT, k, optimize, &mut lines)
-}
-
-/// Checks a proof that it has none of at most `k + 1` steps.
-fn refute_lassos(
-    alloc: Global,
-    file: &[u8],
-    j: usize,
-    k: usize,
-    optimize: bool,
-    proof: &[u8],
-) -> Result<(), LivenessError>
-    ensures { ChecksLassos LIMIT j k optimize file.now proof.now result }
-{
-    let mut source = FromRead::new(file);
-    let mut lines = FromRead::new(proof);
-    check_no_lasso_to(alloc, j, &mut source, LIMIT, k, optimize, &mut lines)
-}
-
-/// Checks proofs that it has no fair run, as `aig_check_safe` has them, of its live circuit.
-fn refute_runs(
-    alloc: Global,
-    file: &[u8],
-    j: usize,
-    k: usize,
-    form: Window,
-    base_optimize: bool,
-    base: &[u8],
-    step_optimize: bool,
-    step: &[u8],
-) -> Result<(), LivenessError>
-    requires { k < 2 ^ 32 }
-    ensures { ChecksRuns LIMIT j k form base_optimize step_optimize file.now base.now step.now
-        result }
-{
-    let mut source = FromRead::new(file);
-    let mut base_lines = FromRead::new(base);
-    let mut step_lines = FromRead::new(step);
-    check_no_fair_run(
-        alloc,
-        j,
-        &mut source,
-        LIMIT,
-        k,
-        base_optimize,
-        &mut base_lines,
-        form,
-        step_optimize,
-        &mut step_lines,
-    )
-}
 
 /// Checks a proof, in LRAT or DRAT, that the query of the live circuit of a file's justice property `j`, from 0 on, for step `k` can't
 /// be satisfied: then the property has no fair lasso of `k + 1` steps.
@@ -90,7 +24,15 @@ pub extern "C" fn aig_check_no_lasso(
     ensures { ChecksAt k live_status (ChecksLasso LIMIT j k optimize file.now proof.now) result }
 {
     match step_of(k) {
-        Ok(k) => status_of(refute_lasso(alloc, file, j, k, optimize, proof)),
+        Ok(k) => status_of(check_no_lasso(
+            alloc,
+            j,
+            &mut FromRead::new(file),
+            LIMIT,
+            k,
+            optimize,
+            &mut FromRead::new(proof),
+        )),
         Err(status) => status,
     }
 }
@@ -110,7 +52,15 @@ pub extern "C" fn aig_check_no_lasso_to(
     ensures { ChecksAt k live_status (ChecksLassos LIMIT j k optimize file.now proof.now) result }
 {
     match step_of(k) {
-        Ok(k) => status_of(refute_lassos(alloc, file, j, k, optimize, proof)),
+        Ok(k) => status_of(check_no_lasso_to(
+            alloc,
+            j,
+            &mut FromRead::new(file),
+            LIMIT,
+            k,
+            optimize,
+            &mut FromRead::new(proof),
+        )),
         Err(status) => status,
     }
 }
@@ -133,20 +83,18 @@ pub extern "C" fn aig_check_no_fair_run(
         step_optimize file.now base.now step.now) result }
 {
     match step_of(k) {
-        Ok(k) => {
-            let form = window_form(distinct);
-            status_of(refute_runs(
-                alloc,
-                file,
-                j,
-                k,
-                form,
-                base_optimize,
-                base,
-                step_optimize,
-                step,
-            ))
-        }
+        Ok(k) => status_of(check_no_fair_run(
+            alloc,
+            j,
+            &mut FromRead::new(file),
+            LIMIT,
+            k,
+            base_optimize,
+            &mut FromRead::new(base),
+            window_form(distinct),
+            step_optimize,
+            &mut FromRead::new(step),
+        )),
         Err(status) => status,
     }
 }

@@ -3,9 +3,9 @@
 ghost use Rattle.std.specs.Prelude.{◌≡◌, ◌<◌, ◌≤◌, List, ℕ};
 ghost use Rattle.aig_calls.specs.Calls.{IsGiven};
 
-use crate::buffer::put;
+use crate::buffer::give;
 use crate::status::{
-    BASE, CERTIFICATE, OTHER, PROOF, PROPERTY, QUERY, RESET, STEP, TRANSITION, WINDOW,
+    BASE, CERTIFICATE, MEMORY, OTHER, PROOF, PROPERTY, QUERY, RESET, STEP, TRANSITION, WINDOW,
 };
 use aig_base::MemoryError;
 use std::alloc::Global;
@@ -156,5 +156,8 @@ pub extern "C" fn aig_message(alloc: Global, status: u32, out: &mut [u8], needed
     ensures answer { result < 2 → (text : List ℕ) × IsGiven result text out.old out.new needed.new }
     ensures kept { 2 ≤ result → (result ≡ 2) × (out.new ≡ out.old) × (needed.new ≡ needed.old) }
 {
-    put(text_of(alloc, status), out, needed)
+    match text_of(alloc, status) {
+        Ok(text) => give(text.as_slice(), out, needed),
+        Err(_) => MEMORY,
+    }
 }

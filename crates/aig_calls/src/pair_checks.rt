@@ -1,6 +1,6 @@
 //! Calls that check proofs about two files.
 
-ghost use Rattle.std.specs.Prelude.{◌<◌, ◌^◌, None, Some};
+ghost use Rattle.std.specs.Prelude.{None, Some};
 ghost use Rattle.aig_check_commands.specs.declared.command.PairCommand.TheVariants as commands;
 ghost use Rattle.aig_simulated.specs.Simulated.{proofs_of};
 ghost use Rattle.aig_calls.specs.Calls.{Checks, ChecksAt, RunsOnMiter, RunsOnPair, RunsOnWitness, form_of};
@@ -10,7 +10,6 @@ ghost use Rattle.aig_calls.specs.Statuses.{check_status};
 use crate::pairs::COMPARISON;
 use crate::status::status_of;
 use crate::steps::{step_of, window_form};
-use aig_answers::Window;
 use aig_base::FromRead;
 use aig_check_commands::{
     CheckError, print_always_equal, print_certified, print_equal, print_equal_by, print_simulated,
@@ -19,128 +18,30 @@ use aig_command_line::Discarded;
 use aig_tool_commands::LIMIT;
 use std::alloc::Global;
 
-/// Checks proofs that a certificate shows that no bad state of a file's machine is ever reached.
-fn certify(
+/// Checks that a certificate, a witness circuit, shows that no bad state of a file's machine is ever reached: by proofs, in LRAT or
+/// DRAT, of the joint circuit's query for step 0 and of its plain window of two steps.
+#[unsafe(no_mangle)]
+pub extern "C" fn aig_check_certified(
     alloc: Global,
     file: &[u8],
     certificate: &[u8],
     optimize: bool,
     base: &[u8],
     step: &[u8],
-) -> Result<(), CheckError>
-    ensures { Unseen (RunsOnPair LIMIT (commands.Certified optimize) file.now certificate.now (Some
-        base.now) (Some step.now) result) }
+) -> u32
+    ensures { Checks check_status (λ done. Unseen (RunsOnPair LIMIT (commands.Certified optimize)
+        file.now certificate.now (Some base.now) (Some step.now) done)) result }
 {
-    let mut first = FromRead::new(file);
-    let mut second = FromRead::new(certificate);
-    let mut base_lines = FromRead::new(base);
-    let mut step_lines = FromRead::new(step);
-    print_certified(
+    status_of(print_certified(
         alloc,
         LIMIT,
         optimize,
-        &mut first,
-        &mut second,
-        &mut base_lines,
-        &mut step_lines,
+        &mut FromRead::new(file),
+        &mut FromRead::new(certificate),
+        &mut FromRead::new(base),
+        &mut FromRead::new(step),
         &mut Discarded,
-    )
-}
-
-/// Checks a proof that two files' machines are equal at step `k`.
-fn equate(
-    alloc: Global,
-    file: &[u8],
-    other: &[u8],
-    k: usize,
-    optimize: bool,
-    proof: &[u8],
-) -> Result<(), CheckError>
-    ensures { Unseen (RunsOnPair LIMIT (commands.Equal COMPARISON k optimize) file.now other.now
-        (Some proof.now) None result) }
-{
-    let mut first = FromRead::new(file);
-    let mut second = FromRead::new(other);
-    let mut lines = FromRead::new(proof);
-    print_equal(
-        alloc,
-        LIMIT,
-        COMPARISON,
-        k,
-        optimize,
-        &mut first,
-        &mut second,
-        &mut lines,
-        &mut Discarded,
-    )
-}
-
-/// Checks proofs that they are at every step, of their miter's question and window.
-fn equate_always(
-    alloc: Global,
-    file: &[u8],
-    other: &[u8],
-    k: usize,
-    form: Window,
-    base_optimize: bool,
-    base: &[u8],
-    step_optimize: bool,
-    step: &[u8],
-) -> Result<(), CheckError>
-    requires { k < 2 ^ 32 }
-    ensures { Unseen (RunsOnPair LIMIT (commands.AlwaysEqual COMPARISON k form base_optimize
-        step_optimize) file.now other.now (Some base.now) (Some step.now) result) }
-{
-    let mut first = FromRead::new(file);
-    let mut second = FromRead::new(other);
-    let mut base_lines = FromRead::new(base);
-    let mut step_lines = FromRead::new(step);
-    print_always_equal(
-        alloc,
-        LIMIT,
-        COMPARISON,
-        k,
-        form,
-        base_optimize,
-        step_optimize,
-        &mut first,
-        &mut second,
-        &mut base_lines,
-        &mut step_lines,
-        &mut Discarded,
-    )
-}
-
-/// Checks a certificate of their miter, and two proofs, that they are at every step.
-fn equate_by(
-    alloc: Global,
-    file: &[u8],
-    other: &[u8],
-    certificate: &[u8],
-    optimize: bool,
-    base: &[u8],
-    step: &[u8],
-) -> Result<(), CheckError>
-    ensures { Unseen (RunsOnMiter LIMIT optimize file.now other.now certificate.now base.now
-        step.now result) }
-{
-    let mut first = FromRead::new(file);
-    let mut second = FromRead::new(other);
-    let mut third = FromRead::new(certificate);
-    let mut base_lines = FromRead::new(base);
-    let mut step_lines = FromRead::new(step);
-    print_equal_by(
-        alloc,
-        LIMIT,
-        COMPARISON,
-        optimize,
-        &mut first,
-        &mut second,
-        &mut third,
-        &mut base_lines,
-        &mut step_lines,
-        &mut Discarded,
-    )
+    ))
 }
 
 /// Checks that a witness circuit shows by a proof for each condition that no bad state of a file's machine is ever reached.
@@ -178,23 +79,6 @@ fn simulate<'a>(
         &mut step_lines,
         &mut Discarded,
     )
-}
-
-/// Checks that a certificate, a witness circuit, shows that no bad state of a file's machine is ever reached: by proofs, in LRAT or
-/// DRAT, of the joint circuit's query for step 0 and of its plain window of two steps.
-#[unsafe(no_mangle)]
-pub extern "C" fn aig_check_certified(
-    alloc: Global,
-    file: &[u8],
-    certificate: &[u8],
-    optimize: bool,
-    base: &[u8],
-    step: &[u8],
-) -> u32
-    ensures { Checks check_status (λ done. Unseen (RunsOnPair LIMIT (commands.Certified optimize)
-        file.now certificate.now (Some base.now) (Some step.now) done)) result }
-{
-    status_of(certify(alloc, file, certificate, optimize, base, step))
 }
 
 /// Checks that a witness circuit of the hardware model checking competition shows that no bad state of a file's machine is ever reached: by a
@@ -235,7 +119,17 @@ pub extern "C" fn aig_check_equal(
         optimize) file.now other.now (Some proof.now) None done)) result }
 {
     match step_of(k) {
-        Ok(k) => status_of(equate(alloc, file, other, k, optimize, proof)),
+        Ok(k) => status_of(print_equal(
+            alloc,
+            LIMIT,
+            COMPARISON,
+            k,
+            optimize,
+            &mut FromRead::new(file),
+            &mut FromRead::new(other),
+            &mut FromRead::new(proof),
+            &mut Discarded,
+        )),
         Err(status) => status,
     }
 }
@@ -259,20 +153,20 @@ pub extern "C" fn aig_check_always_equal(
         (Some base.now) (Some step.now) done)) result }
 {
     match step_of(k) {
-        Ok(k) => {
-            let form = window_form(distinct);
-            status_of(equate_always(
-                alloc,
-                file,
-                other,
-                k,
-                form,
-                base_optimize,
-                base,
-                step_optimize,
-                step,
-            ))
-        }
+        Ok(k) => status_of(print_always_equal(
+            alloc,
+            LIMIT,
+            COMPARISON,
+            k,
+            window_form(distinct),
+            base_optimize,
+            step_optimize,
+            &mut FromRead::new(file),
+            &mut FromRead::new(other),
+            &mut FromRead::new(base),
+            &mut FromRead::new(step),
+            &mut Discarded,
+        )),
         Err(status) => status,
     }
 }
@@ -292,5 +186,16 @@ pub extern "C" fn aig_check_equal_by(
     ensures { Checks check_status (λ done. Unseen (RunsOnMiter LIMIT optimize file.now other.now
         certificate.now base.now step.now done)) result }
 {
-    status_of(equate_by(alloc, file, other, certificate, optimize, base, step))
+    status_of(print_equal_by(
+        alloc,
+        LIMIT,
+        COMPARISON,
+        optimize,
+        &mut FromRead::new(file),
+        &mut FromRead::new(other),
+        &mut FromRead::new(certificate),
+        &mut FromRead::new(base),
+        &mut FromRead::new(step),
+        &mut Discarded,
+    ))
 }

@@ -3,13 +3,13 @@
 ghost use Rattle.std.specs.Prelude.{None};
 ghost use Rattle.aig_check_commands.specs.declared.command.PairCommand.TheVariants as commands;
 ghost use Rattle.aig_edits.specs.declared.pairing.Pairing.TheVariants.{Certificate, Merge, Miter};
-ghost use Rattle.aig_calls.specs.Calls.{GivesResult, MakesJoint, Prints, RunsOnPair, items_in};
+ghost use Rattle.aig_calls.specs.Calls.{GivesResult, MakesJoint, Prints, RunsOnPair};
 ghost use Rattle.aig_calls.specs.Statuses.{check_status, pair_status};
 
 use crate::buffer::put;
 use aig_base::{FromRead, ToWrite};
-use aig_check_commands::{CheckError, print_obligations};
-use aig_edits::{Comparison, Constraints, PairError, Pairing, Starts, print_joint};
+use aig_check_commands::print_obligations;
+use aig_edits::{Comparison, Constraints, Pairing, Starts, print_joint};
 use aig_tool_commands::LIMIT;
 use std::alloc::Global;
 
@@ -18,22 +18,6 @@ pub(crate) const COMPARISON: Comparison = Comparison {
     starts: Starts::Apart,
     constraints: Constraints::OfBoth,
 };
-
-/// The text of the circuit of two files.
-fn joint_text(
-    alloc: Global,
-    pairing: Pairing,
-    file: &[u8],
-    other: &[u8],
-) -> Result<Vec<u8>, PairError>
-    ensures { Prints (MakesJoint LIMIT pairing file.now other.now) (items_in result) }
-{
-    let mut first = FromRead::new(file);
-    let mut second = FromRead::new(other);
-    let mut sink = ToWrite::new(Vec::new(alloc));
-    print_joint(alloc, pairing, &mut first, &mut second, LIMIT, &mut sink)?;
-    Ok(sink.into_inner())
-}
 
 /// Gives the text form of the circuit of two files: their miter, the first one beside its certificate, or both side
 /// by side.
@@ -48,7 +32,11 @@ fn print_pair(
     ensures { GivesResult pair_status (Prints (MakesJoint LIMIT pairing file.now other.now)) result
         out.old out.new needed.old needed.new }
 {
-    put(joint_text(alloc, pairing, file, other), out, needed)
+    let mut first = FromRead::new(file);
+    let mut second = FromRead::new(other);
+    let mut sink = ToWrite::new(Vec::new(alloc));
+    let done = print_joint(alloc, pairing, &mut first, &mut second, LIMIT, &mut sink);
+    put(done, sink, out, needed)
 }
 
 /// The text form of two files' miter, which is bad where their outputs or bad state properties differ.
@@ -99,23 +87,6 @@ pub extern "C" fn aig_merge(
     print_pair(alloc, Pairing::Merge, file, other, out, needed)
 }
 
-/// The clauses that the proofs of a certificate are of.
-fn obligations_text(
-    alloc: Global,
-    file: &[u8],
-    certificate: &[u8],
-    optimize: bool,
-) -> Result<Vec<u8>, CheckError>
-    ensures { Prints (RunsOnPair LIMIT (commands.Obligations optimize) file.now certificate.now None
-        None) (items_in result) }
-{
-    let first = FromRead::new(file);
-    let second = FromRead::new(certificate);
-    let mut sink = ToWrite::new(Vec::new(alloc));
-    print_obligations(alloc, LIMIT, optimize, first, second, &mut sink)?;
-    Ok(sink.into_inner())
-}
-
 /// The clauses, in DIMACS form, that the proofs of `aig_check_certified` are of, behind their title, with the SHA-256 sums of both files:
 /// after the line `c base` those of the joint circuit's query for step 0, and after the line `c step` those of its window.
 #[unsafe(no_mangle)]
@@ -131,9 +102,9 @@ pub extern "C" fn aig_obligations(
         (RunsOnPair LIMIT (commands.Obligations optimize) file.now
         certificate.now None None)) result out.old out.new needed.old needed.new }
 {
-    put(
-        obligations_text(alloc, file, certificate, optimize),
-        out,
-        needed,
-    )
+    let first = FromRead::new(file);
+    let second = FromRead::new(certificate);
+    let mut sink = ToWrite::new(Vec::new(alloc));
+    let done = print_obligations(alloc, LIMIT, optimize, first, second, &mut sink);
+    put(done, sink, out, needed)
 }

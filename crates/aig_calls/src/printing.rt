@@ -1,31 +1,24 @@
 //! Calls that give what a command of `aigtool` prints of a file.
 
 ghost use Rattle.aig_tool_commands.specs.declared.command.Command.TheVariants as commands;
-ghost use Rattle.aig_calls.specs.Calls.{GivesResult, GivesAt, Prints, RunsTool, items_in};
+ghost use Rattle.aig_calls.specs.Calls.{GivesResult, GivesAt, Prints, RunsTool};
 ghost use Rattle.aig_calls.specs.Statuses.{tool_status};
 
 use crate::buffer::put;
 use crate::steps::step_of;
 use aig_base::{FromRead, ToWrite};
-use aig_tool_commands::{Command, LIMIT, ToolError, run};
+use aig_tool_commands::{Command, LIMIT, run};
 use std::alloc::Global;
-
-/// The text that a command of `aigtool` puts into its writer.
-fn text(alloc: Global, c: Command, file: &[u8]) -> Result<Vec<u8>, ToolError>
-    ensures { Prints (RunsTool LIMIT c file.now) (items_in result) }
-{
-    let mut source = FromRead::new(file);
-    let mut sink = ToWrite::new(Vec::new(alloc));
-    run(alloc, c, &mut source, &mut sink)?;
-    Ok(sink.into_inner())
-}
 
 /// Gives what a command of `aigtool` puts into its writer.
 fn print(alloc: Global, c: Command, file: &[u8], out: &mut [u8], needed: &mut usize) -> u32
     ensures { GivesResult tool_status (Prints (RunsTool LIMIT c file.now)) result out.old out.new
         needed.old needed.new }
 {
-    put(text(alloc, c, file), out, needed)
+    let mut source = FromRead::new(file);
+    let mut sink = ToWrite::new(Vec::new(alloc));
+    let done = run(alloc, c, &mut source, &mut sink);
+    put(done, sink, out, needed)
 }
 
 /// The text form of a file's circuit.

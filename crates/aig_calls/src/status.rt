@@ -1,14 +1,13 @@
 //! The numbers by which calls say how they ended.
 
 ghost use Rattle.std.specs.Prelude.{◌≡◌, ◌<◌, ◌≤◌, ℕ};
-ghost use Rattle.aig_calls.specs.Statuses.{answer_status, base_status, bounded_status, certificate_status, check_status, claim_status, condition_flag, condition_status, edit_status, encode_status, equality_status, fault_status, flagged, lasso_status, live_status, made_status, memory, miter_status, pair_status, read_status, refutation_status, safety_status, section_number, sharing_status, show_status, simulation_status, solution_status, status_by, step_status, steps_status, tool_status, witness_status};
+ghost use Rattle.aig_calls.specs.Statuses.{answer_status, base_status, bounded_status, certificate_status, check_status, claim_status, condition_flag, condition_status, edit_status, encode_status, equality_status, fault_status, flagged, lasso_status, live_status, made_status, miter_status, pair_status, read_status, refutation_status, safety_status, section_number, sharing_status, show_status, simulation_status, solution_status, status_by, step_status, steps_status, tool_status, witness_status};
 
 use aig::ReadError;
 use aig_answers::{
     AnswerError, BoundedAnswerError, CertificateError, EqualityError, LivenessError, MiterError,
     SafetyError, StepsError,
 };
-use aig_base::MemoryError;
 use aig_bounded::BoundedError;
 use aig_check_commands::CheckError;
 use aig_edits::{EditError, PairError};
@@ -163,17 +162,6 @@ fn of_edit(error: EditError) -> u32
         EditError::TooLarge => UNWRITABLE,
         EditError::NoJustice => NO_JUSTICE,
         EditError::Memory | EditError::Write => MEMORY,
-    }
-}
-
-/// The status of a command of `aigtool` that has no answer. What is written to memory stops only where memory is refused.
-fn of_tool(error: ToolError) -> u32
-    ensures exact { result ≡ tool_status error }
-{
-    match error {
-        ToolError::Read(error) => of_read(error),
-        ToolError::Encode(error) => of_encode(error),
-        ToolError::Memory | ToolError::Write(_) => MEMORY,
     }
 }
 
@@ -456,18 +444,6 @@ fn of_simulation(error: SimulationError) -> u32
     }
 }
 
-/// The status of a file of whose justice property something isn't shown.
-fn of_liveness(error: LivenessError) -> u32
-    ensures { result ≡ live_status error }
-{
-    match error {
-        LivenessError::Live(error) => of_edit(error),
-        LivenessError::Query(error) => flagged(QUERY, of_answer(error)),
-        LivenessError::Question(error) => of_base(error),
-        LivenessError::Safety(error) => of_made(error),
-    }
-}
-
 /// The status of a witness of a justice property that shows no fair lasso. Which step or literal it is isn't told.
 fn of_lasso(fault: LassoFault) -> u32
     ensures { result ≡ lasso_status fault }
@@ -481,41 +457,6 @@ fn of_lasso(fault: LassoFault) -> u32
     }
 }
 
-/// The status of a file and a witness that show no fair lasso.
-fn of_claim(error: ClaimError) -> u32
-    ensures { result ≡ claim_status error }
-{
-    match error {
-        ClaimError::Show(ShowError::Check(WitnessFault::Memory)) => MEMORY,
-        ClaimError::Show(ShowError::Check(_)) => WITNESS_BAD,
-        ClaimError::Show(error) => of_show(error),
-        ClaimError::Lasso(fault) => of_lasso(fault),
-    }
-}
-
-/// The status of a command of `aigcheck` that has no answer. What is written to memory stops only where memory is refused.
-fn of_check(error: CheckError) -> u32
-    ensures { result ≡ check_status error }
-{
-    match error {
-        CheckError::Open => HEADER,
-        CheckError::Memory | CheckError::Write => MEMORY,
-        CheckError::Settled(_) => SETTLED,
-        CheckError::Answer(error) => of_answer(error),
-        CheckError::Solution(error) => of_solution(error),
-        CheckError::Show(error) => of_show(error),
-        CheckError::Lasso(fault) => of_lasso(fault),
-        CheckError::Bounded(error) => of_bounded(error),
-        CheckError::Safe(error) => of_safety(error),
-        CheckError::Steps(error) => of_steps(error),
-        CheckError::Certificate(error) => of_certificate(error),
-        CheckError::Equality(error) => of_equality(error),
-        CheckError::Miter(error) => of_miter(error),
-        CheckError::Unmade(error) => of_edit(error),
-        CheckError::Simulation(error) => of_simulation(error),
-    }
-}
-
 /// An error that a call tells by a number.
 pub(crate) trait HasNumber: Drop {
     ghost number: { Self → ℕ };
@@ -525,19 +466,16 @@ pub(crate) trait HasNumber: Drop {
         ensures { result ≡ number self };
 }
 
-impl HasNumber for MemoryError {
-    ghost number = { λ _. memory };
-
-    fn number(self) -> u32 {
-        MEMORY
-    }
-}
-
 impl HasNumber for ToolError {
     ghost number = { tool_status };
 
+    /// The status of a command of `aigtool` that has no answer. What is written to memory stops only where memory is refused.
     fn number(self) -> u32 {
-        of_tool(self)
+        match self {
+            ToolError::Read(error) => of_read(error),
+            ToolError::Encode(error) => of_encode(error),
+            ToolError::Memory | ToolError::Write(_) => MEMORY,
+        }
     }
 }
 
@@ -576,24 +514,53 @@ impl HasNumber for ShowError {
 impl HasNumber for ClaimError {
     ghost number = { claim_status };
 
+    /// The status of a file and a witness that show no fair lasso.
     fn number(self) -> u32 {
-        of_claim(self)
+        match self {
+            ClaimError::Show(ShowError::Check(WitnessFault::Memory)) => MEMORY,
+            ClaimError::Show(ShowError::Check(_)) => WITNESS_BAD,
+            ClaimError::Show(error) => of_show(error),
+            ClaimError::Lasso(fault) => of_lasso(fault),
+        }
     }
 }
 
 impl HasNumber for CheckError {
     ghost number = { check_status };
 
+    /// The status of a command of `aigcheck` that has no answer. What is written to memory stops only where memory is refused.
     fn number(self) -> u32 {
-        of_check(self)
+        match self {
+            CheckError::Open => HEADER,
+            CheckError::Memory | CheckError::Write => MEMORY,
+            CheckError::Settled(_) => SETTLED,
+            CheckError::Answer(error) => of_answer(error),
+            CheckError::Solution(error) => of_solution(error),
+            CheckError::Show(error) => of_show(error),
+            CheckError::Lasso(fault) => of_lasso(fault),
+            CheckError::Bounded(error) => of_bounded(error),
+            CheckError::Safe(error) => of_safety(error),
+            CheckError::Steps(error) => of_steps(error),
+            CheckError::Certificate(error) => of_certificate(error),
+            CheckError::Equality(error) => of_equality(error),
+            CheckError::Miter(error) => of_miter(error),
+            CheckError::Unmade(error) => of_edit(error),
+            CheckError::Simulation(error) => of_simulation(error),
+        }
     }
 }
 
 impl HasNumber for LivenessError {
     ghost number = { live_status };
 
+    /// The status of a file of whose justice property something isn't shown.
     fn number(self) -> u32 {
-        of_liveness(self)
+        match self {
+            LivenessError::Live(error) => of_edit(error),
+            LivenessError::Query(error) => flagged(QUERY, of_answer(error)),
+            LivenessError::Question(error) => of_base(error),
+            LivenessError::Safety(error) => of_made(error),
+        }
     }
 }
 

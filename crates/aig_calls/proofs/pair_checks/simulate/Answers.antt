@@ -1,4 +1,3 @@
-use Rattle.aig_simulated.specs.Simulated.{proofs_of}
 use Rattle.aig_calls.proofs.Seen.{nobody, on, simulated_seen}
 use Rattle.aig_calls.proofs.pair_checks.simulate.Goals as goal
 

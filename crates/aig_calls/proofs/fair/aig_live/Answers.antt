@@ -1,0 +1,15 @@
+use Rattle.aig_tool_commands.specs.declared.tool.TheConstants.{LIMIT}
+use Rattle.aig_calls.specs.Calls.{MakesLive}
+use Rattle.aig_calls.specs.Listings.{text_in}
+use Rattle.aig_calls.proofs.Seen.{file_seen, live_seen, on, printed}
+use Rattle.aig_calls.proofs.fair.aig_live.Goals as goal
+
+pub returns : goal.returns
+returns c =
+    let run = c.print_live-done in
+    let sink = c.new-sink in
+    let text = printed (MakesLive LIMIT c.args.j c.args.file.now) sink.result run.new.w run.result
+    sink.ensures.writer c.new.ensures.items (on c.new-source.result run.new.r
+    c.new-source.ensures.reader (file_seen (λ f. live_seen sink.result run.new.w c.args.j f
+    run.result) run.ensures.reads)) in
+    (text_in run.result run.new.w.inner.items, text, c.put.ensures)
