@@ -43,6 +43,13 @@ room_of_file : (crowded : Bool) → IsOfFile (if crowded then Crowded else Accep
 room_of_file true = tt
 room_of_file false = tt
 
+room_by : (crowded large empty : Bool)
+    → Accepted ≡ said_if large empty (if crowded then Crowded else Accepted) → crowded ≡ false
+room_by crowded true empty is = cc
+room_by crowded false true is = cc
+room_by true false false is = cc
+room_by false false false is = refl
+
 -- ---- of a circuit
 
 module _ (limit k : ℕ) (c : Circuit) where
@@ -59,6 +66,14 @@ module _ (limit k : ℕ) (c : Circuit) where
   read_unrolled extra is =
       let tests = asked_by extra (nat_lt limit (unrolled_size c k)) (length c.properties.bads == 0) is in
       (ltb-false limit (unrolled_size c k) tests.0, λ none. eqb-false (length c.properties.bads) 0 tests.1 (ap length none))
+
+  -- a window that is asked for has room
+  pub window_room : (form : Window) → Accepted ≡ circuit_window_verdict form limit k c
+      → window_size form c k ≤ limit
+  window_room form is =
+      let room = nat_lt limit (window_size form c k) in
+      ltb-false limit (window_size form c k) (room_by room (nat_lt limit (unrolled_size c (k + 1)))
+      (length c.properties.bads == 0) is)
 
 -- ---- of a file
 
