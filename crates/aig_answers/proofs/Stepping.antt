@@ -26,7 +26,7 @@ use Rattle.aig_unroll.specs.Places.{unrolled_size}
 use Rattle.aig_answers.proofs.TellingSafe.{asked_read}
 use Rattle.aig_answers.specs.Bases.{IsOfBases, ShowBases}
 use Rattle.aig_answers.specs.Safety.{IsOfStep}
-use Rattle.aig_answers.specs.Steps.{AreTaken, IsOfProofs, IsOwn, LeavesBase, LeavesStep, Show, ShowCircuit, ShowEach, Told, verdict_of}
+use Rattle.aig_answers.specs.Steps.{AreTaken, IsOwn, LeavesBase, LeavesStep, Show, ShowCircuit, ShowEach, Told, verdict_of}
 use Rattle.aig_answers.specs.declared.safety.error.StepsError.{StepsError}
 use Rattle.aig_answers.specs.declared.safety.error.StepsError.TheVariants as errors
 
@@ -59,15 +59,10 @@ room_below c n k limit low room few =
 
 -- ---- errors
 
-pub bases_own : (k count : ℕ) (e : StepsError) → count ≡ k + 1 → IsOfBases count e → IsOfProofs k e
+pub bases_own : (k count : ℕ) (e : StepsError) → count ≡ k + 1 → IsOfBases count e → IsOwn k e
 bases_own k count (errors.File e) all own = absurd own
 bases_own k count (errors.At n e) all own = (omega (arith, own.0, all), own.1)
 bases_own k count (errors.Step e) all own = absurd own
-
-pub steps_own : (k : ℕ) (e : StepsError) → IsOfProofs k e → IsOwn k e
-steps_own k (errors.File e) own = absurd own
-steps_own k (errors.At n e) own = own
-steps_own k (errors.Step e) own = own
 
 -- a proof of a window that isn't read is of one that isn't taken
 pub leaves_window : (e : AnswerError) → IsOfStep e → LeavesStep (Err (errors.Step e))

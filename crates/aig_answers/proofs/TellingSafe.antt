@@ -116,12 +116,6 @@ leaves_step answers.NoBads own leaves is = cc
 leaves_step answers.TooLarge own leaves is = cc
 leaves_step (answers.Refutation e) own leaves is = absurd leaves
 
--- one of the proofs
-pub proofs_own : (e : SafetyError) → safety.IsOfProofs e → IsOwn e
-proofs_own (errors.File e) own = absurd own
-proofs_own (errors.Base e) own = own
-proofs_own (errors.Step e) own = own
-
 -- ---- of a circuit and its file
 
 -- names are nothing to witnesses
