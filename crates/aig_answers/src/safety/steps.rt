@@ -2,9 +2,9 @@
 
 ghost use Rattle.std.specs.Prelude.{◌≡◌, ◌≢◌, ◌+◌, ◌<◌, ◌≤◌, ◌^◌, ℕ, IfErr, IfOk, IsErrOf, IsTrue, OnOk, length, slice_get};
 ghost use Rattle.aig_answers.specs.Answers as answering;
-ghost use Rattle.aig_answers.specs.Answers.{IsAsked, IsCircuitOf, IsCircuitQuery, IsSaidBy, TellsOfCircuit, circuit_window_verdict, query_with, window_verdict};
+ghost use Rattle.aig_answers.specs.Answers.{IsAsked, IsCircuitOf, IsSaidBy, TellsOfCircuit, circuit_window_verdict, window_verdict};
 ghost use Rattle.aig_answers.specs.declared.error.AnswerError.TheVariants as answers;
-ghost use Rattle.aig_circuit.specs.Circuit.{Circuit, IsCircuit};
+ghost use Rattle.aig_circuit.specs.Circuit.{IsCircuit};
 ghost use Rattle.aig_circuit.specs.View.{lists_circuit};
 ghost use Rattle.aig_format.specs.File.{File};
 ghost use Rattle.aig_format.specs.Fits.{Fits};
@@ -20,10 +20,10 @@ ghost use Rattle.aig_answers.specs.declared.safety.error.StepsError.TheVariants 
 
 use crate::safety::error::StepsError;
 use crate::{
-    AnswerError, Window, WindowClauses, check_window_of, check_window_room,
-    circuit_clauses_are_one, refute, unrolled_query,
+    AnswerError, Window, check_window_of, check_window_room, circuit_clauses_are_one, refute,
+    unrolled_query,
 };
-use aig_base::{MemoryError, Source};
+use aig_base::Source;
 use aig_circuit::{CircuitLists, CircuitView};
 use aig_reader::read;
 use aig_refutation::RefutationError;
@@ -33,22 +33,6 @@ use aig_runs::{
     safe_circuits_are_safe_machines, safe_steps_are_safe,
 };
 use std::alloc::Global;
-
-/// The clauses of a circuit's query for a step.
-fn ask_at(
-    alloc: Global,
-    circuit: &CircuitView<'_>,
-    step: usize,
-    optimize: bool,
-) -> Result<WindowClauses, MemoryError>
-    requires circuit { IsCircuit circuit.now }
-    requires room { unrolled_size circuit.now step ≤ 2 ^ 31 }
-    ensures { IfOk result (λ made. (unrolled : Circuit)
-        × IsCircuitQuery circuit.now step optimize (query_with unrolled made)) }
-{
-    let asked = Unrolled::new(circuit.to_lists()?, step)?;
-    unrolled_query(alloc, &asked, optimize)
-}
 
 /// Checks a proof that the clauses of a circuit's query for a step can't be satisfied.
 fn check_at<P: Source>(
@@ -71,7 +55,10 @@ fn check_at<P: Source>(
 {
     refuted_circuit_queries_have_no_witness();
     circuit_clauses_are_one();
-    let made = ask_at(alloc, circuit, step, optimize)?;
+    let asked = Unrolled::new(circuit.to_lists()?, step)?;
+    let made = unrolled_query(alloc, &asked, optimize)?;
+    // The clauses are all that the proof is held against.
+    drop(asked);
     refute(alloc, &made.clauses, &made.extra, proof)
 }
 
