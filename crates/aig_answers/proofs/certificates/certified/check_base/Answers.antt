@@ -6,13 +6,13 @@ pub returns-clause-safe : goal.returns-clause-safe
 returns-clause-safe g c =
     let asked = c.args.asked.now in
     let made = c.in_ok-made.made in
-    let asks = c.in_ok-made.ensures.asks in
     on_ok_weaker c.refute.result (c.refuted_circuit_queries_have_no_witness.ensures asked.circuit
-    asks.0 asked.steps made.clauses made.extra asks.1.asks) c.refute.ensures.refuted
+    asked.unrolled asked.steps made.clauses made.extra c.in_ok-made.ensures.asks)
+    c.refute.ensures.refuted
 
 pub returns-clause-shown : goal.returns-clause-shown
 returns-clause-shown g c = λ taken.
     let asked = c.args.asked.now in
-    let asks = c.in_ok-made.ensures.asks in
     c.circuit_clauses_are_one.ensures.query asked.circuit asked.steps c.args.optimize _
-    c.refute.result (query_with asks.0 c.in_ok-made.made) asks.1 c.refute.ensures.shown
+    c.refute.result (query_with asked.unrolled c.in_ok-made.made) c.in_ok-made.ensures
+    c.refute.ensures.shown
