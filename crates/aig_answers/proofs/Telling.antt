@@ -71,16 +71,6 @@ step_of_proof answers.NoBads own = absurd own
 step_of_proof answers.TooLarge own = absurd own
 step_of_proof (answers.Refutation e) own = tt
 
-pub proof_of_memory : (e : AnswerError) → e ≡ answers.Encode encode.Memory → IsOfProof e
-proof_of_memory e is = rw is tt
-
-pub memory_not_taken : (e : AnswerError) → e ≡ answers.Encode encode.Memory
-    → verdict_of e ≡ Accepted → ⊥
-memory_not_taken e is taken = let short : Short ≡ Accepted = ap verdict_of (sym is) ∙ taken in cc
-
-pub query_of_memory : (e : AnswerError) → e ≡ answers.Encode encode.Memory → IsOfQuery e
-query_of_memory e is = rw is (λ same. cc)
-
 pub proof_of_refutation : (r : Result (Unit {0}) AnswerError)
     → IfErr r (λ e. (x : RefutationError) × (e ≡ answers.Refutation x)) → IfErr r IsOfProof
 proof_of_refutation r own = IfErr-weaker r _ IsOfProof (λ e is. rw is.1 tt) own
@@ -112,10 +102,6 @@ said_of_proof of (answers.Encode encode.TooLarge) own is = absurd own
 said_of_proof of answers.NoBads own is = absurd own
 said_of_proof of answers.TooLarge own is = absurd own
 said_of_proof of (answers.Refutation e) own is = is
-
-pub memory_said : (of : Verdict) (e : AnswerError) → e ≡ answers.Encode encode.Memory
-    → Accepted ≡ of → IsSaidOf of (verdict_of e)
-memory_said of e is taken = said_of_proof of e (proof_of_memory e is) taken
 
 module _ (limit : ℕ) (optimize : Bool) (text : Option (List ℕ)) (m : Circuit) where
   -- a circuit that is refused

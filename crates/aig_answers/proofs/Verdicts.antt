@@ -2,6 +2,9 @@
 use Rattle.aig_base.proofs.Words.{◌≡◌, ◌≢◌, ℕ, ◌+◌, ◌≤◌, Bool, true, false, Option, List, [], length, map, Result, Ok, Err, refl, sym, ap, subst, ◌∙◌, ◌==◌, nat_lt, if◌then◌else◌, IfErr, length-map, eqb-false, ltb-false}
 use Rattle.std.proofs.lemmas.Result.{IfErr-weaker}
 use Rattle.aig_circuit.specs.Circuit.{Circuit}
+use Rattle.aig_circuit.specs.declared.edge.AigEdge.{AigEdge}
+use Rattle.aig_circuit.specs.declared.node.AigLatch.{AigLatch}
+use Rattle.aig_circuit.specs.declared.node.AigNode.{AigNode}
 use Rattle.aig_format.proofs.Words.{circuit_of, edge_of, File, Accepts}
 use Rattle.aig_reader.specs.declared.error.ReadError.{ReadError}
 use Rattle.aig_reader.specs.Reading.{IsReadAs}
@@ -16,7 +19,7 @@ use Rattle.aig_encode.specs.declared.error.EncodeError.TheVariants as encode
 use Rattle.aig_encode.specs.Encoding as encoding
 use Rattle.aig_refutation.specs.declared.error.RefutationError.{RefutationError}
 use Rattle.aig_answers.specs.Answers.{IsOfCircuitQuery, IsOfInduction, IsOfQuery, IsOfStep, IsOfWindow, IsSaidBy, asked_verdict, circuit_window_verdict, verdict_of, window_size, window_verdict}
-use Rattle.aig_answers.specs.CircuitVerdicts.{circuit_verdict}
+use Rattle.aig_answers.specs.CircuitVerdicts.{asks_verdict, circuit_verdict}
 use Rattle.aig_answers.specs.declared.error.AnswerError.{AnswerError}
 use Rattle.aig_answers.specs.declared.error.AnswerError.TheVariants as errors
 
@@ -52,7 +55,27 @@ room_by false false false is = refl
 
 -- ---- of a circuit
 
+asked_said : (large empty : Bool)
+    → IsSaidBy (said_if large empty Accepted) (said_if large empty Accepted)
+asked_said true empty = refl
+asked_said false true = refl
+asked_said false false = refl
+
 module _ (limit k : ℕ) (c : Circuit) where
+  -- the verdict itself is said of the circuit
+  pub circuit_said : (v : Verdict) → v ≡ circuit_verdict limit k c
+      → IsSaidBy (circuit_verdict limit k c) v
+  circuit_said v is =
+      subst (IsSaidBy (circuit_verdict limit k c)) (sym is)
+      (asked_said (nat_lt limit (unrolled_size c k)) (length c.properties.bads == 0))
+
+  -- and by its lists
+  pub asks_alike : (nodes : List AigNode) (latchs : List AigLatch) (bads : List AigEdge)
+      → nodes ≡ c.nodes → latchs ≡ c.latchs → bads ≡ c.properties.bads
+      → asks_verdict limit k (length nodes) (length latchs) (length bads)
+      ≡ circuit_verdict limit k c
+  asks_alike nodes latchs bads of_nodes of_latchs of_bads = rw (of_nodes, of_latchs, of_bads) refl
+
   pub circuit_of_file : IsOfFile (circuit_verdict limit k c)
   circuit_of_file = of_file_by Accepted (nat_lt limit (unrolled_size c k)) (length c.properties.bads == 0) tt
 

@@ -23,11 +23,6 @@ use Rattle.aig_answers.specs.declared.certificates.error.CertificateError.{Certi
 use Rattle.aig_answers.specs.declared.certificates.error.CertificateError.TheVariants as errors
 use Rattle.aig_answers.specs.declared.certificates.asking.Obligations.{Obligations}
 
--- the clauses ask for a bad edge of the circuit at step k
-abbrev pub AsksStep : ℕ → Bool → Circuit → WindowClauses → Type 0
-AsksStep k optimize m made =
-    (unrolled : Circuit) × IsCircuitQuery m k optimize (query_with unrolled made)
-
 -- memory ran out before a proof was read, or the proof is refused
 abbrev pub IsOfProof : AnswerError → Type 0
 IsOfProof (answers.Encode encode.Memory) = Unit {0}

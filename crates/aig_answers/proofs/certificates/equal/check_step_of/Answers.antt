@@ -1,10 +1,9 @@
 use Rattle.aig_base.proofs.Words.{on_ok_weaker, err_from_is_err_and}
 use Rattle.aig_answers.specs.Answers.{query_with}
 use Rattle.aig_circuit.specs.View.{lists_circuit}
-use Rattle.aig_answers.specs.Certificates.{joint_verdict}
 use Rattle.aig_answers.proofs.Asked.{query_of_steps}
-use Rattle.aig_answers.proofs.Telling.{checked_query, memory_said, proof_of_refutation, refused_query, step_of_query_proof}
-use Rattle.aig_answers.proofs.Verdicts.{proof_taken, query_not_taken, query_of_step}
+use Rattle.aig_answers.proofs.Telling.{checked_query, proof_of_refutation, refused_query, step_of_query_proof}
+use Rattle.aig_answers.proofs.Verdicts.{proof_taken, query_of_step}
 use Rattle.aig_answers.proofs.certificates.equal.check_step_of.Goals as goal
 
 pub returns-in_err-asked-clause-own : goal.returns-in_err-asked-clause-own
