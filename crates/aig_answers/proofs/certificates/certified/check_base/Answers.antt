@@ -1,5 +1,7 @@
 use Rattle.aig_base.proofs.Words.{on_ok_weaker}
 use Rattle.aig_answers.specs.Answers.{query_with}
+use Rattle.aig_answers.proofs.Telling.{proof_of_refutation}
+use Rattle.aig_answers.proofs.Verdicts.{proof_taken}
 use Rattle.aig_answers.proofs.certificates.certified.check_base.Goals as goal
 
 pub returns-clause-safe : goal.returns-clause-safe
@@ -16,3 +18,9 @@ returns-clause-shown g c = λ taken.
     c.circuit_clauses_are_one.ensures.query asked.circuit asked.steps c.args.optimize _
     c.refute.result (query_with asked.unrolled c.in_ok-made.made) c.in_ok-made.ensures
     c.refute.ensures.shown
+
+pub returns-clause-own : goal.returns-clause-own
+returns-clause-own g c = proof_of_refutation c.refute.result c.refute.ensures.own
+
+pub returns-clause-unread : goal.returns-clause-unread
+returns-clause-unread g c = λ other. absurd (other (proof_taken c.refute.result c.refute.ensures.own))
