@@ -4,7 +4,7 @@ use Rattle.std.specs.Prelude.{Result}
 use Rattle.aig_base.specs.declared.logic.literal.Lit.{Lit}
 use Rattle.aig_answers.proofs.Answering.{AsksFiles, EncodesFiles}
 use Rattle.aig_answers.specs.Answers as answering
-use Rattle.aig_answers.specs.Answers.{IsAsked, IsCircuitOf, IsCircuitQuery, IsSaidBy, TellsOfCircuit, TellsOfProof, TellsOfStep, TellsOfWindow, circuit_window_verdict, without_names}
+use Rattle.aig_answers.specs.Answers.{IsAsked, IsCircuitOf, IsSaidBy, TellsOfCircuit, TellsOfProof, TellsOfStep, TellsOfWindow, circuit_window_verdict, without_names}
 use Rattle.aig_answers.specs.declared.circuits.CircuitQuery.{CircuitQuery}
 use Rattle.aig_answers.specs.declared.error.AnswerError.{AnswerError}
 use Rattle.aig_answers.specs.declared.error.AnswerError.TheVariants as answers

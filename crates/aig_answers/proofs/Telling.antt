@@ -1,5 +1,5 @@
 -- What is told of a joint circuit, from what was said of it and of a proof.
-use Rattle.aig_base.proofs.Words.{◌≡◌, ℕ, ◌≤◌, ◌==◌, nat_lt, if◌then◌else◌, Bool, true, false, List, length, Option, Result, Ok, Err, refl, sym, ap, subst, ◌∙◌, arith, IfErr, ltb-false}
+use Rattle.aig_base.proofs.Words.{◌≡◌, ℕ, ◌≤◌, ◌==◌, nat_lt, if◌then◌else◌, Bool, true, false, List, length, Option, Result, Ok, Err, refl, sym, subst, arith, IfErr, ltb-false}
 use Rattle.std.proofs.lemmas.Result.{IfErr-weaker}
 use Rattle.aig_answers.proofs.Verdicts.{query_not_taken, query_of_step}
 use Rattle.aig_answers.specs.Answers.{IsOfInduction, IsOfQuery, IsOfStep, IsOfWindow, TellsOfCircuit, TellsOfCircuitWindow, verdict_of}
@@ -7,7 +7,7 @@ use Rattle.aig_answers.specs.declared.error.AnswerError.{AnswerError}
 use Rattle.aig_answers.specs.declared.error.AnswerError.TheVariants as answers
 use Rattle.aig_circuit.specs.Circuit.{Circuit}
 use Rattle.aig_encode.specs.declared.error.EncodeError.TheVariants as encode
-use Rattle.aig_reader.specs.Verdicts.{Accepted, NoBads, Short, TooLarge, TooMany, Verdict, verdict_by}
+use Rattle.aig_reader.specs.Verdicts.{Accepted, NoBads, TooLarge, TooMany, Verdict, verdict_by}
 use Rattle.aig_refutation.specs.declared.error.RefutationError.{RefutationError}
 use Rattle.aig_runs.specs.Unrolled.{UnrolledCircuit, Unrolls}
 use Rattle.aig_unroll.specs.Places.{unrolled_size}

@@ -33,8 +33,7 @@ use Rattle.aig_runs.specs.Queries.{IsSafeTo}
 use Rattle.aig_runs.specs.Safety.{IsCircuitSafeAt}
 use Rattle.aig_runs.specs.declared.window.Window.{Window}
 use Rattle.aig_unroll.specs.Places.{unrolled_size}
-use Rattle.aig_answers.specs.Safety as safety
-use Rattle.aig_answers.specs.Safety.{IsOfBase, IsOfStep, IsOwn, LeavesBase, LeavesStep, Shows, ShowsCircuit, TellsOfSize, verdict_of}
+use Rattle.aig_answers.specs.Safety.{IsOfBase, IsOfStep, LeavesBase, LeavesStep, Shows, ShowsCircuit, TellsOfSize, verdict_of}
 use Rattle.aig_answers.specs.declared.safety.error.SafetyError.{SafetyError}
 use Rattle.aig_answers.specs.declared.safety.error.SafetyError.TheVariants as errors
 

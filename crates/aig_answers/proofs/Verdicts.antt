@@ -9,7 +9,7 @@ use Rattle.aig_format.proofs.Words.{circuit_of, edge_of, File, Accepts}
 use Rattle.aig_reader.specs.declared.error.ReadError.{ReadError}
 use Rattle.aig_reader.specs.Reading.{IsReadAs}
 use Rattle.aig_reader.specs.Verdicts as reading
-use Rattle.aig_reader.specs.Verdicts.{Accepted, Crowded, IsOfFile, IsSaidOf, IsSettled, Judges, NoBads, Short, TooLarge, Verdict, verdict_by}
+use Rattle.aig_reader.specs.Verdicts.{Accepted, Crowded, IsOfFile, IsSaidOf, Judges, NoBads, Short, TooLarge, Verdict, verdict_by}
 use Rattle.aig_reader.proofs.Verdicts.{of_no_file, refused_again, said_of_read}
 use Rattle.aig.specs.Reading.{IsFileCircuit}
 use Rattle.aig_unroll.specs.Places.{unrolled_size}

@@ -1,13 +1,10 @@
 //! No bad state at a step.
 
 ghost use Rattle.std.specs.Prelude.{◌≡◌, ◌≢◌, ◌^◌, ◌≤◌, IfErr, IfOk, IsErrOf, IsTrue, length};
-ghost use Rattle.aig_answers.specs.Answers.{IsAsked, IsCircuitQuery, IsOfQuery, IsOfStep, IsSaidBy, TellsOfStep, asked_verdict, verdict_of};
-ghost use Rattle.aig_answers.specs.CircuitVerdicts.{circuit_verdict};
+ghost use Rattle.aig_answers.specs.Answers.{IsAsked, IsOfQuery, IsOfStep, TellsOfStep, asked_verdict, verdict_of};
 ghost use Rattle.aig_base.specs.Clauses.{AreBelow};
-ghost use Rattle.aig_circuit.specs.Circuit.{IsCircuit};
-ghost use Rattle.aig_circuit.specs.View.{lists_circuit};
 ghost use Rattle.aig_runs.specs.Safety.{IsSafeAt};
-ghost use Rattle.aig_runs.specs.Unrolled.{IsUnrolledOf, Unrolls};
+ghost use Rattle.aig_runs.specs.Unrolled.{IsUnrolledOf};
 ghost use Rattle.aig_encode.specs.Encoding.{IsQuery};
 ghost use Rattle.aig_reader.specs.Reading.{IsReadAs};
 ghost use Rattle.aig_reader.specs.Verdicts.{Accepted, Judges, verdict_by};
@@ -18,7 +15,7 @@ use crate::error::AnswerError;
 use crate::refuting::refute;
 use aig::Aig;
 use aig_base::Source;
-use aig_circuit::{CircuitLists, CircuitView};
+use aig_circuit::CircuitView;
 use aig_encode::{Encoded, Query};
 use aig_refutation::RefutationError;
 use aig_runs::{

@@ -1,7 +1,7 @@
 use Rattle.aig_base.proofs.Words.{◌≡◌, Err, ◌≤◌, ◌^◌, ℕ, ◌+◌, ◌∙◌, ap, refl, subst, sym, arith, err_from_is_err_and}
 use Rattle.aig_circuit.specs.Circuit.{Circuit}
 use Rattle.aig_circuit.specs.View.{lists_circuit}
-use Rattle.aig_reader.specs.Verdicts.{Accepted, verdict_by}
+use Rattle.aig_reader.specs.Verdicts.{Accepted}
 use Rattle.aig_unroll.specs.Places.{unrolled_size}
 use Rattle.aig_answers.specs.Answers as answering
 use Rattle.aig_answers.specs.Answers.{IsSaidBy, TellsOfCircuit, TellsOfCircuitWindow, circuit_window_verdict}
