@@ -145,6 +145,23 @@ module _ (of : Circuit → Verdict) (also : File → Verdict) (alike : (f : File
         → Judges also limit old new failed v
     judged c v is read told said = said_of_read (λ f. Accepted) also limit old new failed v (said_of_some (of c) v is said) told read (said_of c v said)
 
+-- so with the verdict on a circuit that is asked for a bad state at a step
+module _ (limit k : ℕ) (old new : Option (List ℕ)) (failed : Bool) where
+  pub asked_unread : (e : ReadError)
+      → Judges (λ f. Accepted) limit old new failed (reading.verdict_of e)
+      → Judges (asked_verdict limit k) limit old new failed (reading.verdict_of e)
+  asked_unread e told =
+      unread (circuit_verdict limit k) (asked_verdict limit k) (asked_alike limit k) limit old new
+      failed e told
+
+  pub asked_judged : (c : Circuit) (v : Verdict)
+      → IsReadAs (λ bytes. Accepts bytes limit) IsFileCircuit old new c
+      → Judges (λ f. Accepted) limit old new failed Accepted → IsSaidBy (circuit_verdict limit k c) v
+      → Judges (asked_verdict limit k) limit old new failed v
+  asked_judged c v read told said =
+      judged (circuit_verdict limit k) (asked_verdict limit k) (asked_alike limit k) limit old new
+      failed c v (circuit_of_file limit k c) read told said
+
 -- ---- of a proof
 
 -- a proof is checked only where the file is taken

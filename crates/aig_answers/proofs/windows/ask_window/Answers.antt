@@ -22,8 +22,12 @@ pub unroll_window-requires-clause-room : goal.unroll_window-requires-clause-room
 unroll_window-requires-clause-room c =
     let a = c.args in
     let circuit = lists_circuit a.circuit in
-    omega (arith, c.requires.few, window_room a.limit a.k circuit a.form
-    (c.in_ok-check_window_room.ensures.said ∙ ap (circuit_window_verdict a.form a.limit a.k) c.new.ensures))
+    omega (
+      arith,
+      c.requires.few,
+      window_room a.limit a.k circuit a.form
+          (c.in_ok-check_window_room.ensures.said ∙ ap (circuit_window_verdict a.form a.limit a.k) c.new.ensures),
+    )
 
 pub returns-in_err-unroll_window-clause-said : goal.returns-in_err-unroll_window-clause-said
 returns-in_err-unroll_window-clause-said c =

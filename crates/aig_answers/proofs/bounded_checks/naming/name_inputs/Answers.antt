@@ -35,6 +35,9 @@ loop-number-preserved c =
 pub returns : goal.returns
 returns c =
     let circuit = c.args.circuit.now in
-    AreNamed circuit c.loop-number.names circuit.inputs c.loop-number.number (omega (arith,
-    ap length c.inputs-leaf-items.ensures.value, c.loop-number-test.false))
+    AreNamed circuit c.loop-number.names circuit.inputs c.loop-number.number (omega (
+      arith,
+      ap length c.inputs-leaf-items.ensures.value,
+      c.loop-number-test.false,
+    ))
     c.loop-number.invariant.1

@@ -41,6 +41,10 @@ returns-clause-named c =
 
 pub bounds-names-input : goal.bounds-names-input
 bounds-names-input c =
-    omega (arith, latch_within c.args.circuit.now c.latchs-latch-items.ensures.circuit _
-    c.latchs-latch-items.ensures.value c.loop-number.number c.input.result _ c.loop-number-test.true
-    c.input.ensures, c.loop-number.invariant.0)
+    omega (
+      arith,
+      latch_within c.args.circuit.now c.latchs-latch-items.ensures.circuit _
+          c.latchs-latch-items.ensures.value c.loop-number.number c.input.result _ c.loop-number-test.true
+          c.input.ensures,
+      c.loop-number.invariant.0,
+    )

@@ -56,7 +56,9 @@ returns-in-Err-check_step-clause-holds g c =
     )
 
 pub returns-in-Err-clause-holds : goal.returns-in-Err-clause-holds
-returns-in-Err-clause-holds g c = refused_query c.args.limit c.args.optimize (g.P.Source.left c.args.base.now) (lists_circuit c.args.joint) 0 c.in-Err.error c.in-Err.ensures.own c.in-Err.ensures.said
+returns-in-Err-clause-holds g c =
+    refused_query c.args.limit c.args.optimize (g.P.Source.left c.args.base.now)
+    (lists_circuit c.args.joint) 0 c.in-Err.error c.in-Err.ensures.own c.in-Err.ensures.said
 
 pub returns-in-Err-clause-base_stream : goal.returns-in-Err-clause-base_stream
 returns-in-Err-clause-base_stream g c = λ is.

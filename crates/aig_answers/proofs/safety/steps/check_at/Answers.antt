@@ -17,8 +17,10 @@ returns-clause-answer g c =
     let made = c.in_ok-made.made in
     let u = c.in_ok-asked.asked in
     let is = c.in_ok-asked.ensures in
-    let asks = query_of_steps a.circuit.now a.step a.optimize u made (is.circuit ∙ c.in_ok-to_lists.ensures.copy) is.steps c.in_ok-made.ensures in
-    on_ok_weaker c.refute.result (c.refuted_circuit_queries_have_no_witness.ensures a.circuit.now u.unrolled a.step made.clauses made.extra asks.asks) c.refute.ensures.refuted
+    let asks = query_of_steps a.circuit.now a.step a.optimize u made
+    (is.circuit ∙ c.in_ok-to_lists.ensures.copy) is.steps c.in_ok-made.ensures in
+    on_ok_weaker c.refute.result (c.refuted_circuit_queries_have_no_witness.ensures a.circuit.now
+    u.unrolled a.step made.clauses made.extra asks.asks) c.refute.ensures.refuted
 
 pub returns-clause-shown : goal.returns-clause-shown
 returns-clause-shown g c =
@@ -26,8 +28,11 @@ returns-clause-shown g c =
     let made = c.in_ok-made.made in
     let u = c.in_ok-asked.asked in
     let is = c.in_ok-asked.ensures in
-    let asks = query_of_steps a.circuit.now a.step a.optimize u made (is.circuit ∙ c.in_ok-to_lists.ensures.copy) is.steps c.in_ok-made.ensures in
-    λ taken. c.circuit_clauses_are_one.ensures.query a.circuit.now a.step a.optimize (g.P.Source.left a.proof.now) c.refute.result (query_with u.unrolled made) asks c.refute.ensures.shown
+    let asks = query_of_steps a.circuit.now a.step a.optimize u made
+    (is.circuit ∙ c.in_ok-to_lists.ensures.copy) is.steps c.in_ok-made.ensures in
+    λ taken. c.circuit_clauses_are_one.ensures.query a.circuit.now a.step a.optimize
+    (g.P.Source.left a.proof.now) c.refute.result (query_with u.unrolled made) asks
+    c.refute.ensures.shown
 
 pub returns-clause-said : goal.returns-clause-said
 returns-clause-said g c =

@@ -16,7 +16,9 @@ loop-step-preserved g c =
     let low : i < length before = omega (arith, c.loop-step-test.true, c.loop-step.auto.bases) in
     let here = slice_get-get_or before i c.index-bases-step.result low in (
       below_more (IsCircuitSafeAt circuit) i holds.0 told.answer,
-      below_more (λ n. HasAt c.args.bases.now n (λ x. TellsOfCircuit n c.args.optimize (g.P.Source.left x) circuit (Ok tt))) i holds.1 (p, sym (holds.2 i (omega arith)) ∙ here, told.shown refl),
+      below_more (λ n. HasAt c.args.bases.now n
+          (λ x. TellsOfCircuit n c.args.optimize (g.P.Source.left x) circuit (Ok tt))) i holds.1
+          (p, sym (holds.2 i (omega arith)) ∙ here, told.shown refl),
       λ n more. get_set_kept before i n _ (λ is. absurd (omega (arith, is, more)))
           ∙ holds.2 n (omega (arith, more)),
     )
