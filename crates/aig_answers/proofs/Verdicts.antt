@@ -1,5 +1,5 @@
 -- What is said of a circuit, and of the file that it is of.
-use Rattle.aig_base.proofs.Words.{◌≡◌, ◌≢◌, ℕ, ◌+◌, ◌≤◌, Bool, true, false, Option, List, [], length, map, Result, Ok, Err, refl, sym, ap, subst, ◌∙◌, ◌==◌, nat_lt, if◌then◌else◌, IfErr, IsErrOf, length-map, eqb-false, ltb-false}
+use Rattle.aig_base.proofs.Words.{◌≡◌, ◌≢◌, ℕ, ◌+◌, ◌≤◌, Bool, true, false, Option, List, [], length, map, Result, Ok, Err, refl, sym, ap, subst, ◌∙◌, ◌==◌, nat_lt, if◌then◌else◌, IfErr, length-map, eqb-false, ltb-false}
 use Rattle.std.proofs.lemmas.Result.{IfErr-weaker}
 use Rattle.aig_circuit.specs.Circuit.{Circuit}
 use Rattle.aig_circuit.specs.declared.edge.AigEdge.{AigEdge}
@@ -170,13 +170,6 @@ pub proof_taken : (r : Result Unit AnswerError)
     → verdict_by verdict_of r ≡ Accepted
 proof_taken (Ok u) own = refl
 proof_taken (Err e) own = ap verdict_of own.1
-
--- its errors are of the proof alone
-pub proof_is : (r : Result Unit AnswerError) (e : AnswerError)
-    → IfErr r (λ e. (x : RefutationError) × (e ≡ errors.Refutation x)) → IsErrOf r e
-    → (x : RefutationError) × (e ≡ errors.Refutation x)
-proof_is (Ok u) e own is = absurd cc
-proof_is (Err other) e own is = let same : other ≡ e = cc in (own.0, sym same ∙ own.1)
 
 -- ---- errors
 

@@ -1,8 +1,6 @@
-use Rattle.aig_base.proofs.Words.{ap, length, on_ok_weaker, ◌∙◌, ◌==◌}
-use Rattle.aig_answers.specs.declared.error.AnswerError.TheVariants as errors
-use Rattle.aig_encode.specs.declared.error.EncodeError.TheVariants.{TooLarge}
+use Rattle.aig_base.proofs.Words.{on_ok_weaker}
 use Rattle.aig_answers.proofs.Alike.{query_told}
-use Rattle.aig_answers.proofs.Verdicts.{proof_is, proof_of_circuit, proof_taken}
+use Rattle.aig_answers.proofs.Verdicts.{proof_of_circuit, proof_taken}
 use Rattle.aig_answers.proofs.circuits.check_query_of.Goals as goal
 
 pub returns-clause-answer : goal.returns-clause-answer
@@ -20,16 +18,3 @@ pub returns-clause-shown : goal.returns-clause-shown
 returns-clause-shown g c taken =
     query_told c.clauses_are_one.ensures c.args.circuit.now c.args.k c.args.optimize _
     c.refute.result c.in_ok-asked.asked c.in_ok-asked.ensures.query c.refute.ensures.shown
-
-pub returns-clause-none : goal.returns-clause-none
-returns-clause-none g c = (
-  λ is. let of = proof_is c.refute.result errors.NoBads c.refute.ensures.own is in absurd cc,
-  λ empty.
-      let none = ap (λ bads. length bads == 0) (c.bads.ensures.value ∙ empty) in absurd cc,
-)
-
-pub returns-clause-large : goal.returns-clause-large
-returns-clause-large g c = (
-  λ is. let of = proof_is c.refute.result (errors.Encode TooLarge) c.refute.ensures.own is in absurd cc,
-  λ asked. let never = c.in_ok-asked.ensures.large.1 asked.1 in absurd cc,
-)
