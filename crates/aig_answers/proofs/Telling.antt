@@ -15,10 +15,6 @@ use Rattle.aig_runs.specs.declared.window.Window.TheVariants.{Plain}
 use Rattle.aig_answers.specs.Certificates.{IsSaidOf, TellsOfQuery, TellsOfTwo, joint_verdict}
 use Rattle.aig_answers.specs.PairParts.{IsOfProof}
 
--- what is said of a circuit that is taken
-pub taken_said : (of v : Verdict) → v ≡ Accepted → Accepted ≡ of → IsSaidOf of v
-taken_said of v is said = subst (IsSaidOf of) (sym is) said
-
 -- the verdict on a joint circuit, by tests
 abbrev joint_by : Bool → Bool → Bool → Verdict
 joint_by many large empty =
