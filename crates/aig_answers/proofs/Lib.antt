@@ -1,5 +1,6 @@
 mod Pairs
 mod Growing
+mod Asked
 mod Asking
 pub mod Verdicts
 pub mod Answering

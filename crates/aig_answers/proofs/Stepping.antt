@@ -1,10 +1,10 @@
 -- What is told of proofs of single steps.
-use Rattle.aig_base.proofs.Words.{◌≡◌, ◌≢◌, ℕ, zero, suc, ◌+◌, ◌-◌, ◌≤◌, ◌^◌, Bool, Option, List, [], ◌∷◌, length, Ok, Err, refl, sym, ap, ap₂, subst, ◌∙◌, arith, mul-le-mul_right, on_ok_weaker, set, IfOk, OnOk, slice_get}
+use Rattle.aig_base.proofs.Words.{◌≡◌, ◌≢◌, ℕ, zero, suc, ◌+◌, ◌-◌, ◌<◌, ◌≤◌, ◌^◌, Bool, Option, Some, List, [], ◌∷◌, length, Ok, Err, refl, sym, ap, ap₂, subst, ◌∙◌, arith, mul-le-mul_right, on_ok_weaker, set, IfOk, OnOk, slice_get}
 use Rattle.std.specs.Prelude.{Result}
 use Rattle.aig_base.specs.declared.logic.literal.Lit.{Lit}
 use Rattle.aig_answers.proofs.Answering.{AsksFiles, EncodesFiles}
 use Rattle.aig_answers.specs.Answers as answering
-use Rattle.aig_answers.specs.Answers.{IsAsked, IsCircuitOf, IsCircuitQuery, IsSaidBy, TellsOfCircuit, TellsOfProof, TellsOfStep, TellsOfWindow, circuit_window_verdict, without_names}
+use Rattle.aig_answers.specs.Answers.{IsAsked, IsCircuitOf, IsSaidBy, TellsOfCircuit, TellsOfProof, TellsOfStep, TellsOfWindow, circuit_window_verdict, without_names}
 use Rattle.aig_answers.specs.declared.circuits.CircuitQuery.{CircuitQuery}
 use Rattle.aig_answers.specs.declared.error.AnswerError.{AnswerError}
 use Rattle.aig_answers.specs.declared.error.AnswerError.TheVariants as answers
@@ -26,21 +26,27 @@ use Rattle.aig_unroll.specs.Places.{unrolled_size}
 use Rattle.aig_answers.proofs.TellingSafe.{asked_read}
 use Rattle.aig_answers.specs.Bases.{IsOfBases, ShowBases}
 use Rattle.aig_answers.specs.Safety.{IsOfStep}
-use Rattle.aig_answers.specs.Steps.{AreTaken, IsOfProofs, IsOwn, LeavesStep, Show, ShowCircuit, ShowEach, Told, verdict_of}
+use Rattle.aig_answers.specs.Steps.{AreTaken, IsOwn, LeavesBase, LeavesStep, Show, ShowCircuit, ShowEach, Told, verdict_of}
 use Rattle.aig_answers.specs.declared.safety.error.StepsError.{StepsError}
 use Rattle.aig_answers.specs.declared.safety.error.StepsError.TheVariants as errors
 
 -- ---- lists
 
--- a list after a write, at another place
-pub get_set_other : {X : Type 0} (xs : List X) (i j : ℕ) (x : X) → i ≢ j
-    → slice_get (set xs i x) j ≡ slice_get xs j
-get_set_other [] i j x other = refl
-get_set_other (y ∷ ys) zero zero x other = absurd (other refl)
-get_set_other (y ∷ ys) zero (suc j) x other = refl
-get_set_other (y ∷ ys) (suc i) zero x other = refl
-get_set_other (y ∷ ys) (suc i) (suc j) x other =
-    get_set_other ys i j x (λ is. other (ap suc is))
+-- a list after a write, at a place where it wrote nothing else
+pub get_set_kept : {X : Type 0} (xs : List X) (i j : ℕ) (x : X)
+    → (i ≡ j → slice_get xs j ≡ Some x) → slice_get (set xs i x) j ≡ slice_get xs j
+get_set_kept [] i j x same = refl
+get_set_kept (y ∷ ys) zero zero x same = sym (same refl)
+get_set_kept (y ∷ ys) zero (suc j) x same = refl
+get_set_kept (y ∷ ys) (suc i) zero x same = refl
+get_set_kept (y ∷ ys) (suc i) (suc j) x same = get_set_kept ys i j x (λ is. same (ap suc is))
+
+-- and at the place itself
+pub get_set_here : {X : Type 0} (xs : List X) (i : ℕ) (x : X) → i < length xs
+    → slice_get (set xs i x) i ≡ Some x
+get_set_here [] i x low = absurd (omega (arith, low))
+get_set_here (y ∷ ys) zero x low = refl
+get_set_here (y ∷ ys) (suc i) x low = get_set_here ys i x (omega (arith, low))
 
 -- ---- room
 
@@ -53,15 +59,10 @@ room_below c n k limit low room few =
 
 -- ---- errors
 
-pub bases_own : (k count : ℕ) (e : StepsError) → count ≡ k + 1 → IsOfBases count e → IsOfProofs k e
+pub bases_own : (k count : ℕ) (e : StepsError) → count ≡ k + 1 → IsOfBases count e → IsOwn k e
 bases_own k count (errors.File e) all own = absurd own
 bases_own k count (errors.At n e) all own = (omega (arith, own.0, all), own.1)
 bases_own k count (errors.Step e) all own = absurd own
-
-pub steps_own : (k : ℕ) (e : StepsError) → IsOfProofs k e → IsOwn k e
-steps_own k (errors.File e) own = absurd own
-steps_own k (errors.At n e) own = own
-steps_own k (errors.Step e) own = own
 
 -- a proof of a window that isn't read is of one that isn't taken
 pub leaves_window : (e : AnswerError) → IsOfStep e → LeavesStep (Err (errors.Step e))
@@ -72,6 +73,17 @@ leaves_window (answers.Encode encode.TooLarge) own leaves is = cc
 leaves_window answers.NoBads own leaves is = cc
 leaves_window answers.TooLarge own leaves is = cc
 leaves_window (answers.Refutation e) own leaves is = absurd leaves
+
+-- a proof of a step that isn't read is of a later one, or of one that isn't taken
+pub leaves_base : (n j : ℕ) (e : AnswerError) → IsOfStep e → LeavesBase j (Err (errors.At n e))
+    → (n ≤ j) × (n ≡ j → answering.verdict_of e ≢ Accepted)
+leaves_base n j (answers.Encode (encode.Read e)) own leaves = absurd own
+leaves_base n j (answers.Encode encode.Memory) own leaves = (leaves, λ here is. cc)
+leaves_base n j (answers.Encode encode.TooLarge) own leaves = (leaves, λ here is. cc)
+leaves_base n j answers.NoBads own leaves = (leaves, λ here is. cc)
+leaves_base n j answers.TooLarge own leaves = (leaves, λ here is. cc)
+leaves_base n j (answers.Refutation e) own leaves =
+    (omega (arith, leaves), λ here is. omega (arith, leaves, here))
 
 -- what proofs of steps show, one of which is refused
 pub bases_shown : {P Q : Type 0} (left : P → Option (List ℕ)) (left_of : Q → Option (List ℕ))

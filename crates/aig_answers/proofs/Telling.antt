@@ -1,5 +1,5 @@
 -- What is told of a joint circuit, from what was said of it and of a proof.
-use Rattle.aig_base.proofs.Words.{◌≡◌, ℕ, ◌≤◌, ◌==◌, nat_lt, if◌then◌else◌, Bool, true, false, List, length, Option, Result, Ok, Err, refl, sym, ap, subst, ◌∙◌, arith, IfErr, ltb-false}
+use Rattle.aig_base.proofs.Words.{◌≡◌, ℕ, ◌≤◌, ◌==◌, nat_lt, if◌then◌else◌, Bool, true, false, List, length, Option, Result, Ok, Err, refl, sym, subst, arith, IfErr, ltb-false}
 use Rattle.std.proofs.lemmas.Result.{IfErr-weaker}
 use Rattle.aig_answers.proofs.Verdicts.{query_not_taken, query_of_step}
 use Rattle.aig_answers.specs.Answers.{IsOfInduction, IsOfQuery, IsOfStep, IsOfWindow, TellsOfCircuit, TellsOfCircuitWindow, verdict_of}
@@ -7,17 +7,13 @@ use Rattle.aig_answers.specs.declared.error.AnswerError.{AnswerError}
 use Rattle.aig_answers.specs.declared.error.AnswerError.TheVariants as answers
 use Rattle.aig_circuit.specs.Circuit.{Circuit}
 use Rattle.aig_encode.specs.declared.error.EncodeError.TheVariants as encode
-use Rattle.aig_reader.specs.Verdicts.{Accepted, NoBads, Short, TooLarge, TooMany, Verdict, verdict_by}
+use Rattle.aig_reader.specs.Verdicts.{Accepted, NoBads, TooLarge, TooMany, Verdict, verdict_by}
 use Rattle.aig_refutation.specs.declared.error.RefutationError.{RefutationError}
 use Rattle.aig_runs.specs.Unrolled.{UnrolledCircuit, Unrolls}
 use Rattle.aig_unroll.specs.Places.{unrolled_size}
 use Rattle.aig_runs.specs.declared.window.Window.TheVariants.{Plain}
 use Rattle.aig_answers.specs.Certificates.{IsSaidOf, TellsOfQuery, TellsOfTwo, joint_verdict}
 use Rattle.aig_answers.specs.PairParts.{IsOfProof}
-
--- what is said of a circuit that is taken
-pub taken_said : (of v : Verdict) → v ≡ Accepted → Accepted ≡ of → IsSaidOf of v
-taken_said of v is said = subst (IsSaidOf of) (sym is) said
 
 -- the verdict on a joint circuit, by tests
 abbrev joint_by : Bool → Bool → Bool → Verdict
@@ -71,16 +67,6 @@ step_of_proof answers.NoBads own = absurd own
 step_of_proof answers.TooLarge own = absurd own
 step_of_proof (answers.Refutation e) own = tt
 
-pub proof_of_memory : (e : AnswerError) → e ≡ answers.Encode encode.Memory → IsOfProof e
-proof_of_memory e is = rw is tt
-
-pub memory_not_taken : (e : AnswerError) → e ≡ answers.Encode encode.Memory
-    → verdict_of e ≡ Accepted → ⊥
-memory_not_taken e is taken = let short : Short ≡ Accepted = ap verdict_of (sym is) ∙ taken in cc
-
-pub query_of_memory : (e : AnswerError) → e ≡ answers.Encode encode.Memory → IsOfQuery e
-query_of_memory e is = rw is (λ same. cc)
-
 pub proof_of_refutation : (r : Result (Unit {0}) AnswerError)
     → IfErr r (λ e. (x : RefutationError) × (e ≡ answers.Refutation x)) → IfErr r IsOfProof
 proof_of_refutation r own = IfErr-weaker r _ IsOfProof (λ e is. rw is.1 tt) own
@@ -112,10 +98,6 @@ said_of_proof of (answers.Encode encode.TooLarge) own is = absurd own
 said_of_proof of answers.NoBads own is = absurd own
 said_of_proof of answers.TooLarge own is = absurd own
 said_of_proof of (answers.Refutation e) own is = is
-
-pub memory_said : (of : Verdict) (e : AnswerError) → e ≡ answers.Encode encode.Memory
-    → Accepted ≡ of → IsSaidOf of (verdict_of e)
-memory_said of e is taken = said_of_proof of e (proof_of_memory e is) taken
 
 module _ (limit : ℕ) (optimize : Bool) (text : Option (List ℕ)) (m : Circuit) where
   -- a circuit that is refused

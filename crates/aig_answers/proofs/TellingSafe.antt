@@ -33,8 +33,7 @@ use Rattle.aig_runs.specs.Queries.{IsSafeTo}
 use Rattle.aig_runs.specs.Safety.{IsCircuitSafeAt}
 use Rattle.aig_runs.specs.declared.window.Window.{Window}
 use Rattle.aig_unroll.specs.Places.{unrolled_size}
-use Rattle.aig_answers.specs.Safety as safety
-use Rattle.aig_answers.specs.Safety.{IsOfBase, IsOfStep, IsOwn, LeavesBase, LeavesStep, Shows, ShowsCircuit, TellsOfSize, verdict_of}
+use Rattle.aig_answers.specs.Safety.{IsOfBase, IsOfStep, LeavesBase, LeavesStep, Shows, ShowsCircuit, TellsOfSize, verdict_of}
 use Rattle.aig_answers.specs.declared.safety.error.SafetyError.{SafetyError}
 use Rattle.aig_answers.specs.declared.safety.error.SafetyError.TheVariants as errors
 
@@ -115,12 +114,6 @@ leaves_step (answers.Encode encode.TooLarge) own leaves is = cc
 leaves_step answers.NoBads own leaves is = cc
 leaves_step answers.TooLarge own leaves is = cc
 leaves_step (answers.Refutation e) own leaves is = absurd leaves
-
--- one of the proofs
-pub proofs_own : (e : SafetyError) → safety.IsOfProofs e → IsOwn e
-proofs_own (errors.File e) own = absurd own
-proofs_own (errors.Base e) own = own
-proofs_own (errors.Step e) own = own
 
 -- ---- of a circuit and its file
 

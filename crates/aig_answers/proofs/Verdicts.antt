@@ -2,11 +2,14 @@
 use Rattle.aig_base.proofs.Words.{◌≡◌, ◌≢◌, ℕ, ◌+◌, ◌≤◌, Bool, true, false, Option, List, [], length, map, Result, Ok, Err, refl, sym, ap, subst, ◌∙◌, ◌==◌, nat_lt, if◌then◌else◌, IfErr, length-map, eqb-false, ltb-false}
 use Rattle.std.proofs.lemmas.Result.{IfErr-weaker}
 use Rattle.aig_circuit.specs.Circuit.{Circuit}
+use Rattle.aig_circuit.specs.declared.edge.AigEdge.{AigEdge}
+use Rattle.aig_circuit.specs.declared.node.AigLatch.{AigLatch}
+use Rattle.aig_circuit.specs.declared.node.AigNode.{AigNode}
 use Rattle.aig_format.proofs.Words.{circuit_of, edge_of, File, Accepts}
 use Rattle.aig_reader.specs.declared.error.ReadError.{ReadError}
 use Rattle.aig_reader.specs.Reading.{IsReadAs}
 use Rattle.aig_reader.specs.Verdicts as reading
-use Rattle.aig_reader.specs.Verdicts.{Accepted, Crowded, IsOfFile, IsSaidOf, IsSettled, Judges, NoBads, Short, TooLarge, Verdict, verdict_by}
+use Rattle.aig_reader.specs.Verdicts.{Accepted, Crowded, IsOfFile, IsSaidOf, Judges, NoBads, Short, TooLarge, Verdict, verdict_by}
 use Rattle.aig_reader.proofs.Verdicts.{of_no_file, refused_again, said_of_read}
 use Rattle.aig.specs.Reading.{IsFileCircuit}
 use Rattle.aig_unroll.specs.Places.{unrolled_size}
@@ -16,7 +19,7 @@ use Rattle.aig_encode.specs.declared.error.EncodeError.TheVariants as encode
 use Rattle.aig_encode.specs.Encoding as encoding
 use Rattle.aig_refutation.specs.declared.error.RefutationError.{RefutationError}
 use Rattle.aig_answers.specs.Answers.{IsOfCircuitQuery, IsOfInduction, IsOfQuery, IsOfStep, IsOfWindow, IsSaidBy, asked_verdict, circuit_window_verdict, verdict_of, window_size, window_verdict}
-use Rattle.aig_answers.specs.CircuitVerdicts.{circuit_verdict}
+use Rattle.aig_answers.specs.CircuitVerdicts.{asks_verdict, circuit_verdict}
 use Rattle.aig_answers.specs.declared.error.AnswerError.{AnswerError}
 use Rattle.aig_answers.specs.declared.error.AnswerError.TheVariants as errors
 
@@ -43,9 +46,36 @@ room_of_file : (crowded : Bool) → IsOfFile (if crowded then Crowded else Accep
 room_of_file true = tt
 room_of_file false = tt
 
+room_by : (crowded large empty : Bool)
+    → Accepted ≡ said_if large empty (if crowded then Crowded else Accepted) → crowded ≡ false
+room_by crowded true empty is = cc
+room_by crowded false true is = cc
+room_by true false false is = cc
+room_by false false false is = refl
+
 -- ---- of a circuit
 
+asked_said : (large empty : Bool)
+    → IsSaidBy (said_if large empty Accepted) (said_if large empty Accepted)
+asked_said true empty = refl
+asked_said false true = refl
+asked_said false false = refl
+
 module _ (limit k : ℕ) (c : Circuit) where
+  -- the verdict itself is said of the circuit
+  pub circuit_said : (v : Verdict) → v ≡ circuit_verdict limit k c
+      → IsSaidBy (circuit_verdict limit k c) v
+  circuit_said v is =
+      subst (IsSaidBy (circuit_verdict limit k c)) (sym is)
+      (asked_said (nat_lt limit (unrolled_size c k)) (length c.properties.bads == 0))
+
+  -- and by its lists
+  pub asks_alike : (nodes : List AigNode) (latchs : List AigLatch) (bads : List AigEdge)
+      → nodes ≡ c.nodes → latchs ≡ c.latchs → bads ≡ c.properties.bads
+      → asks_verdict limit k (length nodes) (length latchs) (length bads)
+      ≡ circuit_verdict limit k c
+  asks_alike nodes latchs bads of_nodes of_latchs of_bads = rw (of_nodes, of_latchs, of_bads) refl
+
   pub circuit_of_file : IsOfFile (circuit_verdict limit k c)
   circuit_of_file = of_file_by Accepted (nat_lt limit (unrolled_size c k)) (length c.properties.bads == 0) tt
 
@@ -59,6 +89,14 @@ module _ (limit k : ℕ) (c : Circuit) where
   read_unrolled extra is =
       let tests = asked_by extra (nat_lt limit (unrolled_size c k)) (length c.properties.bads == 0) is in
       (ltb-false limit (unrolled_size c k) tests.0, λ none. eqb-false (length c.properties.bads) 0 tests.1 (ap length none))
+
+  -- a window that is asked for has room
+  pub window_room : (form : Window) → Accepted ≡ circuit_window_verdict form limit k c
+      → window_size form c k ≤ limit
+  window_room form is =
+      let room = nat_lt limit (window_size form c k) in
+      ltb-false limit (window_size form c k) (room_by room (nat_lt limit (unrolled_size c (k + 1)))
+      (length c.properties.bads == 0) is)
 
 -- ---- of a file
 
@@ -106,6 +144,23 @@ module _ (of : Circuit → Verdict) (also : File → Verdict) (alike : (f : File
         → Judges (λ f. Accepted) limit old new failed Accepted → IsSaidBy (of c) v
         → Judges also limit old new failed v
     judged c v is read told said = said_of_read (λ f. Accepted) also limit old new failed v (said_of_some (of c) v is said) told read (said_of c v said)
+
+-- so with the verdict on a circuit that is asked for a bad state at a step
+module _ (limit k : ℕ) (old new : Option (List ℕ)) (failed : Bool) where
+  pub asked_unread : (e : ReadError)
+      → Judges (λ f. Accepted) limit old new failed (reading.verdict_of e)
+      → Judges (asked_verdict limit k) limit old new failed (reading.verdict_of e)
+  asked_unread e told =
+      unread (circuit_verdict limit k) (asked_verdict limit k) (asked_alike limit k) limit old new
+      failed e told
+
+  pub asked_judged : (c : Circuit) (v : Verdict)
+      → IsReadAs (λ bytes. Accepts bytes limit) IsFileCircuit old new c
+      → Judges (λ f. Accepted) limit old new failed Accepted → IsSaidBy (circuit_verdict limit k c) v
+      → Judges (asked_verdict limit k) limit old new failed v
+  asked_judged c v read told said =
+      judged (circuit_verdict limit k) (asked_verdict limit k) (asked_alike limit k) limit old new
+      failed c v (circuit_of_file limit k c) read told said
 
 -- ---- of a proof
 

@@ -3,11 +3,10 @@
 use Rattle.std.specs.Prelude.{ℕ, Bool, List, ◌++◌, Option, Result, Ok, Err}
 use Rattle.aig_base.specs.Formula.{IsSatisfiable, clauses_in}
 use Rattle.aig_base.specs.declared.logic.literal.Lit.{Lit}
-use Rattle.aig_answers.specs.Answers.{IsCircuitQuery, IsOfQuery, IsOfStep, query_with, verdict_of}
+use Rattle.aig_answers.specs.Answers.{IsOfQuery, IsOfStep, verdict_of}
 use Rattle.aig_answers.specs.declared.error.AnswerError.{AnswerError}
 use Rattle.aig_answers.specs.declared.error.AnswerError.TheVariants as answers
 use Rattle.aig_encode.specs.declared.error.EncodeError.TheVariants as encode
-use Rattle.aig_answers.specs.declared.windows.WindowClauses.{WindowClauses}
 use Rattle.aig_runs.specs.Safety.{IsCircuitSafeAt}
 use Rattle.aig_runs.specs.declared.window.Window.TheVariants.{Plain}
 use Rattle.aig_runs.specs.WindowClauses.{AsksWindow}
@@ -22,11 +21,6 @@ use Rattle.aig_answers.specs.Certificates.{AreObligationsOf, IsSaidOf, TellsOfQu
 use Rattle.aig_answers.specs.declared.certificates.error.CertificateError.{CertificateError}
 use Rattle.aig_answers.specs.declared.certificates.error.CertificateError.TheVariants as errors
 use Rattle.aig_answers.specs.declared.certificates.asking.Obligations.{Obligations}
-
--- the clauses ask for a bad edge of the circuit at step k
-abbrev pub AsksStep : ℕ → Bool → Circuit → WindowClauses → Type 0
-AsksStep k optimize m made =
-    (unrolled : Circuit) × IsCircuitQuery m k optimize (query_with unrolled made)
 
 -- memory ran out before a proof was read, or the proof is refused
 abbrev pub IsOfProof : AnswerError → Type 0

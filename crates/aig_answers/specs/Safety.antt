@@ -43,12 +43,6 @@ IsOfStep (answers.Encode encode.Memory) = Unit {0}
 IsOfStep (answers.Refutation e) = Unit {0}
 IsOfStep e = ⊥
 
--- it is of a proof, or of the clauses that the proof is of
-abbrev pub IsOfProofs : SafetyError → Type 0
-IsOfProofs (errors.File e) = ⊥
-IsOfProofs (errors.Base e) = IsOfBase e
-IsOfProofs (errors.Step e) = IsOfStep e
-
 -- no path is opened, and each proof has its errors
 abbrev pub IsOwn : SafetyError → Type 0
 IsOwn (errors.File e) = IsOfWindow e

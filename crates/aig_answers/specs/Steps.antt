@@ -24,14 +24,7 @@ verdict_of (errors.File e) = answering.verdict_of e
 verdict_of (errors.At n e) = answering.verdict_of e
 verdict_of (errors.Step e) = answering.verdict_of e
 
--- it is of a proof, or of the memory for the clauses that the proof is of; of the steps 0 to k each
--- has one
-abbrev pub IsOfProofs : ℕ → StepsError → Type 0
-IsOfProofs k (errors.File e) = ⊥
-IsOfProofs k (errors.At n e) = (n ≤ k) × IsOfStep e
-IsOfProofs k (errors.Step e) = IsOfStep e
-
--- no path is opened, and each proof has its errors
+-- no path is opened, and each proof has its errors; of the steps 0 to k each has one
 abbrev pub IsOwn : ℕ → StepsError → Type 0
 IsOwn k (errors.File e) = IsOfWindow e
 IsOwn k (errors.At n e) = (n ≤ k) × IsOfStep e

@@ -14,7 +14,7 @@ use thiserror::Error;
 #[derive(Clone, Copy, Debug, PartialEq, Eq, Error)]
 pub enum AnswerError {
     /// The file is refused, or there are no clauses of it.
-    #[error("{0}")]
+    #[error(transparent)]
     Encode(EncodeError),
     /// The file has no bad state property, so that nothing is asked.
     #[error("no bad state property (aigedit bads makes outputs such)")]
@@ -24,7 +24,7 @@ pub enum AnswerError {
     #[error("window may pass the limit")]
     TooLarge,
     /// The proof is refused.
-    #[error("{0}")]
+    #[error(transparent)]
     Refutation(RefutationError),
 }
 

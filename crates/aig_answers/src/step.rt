@@ -1,13 +1,10 @@
 //! No bad state at a step.
 
 ghost use Rattle.std.specs.Prelude.{◌≡◌, ◌≢◌, ◌^◌, ◌≤◌, IfErr, IfOk, IsErrOf, IsTrue, length};
-ghost use Rattle.aig_answers.specs.Answers.{IsAsked, IsCircuitQuery, IsOfQuery, IsOfStep, IsSaidBy, TellsOfStep, asked_verdict, verdict_of};
-ghost use Rattle.aig_answers.specs.CircuitVerdicts.{circuit_verdict};
+ghost use Rattle.aig_answers.specs.Answers.{IsAsked, IsOfQuery, IsOfStep, TellsOfStep, asked_verdict, verdict_of};
 ghost use Rattle.aig_base.specs.Clauses.{AreBelow};
-ghost use Rattle.aig_circuit.specs.Circuit.{IsCircuit};
-ghost use Rattle.aig_circuit.specs.View.{lists_circuit};
 ghost use Rattle.aig_runs.specs.Safety.{IsSafeAt};
-ghost use Rattle.aig_runs.specs.Unrolled.{IsUnrolledOf, Unrolls};
+ghost use Rattle.aig_runs.specs.Unrolled.{IsUnrolledOf};
 ghost use Rattle.aig_encode.specs.Encoding.{IsQuery};
 ghost use Rattle.aig_reader.specs.Reading.{IsReadAs};
 ghost use Rattle.aig_reader.specs.Verdicts.{Accepted, Judges, verdict_by};
@@ -18,7 +15,7 @@ use crate::error::AnswerError;
 use crate::refuting::refute;
 use aig::Aig;
 use aig_base::Source;
-use aig_circuit::{CircuitLists, CircuitView};
+use aig_circuit::CircuitView;
 use aig_encode::{Encoded, Query};
 use aig_refutation::RefutationError;
 use aig_runs::{
@@ -26,23 +23,6 @@ use aig_runs::{
     refuted_queries_have_no_witness,
 };
 use std::alloc::Global;
-
-/// The query of a circuit for step `k`, unless its further steps may pass the limit or nothing is asked of it.
-fn ask_query(
-    alloc: Global,
-    circuit: &Aig,
-    limit: usize,
-    k: usize,
-    optimize: bool,
-) -> Result<CircuitQuery, AnswerError>
-    requires few { limit ≤ 2 ^ 31 }
-    ensures query { IfOk result (IsCircuitQuery circuit.now k optimize) }
-    ensures said { IsSaidBy (circuit_verdict limit k circuit.now) (verdict_by verdict_of result) }
-    ensures own { IfErr result IsOfQuery }
-{
-    check_asks(circuit.nodes(), circuit.latchs(), circuit.bads(), limit, k)?;
-    Ok(make_query(alloc, circuit, k, optimize)?)
-}
 
 /// Reads a circuit from the bytes of an AIGER file, and returns its query for step `k`, which is what `aig_encode::query`
 /// returns.
@@ -71,11 +51,12 @@ pub fn read_query<R: Source>(
     clauses_are_file_runs();
     circuit_witnesses_are_file_witnesses();
     let circuit = Aig::from_aiger(alloc, r, limit)?;
+    check_asks(circuit.nodes(), circuit.latchs(), circuit.bads(), limit, k)?;
     let CircuitQuery {
         unrolled,
         clauses,
         extra,
-    } = ask_query(alloc, &circuit, limit, k, optimize)?;
+    } = make_query(alloc, &circuit, k, optimize)?;
     Ok(Query {
         encoded: Encoded {
             circuit,
@@ -84,19 +65,6 @@ pub fn read_query<R: Source>(
         },
         extra,
     })
-}
-
-/// Gives a circuit `k` steps more, unless these may pass the limit or nothing is asked of it.
-fn ask_steps(circuit: CircuitLists, limit: usize, k: usize) -> Result<Unrolled, AnswerError>
-    requires { IsCircuit (lists_circuit circuit) }
-    ensures unrolls { IfOk result (Unrolls (lists_circuit circuit) k) }
-    ensures said { IsSaidBy (circuit_verdict limit k (lists_circuit circuit))
-        (verdict_by verdict_of result) }
-    ensures own { IfErr result IsOfQuery }
-{
-    let view = CircuitView::new(&circuit);
-    check_asks(view.nodes(), view.latchs(), view.bads(), limit, k)?;
-    Ok(Unrolled::new(circuit, k)?)
 }
 
 /// Reads a circuit from the bytes of an AIGER file, and gives it `k` steps more, as `read_query` does, but makes no clauses. Requires
@@ -118,7 +86,9 @@ pub fn read_unrolled<R: Source>(
     ensures own { IfErr result IsOfQuery }
 {
     let circuit = aig_reader::read(alloc, r, limit)?;
-    ask_steps(circuit, limit, k)
+    let view = CircuitView::new(&circuit);
+    check_asks(view.nodes(), view.latchs(), view.bads(), limit, k)?;
+    Ok(Unrolled::new(circuit, k)?)
 }
 
 /// Reads a circuit from the bytes of an AIGER file, and checks a proof, in the LRAT or the DRAT format, that the clauses of its

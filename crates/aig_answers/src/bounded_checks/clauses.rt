@@ -92,28 +92,7 @@ fn clauses_of(
     })
 }
 
-/// The clauses of the question of a circuit for the steps 0 to `last`.
-fn ask(
-    alloc: Global,
-    circuit: &CircuitView<'_>,
-    limit: usize,
-    last: usize,
-    optimize: bool,
-) -> Result<BoundedClauses, BoundedError>
-    requires closed { IsClosed circuit.now }
-    requires starts { All HasConstantInit circuit.now.latchs }
-    requires some { 1 ≤ limit }
-    requires few { limit ≤ 2 ^ 31 }
-    ensures asks { IfOk result (IsEncodedQuestion circuit.now last optimize) }
-    ensures large { IsErrOf result BoundedError.TooLarge → limit < question_size circuit.now last }
-{
-    let question = bounded_question(alloc, circuit, last, limit)?;
-    let named = name_places(alloc, circuit, &question.places)?;
-    let made = clauses_of(alloc, question, named, optimize)?;
-    Ok(made)
-}
-
-/// The clauses of the question of a circuit, unless nothing is asked of it.
+/// The clauses of the question of a circuit for the steps 0 to `last`, unless nothing is asked of it.
 pub(crate) fn ask_lists(
     alloc: Global,
     lists: &CircuitLists,
@@ -135,8 +114,10 @@ pub(crate) fn ask_lists(
     if lists.properties.bads.is_empty() {
         return Err(BoundedAnswerError::NoBads);
     }
-    let made = ask(alloc, &CircuitView::new(lists), limit, last, optimize)?;
-    Ok(made)
+    let circuit = CircuitView::new(lists);
+    let question = bounded_question(alloc, &circuit, last, limit)?;
+    let named = name_places(alloc, &circuit, &question.places)?;
+    Ok(clauses_of(alloc, question, named, optimize)?)
 }
 
 /// Reads a circuit from the bytes of an AIGER file, and makes the clauses of one question: whether some bad state is

@@ -15,19 +15,19 @@ use thiserror::Error;
 #[derive(Clone, Copy, Debug, PartialEq, Eq, Error)]
 pub enum BoundedAnswerError {
     /// The file is refused.
-    #[error("{0}")]
+    #[error(transparent)]
     Read(ReadError),
     /// The file has no bad state property, so that nothing is asked.
     #[error("no bad state property (aigedit bads makes outputs such)")]
     NoBads,
     /// There is no question, or there are no clauses of it.
-    #[error("{0}")]
+    #[error(transparent)]
     Question(BoundedError),
     /// The proof is refused.
-    #[error("{0}")]
+    #[error(transparent)]
     Refutation(RefutationError),
     /// The solver's answer gives no witness of a bad state.
-    #[error("{0}")]
+    #[error(transparent)]
     Solution(SolutionError),
 }
 

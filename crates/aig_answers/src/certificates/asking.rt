@@ -8,9 +8,9 @@ ghost use Rattle.aig_circuit.specs.Circuit.{IsCircuit};
 ghost use Rattle.aig_circuit.specs.View.{lists_circuit};
 ghost use Rattle.aig_edits.specs.Pairs.{ReadsPair};
 
-use crate::ClauseParts;
 use crate::certificates::error::CertificateError;
-use crate::certificates::joint::{part_query, part_window, unroll_joint};
+use crate::certificates::joint::{part_window, unroll_joint};
+use crate::{AnswerError, ClauseParts, query_parts};
 use aig_base::Source;
 use aig_circuit::CircuitLists;
 use aig_edits::{Pairing, read_joint};
@@ -58,9 +58,9 @@ fn ask_both(
         Ok(joint) => joint,
         Err(error) => return Err(CertificateError::Query(error)),
     };
-    let base = match part_query(alloc, &joint, optimize) {
+    let base = match query_parts(alloc, &joint, optimize) {
         Ok(base) => base,
-        Err(error) => return Err(CertificateError::Query(error)),
+        Err(error) => return Err(CertificateError::Query(AnswerError::from(error))),
     };
     match part_window(alloc, &joint.circuit(), limit, optimize) {
         Ok((stepped, step)) => Ok(Obligations {

@@ -13,8 +13,8 @@ ghost use Rattle.aig_reader.specs.Verdicts.{Accepted, verdict_by};
 ghost use Rattle.aig_runs.specs.Safety.{IsCircuitSafeAt};
 
 use crate::certificates::error::CertificateError;
-use crate::certificates::joint::{ask_query, ask_window, unroll_joint};
-use crate::{AnswerError, circuit_clauses_are_one, refute};
+use crate::certificates::joint::{ask_window, unroll_joint};
+use crate::{AnswerError, circuit_clauses_are_one, refute, unrolled_query};
 use aig_base::Source;
 use aig_circuit::CircuitLists;
 use aig_edits::{Pairing, read_joint};
@@ -43,7 +43,7 @@ fn check_base<P: Source>(
 {
     refuted_circuit_queries_have_no_witness();
     circuit_clauses_are_one();
-    let made = ask_query(alloc, asked, optimize)?;
+    let made = unrolled_query(alloc, asked, optimize)?;
     refute(alloc, &made.clauses, &made.extra, base)
 }
 

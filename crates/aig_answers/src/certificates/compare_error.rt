@@ -11,7 +11,7 @@ use thiserror::Error;
 #[derive(Clone, Copy, Debug, PartialEq, Eq, Error)]
 pub enum MiterError {
     /// A file is refused, or there is no miter of them.
-    #[error("{0}")]
+    #[error(transparent)]
     Pair(PairError),
     /// The certificate is refused, or it doesn't fit the miter, or it isn't shown that it certifies it.
     #[error("certificate: {0}")]

@@ -1,10 +1,9 @@
 //! Whether two files' machines are equal at a step.
 
-ghost use Rattle.std.specs.Prelude.{◌≡◌, ◌≢◌, ◌^◌, ◌≤◌, IfErr, IfOk, IsErrOf, IsTrue, OnOk};
-ghost use Rattle.aig_answers.specs.Answers.{IsOfQuery, IsOfStep, verdict_of};
+ghost use Rattle.std.specs.Prelude.{◌≡◌, ◌≢◌, ◌^◌, ◌≤◌, IfErr, IsErrOf, IsTrue, OnOk};
+ghost use Rattle.aig_answers.specs.Answers.{IsOfStep, verdict_of};
 ghost use Rattle.aig_answers.specs.declared.error.AnswerError.TheVariants as answers;
-ghost use Rattle.aig_answers.specs.Certificates.{Equals, IsOwn, IsSaidOf, LeavesQuery, TellsOfQuery, first_verdict, joint_verdict, second_verdict};
-ghost use Rattle.aig_answers.specs.PairParts.{AsksStep, HoldsStep};
+ghost use Rattle.aig_answers.specs.Certificates.{Equals, IsOwn, LeavesQuery, TellsOfQuery, first_verdict, second_verdict};
 ghost use Rattle.aig_answers.specs.declared.certificates.error.CertificateError.TheVariants as errors;
 ghost use Rattle.aig_circuit.specs.Circuit.{IsCircuit};
 ghost use Rattle.aig_circuit.specs.View.{lists_circuit};
@@ -13,33 +12,14 @@ ghost use Rattle.aig_reader.specs.Verdicts.{Accepted, verdict_by};
 ghost use Rattle.aig_runs.specs.Safety.{IsCircuitSafeAt};
 
 use crate::certificates::error::CertificateError;
-use crate::certificates::joint::{ask_query, unroll_joint};
-use crate::{AnswerError, WindowClauses, circuit_clauses_are_one, refute};
+use crate::certificates::joint::unroll_joint;
+use crate::{AnswerError, circuit_clauses_are_one, refute, unrolled_query};
 use aig_base::Source;
 use aig_circuit::CircuitLists;
 use aig_edits::{Comparison, Pairing, read_joint};
 use aig_refutation::RefutationError;
 use aig_runs::refuted_circuit_queries_have_no_witness;
 use std::alloc::Global;
-
-/// The clauses of a joint circuit's query for step `k`. The circuit is dropped.
-fn ask_joint(
-    alloc: Global,
-    joint: CircuitLists,
-    limit: usize,
-    k: usize,
-    optimize: bool,
-) -> Result<WindowClauses, AnswerError>
-    requires few { limit ≤ 2 ^ 31 }
-    requires circuit { IsCircuit (lists_circuit joint) }
-    ensures asks { IfOk result (AsksStep k optimize (lists_circuit joint)) }
-    ensures said { IsSaidOf (joint_verdict limit k (lists_circuit joint))
-        (verdict_by verdict_of result) }
-    ensures own { IfErr result IsOfQuery }
-{
-    let asked = unroll_joint(joint, limit, k)?;
-    ask_query(alloc, &asked, optimize)
-}
 
 /// Checks a proof, in the LRAT or the DRAT format, that the query of a circuit for step `k` can't be satisfied, as `check_equal`
 /// does with that of a miter: then no run of the circuit from an initial state, on which every constraint holds, reaches a bad edge at
@@ -73,30 +53,11 @@ pub fn check_step_of<P: Source>(
 {
     refuted_circuit_queries_have_no_witness();
     circuit_clauses_are_one();
-    let made = ask_joint(alloc, circuit, limit, k, optimize)?;
+    let asked = unroll_joint(circuit, limit, k)?;
+    let made = unrolled_query(alloc, &asked, optimize)?;
+    // The clauses are all that the proof is held against.
+    drop(asked);
     refute(alloc, &made.clauses, &made.extra, proof)
-}
-
-/// The same, with the error of the query.
-fn check_query<P: Source>(
-    alloc: Global,
-    joint: CircuitLists,
-    limit: usize,
-    k: usize,
-    optimize: bool,
-    proof: &mut P,
-) -> Result<(), CertificateError>
-    requires few { limit ≤ 2 ^ 31 }
-    requires circuit { IsCircuit (lists_circuit joint) }
-    ensures holds { HoldsStep limit k optimize (P.left proof.old) (lists_circuit joint) result }
-    ensures unread { LeavesQuery result → proof.new ≡ proof.old }
-    ensures stream { IsErrOf result (errors.Query (answers.Refutation RefutationError.Stream))
-        → IsTrue (P.failed proof.new) }
-{
-    match check_step_of(alloc, joint, limit, k, optimize, proof) {
-        Ok(()) => Ok(()),
-        Err(error) => Err(CertificateError::Query(error)),
-    }
 }
 
 /// Reads two files in the AIGER format, and checks a proof that their machines are equal at step `k`: on all runs of both from
@@ -135,5 +96,8 @@ pub fn check_equal<R: Source, S: Source, P: Source>(
         → IsTrue (P.failed proof.new) }
 {
     let joint = read_joint(alloc, Pairing::Miter(comparison), file, other, limit)?;
-    check_query(alloc, joint, limit, k, optimize, proof)
+    match check_step_of(alloc, joint, limit, k, optimize, proof) {
+        Ok(()) => Ok(()),
+        Err(error) => Err(CertificateError::Query(error)),
+    }
 }

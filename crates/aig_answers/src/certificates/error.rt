@@ -11,7 +11,7 @@ use thiserror::Error;
 #[derive(Clone, Copy, Debug, PartialEq, Eq, Error)]
 pub enum CertificateError {
     /// A file is refused, or there is no joint circuit of them.
-    #[error("{0}")]
+    #[error(transparent)]
     Pair(PairError),
     /// There is no query of the joint circuit, or its proof is refused.
     #[error("query: {0}")]

@@ -1,9 +1,8 @@
 //! A joint circuit with further steps, and the clauses that ask something of it.
 
 ghost use Rattle.std.specs.Prelude.{◌≡◌, ◌^◌, ◌≤◌, IfErr, IfOk, length};
-ghost use Rattle.aig_answers.specs.Answers.{AreWrittenFrom, AskWith, IsCircuitQuery, IsOfQuery, query_with, verdict_of};
+ghost use Rattle.aig_answers.specs.Answers.{AreWrittenFrom, AskWith, IsOfQuery, verdict_of};
 ghost use Rattle.aig_answers.specs.Certificates.{IsSaidOf, joint_verdict};
-ghost use Rattle.aig_answers.specs.PairParts.{AsksStep};
 ghost use Rattle.aig_circuit.specs.Circuit.{IsCircuit};
 ghost use Rattle.aig_circuit.specs.View.{lists_circuit};
 ghost use Rattle.aig_reader.specs.Verdicts.{verdict_by};
@@ -12,10 +11,7 @@ ghost use Rattle.aig_runs.specs.WindowClauses.{AsksWindow};
 ghost use Rattle.aig_runs.specs.declared.window.Window.TheVariants.{Plain};
 ghost use Rattle.aig_unroll.specs.Unroll.{UnrollsTo};
 
-use crate::{
-    AnswerError, ClauseParts, WindowClauses, plain_window, query_parts, unrolled_query,
-    window_parts,
-};
+use crate::{AnswerError, ClauseParts, WindowClauses, plain_window, window_parts};
 use aig_circuit::{CircuitLists, CircuitView};
 use aig_encode::EncodeError;
 use aig_reader::ReadError;
@@ -58,35 +54,6 @@ pub(crate) fn unroll_joint(
 {
     check_room(&CircuitView::new(&joint), limit, k)?;
     Ok(Unrolled::new(joint, k)?)
-}
-
-/// The clauses of a joint circuit that ask for a bad edge at the last of its steps.
-pub(crate) fn ask_query(
-    alloc: Global,
-    asked: &Unrolled,
-    optimize: bool,
-) -> Result<WindowClauses, AnswerError>
-    requires { length asked.now.unrolled.nodes ≤ 2 ^ 31 }
-    ensures asks { IfOk result (AsksStep asked.now.steps optimize asked.now.circuit) }
-    ensures own { IfErr result (λ e. e ≡ AnswerError.Encode EncodeError.Memory) }
-{
-    Ok(unrolled_query(alloc, asked, optimize)?)
-}
-
-/// What the clauses of `ask_query` are written from.
-pub(crate) fn part_query(
-    alloc: Global,
-    asked: &Unrolled,
-    optimize: bool,
-) -> Result<ClauseParts, AnswerError>
-    requires { length asked.now.unrolled.nodes ≤ 2 ^ 31 }
-    ensures written { IfOk result (AreWrittenFrom asked.now.unrolled optimize) }
-    ensures asks { IfOk result (AskWith asked.now.unrolled optimize
-        (λ made. IsCircuitQuery asked.now.circuit asked.now.steps optimize
-        (query_with asked.now.unrolled made))) }
-    ensures own { IfErr result (λ e. e ≡ AnswerError.Encode EncodeError.Memory) }
-{
-    Ok(query_parts(alloc, asked, optimize)?)
 }
 
 /// The joint circuit with one step more, if there is room for it and something is asked.

@@ -11,10 +11,10 @@ use thiserror::Error;
 #[derive(Clone, Copy, Debug, PartialEq, Eq, Error)]
 pub enum EqualityError {
     /// A file is refused, or there is no miter of them.
-    #[error("{0}")]
+    #[error(transparent)]
     Pair(PairError),
     /// It isn't shown that the miter reaches no bad state.
-    #[error("{0}")]
+    #[error(transparent)]
     Miter(SafetyError),
 }
 

@@ -13,16 +13,16 @@ use thiserror::Error;
 #[derive(Clone, Copy, Debug, PartialEq, Eq, Error)]
 pub enum LivenessError {
     /// The file is refused, or there is no live circuit of it.
-    #[error("{0}")]
+    #[error(transparent)]
     Live(EditError),
     /// There is no query of the live circuit, or its proof is refused.
-    #[error("{0}")]
+    #[error(transparent)]
     Query(AnswerError),
     /// There is no question of the live circuit's first steps, or its proof is refused.
-    #[error("{0}")]
+    #[error(transparent)]
     Question(BoundedAnswerError),
     /// It isn't shown that the live circuit reaches no bad state.
-    #[error("{0}")]
+    #[error(transparent)]
     Safety(SafetyError),
 }
 

@@ -16,7 +16,7 @@ use thiserror::Error;
 #[derive(Clone, Copy, Debug, PartialEq, Eq, Error)]
 pub enum SafetyError {
     /// The file is refused, or nothing is asked of it, or its window may pass the limit.
-    #[error("{0}")]
+    #[error(transparent)]
     File(AnswerError),
     /// There is no question of the first steps, or its proof is refused.
     #[error("base: {0}")]
@@ -46,7 +46,7 @@ impl From<AnswerError> for SafetyError {
 #[derive(Clone, Copy, Debug, PartialEq, Eq, Error)]
 pub enum StepsError {
     /// The file is refused, or nothing is asked of it, or its window may pass the limit.
-    #[error("{0}")]
+    #[error(transparent)]
     File(AnswerError),
     /// Memory ran out for the query of a step, or its proof is refused.
     #[error("step {step}: {error}")]

@@ -13,7 +13,7 @@ ghost use Rattle.aig_format.specs.Fits.{Fits};
 ghost use Rattle.aig_reader.specs.Reading.{IsReadAs};
 ghost use Rattle.aig_reader.specs.Verdicts.{Accepted, Judges, verdict_by};
 ghost use Rattle.aig_runs.specs.Queries.{IsSafeTo};
-ghost use Rattle.aig_answers.specs.Safety.{IsOfProofs, IsOwn, LeavesBase, LeavesStep, Shows, ShowsCircuit, TellsOfSize, verdict_of};
+ghost use Rattle.aig_answers.specs.Safety.{IsOwn, LeavesBase, LeavesStep, Shows, ShowsCircuit, TellsOfSize, verdict_of};
 ghost use Rattle.aig_answers.specs.declared.safety.error.SafetyError.TheVariants as errors;
 
 use crate::bounded_checks::check_bounded_of;
@@ -26,53 +26,6 @@ use aig_reader::read;
 use aig_refutation::RefutationError;
 use aig_runs::{inductive_windows_are_safe, safe_circuits_are_safe_machines, safe_steps_are_safe};
 use std::alloc::Global;
-
-/// Checks proofs that a circuit's machine reaches no bad state at any step, of a circuit that has room for its window.
-fn check_both<P: Source, Q: Source>(
-    alloc: Global,
-    circuit: CircuitLists,
-    limit: usize,
-    k: usize,
-    base_optimize: bool,
-    base: &mut P,
-    form: Window,
-    step_optimize: bool,
-    step: &mut Q,
-) -> Result<(), SafetyError>
-    requires circuit { IsCircuit (lists_circuit circuit) }
-    requires closed { IsClosed (lists_circuit circuit) }
-    requires starts { All HasConstantInit circuit.latchs.items }
-    requires some { 1 ≤ limit }
-    requires few { limit ≤ 2 ^ 31 }
-    requires steps { k < 2 ^ 32 }
-    requires room { circuit_window_verdict form limit k (lists_circuit circuit) ≡ Accepted }
-    ensures answer { OnOk result ((f : File) (bound : ℕ) → Fits f bound
-        → IsCircuitOf f (lists_circuit circuit) → (n : ℕ) → IsSafeTo f n) }
-    ensures said { IsSaidBy Accepted (verdict_by verdict_of result) }
-    ensures own { IfErr result IsOfProofs }
-    ensures large { IsErrOf result (errors.Base (bounded.Question BoundedError.TooLarge))
-        → limit < question_size (lists_circuit circuit) k }
-    ensures shown { verdict_by verdict_of result ≡ Accepted → ShowsCircuit P.left Q.left k
-        base_optimize form step_optimize base.old base.new step.old (lists_circuit circuit)
-        result }
-    ensures base_unread { LeavesBase result → base.new ≡ base.old }
-    ensures step_unread { LeavesStep result → step.new ≡ step.old }
-    ensures base_stream { IsErrOf result (errors.Base (bounded.Refutation RefutationError.Stream))
-        → IsTrue (P.failed base.new) }
-    ensures step_stream { IsErrOf result (errors.Step (answers.Refutation RefutationError.Stream))
-        → IsTrue (Q.failed step.new) }
-{
-    safe_circuits_are_safe_machines();
-    safe_steps_are_safe();
-    inductive_windows_are_safe();
-    if let Err(error) = check_bounded_of(alloc, &circuit, limit, k, base_optimize, base) {
-        return Err(SafetyError::Base(error));
-    }
-    match check_window_of(alloc, circuit, limit, k, step_optimize, form, step) {
-        Ok(()) => Ok(()),
-        Err(error) => Err(SafetyError::Step(error)),
-    }
-}
 
 /// Checks two proofs as `check_safe` does, of a circuit: each of its leaves is an input or a latch's, and each initial edge is
 /// constant. Then no run of the machine of a file whose circuit it is, names aside, from an initial state, on which every constraint
@@ -123,18 +76,17 @@ pub fn check_safe_of<P: Source, Q: Source>(
     ensures step_stream { IsErrOf result (errors.Step (answers.Refutation RefutationError.Stream))
         → IsTrue (Q.failed step.new) }
 {
+    safe_circuits_are_safe_machines();
+    safe_steps_are_safe();
+    inductive_windows_are_safe();
     check_window_room(&CircuitView::new(&circuit), limit, k, form)?;
-    check_both(
-        alloc,
-        circuit,
-        limit,
-        k,
-        base_optimize,
-        base,
-        form,
-        step_optimize,
-        step,
-    )
+    if let Err(error) = check_bounded_of(alloc, &circuit, limit, k, base_optimize, base) {
+        return Err(SafetyError::Base(error));
+    }
+    match check_window_of(alloc, circuit, limit, k, step_optimize, form, step) {
+        Ok(()) => Ok(()),
+        Err(error) => Err(SafetyError::Step(error)),
+    }
 }
 
 /// Reads a circuit from the bytes of an AIGER file, and checks two proofs, in the LRAT or the DRAT format: `base`, that the

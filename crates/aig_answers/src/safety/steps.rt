@@ -2,9 +2,9 @@
 
 ghost use Rattle.std.specs.Prelude.{◌≡◌, ◌≢◌, ◌+◌, ◌<◌, ◌≤◌, ◌^◌, ℕ, IfErr, IfOk, IsErrOf, IsTrue, OnOk, length, slice_get};
 ghost use Rattle.aig_answers.specs.Answers as answering;
-ghost use Rattle.aig_answers.specs.Answers.{IsAsked, IsCircuitOf, IsCircuitQuery, IsSaidBy, TellsOfCircuit, circuit_window_verdict, query_with, window_verdict};
+ghost use Rattle.aig_answers.specs.Answers.{IsAsked, IsCircuitOf, IsSaidBy, TellsOfCircuit, circuit_window_verdict, window_verdict};
 ghost use Rattle.aig_answers.specs.declared.error.AnswerError.TheVariants as answers;
-ghost use Rattle.aig_circuit.specs.Circuit.{Circuit, IsCircuit};
+ghost use Rattle.aig_circuit.specs.Circuit.{IsCircuit};
 ghost use Rattle.aig_circuit.specs.View.{lists_circuit};
 ghost use Rattle.aig_format.specs.File.{File};
 ghost use Rattle.aig_format.specs.Fits.{Fits};
@@ -15,15 +15,15 @@ ghost use Rattle.aig_runs.specs.Safety.{IsCircuitSafeAt};
 ghost use Rattle.aig_unroll.specs.Places.{unrolled_size};
 ghost use Rattle.aig_answers.specs.Bases.{IsOfBases, ShowBases};
 ghost use Rattle.aig_answers.specs.Safety.{IsOfStep};
-ghost use Rattle.aig_answers.specs.Steps.{HasAt, IsOfProofs, IsOwn, LeavesBase, LeavesStep, Show, ShowCircuit, verdict_of};
+ghost use Rattle.aig_answers.specs.Steps.{HasAt, IsOwn, LeavesBase, LeavesStep, Show, ShowCircuit, verdict_of};
 ghost use Rattle.aig_answers.specs.declared.safety.error.StepsError.TheVariants as errors;
 
 use crate::safety::error::StepsError;
 use crate::{
-    AnswerError, Window, WindowClauses, check_window_of, check_window_room,
-    circuit_clauses_are_one, refute, unrolled_query,
+    AnswerError, Window, check_window_of, check_window_room, circuit_clauses_are_one, refute,
+    unrolled_query,
 };
-use aig_base::{MemoryError, Source};
+use aig_base::Source;
 use aig_circuit::{CircuitLists, CircuitView};
 use aig_reader::read;
 use aig_refutation::RefutationError;
@@ -33,22 +33,6 @@ use aig_runs::{
     safe_circuits_are_safe_machines, safe_steps_are_safe,
 };
 use std::alloc::Global;
-
-/// The clauses of a circuit's query for a step.
-fn ask_at(
-    alloc: Global,
-    circuit: &CircuitView<'_>,
-    step: usize,
-    optimize: bool,
-) -> Result<WindowClauses, MemoryError>
-    requires circuit { IsCircuit circuit.now }
-    requires room { unrolled_size circuit.now step ≤ 2 ^ 31 }
-    ensures { IfOk result (λ made. (unrolled : Circuit)
-        × IsCircuitQuery circuit.now step optimize (query_with unrolled made)) }
-{
-    let asked = Unrolled::new(circuit.to_lists()?, step)?;
-    unrolled_query(alloc, &asked, optimize)
-}
 
 /// Checks a proof that the clauses of a circuit's query for a step can't be satisfied.
 fn check_at<P: Source>(
@@ -71,7 +55,10 @@ fn check_at<P: Source>(
 {
     refuted_circuit_queries_have_no_witness();
     circuit_clauses_are_one();
-    let made = ask_at(alloc, circuit, step, optimize)?;
+    let asked = Unrolled::new(circuit.to_lists()?, step)?;
+    let made = unrolled_query(alloc, &asked, optimize)?;
+    // The clauses are all that the proof is held against.
+    drop(asked);
     refute(alloc, &made.clauses, &made.extra, proof)
 }
 
@@ -101,48 +88,6 @@ fn check_each<P: Source>(
         }
     }
     Ok(())
-}
-
-/// Checks the proofs of a circuit that has room for its window.
-fn check_all<P: Source, Q: Source>(
-    alloc: Global,
-    circuit: CircuitLists,
-    limit: usize,
-    k: usize,
-    base_optimize: bool,
-    bases: &mut [P],
-    form: Window,
-    step_optimize: bool,
-    step: &mut Q,
-) -> Result<(), StepsError>
-    requires circuit { IsCircuit (lists_circuit circuit) }
-    requires few { limit ≤ 2 ^ 31 }
-    requires steps { k < 2 ^ 32 }
-    requires each { length bases.old ≡ k + 1 }
-    requires room { circuit_window_verdict form limit k (lists_circuit circuit) ≡ Accepted }
-    ensures answer { OnOk result ((f : File) (bound : ℕ) → Fits f bound
-        → IsCircuitOf f (lists_circuit circuit) → (n : ℕ) → IsSafeTo f n) }
-    ensures said { IsSaidBy Accepted (verdict_by verdict_of result) }
-    ensures own { IfErr result (IsOfProofs k) }
-    ensures shown { verdict_by verdict_of result ≡ Accepted → ShowCircuit P.left Q.left k
-        base_optimize form step_optimize bases.old step.old (lists_circuit circuit) result }
-    ensures base_unread { (n : ℕ) → LeavesBase n result
-        → slice_get bases.new n ≡ slice_get bases.old n }
-    ensures step_unread { LeavesStep result → step.new ≡ step.old }
-    ensures base_stream { (n : ℕ)
-        → IsErrOf result (errors.At n (answers.Refutation RefutationError.Stream))
-        → HasAt bases.new n (λ p. IsTrue (P.failed p)) }
-    ensures step_stream { IsErrOf result (errors.Step (answers.Refutation RefutationError.Stream))
-        → IsTrue (Q.failed step.new) }
-{
-    safe_circuits_are_safe_machines();
-    safe_steps_are_safe();
-    inductive_windows_are_safe();
-    check_each(alloc, &CircuitView::new(&circuit), base_optimize, bases)?;
-    match check_window_of(alloc, circuit, limit, k, step_optimize, form, step) {
-        Ok(()) => Ok(()),
-        Err(error) => Err(StepsError::Step(error)),
-    }
 }
 
 /// Checks proofs as `check_safe_by_steps` does, of a circuit. Then no run of the machine of a file whose circuit it is, names aside,
@@ -189,18 +134,15 @@ pub fn check_safe_by_steps_of<P: Source, Q: Source>(
     ensures step_stream { IsErrOf result (errors.Step (answers.Refutation RefutationError.Stream))
         → IsTrue (Q.failed step.new) }
 {
+    safe_circuits_are_safe_machines();
+    safe_steps_are_safe();
+    inductive_windows_are_safe();
     check_window_room(&CircuitView::new(&circuit), limit, k, form)?;
-    check_all(
-        alloc,
-        circuit,
-        limit,
-        k,
-        base_optimize,
-        bases,
-        form,
-        step_optimize,
-        step,
-    )
+    check_each(alloc, &CircuitView::new(&circuit), base_optimize, bases)?;
+    match check_window_of(alloc, circuit, limit, k, step_optimize, form, step) {
+        Ok(()) => Ok(()),
+        Err(error) => Err(StepsError::Step(error)),
+    }
 }
 
 /// Reads a circuit from the bytes of an AIGER file, and checks `k + 2` proofs, in the LRAT or the DRAT format: the `n`-th of `bases`,

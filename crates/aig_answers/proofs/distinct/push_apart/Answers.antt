@@ -10,6 +10,16 @@ state_of-before-requires c =
     let rows : (c.loop-s.s + 1) * c.args.latchs ≤ (c.args.t + 1) * c.args.latchs = mul-le-mul_right c.args.latchs (omega arith) in
     omega (arith, rows, c.requires.there)
 
+pub overflow_mul-s : goal.overflow_mul-s
+overflow_mul-s c =
+    let rows : c.loop-s.s * c.args.latchs ≤ c.args.t * c.args.latchs = mul-le-mul_right c.args.latchs (omega arith) in
+    omega (arith, rows, c.requires.room)
+
+pub overflow_add-first : goal.overflow_add-first
+overflow_add-first c =
+    let rows : c.loop-s.s * c.args.latchs ≤ c.args.t * c.args.latchs = mul-le-mul_right c.args.latchs (omega arith) in
+    omega (arith, rows, c.requires.room)
+
 pub push_pair-requires-clause-room : goal.push_pair-requires-clause-room
 push_pair-requires-clause-room c =
     let s = c.loop-s.s in

@@ -38,3 +38,13 @@ returns-clause-named c =
     let count = ap length c.latchs-latch-items.ensures.value in
     AreNamed circuit c.loop-number.names (latch_leaves circuit.latchs) c.loop-number.number (omega
     (arith, long, count, c.loop-number-test.false)) c.loop-number.invariant.2
+
+pub bounds-names-input : goal.bounds-names-input
+bounds-names-input c =
+    omega (
+      arith,
+      latch_within c.args.circuit.now c.latchs-latch-items.ensures.circuit _
+          c.latchs-latch-items.ensures.value c.loop-number.number c.input.result _ c.loop-number-test.true
+          c.input.ensures,
+      c.loop-number.invariant.0,
+    )

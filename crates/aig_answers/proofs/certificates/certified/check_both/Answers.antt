@@ -1,10 +1,13 @@
-use Rattle.aig_base.proofs.Words.{ℕ, Ok, Err, subst}
+use Rattle.aig_base.proofs.Words.{◌≡◌, ℕ, Ok, Err, subst}
+use Rattle.aig_answers.specs.Answers.{IsOfQuery}
+use Rattle.aig_answers.specs.declared.error.AnswerError.TheVariants as answers
+use Rattle.aig_refutation.specs.declared.error.RefutationError.TheVariants.{Stream}
 use Rattle.aig_circuit.specs.Circuit.{Circuit}
 use Rattle.aig_circuit.specs.View.{lists_circuit}
 use Rattle.aig_runs.specs.Safety.{IsCircuitSafeAt}
 use Rattle.aig_answers.specs.Certificates.{TellsOfTwo}
 use Rattle.aig_answers.specs.PairParts.{HasNoWindow}
-use Rattle.aig_answers.proofs.Telling.{based, step_of_proof}
+use Rattle.aig_answers.proofs.Telling.{based, refused_query, step_of_proof}
 use Rattle.aig_answers.proofs.certificates.certified.check_both.Goals as goal
 
 pub returns-in-Err-check_base-clause-holds : goal.returns-in-Err-check_base-clause-holds
@@ -51,3 +54,25 @@ returns-in-Err-check_step-clause-holds g c =
       subst (λ (d : Circuit). TellsOfTwo limit optimize (g.Q.Source.left c.args.step.now) d (Err e))
           steps.circuit step.tells,
     )
+
+pub returns-in-Err-clause-holds : goal.returns-in-Err-clause-holds
+returns-in-Err-clause-holds g c =
+    refused_query c.args.limit c.args.optimize (g.P.Source.left c.args.base.now)
+    (lists_circuit c.args.joint) 0 c.in-Err.error c.in-Err.ensures.own c.in-Err.ensures.said
+
+pub returns-in-Err-clause-base_stream : goal.returns-in-Err-clause-base_stream
+returns-in-Err-clause-base_stream g c = λ is.
+    let same : c.in-Err.error ≡ answers.Refutation Stream = cc in
+    absurd (subst IsOfQuery same c.in-Err.ensures.own)
+
+pub returns-in-Err-check_step-clause-step_unread : goal.returns-in-Err-check_step-clause-step_unread
+returns-in-Err-check_step-clause-step_unread g c = c.in-Err-check_step.ensures.unread
+
+pub returns-in-Err-check_base-clause-base_unread : goal.returns-in-Err-check_base-clause-base_unread
+returns-in-Err-check_base-clause-base_unread g c = c.in-Err-check_base.ensures.unread
+
+pub returns-in-Err-check_base-clause-base_stream : goal.returns-in-Err-check_base-clause-base_stream
+returns-in-Err-check_base-clause-base_stream g c = λ is. c.in-Err-check_base.ensures.stream cc
+
+pub returns-in-Err-check_step-clause-step_stream : goal.returns-in-Err-check_step-clause-step_stream
+returns-in-Err-check_step-clause-step_stream g c = λ is. c.in-Err-check_step.ensures.stream cc

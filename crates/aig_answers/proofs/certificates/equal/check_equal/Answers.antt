@@ -1,7 +1,9 @@
-use Rattle.aig_base.proofs.Words.{Err, refl, err_from_is_err_and}
+use Rattle.aig_base.proofs.Words.{Ok, Err, Result, refl, err_from_is_err_and}
 use Rattle.aig_edits.proofs.Reading.{reads_on}
 use Rattle.aig_circuit.specs.View.{lists_circuit}
+use Rattle.aig_answers.specs.declared.certificates.error.CertificateError.{CertificateError}
 use Rattle.aig_answers.specs.declared.certificates.error.CertificateError.TheVariants as errors
+use Rattle.aig_answers.specs.PairParts.{HoldsStep}
 use Rattle.aig_answers.specs.Certificates.{Equals, IsOwn, first_verdict, second_verdict}
 use Rattle.aig_answers.proofs.PairAnswering.{equals, first_step, own_step, second_step}
 use Rattle.aig_answers.proofs.certificates.equal.check_equal.Goals as goal
@@ -17,15 +19,31 @@ returns-in_err-joint-clause-reads g c =
     second_verdict IsOwn (Err (errors.Pair e)) told refl refl told.own
     (λ f h bytes others is also refused. refused))
 
-pub returns-clause-reads : goal.returns-clause-reads
-returns-clause-reads g c =
+pub returns-in-Ok-clause-reads : goal.returns-in-Ok-clause-reads
+returns-in-Ok-clause-reads g c =
     let limit = c.args.limit in
     let k = c.args.k in
     let optimize = c.args.optimize in
     let proof = g.P.Source.left c.args.proof.now in
     let m = lists_circuit c.in_ok-joint.joint in
-    let made = c.check_query.result in
-    let told = c.check_query.ensures.holds in
+    let made : Result Unit CertificateError = Ok tt in
+    let told : HoldsStep limit k optimize proof m made = (c.in-Ok.ensures.safe, c.in-Ok.ensures.tells) in
+    reads_on g.R.Source.left g.R.Source.failed g.S.Source.left g.S.Source.failed limit
+    c.args.file.now c.args.other.now _ _ (Equals c.args.comparison limit k optimize proof) first_verdict
+    second_verdict IsOwn made c.in_ok-joint.ensures.reads
+    (first_step limit optimize m k proof made told)
+    (second_step limit optimize m k proof made told) (own_step limit optimize m k proof made told)
+    (λ f h bytes others is also joint. equals c.args.comparison limit k optimize proof f h m joint made told)
+
+pub returns-in-Err-clause-reads : goal.returns-in-Err-clause-reads
+returns-in-Err-clause-reads g c =
+    let limit = c.args.limit in
+    let k = c.args.k in
+    let optimize = c.args.optimize in
+    let proof = g.P.Source.left c.args.proof.now in
+    let m = lists_circuit c.in_ok-joint.joint in
+    let made : Result Unit CertificateError = Err (errors.Query c.in-Err.error) in
+    let told : HoldsStep limit k optimize proof m made = (c.in-Err.ensures.own, c.in-Err.ensures.tells) in
     reads_on g.R.Source.left g.R.Source.failed g.S.Source.left g.S.Source.failed limit
     c.args.file.now c.args.other.now _ _ (Equals c.args.comparison limit k optimize proof) first_verdict
     second_verdict IsOwn made c.in_ok-joint.ensures.reads

@@ -1,6 +1,7 @@
-use Rattle.aig_base.proofs.Words.{subst}
-use Rattle.aig_answers.specs.Answers.{AskWith}
+use Rattle.aig_base.proofs.Words.{◌≤◌, ◌^◌, arith, length, subst, sym}
+use Rattle.aig_answers.specs.Answers.{AreWrittenFrom, AskWith}
 use Rattle.aig_circuit.specs.Circuit.{Circuit}
+use Rattle.aig_unroll.specs.Unroll.{UnrollsTo}
 use Rattle.aig_runs.specs.WindowClauses.{AsksWindow}
 use Rattle.aig_runs.specs.declared.window.Window.TheVariants.{Plain}
 use Rattle.aig_answers.proofs.certificates.joint.part_window.Goals as goal
@@ -11,3 +12,17 @@ returns-clause-asks c =
     subst (λ (d : Circuit). AskWith d optimize
     (λ lists. AsksWindow Plain c.args.joint.now 0 optimize lists.clauses lists.extra) c.in_ok-parts.parts)
     c.new.ensures c.in_ok-parts.ensures.asks
+
+pub window_parts-requires-clause-few : goal.window_parts-requires-clause-few
+window_parts-requires-clause-few c =
+    subst (λ (d : Circuit). length d.nodes ≤ 2 ^ 31) (sym c.new.ensures)
+    (omega (arith, c.requires, c.in_ok-stepped.ensures.few))
+
+pub window_parts-requires-clause-unrolls : goal.window_parts-requires-clause-unrolls
+window_parts-requires-clause-unrolls c =
+    subst (UnrollsTo c.args.joint.now 1) (sym c.new.ensures) c.in_ok-stepped.ensures.unrolls
+
+pub returns-clause-written : goal.returns-clause-written
+returns-clause-written c =
+    subst (λ (d : Circuit). AreWrittenFrom d c.args.optimize c.in_ok-parts.parts) c.new.ensures
+    c.in_ok-parts.ensures.written
