@@ -3,7 +3,7 @@
 -- 1.9, "Properties": justice and fairness. Liveness to safety.)
 use Rattle.std.specs.Prelude.{◌≡◌, ◌≢◌, ℕ, ◌<◌, ◌≤◌, Bool, List, Option, Result, Ok, Err, IsErrOf}
 use Rattle.aig_answers.specs.Answers as answering
-use Rattle.aig_answers.specs.Answers.{IsOfStep, IsSaidBy, circuit_window_verdict}
+use Rattle.aig_answers.specs.Answers.{IsOfStep}
 use Rattle.aig_bounded.specs.Question.{question_size}
 use Rattle.aig_bounded.specs.declared.error.BoundedError.TheVariants.{TooLarge}
 use Rattle.aig_answers.specs.Asking as bounding
@@ -19,9 +19,7 @@ use Rattle.aig_edit_laws.specs.Fair.{HasFairLasso, HasFairRun}
 use Rattle.aig_reader.specs.Verdicts.{Accepted, Verdict, verdict_by}
 use Rattle.aig_runs.specs.declared.window.Window.{Window}
 use Rattle.aig_answers.specs.Safety as safety
-use Rattle.aig_answers.specs.Safety.{ShowsCircuit}
-use Rattle.aig_answers.specs.declared.safety.error.SafetyError.{SafetyError}
-use Rattle.aig_answers.specs.declared.safety.error.SafetyError.TheVariants as proving
+use Rattle.aig_answers.specs.Safety.{TellsOfSafety}
 use Rattle.aig_answers.specs.declared.liveness.error.LivenessError.{LivenessError}
 use Rattle.aig_answers.specs.declared.liveness.error.LivenessError.TheVariants as errors
 
@@ -65,19 +63,6 @@ pub record TellsOfQuestion {P : Type 0} (left : P → Option (List ℕ)) (limit 
   pub large : IsErrOf answer (bounded.Question TooLarge) → limit < question_size m k
   pub shown : verdict_by bounding.verdict_of answer ≡ Accepted
       → AnswersCircuit left k optimize p rest m answer
-
--- What an answer about a circuit's safety tells: the verdict on it, and of one that is taken what
--- the proofs show of the clauses of its question and of its window, as every call makes them. The
--- first is p before, and rest after it; the second is q before it.
-pub record TellsOfSafety {P Q : Type 0} (left : P → Option (List ℕ)) (left_of : Q → Option (List ℕ))
-    (limit k : ℕ) (base_optimize : Bool) (form : Window) (step_optimize : Bool) (p rest : P) (q : Q)
-    (m : Circuit) (answer : Result Unit SafetyError) : Type 0 where
-  pub said : IsSaidBy (circuit_window_verdict form limit k m)
-      (verdict_by safety.verdict_of answer)
-  pub large : IsErrOf answer (proving.Base (bounded.Question TooLarge))
-      → limit < question_size m k
-  pub shown : verdict_by safety.verdict_of answer ≡ Accepted
-      → ShowsCircuit left left_of k base_optimize form step_optimize p rest q m answer
 
 -- ---- answers
 

@@ -1,9 +1,9 @@
 -- Part of what is promised.
 -- What an answer says of a circuit or a file, and of the proofs that its machine is safe; and what
 -- its errors say. (Temporal induction: Sheeran, Singh and Stålmarck, 2000.)
-use Rattle.std.specs.Prelude.{ℕ, ◌+◌, ◌<◌, Bool, List, Option, Result, Ok, Err}
+use Rattle.std.specs.Prelude.{◌≡◌, ℕ, ◌+◌, ◌<◌, Bool, List, Option, Result, Ok, Err, IsErrOf}
 use Rattle.aig_answers.specs.Answers as answering
-use Rattle.aig_answers.specs.Answers.{IsAsked, IsOfWindow, TellsOfCircuitWindow}
+use Rattle.aig_answers.specs.Answers.{IsAsked, IsOfWindow, IsSaidBy, TellsOfCircuitWindow, circuit_window_verdict}
 use Rattle.aig_answers.specs.declared.error.AnswerError.{AnswerError}
 use Rattle.aig_answers.specs.declared.error.AnswerError.TheVariants as answers
 use Rattle.aig_bounded.specs.Question.{question_size}
@@ -17,7 +17,7 @@ use Rattle.aig_encode.specs.declared.error.EncodeError.TheVariants as encode
 use Rattle.aig_format.specs.Circuit.{circuit_of}
 use Rattle.aig_format.specs.File.{File}
 use Rattle.aig_reader.specs.Reading.{IsReadAs}
-use Rattle.aig_reader.specs.Verdicts.{Verdict}
+use Rattle.aig_reader.specs.Verdicts.{Accepted, Verdict, verdict_by}
 use Rattle.aig_runs.specs.Queries.{IsSafeTo}
 use Rattle.aig_runs.specs.declared.window.Window.{Window}
 use Rattle.aig_answers.specs.declared.safety.error.SafetyError.{SafetyError}
@@ -85,6 +85,19 @@ ShowsCircuit left left_of k base_optimize form step_optimize p rest q c (Err (er
 ShowsCircuit left left_of k base_optimize form step_optimize p rest q c (Err (errors.Step e)) =
     AnswersCircuit left k base_optimize p rest c (Ok tt)
     × TellsOfCircuitWindow form k step_optimize (left_of q) c (Err e)
+
+-- What an answer about a circuit's safety tells: the verdict on it, and of one that is taken what
+-- the proofs show of the clauses of its question and of its window, as every call makes them. The
+-- first is p before, and rest after it; the second is q before it.
+pub record TellsOfSafety {P Q : Type 0} (left : P → Option (List ℕ)) (left_of : Q → Option (List ℕ))
+    (limit k : ℕ) (base_optimize : Bool) (form : Window) (step_optimize : Bool) (p rest : P) (q : Q)
+    (m : Circuit) (answer : Result Unit SafetyError) : Type 0 where
+  pub said : IsSaidBy (circuit_window_verdict form limit k m)
+      (verdict_by verdict_of answer)
+  pub large : IsErrOf answer (errors.Base (bounded.Question TooLarge))
+      → limit < question_size m k
+  pub shown : verdict_by verdict_of answer ≡ Accepted
+      → ShowsCircuit left left_of k base_optimize form step_optimize p rest q m answer
 
 -- the file's machine reaches no bad state at any step, as the proofs show of its circuit; or they
 -- don't

@@ -44,7 +44,8 @@ use Rattle.aig_edits.specs.declared.pair_error.PairError.{PairError}
 use Rattle.aig_edits.specs.declared.pair_error.PairError.TheVariants as pair
 use Rattle.aig_edits.specs.declared.pairing.Pairing.{Pairing}
 use Rattle.aig_format.proofs.Words.{File}
-use Rattle.aig_answers.specs.Liveness.{HasNoLassoTo, HasNoRun, TellsOfQuestion, TellsOfSafety}
+use Rattle.aig_answers.specs.Liveness.{HasNoLassoTo, HasNoRun, TellsOfQuestion}
+use Rattle.aig_answers.specs.Safety.{TellsOfSafety}
 use Rattle.aig_answers.specs.declared.liveness.error.LivenessError.{LivenessError}
 use Rattle.aig_answers.specs.declared.liveness.error.LivenessError.TheVariants as liveness
 use Rattle.aig_reader.specs.Reading.{IsReadAs}

@@ -5,13 +5,13 @@ use Rattle.aig_answers.specs.Asking.{AnswersCircuit}
 use Rattle.aig_answers.specs.declared.bounded_checks.error.BoundedAnswerError.{BoundedAnswerError}
 use Rattle.aig_answers.specs.declared.certificates.error.CertificateError.{CertificateError}
 use Rattle.aig_circuit.specs.Circuit.{Circuit}
-use Rattle.aig_answers.specs.Equality.{AlwaysEquals, TellsOfMiter}
+use Rattle.aig_answers.specs.Equality.{AlwaysEquals}
 use Rattle.aig_answers.specs.declared.equality.error.EqualityError.{EqualityError}
 use Rattle.aig_answers.specs.declared.equality.error.EqualityError.TheVariants as always
 use Rattle.aig_format.specs.File.{File}
 use Rattle.aig_join.specs.declared.comparison.Comparison.{Comparison}
 use Rattle.aig_runs.specs.declared.window.Window.{Window}
-use Rattle.aig_answers.specs.Safety.{ShowsCircuit}
+use Rattle.aig_answers.specs.Safety.{ShowsCircuit, TellsOfSafety}
 use Rattle.aig_answers.specs.declared.safety.error.SafetyError.{SafetyError}
 use Rattle.aig_answers.specs.declared.safety.error.SafetyError.TheVariants as proving
 use Rattle.aig_check_commands.specs.Pairs.{AlwaysEqualsBy, always_line, own_text}
@@ -51,8 +51,8 @@ module _ {P Q : Type 0} (left : P → Option (List ℕ)) (left_of : Q → Option
   shown_text c (Err (proving.Step e)) told = (base_text c (Ok tt) told.0, told.1)
 
   miter_text : (m : Circuit) (r : Result Unit SafetyError)
-      → TellsOfMiter left left_of limit k base_optimize form step_optimize p rest q m r
-      → TellsOfMiter own_text own_text limit k base_optimize form step_optimize (left p) (left p)
+      → TellsOfSafety left left_of limit k base_optimize form step_optimize p rest q m r
+      → TellsOfSafety own_text own_text limit k base_optimize form step_optimize (left p) (left p)
       (left_of q) m r
   miter_text m r told =
       record { said = told.said; large = told.large; shown = λ taken. shown_text m r (told.shown taken) }
