@@ -214,7 +214,8 @@ pub printed : {E : Type 0} {empty : Vec ℕ Global}
     (Does : Result (Unit {0}) E → Memory → Memory → Type 0) (w made : Writer)
     (result : Result (Unit {0}) E) → w.inner ≡ empty → empty.items ≡ []
     → Does result (wrote w) (wrote made) → Prints Does (text_in result made.inner.items)
-printed Does w made (Ok done) same none does = (wrote w, wrote made, held_nothing same none, (refl, does))
+printed Does w made (Ok done) same none does =
+    (wrote w, wrote made, held_nothing same none, (refl, does))
 printed Does w made (Err e) same none does = (wrote w, wrote made, does)
 
 -- a file that is taken, for which memory runs out then

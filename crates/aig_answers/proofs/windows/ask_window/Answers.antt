@@ -38,4 +38,5 @@ returns-in_err-unroll_window-clause-said c =
 pub returns-clause-said : goal.returns-clause-said
 returns-clause-said c =
     let a = c.args in
-    c.in_ok-check_window_room.ensures.said ∙ ap (circuit_window_verdict a.form a.limit a.k) c.new.ensures
+    c.in_ok-check_window_room.ensures.said
+    ∙ ap (circuit_window_verdict a.form a.limit a.k) c.new.ensures

@@ -64,4 +64,5 @@ pub returns-clause-own : goal.returns-clause-own
 returns-clause-own g c = proof_of_induction c.refute.result c.refute.ensures.own
 
 pub returns-clause-unread : goal.returns-clause-unread
-returns-clause-unread g c = λ other. absurd (other (proof_taken c.refute.result c.refute.ensures.own))
+returns-clause-unread g c =
+    λ other. absurd (other (proof_taken c.refute.result c.refute.ensures.own))

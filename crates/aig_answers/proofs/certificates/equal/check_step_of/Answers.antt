@@ -55,4 +55,5 @@ returns-clause-tells g c =
     (query_with u.unrolled made) asks c.refute.ensures.shown)
 
 pub returns-clause-unread : goal.returns-clause-unread
-returns-clause-unread g c = λ other. absurd (other (proof_taken c.refute.result c.refute.ensures.own))
+returns-clause-unread g c =
+    λ other. absurd (other (proof_taken c.refute.result c.refute.ensures.own))

@@ -29,7 +29,9 @@ returns-in_err-check_room-clause-own c =
 pub returns-in_err-new-clause-said : goal.returns-in_err-new-clause-said
 returns-in_err-new-clause-said c =
     let p = err_from_is_err_and c.from_residual-in_err-new.result c.from_residual-in_err-new.ensures.1 in
-    rw (p.1, p.2) (sym (c.in_ok-check_room.ensures.said ∙ ap (joint_verdict c.args.limit c.args.k) c.new.ensures))
+    rw (p.1, p.2) (sym (c.in_ok-check_room.ensures.said
+    ∙ ap (joint_verdict c.args.limit c.args.k) c.new.ensures))
 
 pub returns-clause-said : goal.returns-clause-said
-returns-clause-said c = c.in_ok-check_room.ensures.said ∙ ap (joint_verdict c.args.limit c.args.k) c.new.ensures
+returns-clause-said c =
+    c.in_ok-check_room.ensures.said ∙ ap (joint_verdict c.args.limit c.args.k) c.new.ensures

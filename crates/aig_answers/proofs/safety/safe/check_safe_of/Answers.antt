@@ -34,7 +34,8 @@ returns-in-Err-clause-said g c =
     subst (λ of. IsSaidBy of (bounding.verdict_of c.in-Err.error)) (c.in_ok-check_window_room.ensures.said
     ∙ ap (circuit_window_verdict c.args.form c.args.limit c.args.k) c.new.ensures)
     (said_taken c.args.circuit.properties.bads.items (bounding.verdict_of c.in-Err.error)
-    (some_bads c.args.form c.args.limit c.args.k (lists_circuit c.args.circuit) (sym (c.in_ok-check_window_room.ensures.said
+    (some_bads c.args.form c.args.limit c.args.k (lists_circuit c.args.circuit)
+    (sym (c.in_ok-check_window_room.ensures.said
     ∙ ap (circuit_window_verdict c.args.form c.args.limit c.args.k) c.new.ensures)))
     c.in-Err.ensures.said)
 
@@ -42,7 +43,8 @@ pub returns-in-Err-clause-own : goal.returns-in-Err-clause-own
 returns-in-Err-clause-own g c =
     base_own c.in-Err.error c.in-Err.ensures.own
     (said_taken c.args.circuit.properties.bads.items (bounding.verdict_of c.in-Err.error)
-    (some_bads c.args.form c.args.limit c.args.k (lists_circuit c.args.circuit) (sym (c.in_ok-check_window_room.ensures.said
+    (some_bads c.args.form c.args.limit c.args.k (lists_circuit c.args.circuit)
+    (sym (c.in_ok-check_window_room.ensures.said
     ∙ ap (circuit_window_verdict c.args.form c.args.limit c.args.k) c.new.ensures)))
     c.in-Err.ensures.said)
 

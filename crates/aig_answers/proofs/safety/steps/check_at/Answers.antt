@@ -39,7 +39,9 @@ returns-clause-said g c =
     subst (IsSaidBy Accepted) (sym (proof_taken c.refute.result c.refute.ensures.own)) refl
 
 pub returns-clause-own : goal.returns-clause-own
-returns-clause-own g c = IfErr-weaker c.refute.result _ IsOfStep (λ e is. rw is.1 tt) c.refute.ensures.own
+returns-clause-own g c =
+    IfErr-weaker c.refute.result _ IsOfStep (λ e is. rw is.1 tt) c.refute.ensures.own
 
 pub returns-clause-unread : goal.returns-clause-unread
-returns-clause-unread g c = λ other. absurd (other (proof_taken c.refute.result c.refute.ensures.own))
+returns-clause-unread g c =
+    λ other. absurd (other (proof_taken c.refute.result c.refute.ensures.own))

@@ -68,4 +68,5 @@ returns-in-Err-clause-stream g c =
 
 pub returns-clause-shown : goal.returns-clause-shown
 returns-clause-shown g c =
-    λ taken n low. c.loop-step.invariant.1 n (omega (arith, low, c.loop-step-test.false, c.loop-step.auto.bases))
+    λ taken n low. c.loop-step.invariant.1 n
+    (omega (arith, low, c.loop-step-test.false, c.loop-step.auto.bases))
