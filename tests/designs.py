@@ -13,8 +13,10 @@ import os
 import re
 import shlex
 import shutil
+import signal
 import subprocess
 import sys
+import time
 
 import harness
 from harness import CHECK, PROVE, RESYN, TESTS, TOP, rows
@@ -242,22 +244,43 @@ def odd_faults(folder):
             yield f"{words}: ended with status {done.returncode}: {done.stdout}"
 
 
+def compared(words, folder, number=None):
+    """How a comparison of designs in a folder ends, within 15 seconds: its status, and what it prints and says. A signal of this number
+    comes while it reads them."""
+    words = [PROVE, "--equal", *words]
+    with subprocess.Popen(words, cwd=folder, stdout=subprocess.PIPE, stderr=subprocess.PIPE, encoding="utf-8") as child:
+        try:
+            if number:
+                time.sleep(1)
+                child.send_signal(number)
+            printed, said = child.communicate(timeout=15)
+        except subprocess.TimeoutExpired:
+            child.kill()
+            return "late", *child.communicate()
+    return child.returncode, printed, said
+
+
 def beside_faults(folder):
-    """What is wrong where two designs are read side by side: where the first is refused, nothing waits for the other, and what isn't asked
-    about is said of the first before it is of the other, whichever is read first."""
+    """What is wrong where two designs are read side by side: of two that are refused the first one's fault is told, and where it is, the
+    time is over or a signal comes, nothing waits for the other; what isn't asked about is said of the first before it is of the other."""
     folder.mkdir()
     text = "module top (input a, output b);\n  assign b = !a;\n  always @* cover (a);\nendmodule\n"
     files = {"wrong.v": "module top (\n", "never.ys": "exec -- sleep 60\n", "first.txt": text, "other.v": text}
-    files["late.ys"] = "exec -- sleep 1\nread_verilog -formal -sv first.txt\n"
+    files |= {"late.ys": "exec -- sleep 1\nread_verilog -formal -sv first.txt\n", "faulty.ys": "exec -- sleep 1\nno_command\n"}
     for name, written in files.items():
         (folder / name).write_text(written)
-    done = subprocess.run([PROVE, "--equal", "never.ys", "wrong.v"], cwd=folder, capture_output=True, encoding="utf-8", timeout=30)
-    if done.returncode != 1 or done.stdout or not done.stderr.startswith("aigprove: wrong.v:"):
-        yield f"wrong.v: ended with status {done.returncode}: {done.stdout}{done.stderr}"
-    done = subprocess.run([PROVE, "--equal", "other.v", "late.ys"], cwd=folder, capture_output=True, encoding="utf-8")
-    said = re.findall(r"\((\S+):3\.\S+ is not asked about$", done.stderr, re.MULTILINE)
-    if done.returncode != 20 or said != ["first.txt", "other.v"]:
-        yield f"ended with status {done.returncode}: {done.stdout}{done.stderr}"
+    for words, begins in [(["never.ys", "wrong.v"], "aigprove: wrong.v:"), (["wrong.v", "faulty.ys"], "aigprove: ERROR: No such command")]:
+        status, printed, said = compared(words, folder)
+        if (status, printed) != (1, "") or not said.startswith(begins):
+            yield f"{words}: {status}, {printed}{said}"
+    for words in [["never.ys", "other.v"], ["other.v", "never.ys"]]:
+        if (given := compared(words, folder, signal.SIGTERM))[:2] != (128 + signal.SIGTERM, ""):
+            yield f"{words}, with a signal: {given}"
+        if (given := compared([*words, "--timeout", "1"], folder))[:2] != (0, "nothing was shown\n"):
+            yield f"{words}, with little time: {given}"
+    status, printed, said = compared(["other.v", "late.ys"], folder)
+    if status != 20 or re.findall(r"\((\S+):3\.\S+ is not asked about$", said, re.MULTILINE) != ["first.txt", "other.v"]:
+        yield f"{status}, {printed}{said}"
 
 
 def main():

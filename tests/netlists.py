@@ -13,8 +13,9 @@ machines: there yosys chose what the design leaves open. Else the answer is wron
 design alone has a free value for an x; what is open after 20 seconds; what it says of files that both have such values; and what yosys
 doesn't say.
 
-It ends with status 1 where an answer is wrong, and prints these; those pairs that take more than a second longer than ABC's `dsec` takes on
-the files in AIGER form; and one line with the counts, and the median seconds of both. The tools are yosys, cadical and ABC."""
+It ends with status 1 where an answer is wrong, and prints these; of the pairs that ABC answers, too, by `dsec`, or by `cec` where there are
+no latches, those that take more than a second longer than that takes on the files in AIGER form; and one line with the counts, and the
+median seconds of both. The tools are yosys, cadical and ABC."""
 import collections
 import itertools
 import json
@@ -191,7 +192,7 @@ class Pair:
         self.netlist, self.kept = folder / f"{name}.v", folder / f"{name}-kept"
 
     def __str__(self):
-        return f"{self.file.name}, {self.top}, {self.flow}, {self.name}"
+        return f"{'/'.join(self.file.parts[-2:])}, {self.top}, {self.flow}, {self.name}"
 
     def ask(self):
         """Asks aigprove: what it answers."""
@@ -254,16 +255,19 @@ class Pair:
         is_wrong = differs if answer == "equal" else differs is False or not self.is_changed and not by_choice
         return answer + by_choice + ", unchecked" * (differs is None), is_wrong
 
-    def dsec(self):
-        """The seconds of ABC's dsec on the same files."""
+    def by_abc(self):
+        """The seconds of ABC's dsec on the same files, or of cec, where they have no latches; None where it has no answer."""
         made = []
         for name in ["file", "other"]:
             file = next(self.kept.glob(f"{name}.a[ai]g"))
-            made.append(self.folder / f"{name}-dsec.aig")
+            made.append(self.folder / f"{name}-abc.aig")
             harness.output([TOOL, "binary", file, made[-1]])
-        begun = time.monotonic()
-        harness.run(["berkeley-abc", "-q", f"dsec -n {made[0]} {made[1]}"], timeout=SECONDS)
-        return time.monotonic() - begun
+        for command in ["dsec", "cec"]:
+            begun = time.monotonic()
+            _, printed, _ = harness.run(["berkeley-abc", "-q", f"{command} -n {made[0]} {made[1]}"], timeout=SECONDS)
+            if b"EQUIVALENT" in printed.upper():
+                return time.monotonic() - begun
+        return None
 
 
 def written(folder, name, has_cells):
@@ -329,13 +333,13 @@ def main():
             kind, is_wrong = pair.judged()
             counts[f"{pair.name}s {kind}"] += 1
             wrong += [f"{pair}: {kind}: {pair.printed}"] * bool(is_wrong)
-            if pair.status in (10, 20):
-                seconds.append((pair.seconds, pair.dsec()))
-                slow += [f"{pair}: {pair.seconds:.2f} s"] * (pair.seconds > seconds[-1][1] + 1)
+            if pair.status in (10, 20) and (by_abc := pair.by_abc()) is not None:
+                seconds.append((pair.seconds, by_abc))
+                slow += [f"{pair}: {pair.seconds:.2f} s"] * (pair.seconds > by_abc + 1)
     print("".join(f"WRONG: {line}\n" for line in wrong) + "".join(f"SLOW: {line}\n" for line in slow), end="")
     medians = " and ".join(f"{statistics.median(it):.2f}" for it in zip(*seconds))
-    within = f"{len(seconds) - len(slow)} of {len(seconds)} within a second more than dsec"
-    print(f"seed {seed}: {told(counts)}; {len(wrong)} wrong; {within}; median seconds, and those of dsec: {medians}")
+    within = f"{len(seconds) - len(slow)} of {len(seconds)} that ABC answers within a second more than it"
+    print(f"seed {seed}: {told(counts)}; {len(wrong)} wrong; {within}; median seconds, and those of ABC: {medians}")
     return 1 if wrong or not seconds else 0
 
 

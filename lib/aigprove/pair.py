@@ -46,18 +46,18 @@ class Pair(Asked):
             self.begin(way)
 
     def read(self, words, above):
-        """Both files, which are read side by side. Where the first can't be, the other isn't read to its end."""
+        """Both files, which are read side by side. Where the first can't be, or a signal comes, no reading goes on."""
         beside = argparse.Namespace(**{**vars(words), **of_first(words)})
         hushed = argparse.Namespace(**{**vars(beside), "quiet": True})
         with concurrent.futures.ThreadPoolExecutor(1, engine_here()) as pool:
-            other = pool.submit(Given, [words.equal], hushed, above, self.judge, "other")
             try:
-                first = Given(words.files, words, above, self.judge)
+                reading = pool.submit(Given, [words.equal], hushed, above, self.judge, "other")
+                first, other = Given(words.files, words, above, self.judge), reading.result()
             except BaseException:
                 self.judge.programs.stop()
                 raise
-            other.result().say_left_out(beside)
-            return first, other.result()
+        other.say_left_out(beside)
+        return first, other
 
     def arranged(self, designs):
         """The circuits of designs, of which all names of registers are given, too, with those by which registers are matched; of two the
