@@ -15,7 +15,7 @@ ITEM = re.compile(r"^ *case .*[0-9]'[01-]*[xz]", re.MULTILINE)
 VALUED = re.compile(r"^  (?:cell (?!\$(?:mem|eqx |nex ))|process ).*?^  end$|^  connect .*$", re.MULTILINE | re.DOTALL)
 INITIAL = re.compile(r"^    sync init$", re.MULTILINE)
 VALUES = re.compile(r"^ *(?:connect|assign|switch|update) .*$", re.MULTILINE)
-X = re.compile(r"(?<= )([1-9][0-9]*)'([01x-]*x[01x-]*)(?= |$)")
+X = re.compile(r"(?<= )([1-9][0-9]*)'([01x-]*x[01x-]*)(?= |$)", re.MULTILINE)
 LINE = re.compile(r'^(module|  cell) (\S+)(?: (\S+))?$|^ *attribute \\src "([^"]*)"$', re.MULTILINE)
 # What is behind the name of what a register holds; and the index of a bit.
 STORED, INDEX = ".stored", re.compile(r"(\[[0-9]+\])?$")
@@ -85,6 +85,8 @@ def opened(text):
 
 def freed(module):
     """A module with a wire that nothing drives for each run of bits that are x."""
+    if not X.search(module):
+        return module
     widths = []
 
     def wire(bits):

@@ -37,6 +37,8 @@ PART = 4
 FILES = 1000
 # How many bytes a file has whose check is told of while it is read.
 LONG = 1 << 22
+# A byte that may drive a terminal.
+UNPLAIN = re.compile(rb"[^\n -~]")
 # What Python runs, with the module of this package and the folder that the package is in.
 MODULE = "import sys; sys.path.insert(0, sys.argv[1]); from aigprove import {0}; {0}.main(*sys.argv[2:])"
 PACKAGE = os.path.dirname(os.path.dirname(os.path.realpath(__file__)))
@@ -54,7 +56,7 @@ def ending(status):
 
 def plain(said):
     """Bytes as a text that can't drive a terminal."""
-    return "".join(chr(byte) if 32 <= byte < 127 or byte == 10 else f"\\x{byte:02x}" for byte in said)
+    return UNPLAIN.sub(lambda found: b"\\x%02x" % ord(found[0]), said).decode("ascii")
 
 
 def unnamed(said, files):

@@ -31,39 +31,42 @@ flatten
 write_json {made}/drawn.json
 """
 # Up to setundef no pass folds constants: an x is no constant of the design. Hierarchy, memories and asynchronous resets become flat
-# registers of one clock, whose every step is one of it. What is x, and what nothing drives, becomes an input. Of several names of a net
-# the one with most attributes stays.
-FREE = """{chosen}
+# registers of one clock, whose every step is one of it. What is x, and what nothing drives, becomes an input. Whole cells are folded before
+# their bits: where there are many that takes half the time. Of several names of a net the one with most attributes stays.
+FREE = """read_rtlil below.il
+proc -noopt -norom
+flatten
+{chosen}
 opt_clean
-techmap -max_iter 1 -map {made}/free.v
+techmap -max_iter 1 -map free.v
 chtype -set $eq t:$eqx
 chtype -set $ne t:$nex
 memory_collect
 memory_memx
-techmap -map {made}/free.v -D ADDRESSES t:$nex
+techmap -map free.v -D ADDRESSES t:$nex
 {edges}
 memory_map -formal
 async2sync
 opt_clean
 setundef -undriven -anyseq
+opt_expr -keepdc
 opt -fine -noff -keepdc
 setattr -unset hdlname w:*
 setattr -set outer 1 w:* w:*.* %d
-write_rtlil {made}/whole.il
 {named}
 opt_clean -purge
 setundef -undriven -undef
 delete t:$anyseq
 setundef -undriven -expose
-write_rtlil {made}/free.il
-write_json {made}/free.json
+write_rtlil free.il
+write_json free.json
 """
 # By what is asked about: how the rest is left out. Covers become assertions that fail. Beside liveness assertions there are no outputs, so
 # that the file has only what bears on them: a run that comes back to a state has fewer signals to bring back.
 ASSERT, COVER, LIVE, FAIR = "$assert", "$cover", "$live", "$fair"
 CHOSEN = {
     ASSERT: "chformal -cover -live -fair -remove",
-    COVER: "chformal -assert -live -fair -remove\ntechmap -map {made}/cover.v t:$cover",
+    COVER: "chformal -assert -live -fair -remove\ntechmap -map cover.v t:$cover",
     LIVE: "chformal -assert -cover -remove\ndelete -output",
 }
 COVERED = """(* techmap_celltype = "$cover" *)
@@ -71,8 +74,6 @@ module covered (input A, input EN);
   \\$assert _TECHMAP_REPLACE_ (.A(!A), .EN(EN));
 endmodule
 """
-# What is free in a design whose text was changed is made so in a run of its own.
-AGAIN = "read_rtlil below.il\nproc -noopt -norom\nflatten\n" + FREE
 # Registers of any clocks as such of all steps, which compare each clock with its last value.
 EDGES = "{reset}clk2fflogic\nchtype -set $eq t:$eqx"
 # While there are gates to be found, a register that is open at first is a cell that no pass looks into.
@@ -80,14 +81,13 @@ WRITE = """read_rtlil free.il
 cd {top}
 {renames}
 cd ..
-write_rtlil named.il
 {reset}
 formalff -clk2ff -ff2anyinit
 {clock}
 techmap
 setundef -undriven -anyseq
 opt -fast -noff -keepdc
-abc -g AND
+{gates}
 opt_clean
 formalff -anyinit2ff -fine
 aigmap
@@ -98,10 +98,10 @@ write_aiger -symbols -map design.aim design.aig
 # several clocks about the last edge: there what its register takes at an edge is changed, before that is one of all steps.
 RESET = """select -set held t:$assume
 add -assume {signal}
-techmap -autoproc -max_iter 1 -map {made}/held.v t:$assume @held %d
+techmap -autoproc -max_iter 1 -map held.v t:$assume @held %d
 select -set late t:$dff %co1:+[Q] w:$* %i %co1:+[EN] t:$assert %i
-techmap -autoproc -max_iter 1 -map {made}/asked.v t:$assert @late %d
-techmap -autoproc -max_iter 1 -map {made}/late.v {late}
+techmap -autoproc -max_iter 1 -map asked.v t:$assert @late %d
+techmap -autoproc -max_iter 1 -map late.v {late}
 """
 LATE, AT_EDGES = "@late", "@late %ci1:+[EN] w:$* %i %ci1:+[Q] t:$dff %i"
 COUNTING = """(* techmap_celltype = "{kind}" *)
@@ -136,8 +136,8 @@ SIMULATE = """read_rtlil replayed.il
 sim {clock} -r witness.aiw -map design.aim -hdlname -vcd run.vcd {top}
 """
 SPARE = "aigprove_clock"
-# How long the text of a small design is.
-SMALL = 1 << 17
+# How long the text of a small design is; and of one that is soon compared, so that looking for fewer gates would take longer.
+SMALL, BRIEF, GATES = 1 << 17, 1 << 20, "abc -g AND"
 WIRE = re.compile(r"^  wire .*\\(\S+)$", re.MULTILINE)
 PATH = re.compile(r'[^\s"\\]+( [^\s"\\]+)+')
 FF = re.compile(r"^  cell \$ff (\S+)\n", re.MULTILINE)
@@ -147,7 +147,7 @@ STANDARD_INPUT = "-"
 BOX, TOP = (re.compile(rf"^attribute \\{name} 1\n", re.MULTILINE) for name in ["blackbox", "top"])
 ASKED = ("$assert", "$assume")
 # The files of our own that cells are made by.
-MADE = re.compile(r"(/proc/self/fd/[0-9]+/|\./)?(cover|held|asked|late|free)\.v:")
+MADE = re.compile(r"(cover|held|asked|late|free)\.v:")
 KINDS = {"$assert": "assertion", "$assume": "assumption", "$cover": "cover", "$live": "liveness assertion", "$fair": "fairness assumption"}
 # What is counted of what is asked about.
 COUNTED = {**dict.fromkeys([ASSERT, COVER], ["$assert", "$assume"]), LIVE: ["$live", "$fair", "$assume"]}
@@ -203,12 +203,12 @@ class Design:
         if self.reset:
             self.put_reset()
         self.left_out = self.read(words.top)
-        self.top, module = self.free()
+        self.top, module, given = self.free()
         self.clock, self.constants = clock_of(self.top, module), constants(module)
         self.counts = {kind: len(cells_like(module, kind)) for kind in COUNTED[words.kind]}
         # With several clocks the reset is among the assumptions by now.
         self.counts["$assume"] -= bool(self.reset and words.multiclock)
-        self.assertions = self.write(module)
+        self.assertions = self.write(module, given)
         self.file = self.yosys.place("design.aig")
 
     def read(self, top):
@@ -226,44 +226,26 @@ class Design:
         lines = [("", f"{name} is a top module too, and not asked about") for name in others]
         return lines + [line for cell in every for line in self.passed_over(cell, cell.module[1:] in below)]
 
-    def script(self, top, further, made, copies, folders):
-        """The script that reads the design as far as a top module has it, and goes on."""
+    def script(self, top, made, copies, folders):
+        """The script that reads the design as far as a top module has it."""
         include = " ".join(f"-I {folder}" for folder in folders)
         fronts = [FRONTS[file.kind].format(file=copies[file.path], include=include) for file in self.files]
         if self.words.define:
             fronts.insert(0, VERILOG.format(file=f"{made}/defines.v", include=""))
         # A box whose outputs are free is an empty module.
         fronts += [f"setattr -mod -unset blackbox ={name}" for name in self.words.black_box]
-        return (READ + further).format(fronts="\n".join(fronts), top=top, **self.changing(made))
+        return READ.format(fronts="\n".join(fronts), top=top, made=made)
 
-    def changing(self, made):
-        """Words of the script that frees what is open, where our folder is `made`; of a design that is compared all names are written."""
-        named = f"write_json {made}/whole.json" if self.words.equal else ""
-        return {"made": made, "edges": self.edges(made), "chosen": self.chosen(made), "named": named}
-
-    def chosen(self, made):
-        """The lines that leave out what isn't asked about, where our folder is `made`."""
-        return CHOSEN[self.words.kind].format(made=made)
-
-    def edges(self, made):
-        """The lines that make registers of any clocks such of all steps, where that is wanted, in the folder where ours is so called."""
-        return EDGES.format(reset=self.resetting(made, AT_EDGES)) if self.words.multiclock else ""
-
-    def is_read(self, top, further, is_needed=False):
-        """Reads the design as far as a top module has it, and goes on; whether yosys does, which it has to where that is needed."""
-        try:
-            self.yosys.read(functools.partial(self.script, top, further), self.words.include)
-        except Fault as why:
-            if is_needed or isinstance(why, Late):
-                raise type(why)("; ".join([str(why), *(hint for said, hint in HINTS.items() if said in str(why))])) from None
-            return False
-        return True
+    def edges(self):
+        """The lines that make registers of any clocks such of all steps, where that is wanted."""
+        return EDGES.format(reset=self.resetting(AT_EDGES)) if self.words.multiclock else ""
 
     def read_below(self, top):
         """Reads the design as far as a top module has it, and gives all its cells, and the names of the top module and those below."""
-        self.is_free = self.is_read(top, FREE)
-        if not self.is_free:
-            self.is_read(top, "", is_needed=True)
+        try:
+            self.yosys.read(functools.partial(self.script, top), self.words.include)
+        except Fault as why:
+            raise type(why)("; ".join([str(why), *(hint for said, hint in HINTS.items() if said in str(why))])) from None
         text = self.yosys.text("below.il")
         if place := item_of_x(text):
             raise Fault(f"{self.yosys.told(place)}: an item of this case is x or z")
@@ -274,9 +256,9 @@ class Design:
         if not below:
             raise Fault(f"{self.yosys.path} has no module")
         self.top = next((base_of(name) for name, own in modules.items() if TOP.search(own)), None)
-        changed = opened(self.freed_boxes(text, modules))
-        self.is_free = self.is_free and changed == text
-        self.yosys.put("below.il", changed)
+        if self.top is None:
+            raise Fault(f"{self.yosys.path} has no module that isn't empty or a black box")
+        self.yosys.put("below.il", opened(self.freed_boxes(text, modules)))
         return list(cells_of(self.yosys.text("all.il"))), below
 
     def parameters(self):
@@ -311,31 +293,36 @@ class Design:
             yield is_later and cell.type, f"{KINDS[cell.type]} {cell.label} ({self.yosys.told(cell.place)}) is not asked about{why}"
 
     def free(self):
-        """Makes inputs of what is free, where that isn't done, and gives the name of the top module and what it has."""
-        self.check_reset(*self.top_of("drawn.json"))
-        if not self.is_free:
-            self.yosys.run(AGAIN, **self.changing("."))
-        check_drivers(*self.top_of("drawn.json"))
+        """Makes inputs of what is free, and gives the name of the top module, what it has, and the names of the ports that it was given. Of a
+        design that is compared all names are written."""
+        top, drawn = self.top_of("drawn.json")
+        self.check_reset(top, drawn)
+        check_drivers(top, drawn)
+        named = "write_json whole.json" if self.words.equal else "write_rtlil whole.il"
+        self.yosys.run(FREE, edges=self.edges(), chosen=CHOSEN[self.words.kind], named=named)
         top, module = self.top_of("free.json")
         if not WORD.fullmatch(top):
             raise Fault(f"{top} is no name of a module")
-        return top, module
+        return top, module, drawn["ports"].keys()
 
     def top_of(self, name):
         """The name of the top module and what it has, in a file in JSON."""
         return next((name, it) for name, it in self.yosys.modules(name).items() if "top" in it["attributes"])
 
-    def write(self, module):
+    def write(self, module, given):
         """Writes the file, and gives the name, the place and whether the design has that name for each bad state property's assertion."""
         self.check_reset(self.top, module, self.clock and self.clock[0])
-        reset = "" if self.words.multiclock else self.resetting(".", LATE)
+        reset = "" if self.words.multiclock else self.resetting(LATE)
         clock = f"delete w:{self.clock[0]}\nopt_clean -purge" if self.clock else ""
-        names, given = dict(free_names(module)), self.top_of("drawn.json")[1]["ports"]
+        names = dict(free_names(module))
         self.left_open = [names.get(port, port) for port in module["ports"] if port not in given]
         self.renames = "\n".join(f"rename {old} {new}" for old, new in [*stored(module), *names.items()])
-        words = {"top": self.top, "renames": self.renames, "clock": clock, "reset": reset, "spare": self.spare()}
-        # A small design is made ready to be simulated in the same run, where yosys can: another one's start takes longer.
-        self.is_replayed = len(self.yosys.text("whole.il")) <= SMALL and self.is_run(WRITE + "design -reset\n" + REPLAY, words)
+        words = {"top": self.top, "renames": self.renames, "clock": clock, "reset": reset, "gates": GATES, "spare": self.spare()}
+        size, equal = os.path.getsize(self.yosys.place("free.il")), self.words.equal
+        if equal and size <= BRIEF:
+            words["gates"] = ""
+        # A small design whose runs may be shown is made ready to be simulated in the same run, where yosys can: another one's start takes longer.
+        self.is_replayed = not equal and size <= SMALL and self.is_run(WRITE + "design -reset\n" + REPLAY, words)
         if not self.is_replayed:
             self.yosys.run(WRITE, **words)
         cells = self.yosys.modules("asserted.json").get(self.top, {"cells": {}})["cells"]
@@ -357,9 +344,9 @@ class Design:
         for name, text, count, words in cells:
             self.yosys.put(f"{name}.v", text.format(steps=count, high=count.bit_length() - 1, **words))
 
-    def resetting(self, made, late):
-        """The lines that use these cells, if there is a reset, in the folder where ours is so called."""
-        return RESET.format(signal=self.reset.signal, made=made, late=late) if self.reset else ""
+    def resetting(self, late):
+        """The lines that use these cells, if there is a reset."""
+        return RESET.format(signal=self.reset.signal, late=late) if self.reset else ""
 
     @functools.cached_property
     def aliases(self):
