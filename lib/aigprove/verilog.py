@@ -22,6 +22,7 @@ FRONTS = {
     BLIF: "read_blif -wideports {file}\nformalff -clk2ff",
     ".ys": "script {file}",
 }
+# What is z is so in JSON alone: in its own language yosys writes x.
 READ = """{fronts}
 write_rtlil {made}/all.il
 hierarchy -check {top}
@@ -87,7 +88,7 @@ formalff -clk2ff -ff2anyinit
 techmap
 setundef -undriven -anyseq
 opt -fast -noff -keepdc
-{gates}
+{fewer}
 opt_clean
 formalff -anyinit2ff -fine
 aigmap
@@ -136,8 +137,10 @@ SIMULATE = """read_rtlil replayed.il
 sim {clock} -r witness.aiw -map design.aim -hdlname -vcd run.vcd {top}
 """
 SPARE = "aigprove_clock"
-# How long the text of a small design is; and of one that is soon compared, so that looking for fewer gates would take longer.
-SMALL, BRIEF, GATES = 1 << 17, 1 << 20, "abc -g AND"
+# How long the text of a small design is.
+SMALL = 1 << 17
+# What finds fewer gates, and how long the text of a design is that is compared in less time without that.
+FEWER, BRIEF = "abc -g AND", 1 << 20
 WIRE = re.compile(r"^  wire .*\\(\S+)$", re.MULTILINE)
 PATH = re.compile(r'[^\s"\\]+( [^\s"\\]+)+')
 FF = re.compile(r"^  cell \$ff (\S+)\n", re.MULTILINE)
@@ -293,8 +296,8 @@ class Design:
             yield is_later and cell.type, f"{KINDS[cell.type]} {cell.label} ({self.yosys.told(cell.place)}) is not asked about{why}"
 
     def free(self):
-        """Makes inputs of what is free, and gives the name of the top module, what it has, and the names of the ports that it was given. Of a
-        design that is compared all names are written."""
+        """Makes inputs of what is free, and gives the name of the top module, what it has then, and the names of the ports that were given.
+        Of a design that is compared all names are written."""
         top, drawn = self.top_of("drawn.json")
         self.check_reset(top, drawn)
         check_drivers(top, drawn)
@@ -317,11 +320,10 @@ class Design:
         names = dict(free_names(module))
         self.left_open = [names.get(port, port) for port in module["ports"] if port not in given]
         self.renames = "\n".join(f"rename {old} {new}" for old, new in [*stored(module), *names.items()])
-        words = {"top": self.top, "renames": self.renames, "clock": clock, "reset": reset, "gates": GATES, "spare": self.spare()}
-        size, equal = os.path.getsize(self.yosys.place("free.il")), self.words.equal
-        if equal and size <= BRIEF:
-            words["gates"] = ""
-        # A small design whose runs may be shown is made ready to be simulated in the same run, where yosys can: another one's start takes longer.
+        equal, size = self.words.equal, os.path.getsize(self.yosys.place("free.il"))
+        fewer = "" if equal and size <= BRIEF else FEWER
+        words = {"top": self.top, "renames": self.renames, "clock": clock, "reset": reset, "fewer": fewer, "spare": self.spare()}
+        # A small design whose runs may be shown is made ready to be simulated in the same run, where yosys can: another takes longer.
         self.is_replayed = not equal and size <= SMALL and self.is_run(WRITE + "design -reset\n" + REPLAY, words)
         if not self.is_replayed:
             self.yosys.run(WRITE, **words)
