@@ -77,7 +77,8 @@ endmodule
 """
 # Registers of any clocks as such of all steps, which compare each clock with its last value.
 EDGES = "{reset}clk2fflogic\nchtype -set $eq t:$eqx"
-# While there are gates to be found, a register that is open at first is a cell that no pass looks into.
+# While there are gates to be found, a register that is open at first is a cell that no pass looks into. Of sums and such there are only the
+# bits that something reads: Verilog has 32 of them beside any number.
 WRITE = """read_rtlil free.il
 cd {top}
 {renames}
@@ -85,6 +86,7 @@ cd ..
 {reset}
 formalff -clk2ff -ff2anyinit
 {clock}
+wreduce -keepdc t:$add t:$sub t:$neg t:$mul t:$shl t:$shr t:$sshl t:$sshr
 techmap
 setundef -undriven -anyseq
 opt -fast -noff -keepdc
