@@ -15,7 +15,8 @@ doesn't say.
 
 It ends with status 1 where an answer is wrong, and prints these; of the pairs that ABC answers, too, by `dsec`, or by `cec` where there are
 no latches, those that take more than a second longer than that takes on the files in AIGER form; and one line with the counts, and the
-median seconds of both. The tools are yosys, cadical and ABC."""
+median seconds of both. Who has no such files has yosys make them first, by its synthesis (BITS): so the line has also how many pairs take a
+second more than both together at most, and yosys's median. The tools are yosys, cadical and ABC."""
 import collections
 import itertools
 import json
@@ -77,6 +78,15 @@ miter -equiv -flatten gold gate miter
 sat -timeout {seconds} -seq {steps} {alike} -prove trigger 0 miter
 """
 ALIKE = "-set-at 1 gold.starts gate.starts"
+# How a file in AIGER form is made without aigprove.
+BITS = READ + """synth -flatten {top}
+async2sync
+dffunmap
+abc -g AND
+opt_clean
+aigmap
+write_aiger -symbols {made}/bits.aig
+"""
 # By the type of a cell: others with the same ports and another function.
 SWAPS = {
     "$_AND_": ["$_OR_", "$_NAND_", "$_ANDNOT_"],
@@ -204,14 +214,17 @@ class Pair:
         self.steps = int(step[1]) + 1 if step else STEPS
         return ANSWERS.get(self.status, "broken")
 
+    def sides(self):
+        """Both, each with its name, its file and the words that say which module is at its top."""
+        return [("gold", self.file, f"-top {self.top}"), ("gate", self.netlist, "-auto-top")]
+
     def flatten(self, answer):
         """Makes flat models of both, in which a signal has what the registers hold that both have; whether yosys does. To refute `equal`
         these are all of the same name, and to refute a difference those alone that have the names of no two registers of the other."""
-        wanted = [("gold", self.file, f"-top {self.top}"), ("gate", self.netlist, "-auto-top")]
-        scripts = (FLAT.format(file=file, top=top, made=self.folder, name=name) for name, file, top in wanted)
+        scripts = (FLAT.format(file=file, top=top, made=self.folder, name=name) for name, file, top in self.sides())
         if yosys("".join(scripts), self.file.parent) is None:
             return False
-        before, behind = ([top_of(self.folder / f"{name}-{when}.json") for name, *_ in wanted] for when in ["before", "behind"])
+        before, behind = ([top_of(self.folder / f"{name}-{when}.json") for name, *_ in self.sides()] for when in ["before", "behind"])
         (gold, ours), (gate, theirs) = map(opened, before, behind)
         pairs = {(gold[name], gate[name]) for name in gold.keys() & gate.keys()}
         times = collections.Counter(("gold", bit) for bit, _ in pairs) + collections.Counter(("gate", bit) for _, bit in pairs)
@@ -269,6 +282,14 @@ class Pair:
                 return time.monotonic() - begun
         return None
 
+    def by_yosys(self):
+        """The seconds in which yosys makes files in AIGER form of both, one after the other; None where it doesn't."""
+        begun = time.monotonic()
+        for _, file, top in self.sides():
+            if yosys(BITS.format(file=file, top=top, made=self.folder), self.file.parent) is None:
+                return None
+        return time.monotonic() - begun
+
 
 def written(folder, name, has_cells):
     """Whether yosys writes a netlist in Verilog."""
@@ -323,7 +344,7 @@ def taken(folder, count, seed):
 
 def main():
     count, seed = numbers(60, 1)
-    counts, wrong, slow, seconds = collections.Counter(), [], [], []
+    counts, wrong, slow, seconds, making = collections.Counter(), [], [], [], []
     with harness.new_folder() as folder:
         if not fetched(folder):
             print("the tests of yosys can't be had: passed over")
@@ -336,10 +357,13 @@ def main():
             if pair.status in (10, 20) and (by_abc := pair.by_abc()) is not None:
                 seconds.append((pair.seconds, by_abc))
                 slow += [f"{pair}: {pair.seconds:.2f} s"] * (pair.seconds > by_abc + 1)
+                if (by_yosys := pair.by_yosys()) is not None:
+                    making.append((by_yosys, pair.seconds <= by_abc + by_yosys + 1))
     print("".join(f"WRONG: {line}\n" for line in wrong) + "".join(f"SLOW: {line}\n" for line in slow), end="")
-    medians = " and ".join(f"{statistics.median(it):.2f}" for it in zip(*seconds))
+    medians = ", ".join(f"{statistics.median(it):.2f}" for it in [*zip(*seconds), [it for it, _ in making]] if it)
     within = f"{len(seconds) - len(slow)} of {len(seconds)} that ABC answers within a second more than it"
-    print(f"seed {seed}: {told(counts)}; {len(wrong)} wrong; {within}; median seconds, and those of ABC: {medians}")
+    within += f", {sum(is_within for _, is_within in making)} of {len(making)} within a second more than it and yosys"
+    print(f"seed {seed}: {told(counts)}; {len(wrong)} wrong; {within}; median seconds, and those of ABC and of yosys: {medians}")
     return 1 if wrong or not seconds else 0
 
 
