@@ -77,6 +77,19 @@ endmodule
 """
 # Registers of any clocks as such of all steps, which compare each clock with its last value.
 EDGES = "{reset}clk2fflogic\nchtype -set $eq t:$eqx"
+# One bit that a number of few bits chooses, as netlists of tables have it: a tree of multiplexers is made in far less time than a shift.
+BIT = """(* techmap_celltype = "$shr $shift" *)
+module chosen_bit (A, B, Y);
+  parameter A_SIGNED = 0, B_SIGNED = 0, A_WIDTH = 1, B_WIDTH = 1, Y_WIDTH = 1;
+  localparam FEW = 6, COUNT = 1 << (B_WIDTH > FEW ? 0 : B_WIDTH);
+  input [A_WIDTH-1:0] A;
+  input [B_WIDTH-1:0] B;
+  output [Y_WIDTH-1:0] Y;
+  wire _TECHMAP_FAIL_ = A_SIGNED || B_SIGNED || Y_WIDTH > 1 || B_WIDTH > FEW;
+  wire [COUNT-1:0] all = A;
+  \\$bmux #(.WIDTH(1), .S_WIDTH(B_WIDTH)) choose (.A(all), .S(B), .Y(Y));
+endmodule
+"""
 # While there are gates to be found, a register that is open at first is a cell that no pass looks into. Of sums and such there are only the
 # bits that something reads: Verilog has 32 of them beside any number.
 WRITE = """read_rtlil free.il
@@ -87,6 +100,7 @@ cd ..
 formalff -clk2ff -ff2anyinit
 {clock}
 wreduce -keepdc t:$add t:$sub t:$neg t:$mul t:$shl t:$shr t:$sshl t:$sshr
+techmap -map bit.v t:$shr t:$shift
 techmap
 setundef -undriven -anyseq
 opt -fast -noff -keepdc
@@ -205,6 +219,7 @@ class Design:
         with open(os.path.join(os.path.dirname(__file__), "free.v"), encoding="utf-8") as file:
             self.yosys.put("free.v", file.read())
         self.yosys.put("cover.v", COVERED)
+        self.yosys.put("bit.v", BIT)
         if self.reset:
             self.put_reset()
         self.left_out = self.read(words.top)
