@@ -244,6 +244,19 @@ def odd_faults(folder):
             yield f"{words}: ended with status {done.returncode}: {done.stdout}"
 
 
+def included_faults(here):
+    """What is wrong of the places of assertions in included files, also where their names are like those of our own files."""
+    here.mkdir()
+    names = ["asked", "bit", "cover", "free", "held", "late", "other"]
+    for i, name in enumerate(names):
+        (here / f"{name}.v").write_text(f"always @* {name}: assert (a != {i});\n")
+    included = "".join(f'`include "{name}.v"\n' for name in names)
+    (here / "top.v").write_text(f"module top(input [2:0] a);\n{included}endmodule\n")
+    done = subprocess.run([PROVE, "--each", "--bound", "0", "top.v"], cwd=here, capture_output=True, encoding="utf-8")
+    if unplaced := [name for name in names if not re.search(rf" top\.{name} +{name}\.v:1\.", done.stdout)]:
+        yield f"{unplaced} have no place: {done.stdout}{done.stderr}"
+
+
 def compared(words, folder, number=None):
     """How a comparison of designs in a folder ends, within 15 seconds: its status, and what it prints and says. A signal of this number
     comes while it reads them."""
@@ -293,6 +306,7 @@ def main():
         if shutil.which("yosys"):
             tally.wants("paths", [], list(path_faults(folder)))
             tally.wants("paths of several files", [], list(odd_faults(folder)))
+            tally.wants("included files", [], list(included_faults(folder / "included")))
             tally.wants("two designs", [], list(beside_faults(folder / "beside")))
             for i, (words, status, *wanted) in enumerate(rows(TESTS / "verilog" / "answers.tsv")):
                 tally.wants(words, [], list(verilog_faults(words, status, wanted, folder / str(i))))

@@ -39,12 +39,12 @@ proc -noopt -norom
 flatten
 {chosen}
 opt_clean
-techmap -max_iter 1 -map free.v
+techmap -max_iter 1 -map aigprove_free.v
 chtype -set $eq t:$eqx
 chtype -set $ne t:$nex
 memory_collect
 memory_memx
-techmap -map free.v -D ADDRESSES t:$nex
+techmap -map aigprove_free.v -D ADDRESSES t:$nex
 {edges}
 memory_map -formal
 async2sync
@@ -67,7 +67,7 @@ write_json free.json
 ASSERT, COVER, LIVE, FAIR = "$assert", "$cover", "$live", "$fair"
 CHOSEN = {
     ASSERT: "chformal -cover -live -fair -remove",
-    COVER: "chformal -assert -live -fair -remove\ntechmap -map cover.v t:$cover",
+    COVER: "chformal -assert -live -fair -remove\ntechmap -map aigprove_cover.v t:$cover",
     LIVE: "chformal -assert -cover -remove\ndelete -output",
 }
 COVERED = """(* techmap_celltype = "$cover" *)
@@ -100,7 +100,7 @@ cd ..
 formalff -clk2ff -ff2anyinit
 {clock}
 wreduce -keepdc t:$add t:$sub t:$neg t:$mul t:$shl t:$shr t:$sshl t:$sshr
-techmap -map bit.v t:$shr t:$shift
+techmap -map aigprove_bit.v t:$shr t:$shift
 techmap
 setundef -undriven -anyseq
 opt -fast -noff -keepdc
@@ -115,10 +115,10 @@ write_aiger -symbols -map design.aim design.aig
 # several clocks about the last edge: there what its register takes at an edge is changed, before that is one of all steps.
 RESET = """select -set held t:$assume
 add -assume {signal}
-techmap -autoproc -max_iter 1 -map held.v t:$assume @held %d
+techmap -autoproc -max_iter 1 -map aigprove_held.v t:$assume @held %d
 select -set late t:$dff %co1:+[Q] w:$* %i %co1:+[EN] t:$assert %i
-techmap -autoproc -max_iter 1 -map asked.v t:$assert @late %d
-techmap -autoproc -max_iter 1 -map late.v {late}
+techmap -autoproc -max_iter 1 -map aigprove_asked.v t:$assert @late %d
+techmap -autoproc -max_iter 1 -map aigprove_late.v {late}
 """
 LATE, AT_EDGES = "@late", "@late %ci1:+[EN] w:$* %i %ci1:+[Q] t:$dff %i"
 COUNTING = """(* techmap_celltype = "{kind}" *)
@@ -165,8 +165,8 @@ SPELLED = 200
 STANDARD_INPUT = "-"
 BOX, TOP = (re.compile(rf"^attribute \\{name} 1\n", re.MULTILINE) for name in ["blackbox", "top"])
 ASKED = ("$assert", "$assume")
-# The files of our own that cells are made by.
-MADE = re.compile(r"(cover|held|asked|late|free)\.v:")
+# The files of our own that cells are made by: an included file has no such name.
+MADE = re.compile(r"aigprove_[a-z]+\.v:")
 KINDS = {"$assert": "assertion", "$assume": "assumption", "$cover": "cover", "$live": "liveness assertion", "$fair": "fairness assumption"}
 # What is counted of what is asked about.
 COUNTED = {**dict.fromkeys([ASSERT, COVER], ["$assert", "$assume"]), LIVE: ["$live", "$fair", "$assume"]}
@@ -217,9 +217,9 @@ class Design:
         self.yosys = Yosys(files, folder, programs, words.deadline)
         self.yosys.put("defines.v", "".join(f"`define {name} {value}\n" for name, value in words.define))
         with open(os.path.join(os.path.dirname(__file__), "free.v"), encoding="utf-8") as file:
-            self.yosys.put("free.v", file.read())
-        self.yosys.put("cover.v", COVERED)
-        self.yosys.put("bit.v", BIT)
+            self.yosys.put("aigprove_free.v", file.read())
+        self.yosys.put("aigprove_cover.v", COVERED)
+        self.yosys.put("aigprove_bit.v", BIT)
         if self.reset:
             self.put_reset()
         self.left_out = self.read(words.top)
@@ -361,7 +361,7 @@ class Design:
         cells = [("held", COUNTING, steps, held), ("asked", COUNTING, steps, asked)]
         cells.append(("late", SAMPLING, steps, {}) if self.words.multiclock else ("late", COUNTING, steps + 1, asked))
         for name, text, count, words in cells:
-            self.yosys.put(f"{name}.v", text.format(steps=count, high=count.bit_length() - 1, **words))
+            self.yosys.put(f"aigprove_{name}.v", text.format(steps=count, high=count.bit_length() - 1, **words))
 
     def resetting(self, late):
         """The lines that use these cells, if there is a reset."""
