@@ -31,6 +31,20 @@ NETS = [
         "wire [1:0] # = {0} ? {1} : {2} != 2'd0 ? 2'd1 : {3};",
     ),
 ]
+# Shifts, sums and products that are cut, and bits that are chosen: both write them alike.
+CUT = [
+    ("WW", 1, "wire # = {} >> {};"),
+    ("BWW", 1, "wire # = {{{}, {}}} >> {};"),
+    ("WWWWW", 1, "wire # = {} >> {{{}, {}, {}, {}}};"),
+    ("WW", 1, "wire # = $signed({}) >> {};"),
+    ("WW", 1, "wire # = $signed({}) >>> {};"),
+    ("WWW", 1, "wire [3:0] #_all = {{{}, {}}}; wire # = #_all[{}];"),
+    ("WW", 1, "wire # = {} - {};"),
+    ("WW", 1, "wire # = {} * {};"),
+    ("WW", 2, "wire [1:0] # = {} >> {};"),
+    ("WW", 2, "wire [1:0] # = {} << {};"),
+]
+NETS += [(letters, width, text, text) for letters, width, text in CUT]
 READ = ("B", 1, "wire # = m[{}];", "wire # = m[{}];")
 # Modules that stand in a design where it has instances of them.
 PARTS = {
