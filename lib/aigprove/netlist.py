@@ -6,17 +6,18 @@ from aigprove.programs import Fault
 
 CLOCKS = {"CLK", "RD_CLK", "WR_CLK"}
 MANY = "--multiclock takes any, and a step is then a moment in which inputs and clocks may change"
-# What an assertion, an assumption or a write that isn't enabled says; a case whose items nobody has compared; and one item that is x.
-UNREACHED = re.compile(r"^( *assign \$[0-9]+\$(?:formal|memwr)\$\S+ )([0-9]+)'x+$(?=\n(?:.*\n)?.*_EN\S* [0-9]+'0+$)", re.MULTILINE)
-PARALLEL = re.compile(r"^ *attribute \\parallel_case .*\n", re.MULTILINE)
+# What an assertion, an assumption or a write that isn't enabled says; a case whose items nobody has compared; and one item that is x. What
+# begins with the end of a line is found in a fifth of the time.
+UNREACHED = re.compile(r"(\n *assign \$[0-9]+\$(?:formal|memwr)\$\S+ )([0-9]+)'x+(?=\n(?:.*\n)?.*_EN\S* [0-9]+'0+\n)")
+PARALLEL = re.compile(r"\n *attribute \\parallel_case .*")
 SWITCH = re.compile(r'attribute \\src "([^"]*)"\n *switch ')
-ITEM = re.compile(r"^ *case .*[0-9]'[01-]*[xz]", re.MULTILINE)
+ITEM = re.compile(r"\n *case .*[0-9]'[01-]*[xz]")
 # What has values, but memories and what is compared with x; its lines that may have constants; and one with bits that are x.
 VALUED = re.compile(r"^  (?:cell (?!\$(?:mem|eqx |nex ))|process ).*?^  end$|^  connect .*$", re.MULTILINE | re.DOTALL)
 INITIAL = re.compile(r"^    sync init$", re.MULTILINE)
 VALUES = re.compile(r"^ *(?:connect|assign|switch|update) .*$", re.MULTILINE)
-X = re.compile(r"(?<= )([1-9][0-9]*)'([01x-]*x[01x-]*)(?= |$)", re.MULTILINE)
-LINE = re.compile(r'^(module|  cell) (\S+)(?: (\S+))?$|^ *attribute \\src "([^"]*)"$', re.MULTILINE)
+X = re.compile(r" ([1-9][0-9]*)'([01x-]*x[01x-]*)(?= |$)", re.MULTILINE)
+LINE = re.compile(r'\n(?:(module|  cell) (\S+)(?: (\S+))?| *attribute \\src "([^"]*)")(?=\n)')
 # What is behind the name of what a register holds; and the index of a bit.
 STORED, INDEX = ".stored", re.compile(r"(\[[0-9]+\])?$")
 PART = re.compile(r"(.+)\$\[([0-9]+):([0-9]+)\]")
@@ -46,8 +47,7 @@ def cells_of(text):
 
 def modules_of(text):
     """The text of each module of a design in yosys's own language, with the attributes before it, by its name."""
-    parts = re.split(r"(?<=^end\n)", text, flags=re.MULTILINE)
-    return {found[1]: part for part in parts if (found := re.search(r"^module (\S+)$", part, re.MULTILINE))}
+    return {found[1]: part for part in text.split("\nend") if (found := re.search(r"\nmodule (\S+)", part))}
 
 
 def base_of(name):
@@ -80,7 +80,7 @@ def opened(text):
     """A design in which each x is a wire that nothing drives: yosys would choose its value, or another for each reader. What isn't enabled
     has the value 0, and not x; and the first of several items that fit counts, though the design says that only one does."""
     text = PARALLEL.sub("", UNREACHED.sub(r"\1\2'0", text))
-    return "".join(map(freed, re.split(r"^(?=module )", text, flags=re.MULTILINE)))
+    return "\nmodule ".join(map(freed, text.split("\nmodule ")))
 
 
 def freed(module):
@@ -96,7 +96,7 @@ def freed(module):
     def spelled(found):
         bits = found[2].rjust(int(found[1]), found[2][0])
         parts = [wire(part) if "x" in part else f"{len(part)}'{part}" for part in re.findall("x+|[^x]+", bits)]
-        return f"{{ {' '.join(parts)} }}"
+        return f" {{ {' '.join(parts)} }}"
 
     def valued(found):
         is_initial = INITIAL.search(found[0])

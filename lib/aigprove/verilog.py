@@ -163,7 +163,7 @@ FF = re.compile(r"^  cell \$ff (\S+)\n", re.MULTILINE)
 # How many signs of an assertion's text are printed.
 SPELLED = 200
 STANDARD_INPUT = "-"
-BOX, TOP = (re.compile(rf"^attribute \\{name} 1\n", re.MULTILINE) for name in ["blackbox", "top"])
+BOX, TOP = (f"\nattribute \\{name} 1\n" for name in ["blackbox", "top"])
 ASKED = ("$assert", "$assume")
 # The files of our own that cells are made by: an included file has no such name.
 MADE = re.compile(r"aigprove_[a-z]+\.v:")
@@ -271,11 +271,11 @@ class Design:
             raise Fault(f"{self.yosys.told(place)}: an item of this case is x or z")
         modules = modules_of(text)
         below = {base_of(name) for name in modules}
-        kinds = {cell.type for cell in cells_of(text)}
-        self.has_covers, self.has_lives = COVER in kinds, LIVE in kinds and not self.words.multiclock
+        covers, lives = (f"\n  cell {kind} " in text for kind in (COVER, LIVE))
+        self.has_covers, self.has_lives = covers, lives and not self.words.multiclock
         if not below:
             raise Fault(f"{self.yosys.path} has no module")
-        self.top = next((base_of(name) for name, own in modules.items() if TOP.search(own)), None)
+        self.top = next((base_of(name) for name, own in modules.items() if TOP in own), None)
         if self.top is None:
             raise Fault(f"{self.yosys.path} has no module that isn't empty or a black box")
         self.yosys.put("below.il", opened(self.freed_boxes(text, modules)))
@@ -291,15 +291,15 @@ class Design:
 
     def freed_boxes(self, text, modules):
         """The design with modules in the place of black boxes whose outputs are to be free; others that it has are refused."""
-        boxes = {name: own for name, own in modules.items() if BOX.search(own)}
+        boxes = {name: own for name, own in modules.items() if BOX in own}
         known = set(map(base_of, modules))
         for name in self.words.black_box:
             if name not in known:
                 raise Fault(f"{name} is no module of the design")
         for name, own in boxes.items():
             if base_of(name) in self.words.black_box:
-                text = text.replace(own, BOX.sub("", own))
-            elif re.search(rf"^  cell {re.escape(name)} ", text, re.MULTILINE):
+                text = text.replace(own, own.replace(BOX, "\n"))
+            elif f"\n  cell {name} " in text:
                 why = f"{base_of(name)} is a black box: give its file too, or let its outputs have any values"
                 raise Fault(f"{why} (--black-box {base_of(name)})")
         return text
