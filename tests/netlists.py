@@ -14,9 +14,9 @@ design alone has a free value for an x; what is open after 20 seconds; what it s
 doesn't say.
 
 It ends with status 1 where an answer is wrong, and prints these; of the pairs that ABC answers, too, by `dsec`, or by `cec` where there are
-no latches, those that take more than a second longer than that takes on the files in AIGER form; and one line with the counts, and the
-median seconds of both. Who has no such files has yosys make them first, by its synthesis (BITS): so the line has also how many pairs take a
-second more than both together at most, and yosys's median. The tools are yosys, cadical and ABC."""
+no latches, those that take more than a second longer than that takes on the files in AIGER form; and one line with the counts and the median
+seconds. Who has RTL needs yosys before ABC. So the line also says how many pairs take at most a second more than both: yosys makes the files
+by BITS. The tools are yosys, cadical and ABC."""
 import collections
 import itertools
 import json
