@@ -106,6 +106,11 @@ def freed(module):
     return head + end + "".join(f"  wire width {width} $free${i}\n" for i, width in enumerate(widths, 1)) + body
 
 
+def identifier(module, name):
+    """A net's name in yosys's own language: as such it isn't the begin of a comment."""
+    return name if module["netnames"][name]["hide_name"] else f"\\{name}"
+
+
 def names_of(module):
     """A name for each bit of a module: of a port, else of a net that the design names, else of another."""
     names = {}

@@ -8,7 +8,7 @@ import os
 import re
 
 from aigprove.netlist import aliases, cells_like, cells_of, check_drivers, clock_of, constants, free_names, item_of_x, opened, reached
-from aigprove.netlist import base_of, modules_of, roots_of, stored
+from aigprove.netlist import base_of, identifier, modules_of, roots_of, stored
 from aigprove.programs import Fault, escaped, plain
 from aigprove.replay import Module
 from aigprove.yosys import Late, Yosys
@@ -51,7 +51,12 @@ async2sync
 opt_clean
 setundef -undriven -anyseq
 opt_expr -keepdc
-opt -fine -noff -keepdc
+opt_expr -fine -keepdc
+opt_merge -keepdc
+opt_muxtree
+opt_merge -keepdc
+opt_clean
+opt_expr -fine -keepdc
 setattr -unset hdlname w:*
 setattr -set outer 1 w:* w:*.* %d
 {named}
@@ -85,7 +90,7 @@ module chosen_bit (A, B, Y);
   input [A_WIDTH-1:0] A;
   input [B_WIDTH-1:0] B;
   output [Y_WIDTH-1:0] Y;
-  wire _TECHMAP_FAIL_ = A_SIGNED || B_SIGNED || Y_WIDTH > 1 || B_WIDTH > FEW;
+  wire _TECHMAP_FAIL_ = B_SIGNED || Y_WIDTH > 1 || B_WIDTH > FEW;
   wire [COUNT-1:0] all = A;
   \\$bmux #(.WIDTH(1), .S_WIDTH(B_WIDTH)) choose (.A(all), .S(B), .Y(Y));
 endmodule
@@ -336,7 +341,7 @@ class Design:
         clock = f"delete w:{self.clock[0]}\nopt_clean -purge" if self.clock else ""
         names = dict(free_names(module))
         self.left_open = [names.get(port, port) for port in module["ports"] if port not in given]
-        self.renames = "\n".join(f"rename {old} {new}" for old, new in [*stored(module), *names.items()])
+        self.renames = "\n".join(f"rename {identifier(module, old)} \\{new}" for old, new in [*stored(module), *names.items()])
         equal, size = self.words.equal, os.path.getsize(self.yosys.place("free.il"))
         fewer = "" if equal and size <= BRIEF else FEWER
         words = {"top": self.top, "renames": self.renames, "clock": clock, "reset": reset, "fewer": fewer, "spare": self.spare()}

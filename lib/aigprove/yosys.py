@@ -58,6 +58,10 @@ class Yosys:
         with open(self.place(name), "w", encoding="utf-8", errors="surrogateescape") as out:
             out.write(text)
 
+    def put_script(self, text):
+        """Puts a script into the folder, as one line: yosys looks through the whole design behind each."""
+        self.put("script.ys", "; ".join(filter(None, text.split("\n"))) + "\n")
+
     def text(self, name):
         with open(self.place(name), encoding="utf-8", errors="surrogateescape") as file:
             return file.read()
@@ -83,12 +87,12 @@ class Yosys:
             copies = {path: f"{made}/{copy}" for path, copy in self.copies.items()}
             sources = {f"{made}/{i}/source": path for i, path in enumerate(self.beside)}
             self.meanings = {**dict(zip(paths, [*self.beside, *folders])), **sources, **{copy: path for path, copy in copies.items()}}
-            self.put("script.ys", script(made, copies, paths))
+            self.put_script(script(made, copies, paths))
             return self.printed(["yosys", f"{made}/script.ys"], pass_fds=descriptors)
 
     def run(self, script, **words):
         """Runs a script in its own folder."""
-        self.put("script.ys", script.format(**words))
+        self.put_script(script.format(**words))
         return self.printed(["env", "-C", self.folder, "TMPDIR=.", "yosys", "script.ys"])
 
     def printed(self, words, **streams):
