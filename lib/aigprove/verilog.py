@@ -410,7 +410,7 @@ class Design:
         # Yosys passes over an empty line, and wants a clock.
         self.yosys.put("witness.aiw", "\n".join(["1", f"b{told.bad}", *lines, ".", ""]))
         clock, rising = self.clock or (SPARE, True)
-        printed = self.yosys.run(SIMULATE, clock=f"-clock{'' if rising else 'n'} {clock}", top=self.top)
+        printed = self.yosys.run(SIMULATE, clock=f"-clock{'' if rising else 'n'} \\{clock}", top=self.top)
         failed = FAILED.findall(printed.rpartition("Simulating cycle ")[2])
         return list(dict.fromkeys(failed)), self.yosys.text("run.vcd")
 
