@@ -12,6 +12,9 @@ import time
 
 from aigprove.programs import Fault, ending, plain
 
+# How many commands a line of a script has at most: yosys copies the rest of a line behind each word.
+LONGEST = 1000
+
 
 class Late(Fault):
     """The time was over before there was a file to ask about."""
@@ -59,8 +62,9 @@ class Yosys:
             out.write(text)
 
     def put_script(self, text):
-        """Puts a script into the folder, as one line: yosys looks through the whole design behind each."""
-        self.put("script.ys", "; ".join(filter(None, text.split("\n"))) + "\n")
+        """Puts a script into the folder, as few lines: yosys looks through the whole design behind each."""
+        commands = list(filter(None, text.split("\n")))
+        self.put("script.ys", "".join("; ".join(commands[i : i + LONGEST]) + "\n" for i in range(0, len(commands), LONGEST)))
 
     def text(self, name):
         with open(self.place(name), encoding="utf-8", errors="surrogateescape") as file:
