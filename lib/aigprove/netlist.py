@@ -107,8 +107,13 @@ def freed(module):
 
 
 def identifier(module, name):
-    """A net's name in yosys's own language: as such it isn't the begin of a comment."""
+    """A net's name as yosys's own language has it: there none begins with #, with which a comment begins in a script."""
     return name if module["netnames"][name]["hide_name"] else f"\\{name}"
+
+
+def pattern_of(name):
+    """The pattern that yosys finds this name by, and no other."""
+    return re.sub(r"(\W)", r"\\\1", name)
 
 
 def names_of(module):
@@ -187,6 +192,8 @@ def clock_of(top, module):
             raise Fault(f"{top} reads its clock {clock} as a value too ({MANY})")
         if module["ports"].get(clock, {"direction": ""})["direction"] != "input":
             raise Fault(f"{top} makes its clock {clock} itself, and one that is an input is taken ({MANY})")
+        if clock.endswith(";"):
+            raise Fault(f"{top} has the clock {clock}, and in a script of yosys a name can't end so")
     return next(iter(clocks), None)
 
 

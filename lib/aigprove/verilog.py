@@ -8,7 +8,7 @@ import os
 import re
 
 from aigprove.netlist import aliases, cells_like, cells_of, check_drivers, clock_of, constants, free_names, item_of_x, opened, reached
-from aigprove.netlist import base_of, identifier, modules_of, roots_of, stored
+from aigprove.netlist import base_of, identifier, modules_of, pattern_of, roots_of, stored
 from aigprove.programs import Fault, escaped, plain
 from aigprove.replay import Module
 from aigprove.yosys import Late, Yosys
@@ -338,7 +338,7 @@ class Design:
         """Writes the file, and gives the name, the place and whether the design has that name for each bad state property's assertion."""
         self.check_reset(self.top, module, self.clock and self.clock[0])
         reset = "" if self.words.multiclock else self.resetting(LATE)
-        clock = f"delete w:{self.clock[0]}\nopt_clean -purge" if self.clock else ""
+        clock = f"delete w:{pattern_of(self.clock[0])}\nopt_clean -purge" if self.clock else ""
         names = dict(free_names(module))
         self.left_open = [names.get(port, port) for port in module["ports"] if port not in given]
         self.renames = "\n".join(f"rename {identifier(module, old)} \\{new}" for old, new in [*stored(module), *names.items()])
