@@ -10,7 +10,7 @@ import itertools
 # Which finds the package of aigprove.
 import harness
 
-from aigprove.aiger import Circuit, Lines, difference
+from aigprove.aiger import Circuit, Lines, differences
 
 # The and of two inputs, in both forms.
 AND = b"aag 3 2 0 1 1\n2\n4\n6\n6 4 2\n"
@@ -61,7 +61,7 @@ class Machine:
         """The binary file, of a machine whose inputs, latches and gates have the literals 2, 4, .. in this order."""
         states = [" ".join(map(str, row[1:])) for row in self.latches]
         head = joined([self.header("aig", **header), *states, *self.properties()]).encode()
-        gates = (difference(gate - left) + difference(left - right) for gate, left, right in self.gates)
+        gates = (differences([gate - left, left - right]) for gate, left, right in self.gates)
         return head + b"".join(gates) + joined(self.name_lines()).encode()
 
     def values(self, state, inputs):

@@ -4,7 +4,7 @@ import functools
 # Which finds the package of aigprove.
 import harness
 
-from aigprove.aiger import difference
+from aigprove.aiger import differences
 
 
 def text_of(lines):
@@ -19,7 +19,7 @@ def lines_of(steps):
 @functools.cache
 def code(number):
     """The bytes of a literal, of a hint, and of the 0 after them: twice the number, and one more for a minus."""
-    return difference(2 * abs(number) + (number < 0))
+    return differences([2 * abs(number) + (number < 0)])
 
 
 def coded(words):
@@ -34,7 +34,7 @@ def binary_of(steps):
 
 def binary_of_lines(lines):
     """The bytes of a binary LRAT file that say what the lines of one do."""
-    return b"".join(b"d" + coded(line[2:]) if line[1:2] == ["d"] else b"a" + difference(int(line[0])) + coded(line[1:]) for line in lines)
+    return b"".join(b"d" + coded(line[2:]) if line[1:2] == ["d"] else b"a" + differences([int(line[0])]) + coded(line[1:]) for line in lines)
 
 
 def damaged_lines(rng, lines):

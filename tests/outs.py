@@ -20,7 +20,7 @@ import time
 from aiger import AND, BINARY_AND
 from harness import limit_files, run
 
-from aigprove.aiger import difference
+from aigprove.aiger import differences
 
 OLD = b"the old bytes"
 NOBODY, STRANGER, STRANGERS = 65534, 1234, 4321
@@ -41,7 +41,7 @@ def chain(gates, falling=False):
 
 def chain_in_binary(gates):
     """The binary form of that text: each gate is one more than its greater operand, which is a letter behind it."""
-    lines = [b"\x01" + difference(2 * v - 3) for v in range(2, gates + 2)]
+    lines = [b"\x01" + differences([2 * v - 3]) for v in range(2, gates + 2)]
     return b"aig %d 1 0 1 %d\n%d\n" % (gates + 1, gates, 2 * gates + 2) + b"".join(lines)
 
 

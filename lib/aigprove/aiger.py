@@ -181,13 +181,15 @@ class Circuit:
         return {i for i, latch in enumerate(self.latches) if latch in seen}
 
 
-def difference(number):
-    """A number as binary files spell it: groups of seven bits, the lowest first, each but the last with the eighth bit set."""
-    groups = []
-    while number > 127:
-        groups.append(number & 127 | 128)
-        number >>= 7
-    return bytes([*groups, number])
+def differences(numbers):
+    """Numbers as binary files spell them: groups of seven bits, the lowest first, each but the last with the eighth bit set."""
+    groups = bytearray()
+    for number in numbers:
+        while number > 127:
+            groups.append(number & 127 | 128)
+            number >>= 7
+        groups.append(number)
+    return bytes(groups)
 
 
 def binary_gate(lines, gate):

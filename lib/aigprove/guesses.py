@@ -256,8 +256,7 @@ class Guesses:
         """Nodes, and also those of so many next steps, behind the place before which the others are."""
         nodes = Nodes(self.circuit, self.alike)
         stop = nodes.all().stop
-        for _ in range(steps):
-            nodes.look_ahead()
+        nodes.look_ahead(steps)
         return stop, nodes
 
     def kept(self, guess):

@@ -108,13 +108,16 @@ class Nodes:
                     left += below
         return [it for it in values.values() if 1 < it < first]
 
-    def look_ahead(self):
-        """Adds what nodes are in the next step, where they read no inputs of that step."""
-        known = dict(zip([0, *self.latches], [0, *self.nexts]))
-        value = lambda literal: known[literal & ~1] ^ literal & 1
-        for gate, left, right in list(self.gates.rows):
-            if left & ~1 in known and right & ~1 in known:
-                known[gate] = self.gates.both(value(left), value(right))
+    def look_ahead(self, steps):
+        """Adds what nodes are in so many next steps, where they read no inputs of these."""
+        nexts, seen = zip([0, *self.latches], [0, *self.nexts]), 0
+        later = {literal ^ side: next ^ side for literal, next in nexts for side in (0, 1)}
+        for _ in range(steps):
+            rows, seen = self.gates.rows[seen:], len(self.gates.rows)
+            for gate, left, right in rows:
+                if left in later and right in later:
+                    later[gate] = self.gates.both(later[left], later[right])
+                    later[gate + 1] = later[gate] ^ 1
 
 
 def sides(values, every):

@@ -4,7 +4,7 @@ A latch that is 1 at first is inverted; one that is open at first takes an input
 and the latch `broken` is 1 once a constraint didn't hold. A machine without latches gets one that is spare. Inputs and latches
 are named by their places in the file (i0, l0), and the value of an open latch l0 is the input r0, so that what an engine says is
 told by names."""
-from aigprove.aiger import difference
+from aigprove.aiger import differences
 from aigprove.witness import Named
 
 BEGAN, BROKEN, SPARE = "began", "broken", "spare"
@@ -52,7 +52,7 @@ def binary(inputs, nexts, outputs, gates):
     """The binary form of a machine of so many inputs, whose latches are 0 at first, by literals."""
     header = f"aig {inputs + len(nexts) + len(gates.rows)} {inputs} {len(nexts)} {len(outputs)} {len(gates.rows)}"
     lines = "".join(f"{line}\n" for line in [header, *nexts, *outputs])
-    return lines.encode() + b"".join(difference(gate - left) + difference(left - right) for gate, left, right in gates.rows)
+    return lines.encode() + differences(number for gate, left, right in gates.rows for number in (gate - left, left - right))
 
 
 def literals_of(circuit, gates, leaves):

@@ -1,7 +1,6 @@
 """Programs that are run: each in a group of its own that is ended whole, by turns, and with limits on what it writes."""
 import collections
 import contextlib
-import ctypes
 import fcntl
 import io
 import os
@@ -405,6 +404,9 @@ class Part(Programs):
 
 def adopt():
     """Makes this process the parent of all that its programs leave behind, so that `bury` finds it."""
+    # Only one process of ours does that.
+    import ctypes
+
     ctypes.CDLL(None).prctl(SUBREAPER, 1, 0, 0, 0)
 
 

@@ -11,9 +11,14 @@ from aigprove.plain import Gates, binary
 from aigprove.programs import Fault, Folder, ending
 from aigprove.united import ordered
 
-# What ABC does with a machine each of whose nodes is an output: it moves registers forward, so that those of one time meet, and unites nodes
-# of which two steps show that they are always equal. Outputs are of one literal then, or of it and its inverse.
-UNITE = "read_aiger nodes.aig; dretime -m; strash; zero; scorr -F 2; write_aiger united.aig"
+# What ABC does with a machine each of whose nodes is an output: it unites nodes of which a step shows that they are always equal. With nodes of
+# next steps it moves registers forward before that, so that those of one time meet, and looks at two steps. Outputs are of one literal then,
+# or of it and its inverse.
+UNITE = "read_aiger nodes.aig; {}; write_aiger united.aig"
+PRESENT, MOVED = "scorr", "dretime -m; strash; zero; scorr -F 2"
+# What part of the gates there may be at most without classes of nodes of next steps alone, where these are left out: a step seldom keeps the
+# others without them.
+PART = 0.9
 
 
 def machine(nodes):
@@ -71,18 +76,20 @@ class Signals(Guesses):
         ways = [*[0] * (self.counts[0] == self.counts[1]), max(AHEAD)] if self.circuit.latches else []
         for steps in ways:
             stop, nodes = self.nodes_ahead(steps)
-            own = rows(nodes, self.united(nodes))
+            own = rows(nodes, self.united(nodes, MOVED if steps else PRESENT))
             if set(nodes.bads) <= set(own[0]):
                 classes = Classes(nodes, random.Random(0))
                 classes.rows = [row for row in own if len(row) > 1]
-                yield Found(classes.of_first(stop), self.solver, self.given["is_taken"])
+                fewer = classes.of_first(stop)
+                is_less = len(fewer.nodes.gates.rows) < PART * len(nodes.gates.rows)
+                yield Found(fewer if is_less else classes, self.solver, self.given["is_taken"])
 
-    def united(self, nodes):
-        """What stands for each node, from the first latch on, in the circuit that ABC leaves."""
+    def united(self, nodes, commands):
+        """What stands for each node, from the first latch on, in the circuit that commands of ABC leave."""
         with Folder(self.solver.above) as folder:
             with folder.make("nodes.aig") as out:
                 out.write(machine(nodes))
-            if status := folder.run(self.solver.programs, [self.given["abc"], "-q", UNITE]):
+            if status := folder.run(self.solver.programs, [self.given["abc"], "-q", UNITE.format(commands)]):
                 raise Fault(f"ABC {ending(status)}")
             return outputs(folder.taken("united.aig", "circuit").bytes())
 
