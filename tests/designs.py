@@ -43,6 +43,24 @@ module top(input clk, input d); wire [1:0] q; part part(clk, d, q[0]); assign q[
 """
 PART = "module part(input clk, input d, output reg q); initial q = `INITIAL; always @(posedge clk) q <= d; endmodule\n"
 ODD = ["[1]", "?", 'a "q;', "\n!touch made\n", " $(touch made)", "'#%{x}", "--"]
+# Maps of ours that make cells otherwise than yosys's own; cells whose maps yosys itself tests, by its solver and its evaluation of cells; and
+# a choice, made by both, between which its solver has to find no difference, of so many values of so many bits.
+MAPS = TOP / "lib" / "aigprove" / "gates.v"
+TESTED, TRIES = ["$shl", "$shr", "$sshl", "$sshr", "$shift", "$lcu", "$alu", "$fa", "$macc"], 8
+CHOICE = """module top #(parameter WIDTH = 1, COUNT = 1)
+    (input [WIDTH-1:0] a, input [WIDTH*COUNT-1:0] b, input [COUNT-1:0] s, output [WIDTH-1:0] y);
+  \\$pmux #(.WIDTH(WIDTH), .S_WIDTH(COUNT)) choose (.A(a), .B(b), .S(s), .Y(y));
+endmodule
+"""
+BOTH = """read_verilog -icells {folder}/choice.v
+chparam -set COUNT {count} -set WIDTH {width} top
+copy top other
+techmap top
+techmap -map {maps} -map +/techmap.v other
+miter -equiv -flatten top other both
+sat -verify -prove trigger 0 both
+"""
+CHOICES = [(1, 1), (2, 1), (3, 1), (8, 1), (1, 3), (3, 2), (6, 3)]
 NAMES = ["q[1].v", "q?.v", 'a "q;.v', "q\n!touch made\n.v", "q $(touch made).v", "q'#%{x}.sv"]
 
 
@@ -247,7 +265,7 @@ def odd_faults(folder):
 def included_faults(here):
     """What is wrong of the places of assertions in included files, also where their names are like those of our own files."""
     here.mkdir()
-    names = ["asked", "bit", "cover", "free", "held", "late", "other"]
+    names = ["asked", "cover", "free", "gates", "held", "late", "other"]
     for i, name in enumerate(names):
         (here / f"{name}.v").write_text(f"always @* {name}: assert (a != {i});\n")
     included = "".join(f'`include "{name}.v"\n' for name in names)
@@ -255,6 +273,17 @@ def included_faults(here):
     done = subprocess.run([PROVE, "--each", "--bound", "0", "top.v"], cwd=here, capture_output=True, encoding="utf-8")
     if unplaced := [name for name in names if not re.search(rf" top\.{name} +{name}\.v:1\.", done.stdout)]:
         yield f"{unplaced} have no place: {done.stdout}{done.stderr}"
+
+
+def map_faults(folder):
+    """What is wrong of the cells that our own maps make."""
+    (folder / "choice.v").write_text(CHOICE)
+    scripts = [f"test_cell -n {TRIES} -map {MAPS} -map +/techmap.v {cell}" for cell in TESTED]
+    scripts += [BOTH.format(folder=folder, maps=MAPS, count=count, width=width) for count, width in CHOICES]
+    for script in scripts:
+        status, printed, _ = harness.run(["yosys", "-p", script.replace("\n", "; ")])
+        if status != 0:
+            yield f"{script}: {printed.decode('utf-8', 'replace')[-300:]}"
 
 
 def compared(words, folder, number=None):
@@ -308,6 +337,7 @@ def main():
             tally.wants("paths of several files", [], list(odd_faults(folder)))
             tally.wants("included files", [], list(included_faults(folder / "included")))
             tally.wants("two designs", [], list(beside_faults(folder / "beside")))
+            tally.wants("maps", [], list(map_faults(folder)))
             for i, (words, status, *wanted) in enumerate(rows(TESTS / "verilog" / "answers.tsv")):
                 tally.wants(words, [], list(verilog_faults(words, status, wanted, folder / str(i))))
         else:

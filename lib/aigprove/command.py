@@ -14,6 +14,7 @@ import time
 from aigprove import VERSION, programs
 from aigprove.aiger import Fault
 from aigprove.files import sealed
+from aigprove.fronts import ASSERT, COVER, FAIR, LIVE
 from aigprove.judge import Judge
 from aigprove.matched import STARTS
 from aigprove.pair import CONSTRAINTS, Pair
@@ -22,8 +23,6 @@ from aigprove.properties import Property
 from aigprove.questions import HINTED, cadical
 from aigprove.race import FAILED, OPEN, SAFE, UNSAFE, Race
 from aigprove.source import Given, Source
-from aigprove.table import Table
-from aigprove.verilog import ASSERT, COVER, FAIR, LIVE
 from aigprove.yosys import Late
 
 TOP = os.path.dirname(os.path.dirname(os.path.dirname(os.path.realpath(__file__))))
@@ -370,6 +369,14 @@ def raced(words, above, judge):
     return next((it for it in (UNSAFE, FAILED, OPEN) if it in statuses), SAFE)
 
 
+def tabled(words, above, judge):
+    """Asks about each property by itself, and gives the exit status of all together."""
+    # What only tables need takes a while to be read.
+    from aigprove.table import Table
+
+    return Table(words, judge.programs, judge, above).run()
+
+
 def end_scripts(races):
     """Ends the scripts of what was kept of races: that of the first runs those of the others, whose folders are in its own."""
     for race in races[1:]:
@@ -386,7 +393,7 @@ def answer(line):
     programs.adopt()
     above = tempfile.mkdtemp(prefix="aigprove-")
     try:
-        return Table(words, judge.programs, judge, above).run() if words.each else raced(words, above, judge)
+        return tabled(words, above, judge) if words.each else raced(words, above, judge)
     except Late as why:
         programs.say(why)
         print("2\n." if words.aiger else "nothing was shown")

@@ -4,11 +4,10 @@ import functools
 import re
 
 from aigprove import waves
+from aigprove.fronts import FAIR, LIVE
 from aigprove.judge import Claim
 from aigprove.programs import Fault, Sealed
-from aigprove.report import Answer
 from aigprove.source import Asked, Given, changes_of, counted, of_kind
-from aigprove.verilog import FAIR, LIVE
 
 
 class Justices(Asked):
@@ -25,6 +24,8 @@ class Justices(Asked):
 
     def answers(self):
         """The properties, which have no answers yet, with their names."""
+        from aigprove.report import Answer
+
         if self.given.design:
             return [Answer(self.letter, i, *it) for i, it in enumerate(self.given.design.named())]
         names = self.circuit().names

@@ -145,6 +145,11 @@ def cells_like(module, kind):
     return [cell for cell in module["cells"].values() if cell["type"] == kind]
 
 
+def types(module):
+    """The types of a module's cells."""
+    return {cell["type"] for cell in module["cells"].values()}
+
+
 def constants(module):
     """The names of what has any value, which is the same in each step."""
     names = names_of(module)

@@ -4,15 +4,15 @@ import concurrent.futures
 import copy
 
 from aigprove import matched, simulation
+from aigprove.fronts import kind_of
 from aigprove.judge import Claim
 from aigprove.matched import APART, BY_NAME, Starts
 from aigprove.minimal import SMALL, simulated
 from aigprove.misfit import SIGNALS, misfit
 from aigprove.programs import Fault, Sealed, engine_here
-from aigprove.replay import SIMULATED
 from aigprove.shown import Shown, word
+from aigprove.simulation import SIMULATED
 from aigprove.source import Asked, Given
-from aigprove.verilog import kind_of
 
 # What constraints say: compared runs meet those of both files, or those of the first alone, or they are compared, too; and what stands then
 # behind lines.

@@ -16,9 +16,9 @@ from aigprove.minimal import SMALL, minimal, simulated
 from aigprove.programs import Fault, Sealed, Stopped, reason, say, tell
 from aigprove.questions import Question, Solver
 from aigprove.registers import Registers, Signals
-from aigprove.replay import SIMULATED
 from aigprove.rounds import Rounds
 from aigprove.shown import Shown
+from aigprove.simulation import SIMULATED
 
 SAFE, UNSAFE, OPEN, FAILED = 20, 10, 0, 1
 # How the AIGER report spells what is shown.

@@ -6,11 +6,10 @@ from aigprove import simulation
 from aigprove.netlist import STORED
 from aigprove.programs import Fault
 from aigprove.shown import number, word
+from aigprove.simulation import SIMULATED
 
 # Time units of a step in what yosys writes.
 STEP = 10
-# How many gates in how many steps are simulated here, where no program of ours does that.
-SIMULATED = 1 << 21
 # How many signals that an assertion reads are looked at.
 MOST = 40
 BIT = re.compile(r"(.+)\[([0-9]+)\]")

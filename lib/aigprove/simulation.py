@@ -1,5 +1,8 @@
 """Runs of a circuit, simulated in three values, and many trials of one at once. What is believed of a run aigcheck says."""
 
+# How many gates in how many steps are simulated here, where no program of ours does that.
+SIMULATED = 1 << 21
+
 
 class Values:
     """What is known in a step of each literal: a trial is a bit of `every`, and a literal has those in which it is known to be true."""

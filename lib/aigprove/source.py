@@ -6,13 +6,11 @@ import tempfile
 from aigprove import aiger, simulation, waves
 from aigprove.aiger import Header, Lines
 from aigprove.files import sealed
+from aigprove.fronts import BLIF, COVER, FRONTS, LIVE, STANDARD_INPUT, VERILOG, File, kind_of
 from aigprove.judge import Claim
-from aigprove.netlist import all_names
 from aigprove.programs import Fault, say
-from aigprove.replay import SIMULATED, Replay
-from aigprove.report import Answer
 from aigprove.shown import word
-from aigprove.verilog import BLIF, COVER, FRONTS, LIVE, STANDARD_INPUT, VERILOG, Design, File, kind_of
+from aigprove.simulation import SIMULATED
 # Options that are for designs alone, or for those that certain front ends read.
 OF_DESIGNS = {
     **dict.fromkeys(["top", "reset", "parameter", "black_box", "multiclock"]),
@@ -38,6 +36,9 @@ class Given:
         self.kinds = [kind_of(path, file.line()) for path, file in zip(paths, self.given)]
         self.check_kinds(paths, words)
         if self.kinds[0]:
+            # The patterns that these modules have take long to compile: they are read where there is a design, as here.
+            from aigprove.verilog import Design
+
             folder = tempfile.mkdtemp(prefix="design-", dir=above)
             files = [File(path, file.bytes()) for path, file in zip(paths, self.given)]
             self.design = Design(files, words, folder, judge.programs)
@@ -78,6 +79,8 @@ class Given:
 
     def named(self):
         """The circuit of a design with the names of its assertions, and all names of its registers, by their places."""
+        from aigprove.netlist import all_names
+
         circuit, known = self.judge.circuit(self.file, "FILE"), self.design.aliases
         told = {place[1]: name.decode("utf-8", "surrogateescape") for place, name in circuit.names.items() if place[0] == "l"}
         names = {place: [it for own in name.split(" ") for it in all_names(own, known)] for place, name in told.items()}
@@ -222,6 +225,8 @@ class Source(Asked):
 
     def answers(self):
         """Its properties, which have no answers yet: of a design with the names and the places of its assertions."""
+        from aigprove.report import Answer
+
         circuit, design = self.circuit(), self.given.design
         if design and design.assertions:
             named = design.named()
@@ -247,6 +252,8 @@ class Source(Asked):
         if design is None or not design.assertions:
             yield from super().lines(shown, circuit, told)
             return
+        from aigprove.replay import Replay
+
         replay = None
         try:
             replay = self.replay = Replay(design, circuit, told)

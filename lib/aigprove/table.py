@@ -9,6 +9,7 @@ from aigprove.evidence import ABOVE, Evidence
 from aigprove.aiger import LIMIT
 from aigprove.alone import Fair, show_progress
 from aigprove.each import Each
+from aigprove.fronts import COVER, LIVE
 from aigprove.gather import Gathered
 from aigprove.justice import Justices, lives
 from aigprove.kept import Kept
@@ -19,7 +20,6 @@ from aigprove.race import FAILED, OPEN, SAFE, TICK, UNSAFE, header_of
 from aigprove.report import Report
 from aigprove.shown import Shown
 from aigprove.source import Covers, Source
-from aigprove.verilog import COVER, LIVE
 
 STATUS = {"fails": UNSAFE, "holds": SAFE, "undecided": OPEN}
 

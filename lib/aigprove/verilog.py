@@ -2,26 +2,17 @@
 
 The machine is the design that was meant. What nothing says is open: a register without an initial value at first, and in each step a
 net or a bit without a driver and each x. So each gets a free value, an input of the file, before a pass of yosys may choose one."""
-import collections
 import functools
 import os
 import re
 
+from aigprove.fronts import ASSERT, COVER, FAIR, FRONTS, LIVE, VERILOG
 from aigprove.netlist import aliases, cells_like, cells_of, check_drivers, clock_of, constants, free_names, item_of_x, opened, reached
-from aigprove.netlist import base_of, identifier, modules_of, pattern_of, roots_of, stored
+from aigprove.netlist import base_of, identifier, modules_of, pattern_of, roots_of, stored, types
 from aigprove.programs import Fault, escaped, plain
 from aigprove.replay import Module
 from aigprove.yosys import Late, Yosys
 
-# By the end of a file's name: what reads it. The latches of BLIF have one clock.
-VERILOG = "read_verilog -formal -sv {include} {file}"
-BLIF = ".blif"
-FRONTS = {
-    **dict.fromkeys([".v", ".sv", ".vh", ".svh"], VERILOG),
-    **dict.fromkeys([".il", ".rtlil"], "read_rtlil {file}"),
-    BLIF: "read_blif -wideports {file}\nformalff -clk2ff",
-    ".ys": "script {file}",
-}
 # What is z is so in JSON alone: in its own language yosys writes x.
 READ = """{fronts}
 write_rtlil {made}/all.il
@@ -29,26 +20,21 @@ hierarchy -check {top}
 write_rtlil {made}/below.il
 proc -noopt -norom
 flatten
+setattr -unset src c:* w:*
 write_json {made}/drawn.json
 """
-# Up to setundef no pass folds constants: an x is no constant of the design. Hierarchy, memories and asynchronous resets become flat
+# Up to setundef no pass folds constants but sums: an x is no constant of the design. Hierarchy, memories and asynchronous resets become flat
 # registers of one clock, whose every step is one of it. What is x, and what nothing drives, becomes an input. Whole cells are folded before
 # their bits: where there are many that takes half the time. Of several names of a net the one with most attributes stays.
 FREE = """read_rtlil below.il
 proc -noopt -norom
 flatten
 {chosen}
+setattr -unset src c:* t:$assert %d t:$assume %d t:$live %d t:$fair %d
 opt_clean
-techmap -max_iter 1 -map aigprove_free.v
-chtype -set $eq t:$eqx
-chtype -set $ne t:$nex
-memory_collect
-memory_memx
-techmap -map aigprove_free.v -D ADDRESSES t:$nex
-{edges}
-memory_map -formal
+{partial}
+{memories}
 async2sync
-opt_clean
 setundef -undriven -anyseq
 opt_expr -keepdc
 opt_expr -fine -keepdc
@@ -67,9 +53,24 @@ setundef -undriven -expose
 write_rtlil free.il
 write_json free.json
 """
+# Cells whose value is x for some operands, as a bit by an index past all bits, which may be a sum of constants; and the lines that make them
+# total, and those for memories. Where there are none the map isn't read.
+PARTIAL = {"$shiftx", "$div", "$mod", "$divfloor", "$modfloor", "$eqx", "$nex"}
+TOTAL = """opt_expr -keepdc t:$add t:$sub t:$neg
+techmap -max_iter 1 -map aigprove_free.v
+chtype -set $eq t:$eqx
+chtype -set $ne t:$nex
+"""
+MEMORY = "$mem"
+MEMORIES = """memory_collect
+memory_memx
+techmap -map aigprove_free.v -D ADDRESSES t:$nex
+{edges}
+memory_map -formal
+"""
+MAPS = ["free", "gates"]
 # By what is asked about: how the rest is left out. Covers become assertions that fail. Beside liveness assertions there are no outputs, so
 # that the file has only what bears on them: a run that comes back to a state has fewer signals to bring back.
-ASSERT, COVER, LIVE, FAIR = "$assert", "$cover", "$live", "$fair"
 CHOSEN = {
     ASSERT: "chformal -cover -live -fair -remove",
     COVER: "chformal -assert -live -fair -remove\ntechmap -map aigprove_cover.v t:$cover",
@@ -82,21 +83,7 @@ endmodule
 """
 # Registers of any clocks as such of all steps, which compare each clock with its last value.
 EDGES = "{reset}clk2fflogic\nchtype -set $eq t:$eqx"
-# One bit that a number of few bits chooses, as netlists of tables have it: a tree of multiplexers is made in far less time than a shift.
-BIT = """(* techmap_celltype = "$shr $shift" *)
-module chosen_bit (A, B, Y);
-  parameter A_SIGNED = 0, B_SIGNED = 0, A_WIDTH = 1, B_WIDTH = 1, Y_WIDTH = 1;
-  localparam FEW = 6, COUNT = 1 << (B_WIDTH > FEW ? 0 : B_WIDTH);
-  input [A_WIDTH-1:0] A;
-  input [B_WIDTH-1:0] B;
-  output [Y_WIDTH-1:0] Y;
-  wire _TECHMAP_FAIL_ = B_SIGNED || Y_WIDTH > 1 || B_WIDTH > FEW;
-  wire [COUNT-1:0] all = A;
-  \\$bmux #(.WIDTH(1), .S_WIDTH(B_WIDTH)) choose (.A(all), .S(B), .Y(Y));
-endmodule
-"""
-# While there are gates to be found, a register that is open at first is a cell that no pass looks into. Of sums and such there are only the
-# bits that something reads: Verilog has 32 of them beside any number.
+# While there are gates to be found, a register that is open at first is a cell that no pass looks into.
 WRITE = """read_rtlil free.il
 cd {top}
 {renames}
@@ -104,18 +91,27 @@ cd ..
 {reset}
 formalff -clk2ff -ff2anyinit
 {clock}
-wreduce -keepdc t:$add t:$sub t:$neg t:$mul t:$shl t:$shr t:$sshl t:$sshr
-techmap -map aigprove_bit.v t:$shr t:$shift
-techmap
+{by_maps}
+simplemap
 setundef -undriven -anyseq
 opt -fast -noff -keepdc
 {fewer}
-opt_clean
 formalff -anyinit2ff -fine
 aigmap
 json -o asserted.json t:$assert t:$live
 write_aiger -symbols -map design.aim design.aig
 """
+# How cells become gates: by passes of yosys and maps, of its own where there are cells that those don't know. Of sums and such there are only
+# the bits that something reads: Verilog has 32 of them beside any number.
+SIMPLE = {f"${name}" for name in "not pos and or xor xnor reduce_and reduce_or reduce_xor reduce_xnor reduce_bool logic_not logic_and logic_or "
+          "eq ne mux dff ff anyconst assert assume live fair".split()}
+MAPPED = {f"${name}" for name in "shr shl sshr sshl shift pmux alu fa lcu add sub neg mul lt le gt ge".split()}
+BY_MAPS = """wreduce -keepdc t:$add t:$sub t:$neg t:$mul t:$shl t:$shr t:$sshl t:$sshr
+alumacc
+maccmap
+techmap -map aigprove_gates.v{further}
+"""
+FURTHER = " -map +/techmap.v"
 # The first steps: the signal is held, and no assertion is asked about. One at an edge of the clock is about the step before, or with
 # several clocks about the last edge: there what its register takes at an edge is changed, before that is one of all steps.
 RESET = """select -set held t:$assume
@@ -161,13 +157,12 @@ SPARE = "aigprove_clock"
 # How long the text of a small design is.
 SMALL = 1 << 17
 # What finds fewer gates, and how long the text of a design is that is compared in less time without that.
-FEWER, BRIEF = "abc -g AND", 1 << 20
+FEWER, BRIEF = "abc -g AND\nopt_clean", 1 << 20
 WIRE = re.compile(r"^  wire .*\\(\S+)$", re.MULTILINE)
 PATH = re.compile(r'[^\s"\\]+( [^\s"\\]+)+')
 FF = re.compile(r"^  cell \$ff (\S+)\n", re.MULTILINE)
 # How many signs of an assertion's text are printed.
 SPELLED = 200
-STANDARD_INPUT = "-"
 BOX, TOP = (f"\nattribute \\{name} 1\n" for name in ["blackbox", "top"])
 ASKED = ("$assert", "$assume")
 # The files of our own that cells are made by: an included file has no such name.
@@ -197,21 +192,6 @@ def place_of(source):
     return own[-1] if own else ""
 
 
-class File(collections.namedtuple("File", "path data")):
-    """A file of a design: its path and its bytes."""
-
-    @property
-    def kind(self):
-        return kind_of(self.path, self.data)
-
-
-def kind_of(path, data):
-    """The end of a file's name that says what reads it, or None of one in AIGER form. What standard input has is seen by how it begins."""
-    if path == STANDARD_INPUT:
-        return None if data.startswith((b"aag ", b"aig ")) else ".v"
-    return next((end for end in FRONTS if path.endswith(end)), None)
-
-
 class Design:
     """A design whose file is made in a folder, and what is asked about it."""
 
@@ -221,10 +201,10 @@ class Design:
         self.files, self.words, self.reset = files, words, words.reset
         self.yosys = Yosys(files, folder, programs, words.deadline)
         self.yosys.put("defines.v", "".join(f"`define {name} {value}\n" for name, value in words.define))
-        with open(os.path.join(os.path.dirname(__file__), "free.v"), encoding="utf-8") as file:
-            self.yosys.put("aigprove_free.v", file.read())
+        for name in MAPS:
+            with open(os.path.join(os.path.dirname(__file__), f"{name}.v"), encoding="utf-8") as file:
+                self.yosys.put(f"aigprove_{name}.v", file.read())
         self.yosys.put("aigprove_cover.v", COVERED)
-        self.yosys.put("aigprove_bit.v", BIT)
         if self.reset:
             self.put_reset()
         self.left_out = self.read(words.top)
@@ -323,8 +303,10 @@ class Design:
         top, drawn = self.top_of("drawn.json")
         self.check_reset(top, drawn)
         check_drivers(top, drawn)
-        named = "write_json whole.json" if self.words.equal else "write_rtlil whole.il"
-        self.yosys.run(FREE, edges=self.edges(), chosen=CHOSEN[self.words.kind], named=named)
+        named = "json -o whole.json w:*" if self.words.equal else "write_rtlil whole.il"
+        partial = TOTAL if PARTIAL & types(drawn) else ""
+        memories = (MEMORIES if any(it.startswith(MEMORY) for it in types(drawn)) else "{edges}").format(edges=self.edges())
+        self.yosys.run(FREE, partial=partial, memories=memories, chosen=CHOSEN[self.words.kind], named=named)
         top, module = self.top_of("free.json")
         if not WORD.fullmatch(top):
             raise Fault(f"{top} is no name of a module")
@@ -344,7 +326,10 @@ class Design:
         self.renames = "\n".join(f"rename {identifier(module, old)} \\{new}" for old, new in [*stored(module), *names.items()])
         equal, size = self.words.equal, os.path.getsize(self.yosys.place("free.il"))
         fewer = "" if equal and size <= BRIEF else FEWER
-        words = {"top": self.top, "renames": self.renames, "clock": clock, "reset": reset, "fewer": fewer, "spare": self.spare()}
+        mapped = types(module) - SIMPLE
+        by_maps = BY_MAPS.format(further=FURTHER * (not mapped <= MAPPED)) if mapped or reset else ""
+        words = {"top": self.top, "renames": self.renames, "clock": clock, "reset": reset, "by_maps": by_maps, "fewer": fewer}
+        words["spare"] = self.spare()
         # A small design whose runs may be shown is made ready to be simulated in the same run, where yosys can: another takes longer.
         self.is_replayed = not equal and size <= SMALL and self.is_run(WRITE + "design -reset\n" + REPLAY, words)
         if not self.is_replayed:
