@@ -6,18 +6,23 @@ aigprove with all that it runs, and what that answers. `-` is no answer. The las
 beyond the better of both commands, where one answers: one is wanted on four cores without other work.
 
 With --equal each design, and the processor beside this script where yosys is there, is compared with what ABC makes of it: seconds of
-ABC's `dsec` and of aigprove, and by which engine that answers. DESIGN may be a file, too."""
+ABC's `dsec` and of aigprove, and by which engine that answers. Where aigprove takes over a second more both are timed again, TIMES times in
+all, and the least seconds count: other work on the machine only adds to them. The last lines have the medians, and the pairs that took over a
+second more each time. DESIGN may be a file, too."""
+import itertools
 import os
 import pathlib
 import shutil
 import signal
+import statistics
 import subprocess
-import sys
 import time
 
 from measuring import DESIGNS, FORMS, HERE, PROVE, heads, new_folder, parser, row
 
 PROCESSOR = "read_verilog {}; synth -flatten; dffunmap; abc -g AND; opt_clean; aigmap; write_aiger -zinit {}"
+# How often a pair is timed at most.
+TIMES = 3
 DONE = ["was asserted in frame", "Property proved", "Explored all reachable states"]
 
 
@@ -45,27 +50,47 @@ def shown(took):
 
 
 def compared(file, form, folder, seconds):
-    """Seconds of `dsec` and of aigprove about a design and what ABC makes of it, and what both answer; None where ABC makes nothing."""
+    """The seconds of `dsec` and of aigprove about a design and what ABC makes of it, and what both say."""
     plain, made = folder / "plain.aig", folder / "made.aig"
     made.unlink(missing_ok=True)
-    timed(["berkeley-abc", "-q", f"read_aiger {file}; logic; undc; strash; zero; write_aiger {plain}; {form}; zero; write_aiger {made}"], seconds)
-    *by_abc, said = timed(["berkeley-abc", "-q", f"dsec {plain} {made}"], seconds)
-    answer = next((word for word in ["NOT EQUIVALENT", "equivalent"] if f"are {word}" in said), "-")
-    *ours, printed = timed([PROVE, "-v", "--timeout", str(seconds), "--equal", made, plain], seconds + 5, subprocess.STDOUT)
-    lines = [line for line in printed.splitlines() if " answered after " in line or line.startswith(("equal at every", "a difference"))]
-    return shown(by_abc), answer, shown(ours), "; ".join(lines) or "-"
+    read = f"read_aiger {file}; logic; undc; strash; zero"
+    timed(["berkeley-abc", "-q", f"{read}; write_aiger {plain}; {form}; zero; write_aiger {made}"], seconds)
+    calls = [["berkeley-abc", "-q", f"dsec {plain} {made}"], [PROVE, "-v", "--timeout", str(seconds), "--equal", made, plain]]
+    tries = []
+    while len(tries) < TIMES and (not tries or is_over(*best(tries))):
+        tries.append([timed(words, seconds + 5, subprocess.STDOUT) for words in calls])
+    return *best(tries), *(said for *_, said in tries[0])
+
+
+def best(tries):
+    """The least seconds of each of two programs."""
+    return [min(took[:2] for took in own) for own in zip(*tries)]
+
+
+def is_over(by_abc, ours):
+    """Whether aigprove takes over a second more."""
+    return ours[0] > by_abc[0] + 1
 
 
 def compare(files, seconds):
     """The table of comparisons."""
     heads("design", "form", "dsec", "answer", "aigprove", "answer")
+    both, slow = [], []
     with new_folder() as folder:
         if shutil.which("yosys") and not files:
             files = [*sorted(DESIGNS.glob("*.aig")), folder / "processor.aig"]
             subprocess.run(["yosys", "-q", "-p", PROCESSOR.format(HERE / "processor.v", files[-1])], check=True)
-        for file in files:
-            for form, commands in FORMS.items():
-                row(file.stem, form, *compared(file, commands, folder, seconds))
+        for file, (form, commands) in itertools.product(files, FORMS.items()):
+            by_abc, ours, said, printed = compared(file, commands, folder, seconds)
+            answer = next((word for word in ["NOT EQUIVALENT", "equivalent"] if f"are {word}" in said), "-")
+            lines = [line for line in printed.splitlines() if " answered after " in line or line.startswith(("equal at every", "a difference"))]
+            row(file.stem, form, shown(by_abc), answer, shown(ours), "; ".join(lines) or "-")
+            if answer != "-" and " don't fit: " not in printed:
+                both.append((by_abc[0], ours[0]))
+                slow += [f"{file.stem} {form}"] * (is_over(by_abc, ours) or not lines)
+    medians = ", ".join(f"{statistics.median(it):.2f}" for it in zip(*both))
+    print(f"{len(both) - len(slow)} of {len(both)} pairs that dsec answers take at most a second more; median seconds: {medians}")
+    print("".join(f"not within a second more: {name}\n" for name in slow), end="")
 
 
 def main():

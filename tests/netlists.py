@@ -14,9 +14,9 @@ design alone has a free value for an x; what is open after 20 seconds; what it s
 doesn't say.
 
 It ends with status 1 where an answer is wrong, and prints these; of the pairs that ABC answers, too, by `dsec`, or by `cec` where there are
-no latches, those that take more than a second longer than that takes on the files in AIGER form; and one line with the counts and the median
-seconds. Who has RTL needs yosys before ABC. So the line also says how many pairs take at most a second more than both: yosys makes the files
-by BITS. The tools are yosys, cadical and ABC."""
+no latches, those that take more than a second longer than that takes on the files in AIGER form, each of TIMES times; and one line with the
+counts and the median seconds. Who has RTL needs yosys before ABC. So the line also says how many pairs take at most a second more than both:
+yosys makes the files by BITS. The tools are yosys, cadical and ABC."""
 import collections
 import itertools
 import json
@@ -40,6 +40,8 @@ FOLDERS = [*(f"tests/{kind}" for kind in KINDS), "examples"]
 MODULE = re.compile(r"^\s*module\s+(?:automatic\s+)?([A-Za-z_]\w*)", re.MULTILINE)
 # How many cells a netlist has at most, seconds for an answer, in how many steps a difference is looked for that nobody told, and the most.
 MOST, SECONDS, STEPS, MOST_STEPS = 2000, 20, 6, 40
+# How often a pair is timed at most: other work on the machine only makes it slower.
+TIMES = 3
 # How netlists are made in turn, and whether they are written as instances of cells, with a library of these, which has no initial values.
 # The passes for state machines, which -nofsm leaves out, take it that these begin in a state that they know.
 FLOWS = [
@@ -204,12 +206,16 @@ class Pair:
     def __str__(self):
         return f"{'/'.join(self.file.parts[-2:])}, {self.top}, {self.flow}, {self.name}"
 
+    def asked(self, *words):
+        """What aigprove ends with, prints and says, and the seconds that it takes."""
+        begun = time.monotonic()
+        words = ["--equal", self.netlist, self.file, "--top", self.top, "--timeout", str(SECONDS), *words]
+        return *harness.run([PROVE, *words]), time.monotonic() - begun
+
     def ask(self):
         """Asks aigprove: what it answers."""
-        words = ["--equal", self.netlist, self.file, "--top", self.top, "--timeout", str(SECONDS), "--keep", self.kept]
-        begun = time.monotonic()
-        self.status, printed, said = harness.run([PROVE, *words])
-        self.seconds, self.printed = time.monotonic() - begun, (printed + said).decode("utf-8", "replace")
+        self.status, printed, said, self.seconds = self.asked("--keep", self.kept)
+        self.printed = (printed + said).decode("utf-8", "replace")
         step = DIFFERENCE.search(self.printed)
         self.steps = int(step[1]) + 1 if step else STEPS
         return ANSWERS.get(self.status, "broken")
@@ -281,6 +287,15 @@ class Pair:
             if b"EQUIVALENT" in printed.upper():
                 return time.monotonic() - begun
         return None
+
+    def timed(self):
+        """The least seconds of the same answer and of ABC's; None where ABC has none."""
+        ours, by_abc = self.seconds, self.by_abc()
+        for i in range(1, TIMES):
+            if by_abc is not None and ours > by_abc + 1:
+                status, *_, seconds = self.asked("--keep", f"{self.kept}-{i}")
+                ours, by_abc = min(ours, seconds if status == self.status else ours), min(by_abc, self.by_abc() or by_abc)
+        return by_abc and (ours, by_abc)
 
     def by_yosys(self):
         """The seconds in which yosys makes files in AIGER form of both, one after the other; None where it doesn't."""
@@ -354,11 +369,12 @@ def main():
             kind, is_wrong = pair.judged()
             counts[f"{pair.name}s {kind}"] += 1
             wrong += [f"{pair}: {kind}: {pair.printed}"] * bool(is_wrong)
-            if pair.status in (10, 20) and (by_abc := pair.by_abc()) is not None:
-                seconds.append((pair.seconds, by_abc))
-                slow += [f"{pair}: {pair.seconds:.2f} s"] * (pair.seconds > by_abc + 1)
+            if pair.status in (10, 20) and (both := pair.timed()):
+                ours, by_abc = both
+                seconds.append(both)
+                slow += [f"{pair}: {ours:.2f} s"] * (ours > by_abc + 1)
                 if (by_yosys := pair.by_yosys()) is not None:
-                    making.append((by_yosys, pair.seconds <= by_abc + by_yosys + 1))
+                    making.append((by_yosys, ours <= by_abc + by_yosys + 1))
     print("".join(f"WRONG: {line}\n" for line in wrong) + "".join(f"SLOW: {line}\n" for line in slow), end="")
     medians = ", ".join(f"{statistics.median(it):.2f}" for it in [*zip(*seconds), [it for it, _ in making]] if it)
     within = f"{len(seconds) - len(slow)} of {len(seconds)} that ABC answers within a second more than it"
