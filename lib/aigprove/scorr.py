@@ -16,8 +16,8 @@ from aigprove.united import ordered
 # or of it and its inverse.
 UNITE = "read_aiger nodes.aig; {}; write_aiger united.aig"
 PRESENT, MOVED = "scorr", "dretime -m; strash; zero; scorr -F 2"
-# What part of the gates there may be at most without classes of nodes of next steps alone, where these are left out: a step seldom keeps the
-# others without them.
+# Classes of nodes of next steps alone are left out where at most this part of the gates is left then. Else they stay: a step may keep the
+# others with them alone.
 PART = 0.9
 
 
