@@ -63,8 +63,13 @@ def compared(file, form, folder, seconds):
 
 
 def best(tries):
-    """The least seconds of each of two programs."""
-    return [min(took[:2] for took in own) for own in zip(*tries)]
+    """The least seconds of each of two programs, of the tries in which it answers as in the first."""
+    return [min(took[:2] for took in own if answers(took[2]) == answers(own[0][2])) for own in zip(*tries)]
+
+
+def answers(said):
+    """The lines of an answer that aigprove or `dsec` prints."""
+    return [line for line in said.splitlines() if line.startswith(("equal at every", "a difference", "Networks are"))]
 
 
 def is_over(by_abc, ours):
