@@ -18,7 +18,7 @@ import statistics
 import subprocess
 import time
 
-from measuring import DESIGNS, FORMS, HERE, PROVE, heads, new_folder, parser, row
+from measuring import DESIGNS, FORMS, HERE, PROVE, compile_aigprove, heads, new_folder, parser, row
 
 PROCESSOR = "read_verilog {}; synth -flatten; dffunmap; abc -g AND; opt_clean; aigmap; write_aiger -zinit {}"
 # How often a pair is timed at most.
@@ -105,6 +105,7 @@ def main():
     words.add_argument("designs", metavar="DESIGN", nargs="*")
     options = words.parse_args()
     seconds, beyond = options.seconds, {}
+    compile_aigprove()
     files = [pathlib.Path(name) if name.endswith(".aig") else DESIGNS / f"{name}.aig" for name in options.designs]
     if options.equal:
         compare(files, seconds)

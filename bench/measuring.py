@@ -6,7 +6,7 @@ import sys
 
 HERE = pathlib.Path(__file__).resolve().parent
 sys.path.append(str(HERE.parent / "tests"))
-from harness import CHECK, EDIT, FORMS, PROVE, TESTS, TOOL, TOP, new_folder, numbers, parser
+from harness import CHECK, EDIT, FORMS, PROVE, TESTS, TOOL, TOP, compile_aigprove, new_folder, numbers, parser
 
 DESIGNS = TESTS / "designs"
 

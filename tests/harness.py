@@ -1,6 +1,7 @@
 """What the scripts of this folder stand on: where the programs are, how one is run, spelled bytes, and checks that are counted."""
 import argparse
 import collections
+import compileall
 import contextlib
 import hashlib
 import os
@@ -72,6 +73,11 @@ MISFITS = (
     b"proof ends before the empty clause\n",
 )
 ADVICE = b"aigcheck: it may be a proof of other clauses: of another K, another file, or the other setting (raw)\n"
+
+
+def compile_aigprove():
+    """Compiles aigprove's modules, as install does, before it is measured: here Python may be told to keep none."""
+    compileall.compile_dir(TOP / "lib" / "aigprove", quiet=1)
 
 
 def parser(doc, *programs, **numbers):

@@ -360,6 +360,7 @@ def taken(folder, count, seed):
 def main():
     count, seed = numbers(60, 1)
     counts, wrong, slow, seconds, making = collections.Counter(), [], [], [], []
+    harness.compile_aigprove()
     with harness.new_folder() as folder:
         if not fetched(folder):
             print("the tests of yosys can't be had: passed over")

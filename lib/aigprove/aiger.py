@@ -38,6 +38,13 @@ class Lines:
         self.place = end + 1
         return line
 
+    def skip(self, count):
+        """Passes over so many lines."""
+        *lines, rest = self.data[self.place:].split(b"\n", count)
+        if len(lines) < count:
+            raise Fault(f"{self.what} ends too early")
+        self.place = len(self.data) - len(rest)
+
     def numbers(self, least, most):
         """A line of so many numbers."""
         words = self.line().split(b" ")
@@ -58,18 +65,23 @@ class Lines:
         self.place = len(self.data) - len(rest)
         return list(map(list, zip(*[map(int, words)] * width)))
 
-    def difference(self):
-        """A number in groups of seven bits, the lowest first."""
-        number = 0
-        for shift in range(0, 35, 7):
-            if self.is_read():
-                raise Fault(f"{self.what} ends too early")
-            group = self.data[self.place]
-            self.place += 1
+    def differences(self, count):
+        """So many numbers in groups of seven bits, the lowest first."""
+        found, number, shift = [], 0, 0
+        for size, group in enumerate(self.data[self.place:] if count else b"", 1):
             number |= (group & 127) << shift
+            shift += 7
             if group < 128:
-                return number
-        raise Fault(f"bad difference in {self.what}")
+                found.append(number)
+                number = shift = 0
+            if len(found) == count:
+                self.place += size
+                return found
+            if shift == 35:
+                raise Fault(f"bad difference in {self.what}")
+        if count:
+            raise Fault(f"{self.what} ends too early")
+        return found
 
 
 class Header:
@@ -112,7 +124,7 @@ class Circuit:
         if header.is_text:
             self.gates = lines.rows(header.gates, 3)
         else:
-            self.gates = [binary_gate(lines, first_gate + 2 * i) for i in range(header.gates)]
+            self.gates = binary_gates(lines, header.gates, first_gate)
         self.names = names(lines)
         self.check()
         self.put_in_order()
@@ -123,15 +135,15 @@ class Circuit:
         known = {0, *defined}
         if len(known) <= len(defined) or any(literal & 1 for literal in defined):
             raise Fault(f"bad literal of an input, latch or gate in {self.what}")
-        operands = (operand for _, left, right in self.gates for operand in (left, right))
-        for literal in itertools.chain(self.nexts, self.outputs, self.bads, self.constraints, operands):
-            if literal & ~1 not in known:
-                raise Fault(f"literal {literal} is not defined in {self.what}")
+        used = [*self.nexts, *self.outputs, *self.bads, *self.constraints, *itertools.chain.from_iterable(row[1:] for row in self.gates)]
+        if unknown := set(used) - known - {literal | 1 for literal in known}:
+            raise Fault(f"literal {next(filter(unknown.__contains__, used))} is not defined in {self.what}")
 
     def put_in_order(self):
         """Puts each gate behind those that it stands on, where that isn't so."""
-        known = {0, *self.inputs, *self.latches}
-        if all(left & ~1 in known and right & ~1 in known and not known.add(gate) for gate, left, right in self.gates):
+        leaves = [0, *self.inputs, *self.latches]
+        places = {literal: i for i, literal in enumerate(itertools.chain(leaves, (gate for gate, _, _ in self.gates)))}
+        if all(places[left & ~1] < i > places[right & ~1] for i, (_, left, right) in enumerate(self.gates, len(leaves))):
             return
         gates = {gate: (gate, left, right) for gate, left, right in self.gates}
         known, begun, self.gates = {0, *self.inputs, *self.latches}, set(), []
@@ -192,13 +204,13 @@ def differences(numbers):
     return bytes(groups)
 
 
-def binary_gate(lines, gate):
-    """A gate of the binary form, by its differences."""
-    left = gate - lines.difference()
-    right = left - lines.difference()
-    if right < 0:
+def binary_gates(lines, count, first):
+    """So many gates of the binary form from this literal on, by their differences."""
+    numbers = lines.differences(2 * count)
+    gates = [(gate, gate - one, gate - one - two) for gate, one, two in zip(itertools.count(first, 2), numbers[::2], numbers[1::2])]
+    if any(right < 0 for *_, right in gates):
         raise Fault(f"bad difference in {lines.what}")
-    return gate, left, right
+    return gates
 
 
 def names(lines):

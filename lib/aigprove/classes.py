@@ -85,8 +85,9 @@ class Classes:
 
     def of_first(self, stop):
         """The same of nodes among which are no others than those that a class with one before a place has, and what these read."""
-        rows = [own for own in self.rows if own[0] < stop]
-        nodes, known = self.nodes.without(self.nodes.cone(itertools.chain.from_iterable(rows)))
+        rows, nodes = [own for own in self.rows if own[0] < stop], self.nodes
+        read = itertools.chain(nodes.nexts, nodes.bads, nodes.constraints, *rows)
+        nodes, known = nodes.without(nodes.cone(read))
         made = Classes(nodes, self.rng, self.every)
         made.rows = [[known[it] for it in own] for own in rows]
         return made

@@ -23,6 +23,7 @@ from aigprove.properties import Property
 from aigprove.questions import HINTED, cadical
 from aigprove.race import FAILED, OPEN, SAFE, UNSAFE, Race
 from aigprove.source import Given, Source
+from aigprove.spare import Spare
 from aigprove.yosys import Late
 
 TOP = os.path.dirname(os.path.dirname(os.path.dirname(os.path.realpath(__file__))))
@@ -391,6 +392,9 @@ def answer(line):
     words = parse(line)
     judge = Judge(programs.Programs(words.jobs, words.memory), *words.believed, words.limit)
     programs.adopt()
+    if words.equal:
+        # What guesses what corresponds in two files, and what asks about that.
+        programs.Module.spare = Spare(["guesses", "scorr", "merging"])
     above = tempfile.mkdtemp(prefix="aigprove-")
     try:
         return tabled(words, above, judge) if words.each else raced(words, above, judge)
@@ -437,4 +441,5 @@ def main():
         status = FAILED
     hush(sys.stdout, 1)
     hush(sys.stderr, 2)
-    sys.exit(status)
+    # All is done, and no thread is waited for.
+    os._exit(status or 0)

@@ -23,9 +23,9 @@ def of_both(witness):
     return {name: Condition("obligations", witness, (name,)) for name in CONDITIONS}
 
 
-def questions():
-    """What is asked of a machine whose property has to be inductive."""
-    return {"base": Question("query", 0), "step": Question("window", 0)}
+def questions(*form):
+    """What is asked of a machine whose property has to be inductive, by clauses of this form."""
+    return {"base": Question("query", 0, form), "step": Question("window", 0, form)}
 
 
 def is_named(witness):

@@ -3,7 +3,6 @@
 What an engine's programs leave is copied, and goes to aigcheck. A program that isn't there, lies or breaks ends its engine with a
 line of why, and nothing else."""
 import collections
-import concurrent.futures
 import itertools
 import re
 import shutil
@@ -11,7 +10,7 @@ import threading
 import time
 
 from aigprove import aiger, conditions, simulation, witness
-from aigprove.programs import Fault, Folder, Sealed, ending
+from aigprove.programs import Beside, Fault, Folder, Sealed, ending
 from aigprove.questions import Question
 from aigprove.shown import Shown
 
@@ -56,6 +55,9 @@ class Steps(Asking):
     """Asks about step 0, 1 and so on, up to the bound; while proofs are checked the next question is asked."""
 
     def run(self):
+        # These take a while to be read.
+        import concurrent.futures
+
         # Steps that unit propagation is tried on, and claims that are being checked.
         self.tried, self.checking, propagates = {}, collections.deque(), False
         with concurrent.futures.ThreadPoolExecutor(CHECKS, threading.current_thread().name) as self.checker:
@@ -238,11 +240,11 @@ class Abc:
 
 
 class Certificate(Asking):
-    """A certificate, sealed, or an invariant that ABC wrote of the file."""
+    """A certificate, sealed, or an invariant that ABC wrote of the file. The file beside it is asked about by clauses of a form."""
 
-    def __init__(self, race, certificate):
+    def __init__(self, race, certificate, *form):
         super().__init__(race)
-        self.certificate = certificate
+        self.certificate, self.form = certificate, form
 
     def run(self):
         """Has the certificate checked, by proofs about the file and it, and hands it in."""
@@ -250,7 +252,7 @@ class Certificate(Asking):
             self.certificate = self.of_invariant()
         with self.race.answering():
             joint = self.joint()
-            claim = self.source.certified(self.certificate, self.joined(joint) if joint else self.simulated())
+            claim = self.source.certified(self.certificate, self.joined(joint) if joint else self.simulated(), *self.form)
             self.judge.check(claim)
         self.race.certificate(claim, self.certificate)
 
@@ -267,14 +269,16 @@ class Certificate(Asking):
 
     def asked(self, questions, file):
         """Proofs for questions by their names, which are asked side by side; and the solutions of those that have some."""
-        with concurrent.futures.ThreadPoolExecutor(len(questions), threading.current_thread().name) as pool:
-            given = dict(zip(questions, pool.map(lambda question: self.solver.ask(question, file), questions.values())))
+        asked = {name: Beside(self.solver.ask, question, file) for name, question in questions.items()}
+        for it in asked.values():
+            it.join()
+        given = {name: it.result() for name, it in asked.items()}
         proofs, solutions = ({name: it for name, (has, it) in given.items() if has == wanted} for wanted in (False, True))
         return proofs, solutions
 
     def joined(self, joint):
         """Proofs about the file beside the certificate."""
-        proofs, solutions = self.asked(conditions.questions(), joint)
+        proofs, solutions = self.asked(conditions.questions(*self.form), joint)
         for name, solution in solutions.items():
             # Only of what was given is it told what else it might have been.
             is_given = self.source.can_be_simulated and self.certificate is self.race.words.certificate

@@ -10,6 +10,7 @@ import sys
 
 from aigprove.aiger import Circuit, Fault, Lines
 from aigprove.classes import Classes, Different
+from aigprove.implied import Pairs
 from aigprove.nodes import Nodes
 from aigprove.plain import Gates
 from aigprove.programs import Programs
@@ -196,43 +197,16 @@ class Steps:
             raise Fault("the solver's solution is none")
 
 
-def choices(gates):
-    """The gates that are choices: one of two nodes, by a third one."""
-    below = {gate: operands for gate, *operands in gates.rows}
-    ways = ((gate, below.get(left ^ 1, ()), below.get(right ^ 1, ())) for gate, left, right in gates.rows)
-    return {gate for gate, first, other in ways if any(it ^ 1 in other for it in first)}
-
-
-def without_implied(nodes, pairs):
-    """Pairs but those of gates whose operands are equal by others that stay: these gates are, too, by unit propagation. Those of choices
-    stay, as clauses may say of one of two that it is such and of the other that it is an and."""
-    standing = {right & ~1: left ^ right & 1 for left, right in pairs if left < right}
-    gates, known, implied, chosen = Gates(nodes.latches.stop), [0, 1], {}, choices(nodes.gates)
-    below = {gate: {left & ~1, right & ~1} for gate, left, right in nodes.gates.rows}
-    for leaf in nodes.leaves():
-        value = known[standing[leaf]] if leaf in standing else leaf
-        known += value, value ^ 1
-    for gate, left, right in nodes.gates.rows:
-        value = gates.both(known[left], known[right])
-        if gate in standing:
-            same = standing[gate]
-            read = below[gate] | below.get(same & ~1, set())
-            if known[same] == value and chosen.isdisjoint((gate, same & ~1)) and implied.keys().isdisjoint(read):
-                implied[gate] = same
-            value = known[same]
-        known += value, value ^ 1
-    return [(left, right) for left, right in pairs if implied.get(right & ~1) != left ^ right & 1]
-
-
 def certificate(nodes, pairs):
     """The text of a certificate whose bad states are those in which a pair differs; of what stands on others first, as they are asked about
-    the last first. The nodes get its gates."""
-    gates = nodes.gates
-    ways = [gates.both(*way) for left, right in without_implied(nodes, pairs) for way in [(left, right ^ 1), (left ^ 1, right)]]
+    the last first. It has the gates that pairs read."""
+    pairs, gates = Pairs(nodes, pairs).needed(), Gates(nodes.gates.next)
+    read = nodes.cone(itertools.chain.from_iterable(pairs))
+    gates.rows = [row for row in nodes.gates.rows if row[0] in read]
+    ways = [gates.both(*way) for left, right in pairs for way in [(left, right ^ 1), (left ^ 1, right)]]
     bads = [bad for bad in reversed(ways) if bad] or [0]
     states = [f"{latch} {latch} {reset if reset < 2 else latch}" for latch, reset in zip(nodes.latches, nodes.resets)]
-    count = len(nodes.leaves()) + len(gates.rows)
-    header = f"aag {count} {len(nodes.inputs)} {len(states)} 0 {len(gates.rows)} {len(bads)}"
+    header = f"aag {(gates.next >> 1) - 1} {len(nodes.inputs)} {len(states)} 0 {len(gates.rows)} {len(bads)}"
     lines = [header, *nodes.inputs, *states, *bads, *(" ".join(map(str, row)) for row in gates.rows)]
     return "".join(f"{line}\n" for line in lines).encode()
 

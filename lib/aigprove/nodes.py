@@ -68,27 +68,34 @@ class Nodes:
 
     def merged(self, leaves):
         """The same where inputs and latches are these literals of them, and the literals that all of its own have there."""
-        made = copy.copy(self)
-        made.gates = Gates(self.latches.stop)
-        known = self.literals(leaves, made.gates)
-        lists = [self.nexts, self.bads, self.constraints]
+        gates = Gates(self.latches.stop)
+        known = self.literals(leaves, gates)
+        return self.with_gates(gates, known), known
+
+    def with_gates(self, gates, known):
+        """The same over other gates, by what its literals are there."""
+        made, lists = copy.copy(self), [self.nexts, self.bads, self.constraints]
+        made.gates = gates
         made.nexts, made.bads, made.constraints = ([known[literal] for literal in literals] for literals in lists)
-        return made, known
+        return made
 
     def cone(self, literals):
-        """The nodes that literals and next values read, by their literals."""
-        seen = {literal & ~1 for literal in [*literals, *self.nexts, *self.bads, *self.constraints]}
+        """The nodes that literals read, by their literals."""
+        seen = {literal & ~1 for literal in literals}
         for gate, left, right in reversed(self.gates.rows):
             if gate in seen:
                 seen |= {left & ~1, right & ~1}
         return seen
 
     def without(self, kept):
-        """The same with no gates but these, and the literals that its own have there."""
-        made, gates = copy.copy(self), copy.copy(self.gates)
-        gates.rows = [row for row in gates.rows if row[0] in kept]
-        made.gates = gates
-        return made.merged(self.leaves())
+        """The same with no gates but these, which have all that they read, and the literals that its own have there."""
+        first, gates = self.latches.stop, Gates(self.latches.stop)
+        known = [*range(first), *[0] * (self.gates.next - first)]
+        for gate, left, right in self.gates.rows:
+            if gate in kept:
+                known[gate] = gates.add(known[left], known[right])
+                known[gate + 1] = known[gate] ^ 1
+        return self.with_gates(gates, known), known
 
     def reached(self, literals, rng):
         """Inputs and latches, inverted where they are to be 0, that may make literals true."""

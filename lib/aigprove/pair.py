@@ -1,6 +1,5 @@
 """Two files that are compared: their miter, which aigedit makes, is asked about."""
 import argparse
-import concurrent.futures
 import copy
 
 from aigprove import matched, simulation
@@ -9,7 +8,7 @@ from aigprove.judge import Claim
 from aigprove.matched import APART, BY_NAME, Starts
 from aigprove.minimal import SMALL, simulated
 from aigprove.misfit import SIGNALS, misfit
-from aigprove.programs import Fault, Sealed, engine_here
+from aigprove.programs import Beside, Fault, Sealed
 from aigprove.shown import Shown, word
 from aigprove.simulation import SIMULATED
 from aigprove.source import Asked, Given
@@ -31,7 +30,7 @@ class Pair(Asked):
     can_be_simulated = False
 
     def __init__(self, words, above, judge):
-        self.judge, self.paths = judge, [words.files[0], words.equal]
+        self.judge, self.paths, self.known = judge, [words.files[0], words.equal], None
         self.path = " and ".join(self.paths)
         self.first, self.other = self.read(words, above)
         designs = [it for it in [self.first, self.other] if it.design]
@@ -44,18 +43,20 @@ class Pair(Asked):
         self.by_name = [] if len(designs) == 2 else self.put_in_order()
         if self.by_name:
             self.begin(way)
+        # From here on both circuits are seldom read.
+        self.by_position, self.known = list(self.lines_by_position()), None
 
     def read(self, words, above):
         """Both files, which are read side by side. Where the first can't be, or a signal comes, no reading goes on."""
         beside = argparse.Namespace(**{**vars(words), **of_first(words)})
         hushed = argparse.Namespace(**{**vars(beside), "quiet": True})
-        with concurrent.futures.ThreadPoolExecutor(1, engine_here()) as pool:
-            try:
-                reading = pool.submit(Given, [words.equal], hushed, above, self.judge, "other")
-                first, other = Given(words.files, words, above, self.judge), reading.result()
-            except BaseException:
-                self.judge.programs.stop()
-                raise
+        reading = Beside(Given, [words.equal], hushed, above, self.judge, "other")
+        try:
+            first, other = Given(words.files, words, above, self.judge), reading.result()
+        except BaseException:
+            self.judge.programs.stop()
+            reading.join()
+            raise
         other.say_left_out(beside)
         return first, other
 
@@ -77,6 +78,7 @@ class Pair(Asked):
         changed = {letter: places for letter, places in orders.items() if places and places != sorted(places)}
         if changed:
             self.other.take(Sealed(matched.arranged(other, changed).text()))
+            self.known = None
         return list(changed)
 
     def begin(self, way):
@@ -108,7 +110,9 @@ class Pair(Asked):
         return [it.header().latches + (self.constraints == COMPARED) for it in [self.first, self.other]]
 
     def circuits(self):
-        return [self.first.circuit(), self.other.circuit()]
+        """The circuits of both, which are read once while the miter is made."""
+        self.known = self.known or [self.first.circuit(), self.other.circuit()]
+        return self.known
 
     def alike(self):
         """The same pair with registers that start alike, where these don't, and there are some."""
@@ -147,10 +151,10 @@ class Pair(Asked):
         words = ["to", str(question.k), question.name, window.name, *window.form]
         return self.compares(self.safe, words, {question.name: base, window.name: step})
 
-    def certified(self, certificate, proofs):
-        """That both are equal at every step, by a certificate of the miter and proofs about both."""
+    def certified(self, certificate, proofs, *form):
+        """That both are equal at every step, by a certificate of the miter and proofs about both, whose clauses have a form."""
         files = {"certificate": certificate, **proofs}
-        return self.compares(self.safe, ["by", *files], files)
+        return self.compares(self.safe, ["by", *files, *form], files)
 
     def started(self):
         """The latch of the miter, by its place, that each one starts like which does so."""
@@ -195,11 +199,11 @@ class Pair(Asked):
         yield from self.alone
         yield from self.same_free()
         yield from (f"{SIGNALS[letter][0]} are matched by name" for letter in self.by_name)
-        yield from self.by_position()
+        yield from self.by_position
 
-    def by_position(self):
+    def lines_by_position(self):
         """Lines of signals that have two names, of each kind of the first ones."""
-        first, other = self.first.circuit().names, self.other.circuit().names
+        first, other = (circuit.names for circuit in self.circuits())
         for letter, (kind, _) in SIGNALS.items():
             places = sorted(place for place in first.keys() & other.keys() if place[0] == letter and first[place] != other[place])
             told = [[word(it[place].decode("utf-8", "surrogateescape")) for it in (first, other)] for place in places[:FEW]]

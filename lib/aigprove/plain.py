@@ -26,11 +26,19 @@ class Gates:
             return 0
         if right == 1 or left == right:
             return left
-        if (left, right) not in self.made:
-            self.made[left, right] = self.next
-            self.rows.append((self.next, left, right))
-            self.next += 2
-        return self.made[left, right]
+        made = self.made.get((left, right))
+        return self.add(left, right) if made is None else made
+
+    def add(self, left, right):
+        """The literal of a new and of two literals, the larger first."""
+        made = self.made[left, right] = self.next
+        self.rows.append((made, left, right))
+        self.next += 2
+        return made
+
+    def take(self, left, right, literal):
+        """Has another literal stand for an and from now on."""
+        self.made[max(left, right), min(left, right)] = literal
 
     def any(self, literals):
         """The literal of an or, as a tree."""

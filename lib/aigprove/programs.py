@@ -120,9 +120,21 @@ class Sealed:
         return self.path
 
 
-def module(name, *words):
+class Module:
     """The words that run a module of this package as a program of its own, which doesn't wait for what other threads compute."""
-    return [sys.executable, "-ISc", MODULE.format(name), PACKAGE, *words]
+
+    # The process that has read it, where there is one.
+    spare = None
+
+    def __init__(self, name, *words):
+        self.name, self.words = name, words
+
+    def __iter__(self):
+        return iter([sys.executable, "-ISc", MODULE.format(self.name), PACKAGE, *self.words])
+
+    def begin(self, folder):
+        """Runs it in a process of the spare one; None where there is none."""
+        return self.spare and self.spare.begin(self.name, self.words, folder)
 
 
 def signal_group(group, number):
@@ -134,6 +146,28 @@ def signal_group(group, number):
 def engine_here():
     """The name of the engine whose thread this is, or one that it started."""
     return threading.current_thread().name.partition("_")[0]
+
+
+class Beside(threading.Thread):
+    """A call beside what the thread goes on with that makes it, as one of the same engine. (Pools of threads take longer to be read.)"""
+
+    def __init__(self, call, *words):
+        super().__init__(name=threading.current_thread().name)
+        self.call, self.words, self.given, self.why = call, words, None, None
+        self.start()
+
+    def run(self):
+        try:
+            self.given = self.call(*self.words)
+        except BaseException as why:
+            self.why = why
+
+    def result(self):
+        """What it gives, once it ends, or raises."""
+        self.join()
+        if self.why:
+            raise self.why
+        return self.given
 
 
 def read_of(process, file):
@@ -157,8 +191,9 @@ class Group:
         self.folder, self.engine, self.counted = None, engine_here(), time.monotonic()
         # The long files among its words.
         self.reads = [word for word in words if isinstance(word, Sealed) and word.size() >= LONG]
-        words = list(map(str, words))
-        self.process = subprocess.Popen(words, cwd=folder, env=environment, start_new_session=True, stdin=subprocess.DEVNULL, **streams)
+        options = {"cwd": folder, "env": environment, "start_new_session": True, "stdin": subprocess.DEVNULL, **streams}
+        begun = words.begin(folder) if isinstance(words, Module) else None
+        self.process = begun or subprocess.Popen(list(map(str, words)), **options)
 
     def reading(self):
         """How far it has read each long file, in words."""
@@ -468,12 +503,16 @@ class Folder:
     def make(self, name):
         return open(self.place(name), "xb")
 
-    def run(self, programs, words):
-        """Runs a program of the engine to its end, and gives its status. What it prints goes into files of the folder."""
+    def start(self, programs, words):
+        """Starts a program of the engine. What it prints goes into files of the folder."""
         with self.make("out") as out, self.make("err") as error:
             group = programs.start(words, folder=self.path, stdout=out, stderr=error)
         self.hold(group)
-        return programs.finish(group)
+        return group
+
+    def run(self, programs, words):
+        """Runs such a program to its end, and gives its status."""
+        return programs.finish(self.start(programs, words))
 
     def hold(self, group):
         """Sets limits: no file of a program's grows past the folder's, and it is the first to go where memory runs out."""

@@ -28,8 +28,9 @@ TICK = 0.1
 # How many seconds values that don't matter are looked for in a run, and of how many properties that it shows; and how many cadical has for
 # what is so where registers start alike.
 SECONDS, SHOWN, ALIKE = 1, 8, 5
-# Engines that begin once `registers` has ended, or after so many seconds.
-LATER, HEAD_START = {"pdr", "windows"}, 0.5
+# Engines that have their program run before others compute something here; those that begin once `registers` has ended; and after how many
+# seconds at the latest.
+FIRST, LATER, HEAD_START = {"scorr", "registers"}, {"pdr", "steps", "windows"}, 0.75
 
 
 def header_of(file):
@@ -334,6 +335,8 @@ class Race:
             return False
         self.started.append(name)
         threading.Thread(target=self.work, args=[name, engine], name=name, daemon=True).start()
+        if name in FIRST:
+            engine.has_begun.wait(HEAD_START)
         return True
 
     def work(self, name, engine):

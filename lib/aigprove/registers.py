@@ -1,10 +1,11 @@
 """An engine for two files, whose miter has a certificate where registers correspond: a program of its own guesses it, so that it doesn't wait
 for what other engines compute. Nothing here is believed."""
 import json
+import threading
 
 from aigprove.engines import Asking, Certificate, Missing, abc
 from aigprove.pair import Pair
-from aigprove.programs import Fault, Folder, ending, module, say
+from aigprove.programs import Fault, Folder, Module, ending, say
 from aigprove.questions import pass_on
 from aigprove.turns import Turns
 
@@ -21,12 +22,14 @@ class Registers(Asking):
         if not isinstance(race.source, Pair):
             raise Missing("it compares two files, as --equal does")
         self.solver = Turns(race.words.solver, race.words.is_cadical, self.solver.programs, self.judge, race.above)
+        self.has_begun = threading.Event()
 
     def run(self):
         self.race.progress(self.name)
         certificate = self.guessed()
         if certificate.size():
-            made = Certificate(self.race, certificate)
+            # Of raw clauses those of equal gates are alike.
+            made = Certificate(self.race, certificate, "raw")
             made.solver = self.solver
             made.run()
         elif self.race.words.verbose:
@@ -40,7 +43,9 @@ class Registers(Asking):
         with Folder(self.race.above) as folder:
             with folder.make("file.aag") as out:
                 out.write(self.race.text.bytes())
-            status = folder.run(self.race.programs, module(self.guesses, folder.path, json.dumps(asked)))
+            group = folder.start(self.race.programs, Module(self.guesses, folder.path, json.dumps(asked)))
+            self.has_begun.set()
+            status = self.race.programs.finish(group)
             if status:
                 *_, last = folder.text("err", "message").strip().split("\n")
                 raise Fault(last or f"its program {ending(status)}")

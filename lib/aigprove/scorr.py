@@ -15,15 +15,23 @@ from aigprove.united import ordered
 # next steps it moves registers forward before that, so that those of one time meet, and looks at two steps. Outputs are of one literal then,
 # or of it and its inverse.
 UNITE = "read_aiger nodes.aig; {}; write_aiger united.aig"
-PRESENT, MOVED = "scorr", "dretime -m; strash; zero; scorr -F 2"
+PRESENT, MOVED = "scorr", "dretime -m; zero; scorr -F 2"
 # Classes of nodes of next steps alone are left out where at most this part of the gates is left then. Else they stay: a step may keep the
 # others with them alone.
 PART = 0.9
 
 
 def machine(nodes):
-    """A machine in binary form that has some nodes as its outputs, from the first latch on, and whose latches are 0 at first: where one is
-    open, the latch behind all others says whether it has begun, and else an input is its value."""
+    """A machine in binary form that has some nodes as its outputs, from the first latch on, and whose latches are 0 at first."""
+    if any(nodes.resets):
+        return begun(nodes)
+    outputs = range(nodes.latches.start, nodes.all().stop, 2)
+    return binary(len(nodes.inputs), nodes.nexts, outputs, nodes.gates)
+
+
+def begun(nodes):
+    """The same where latches are 1 at first, or open: the latch behind all others says whether the machine has begun, and else an input is an
+    open latch's value."""
     count, latches = len(nodes.inputs), len(nodes.latches)
     opened = [i for i, reset in enumerate(nodes.resets) if reset > 1 and i not in nodes.alike]
     first = 2 * (1 + count + len(opened))
@@ -40,8 +48,7 @@ def outputs(data):
     """The literals of the outputs of a file in binary form."""
     lines = Lines(data, "ABC's file")
     header = Header(lines)
-    for _ in range(header.latches):
-        lines.line()
+    lines.skip(header.latches)
     return [literal for literal, in lines.rows(header.outputs, 1)]
 
 

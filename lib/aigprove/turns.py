@@ -1,5 +1,5 @@
 """Questions about many literals, or pairs of them, which cadical is asked in turn: it goes on with what it learned."""
-from aigprove.programs import Fault, Folder, module
+from aigprove.programs import Fault, Folder, Module
 from aigprove.questions import ASSUMING, HINTED, Solver
 
 
@@ -55,7 +55,7 @@ class Turns(Solver):
         with Folder(self.above) as folder:
             with folder.make("clauses.cnf") as out:
                 self.judge.print_question(question, file, out)
-            status = self.ended(folder, module("merging", folder.path, *self.turning))
+            status = self.ended(folder, Module("merging", folder.path, *self.turning))
             return status == 10, folder.taken("out", "answer" if status == 10 else "proof")
 
     def differing(self, gates, facts, pairs, limits=()):
