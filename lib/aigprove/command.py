@@ -404,7 +404,7 @@ def answer(line):
         return OPEN
     finally:
         judge.programs.stop()
-        programs.bury()
+        programs.bury(judge.programs.processes())
         programs.remove(above)
 
 

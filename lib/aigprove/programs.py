@@ -213,7 +213,8 @@ class Keeper:
 
     def __init__(self):
         told, self.telling = os.pipe()
-        if os.fork() == 0:
+        self.process = os.fork()
+        if self.process == 0:
             # Whatever fails here, the other process goes on alone.
             try:
                 os.close(self.telling)
@@ -401,6 +402,12 @@ class Programs:
             for group in self.running + self.waiting:
                 group.signal(signal.SIGKILL)
 
+    def processes(self):
+        """The processes that are known to be there, by their numbers."""
+        with self.lock:
+            spare = [Module.spare.process] if Module.spare else []
+            return [group.process.pid for group in self.running + self.waiting] + [self.keeper.process, *spare]
+
     def output(self, words, **streams):
         """The status of one of our own programs, what it prints, and what it says on standard error, without the paths and places of
         sealed files, which stand among its words."""
@@ -453,13 +460,31 @@ def children():
                 yield int(name)
 
 
-def bury():
-    """Ends all processes that this one is the parent of, until there are none."""
-    while found := list(children()):
-        for process in found:
-            with contextlib.suppress(ProcessLookupError, ChildProcessError):
-                os.kill(process, signal.SIGKILL)
-                os.waitpid(process, 0)
+def has_children():
+    """Whether this process is the parent of any that hasn't ended."""
+    try:
+        while os.waitpid(-1, os.WNOHANG)[0]:
+            pass
+        return True
+    except ChildProcessError:
+        return False
+
+
+def end(process):
+    """Ends a process, if this one is its parent."""
+    with contextlib.suppress(ChildProcessError):
+        if os.waitpid(process, os.WNOHANG)[0] == 0:
+            os.kill(process, signal.SIGKILL)
+            os.waitpid(process, 0)
+
+
+def bury(known):
+    """Ends all processes that this one is the parent of, until there are none: those that are known, and then what they left."""
+    for process in known:
+        end(process)
+    while has_children():
+        for process in children():
+            end(process)
 
 
 def entries_of(path):
@@ -471,8 +496,9 @@ def entries_of(path):
 
 def remove(path):
     """Removes a folder, however deep it is and whatever its rights."""
-    with contextlib.suppress(OSError):
-        os.rmdir(path)
+    # It gives up where a folder is too deep, or has no rights.
+    with contextlib.suppress(RecursionError):
+        shutil.rmtree(path, ignore_errors=True)
     for words in [["rm", "-rf"], ["chmod", "-R", "u+rwx"], ["rm", "-rf"]]:
         if os.path.lexists(path):
             subprocess.run([*words, "--", path], stdin=subprocess.DEVNULL, stdout=subprocess.DEVNULL, stderr=subprocess.DEVNULL)

@@ -29,7 +29,8 @@ class Spare:
         self.lock = threading.Lock()
         asked, self.asking = os.pipe()
         telling, told = os.pipe()
-        if os.fork() == 0:
+        self.process = os.fork()
+        if self.process == 0:
             try:
                 serve(names, asked, told)
             finally:
