@@ -1,6 +1,7 @@
 """The command line of aigprove."""
 import argparse
 import collections
+import contextlib
 import math
 import os
 import re
@@ -387,6 +388,17 @@ def end_scripts(races):
         race.evidence.end()
 
 
+@contextlib.contextmanager
+def undisturbed():
+    """Passes over signals for a little while, so that none leaves anything behind."""
+    before = {number: signal.signal(number, signal.SIG_IGN) for number in [signal.SIGTERM, signal.SIGHUP, signal.SIGINT]}
+    try:
+        yield
+    finally:
+        for number, handler in before.items():
+            signal.signal(number, handler)
+
+
 def answer(line):
     """Answers what a command line asks, and gives the exit status."""
     words = parse(line)
@@ -403,9 +415,10 @@ def answer(line):
         print("2\n." if words.aiger else "nothing was shown")
         return OPEN
     finally:
-        judge.programs.stop()
-        programs.bury(judge.programs.processes())
-        programs.remove(above)
+        with undisturbed():
+            judge.programs.stop()
+            programs.bury(judge.programs.processes())
+            programs.remove(above)
 
 
 def hush(stream, number):

@@ -106,7 +106,7 @@ class Merging:
             self.same[variable], self.same[-variable] = it, -it
 
     def merge(self, gates):
-        """The gates that are left when variables of the same definition are merged."""
+        """The gates that are left when variables of the same definition are merged: those that say more than others before them."""
         self.resolve()
         same, made, left = self.same, {}, []
         for gate in gates:
