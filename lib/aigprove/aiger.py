@@ -5,6 +5,8 @@ import re
 KINDS = {"i": "inputs", "l": "latches", "o": "outputs", "b": "bads", "c": "constraints"}
 LIMIT = 1 << 24
 COMMENT = re.compile(rb"c(?![0-9])")
+# The groups of a number in binary form behind which there is another.
+GOES_ON = bytes(range(128, 256))
 
 
 class Fault(Exception):
@@ -65,6 +67,15 @@ class Lines:
         self.place = len(self.data) - len(rest)
         return list(map(list, zip(*[map(int, words)] * width)))
 
+    def skip_differences(self, count):
+        """Passes over so many of the numbers that `differences` reads."""
+        while count:
+            groups = self.data[self.place:self.place + count]
+            if not groups:
+                raise Fault(f"{self.what} ends too early")
+            self.place += len(groups)
+            count -= len(groups.translate(None, GOES_ON))
+
     def differences(self, count):
         """So many numbers in groups of seven bits, the lowest first."""
         found, number, shift = [], 0, 0
@@ -97,6 +108,20 @@ class Header:
         self.counts = [*map(decimal, words), *[0] * 4][:9]
         self.inputs, self.latches, self.outputs, self.gates = self.counts[1:5]
         self.bads, self.constraints, self.justice, self.fairness = self.counts[5:9]
+
+
+class Symbols:
+    """The header of a file and its names, whose lists and gates are passed over."""
+
+    def __init__(self, lines):
+        header = self.header = Header(lines)
+        lines.skip(header.inputs * header.is_text + header.latches + header.outputs + header.bads + header.constraints)
+        lines.skip(sum(lines.number() for _ in range(header.justice)) + header.fairness)
+        if header.is_text:
+            lines.skip(header.gates)
+        else:
+            lines.skip_differences(2 * header.gates)
+        self.names = names(lines)
 
 
 class Circuit:

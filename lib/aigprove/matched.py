@@ -93,7 +93,7 @@ def why_alone(name, known):
 def order(letter, first, other):
     """The places of the second circuit's signals of a kind in the order in which the first has their names; as they stand where the counts
     differ, or some have no name or the same one. None where both haven't the same names."""
-    ours, theirs = ([it.names.get((letter, i)) for i in range(len(getattr(it, KINDS[letter])))] for it in (first, other))
+    ours, theirs = ([it.names.get((letter, i)) for i in range(getattr(it.header, KINDS[letter]))] for it in (first, other))
     if len(ours) != len(theirs) or any(None in names or len(set(names)) < len(names) for names in (ours, theirs)):
         return list(range(len(theirs)))
     places = {name: i for i, name in enumerate(theirs)}

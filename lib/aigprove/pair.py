@@ -73,11 +73,10 @@ class Pair(Asked):
     def put_in_order(self):
         """Puts the second file's signals in the order of the first's, of the kinds of which both files have the same names in another order;
         the letters of these."""
-        first, other = self.circuits()
-        orders = matched.orders(first, other)
+        orders = matched.orders(*self.symbols())
         changed = {letter: places for letter, places in orders.items() if places and places != sorted(places)}
         if changed:
-            self.other.take(Sealed(matched.arranged(other, changed).text()))
+            self.other.take(Sealed(matched.arranged(self.other.circuit(), changed).text()))
             self.known = None
         return list(changed)
 
@@ -113,6 +112,10 @@ class Pair(Asked):
         """The circuits of both, which are read once while the miter is made."""
         self.known = self.known or [self.first.circuit(), self.other.circuit()]
         return self.known
+
+    def symbols(self):
+        """The names of both, of circuits that were read already where there are such."""
+        return self.known or [self.first.symbols(), self.other.symbols()]
 
     def alike(self):
         """The same pair with registers that start alike, where these don't, and there are some."""
@@ -203,7 +206,7 @@ class Pair(Asked):
 
     def lines_by_position(self):
         """Lines of signals that have two names, of each kind of the first ones."""
-        first, other = (circuit.names for circuit in self.circuits())
+        first, other = (it.names for it in self.symbols())
         for letter, (kind, _) in SIGNALS.items():
             places = sorted(place for place in first.keys() & other.keys() if place[0] == letter and first[place] != other[place])
             told = [[word(it[place].decode("utf-8", "surrogateescape")) for it in (first, other)] for place in places[:FEW]]

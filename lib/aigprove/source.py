@@ -4,7 +4,7 @@ import re
 import tempfile
 
 from aigprove import aiger, simulation, waves
-from aigprove.aiger import Header, Lines
+from aigprove.aiger import Header, Lines, Symbols
 from aigprove.files import sealed
 from aigprove.fronts import BLIF, COVER, FRONTS, LIVE, STANDARD_INPUT, VERILOG, File, kind_of
 from aigprove.judge import Claim
@@ -76,6 +76,10 @@ class Given:
         if self.design:
             circuit.names = {place: outermost(name) for place, name in circuit.names.items()}
         return circuit
+
+    def symbols(self):
+        """The names that its circuit has, without this where they are those of the file."""
+        return self.circuit() if self.design else Symbols(Lines(self.file.bytes(), "FILE"))
 
     def named(self):
         """The circuit of a design with the names of its assertions, and all names of its registers, by their places."""
