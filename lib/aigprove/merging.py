@@ -53,18 +53,23 @@ def texts_of(clauses):
     return (text_of(own) for own in sets if TRUE not in own and not any(-it in own for it in own))
 
 
+def is_plain(variable, left, right):
+    """Whether no clause of a gate can be always true, or has a literal twice."""
+    return len({1, abs(variable), abs(left), abs(right)}) == 4
+
+
 def text_of_gate(variable, left, right):
-    """The text of a gate's clauses, as they are, where none of them can be always true or the same as another."""
-    if len({1, abs(variable), abs(left), abs(right)}) == 4:
+    """The text of a gate's clauses."""
+    if is_plain(variable, left, right):
         return b"%d %d 0\n%d %d 0\n%d %d %d 0\n" % (-variable, left, -variable, right, variable, -left, -right)
     return b"".join(texts_of(clauses_of(variable, left, right)))
 
 
-def text_of_lemmas(variable, other):
-    """The text of clauses that say that a variable is another literal."""
+def text_of_lemmas(literal, other):
+    """The text of clauses that say that a literal is another."""
     if abs(other) == 1:
-        return b"%d 0\n" % (variable if other == TRUE else -variable)
-    return b"%d %d 0\n%d %d 0\n" % (-variable, other, variable, -other)
+        return b"%d 0\n" % (literal if other == TRUE else -literal)
+    return b"%d %d 0\n%d %d 0\n" % (-literal, other, literal, -other)
 
 
 def literal_of(left, right):
@@ -92,8 +97,9 @@ class Merging:
         # Equal definitions first, so that the nodes of a file and of its certificate are the same ones; then what units say of these.
         gates = self.merge(gates)
         self.merge_equal(gates)
-        self.left = self.merge(gates)
+        left, same = self.merge(gates), self.same
         self.resolve()
+        self.rows = list(dict.fromkeys((same[variable], same[one], same[two]) for variable, one, two in left))
 
     def literal(self, of):
         """What stands for a literal."""
@@ -119,14 +125,19 @@ class Merging:
                 other = made[key] = literal_of(one, two)
             if other is None:
                 made[key] = own
-            elif own == variable:
-                same[own], same[-own] = other, -other
-                self.merged.append((own, other))
-                continue
-            elif own == other:
-                continue
-            left.append(gate)
+                left.append(gate)
+            elif own == -other:
+                left.append(gate)
+            elif own != other:
+                self.unite(own, other)
         return left
+
+    def unite(self, own, other):
+        """Has the literal of the variable before the other's stand for that one."""
+        if abs(own) < abs(other):
+            own, other = other, own
+        self.same[own], self.same[-own] = other, -other
+        self.merged.append((own, other))
 
     def merge_equal(self, gates):
         """Merges variables of which units say that neither is true without the other."""
@@ -146,17 +157,18 @@ class Merging:
 
     def asked(self):
         """A file of cadical's that asks about the literals of the last clause in turn, the last first; nothing where all are false."""
-        same, wanted = self.same, dict.fromkeys(it for it in map(self.literal, reversed(self.last)) if it != FALSE)
+        wanted = dict.fromkeys(it for it in map(self.literal, reversed(self.last)) if it != FALSE)
         if wanted:
-            rows = dict.fromkeys((same[variable], same[left], same[right]) for variable, left, right in self.left)
             yield b"p inccnf\n-1 0\n"
             yield from texts_of(map(self.literal, own) for own in self.others)
-            yield from itertools.starmap(text_of_gate, rows)
+            yield from itertools.starmap(text_of_gate, self.rows)
             yield from (b"a %d 0\n" % it for it in wanted)
 
     def proof(self):
-        """The begin of a proof: each merged variable and what stood for it then imply one another."""
-        return b"".join(itertools.starmap(text_of_lemmas, self.merged))
+        """The begin of a proof: each merged variable and what stood for it then imply one another. Then come clauses that are shorter than
+        those that were printed, by which unit propagation finds more."""
+        shorter = itertools.filterfalse(lambda row: is_plain(*row), self.rows)
+        return b"".join([*itertools.starmap(text_of_lemmas, self.merged), *itertools.starmap(text_of_gate, shorter)])
 
 
 def main(folder, *words):
