@@ -28,9 +28,9 @@ TICK = 0.1
 # How many seconds values that don't matter are looked for in a run, and of how many properties that it shows; and how many cadical has for
 # what is so where registers start alike.
 SECONDS, SHOWN, ALIKE = 1, 8, 5
-# Engines that have their program run before others compute something here; those that begin once `registers` has ended; and after how many
-# seconds at the latest.
-FIRST, LATER, HEAD_START = {"scorr", "registers"}, {"pdr", "steps", "windows"}, 0.75
+# Engines that have their program run before others compute something here; those that begin once one of two has ended, as less is computed in
+# the same time where there is more; and after how many seconds at the latest.
+FIRST, LATER, BEFORE, HEAD_START = {"scorr", "registers"}, {"pdr", "bounded", "steps", "windows"}, {"registers", "bmc3"}, 0.75
 
 
 def header_of(file):
@@ -354,8 +354,8 @@ class Race:
         self.freed(name)
 
     def freed(self, name):
-        """Lets later engines begin, once the one for two files ended."""
-        if name == "registers":
+        """Lets later engines begin, once one before them ended."""
+        if name in BEFORE:
             self.is_free.set()
 
     def end(self, name, why=None):
