@@ -403,8 +403,7 @@ def answer(line):
     """Answers what a command line asks, and gives the exit status."""
     words = parse(line)
     judge = Judge(programs.Programs(words.jobs, words.memory), *words.believed, words.limit)
-    programs.adopt()
-    if words.equal:
+    if programs.adopt() and words.equal:
         # What guesses what corresponds in two files, and what asks about that.
         programs.Module.spare = Spare(["guesses", "scorr", "merging"])
     above = tempfile.mkdtemp(prefix="aigprove-")

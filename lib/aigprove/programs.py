@@ -445,11 +445,11 @@ class Part(Programs):
 
 
 def adopt():
-    """Makes this process the parent of all that its programs leave behind, so that `bury` finds it."""
+    """Makes this process the parent of all that its programs leave behind, so that `bury` finds it; whether that could be."""
     # Only one process of ours does that.
     import ctypes
 
-    ctypes.CDLL(None).prctl(SUBREAPER, 1, 0, 0, 0)
+    return ctypes.CDLL(None).prctl(SUBREAPER, 1, 0, 0, 0) == 0
 
 
 def children():
