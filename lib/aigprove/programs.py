@@ -472,7 +472,8 @@ def has_children():
 
 def end(process):
     """Ends a process, if this one is its parent."""
-    with contextlib.suppress(ChildProcessError):
+    # A thread that waits for it may see its end first.
+    with contextlib.suppress(ProcessLookupError, ChildProcessError):
         if os.waitpid(process, os.WNOHANG)[0] == 0:
             os.kill(process, signal.SIGKILL)
             os.waitpid(process, 0)
