@@ -14,18 +14,21 @@ from aigprove.replay import Module
 from aigprove.yosys import Late, Yosys
 
 # What is z is so in JSON alone: in its own language yosys writes x.
+# It is ready, so that the next run can begin, once below.il is there: what it makes then is only looked at.
 READ = """{fronts}
 write_rtlil {made}/all.il
 hierarchy -check {top}
 write_rtlil {made}/below.il
+tee -q -o {is_ready} log ready
 proc -noopt -norom
 flatten
 setattr -unset src c:* w:*
 write_json {made}/drawn.json
 """
 # Up to setundef no pass folds constants but sums: an x is no constant of the design. Hierarchy, memories and asynchronous resets become flat
-# registers of one clock, whose every step is one of it. What is x, and what nothing drives, becomes an input. Whole cells are folded before
-# their bits: where there are many that takes half the time. Of several names of a net the one with most attributes stays.
+# registers of one clock, whose every step is one of it. What is x, and what nothing drives, becomes an input. Equal cells are merged first,
+# as proc makes those that compare with the items of a case, for each bit anew; and whole cells are folded before their bits: where there are
+# many that takes half the time. Of several names of a net the one with most attributes stays.
 FREE = """read_rtlil below.il
 proc -noopt -norom
 flatten
@@ -36,6 +39,7 @@ opt_clean
 {memories}
 async2sync
 setundef -undriven -anyseq
+opt_merge -keepdc
 opt_expr -keepdc
 opt_expr -fine -keepdc
 opt_merge -keepdc
@@ -55,13 +59,13 @@ write_json free.json
 """
 # Cells whose value is x for some operands, as a bit by an index past all bits, which may be a sum of constants; and the lines that make them
 # total, and those for memories. Where there are none the map isn't read.
-PARTIAL = {"$shiftx", "$div", "$mod", "$divfloor", "$modfloor", "$eqx", "$nex"}
+PARTIAL = re.compile(r"\n  cell \$(?:shiftx|div|mod|divfloor|modfloor|eqx|nex) ")
 TOTAL = """opt_expr -keepdc t:$add t:$sub t:$neg
 techmap -max_iter 1 -map aigprove_free.v
 chtype -set $eq t:$eqx
 chtype -set $ne t:$nex
 """
-MEMORY = "$mem"
+MEMORY = re.compile(r"\n  (?:memory |cell \$mem)")
 MEMORIES = """memory_collect
 memory_memx
 techmap -map aigprove_free.v -D ADDRESSES t:$nex
@@ -207,7 +211,14 @@ class Design:
         self.yosys.put("aigprove_cover.v", COVERED)
         if self.reset:
             self.put_reset()
-        self.left_out = self.read(words.top)
+        self.reading = None
+        try:
+            self.left_out = self.read(words.top)
+        except Fault:
+            # A fault of yosys's comes first.
+            if self.reading:
+                self.reading.printed()
+            raise
         self.top, module, given = self.free()
         self.clock, self.constants = clock_of(self.top, module), constants(module)
         self.counts = {kind: len(cells_like(module, kind)) for kind in COUNTED[words.kind]}
@@ -224,14 +235,16 @@ class Design:
         better = max(reversed(others), key=lambda name: asked_below(every, reached(every, name)), default="")
         if not asked_below(every, below) and asked_below(every, reached(every, better)) and WORD.fullmatch(better):
             others = [name for name in roots_of(every) if name != better]
+            self.reading.printed()
             every, below = self.read_below(f"-top {better}")
         if self.words.parameter:
             # Yosys sets parameters of a top module that is named.
+            self.reading.printed()
             every, below = self.read_below(f"-top {self.top}{self.parameters()}")
         lines = [("", f"{name} is a top module too, and not asked about") for name in others]
         return lines + [line for cell in every for line in self.passed_over(cell, cell.module[1:] in below)]
 
-    def script(self, top, made, copies, folders):
+    def script(self, top, made, is_ready, copies, folders):
         """The script that reads the design as far as a top module has it."""
         include = " ".join(f"-I {folder}" for folder in folders)
         fronts = [FRONTS[file.kind].format(file=copies[file.path], include=include) for file in self.files]
@@ -239,16 +252,16 @@ class Design:
             fronts.insert(0, VERILOG.format(file=f"{made}/defines.v", include=""))
         # A box whose outputs are free is an empty module.
         fronts += [f"setattr -mod -unset blackbox ={name}" for name in self.words.black_box]
-        return READ.format(fronts="\n".join(fronts), top=top, made=made)
+        return READ.format(fronts="\n".join(fronts), top=top, made=made, is_ready=is_ready)
 
     def edges(self):
         """The lines that make registers of any clocks such of all steps, where that is wanted."""
         return EDGES.format(reset=self.resetting(AT_EDGES)) if self.words.multiclock else ""
 
     def read_below(self, top):
-        """Reads the design as far as a top module has it, and gives all its cells, and the names of the top module and those below."""
+        """Begins to read the design as far as a top module has it, and gives all its cells, and the names of the top module and those below."""
         try:
-            self.yosys.read(functools.partial(self.script, top), self.words.include)
+            self.reading = self.yosys.read(functools.partial(self.script, top), self.words.include)
         except Fault as why:
             raise type(why)("; ".join([str(why), *(hint for said, hint in HINTS.items() if said in str(why))])) from None
         text = self.yosys.text("below.il")
@@ -258,6 +271,8 @@ class Design:
         below = {base_of(name) for name in modules}
         covers, lives = (f"\n  cell {kind} " in text for kind in (COVER, LIVE))
         self.has_covers, self.has_lives = covers, lives and not self.words.multiclock
+        self.partial = TOTAL if PARTIAL.search(text) else ""
+        self.memories = (MEMORIES if MEMORY.search(text) else "{edges}").format(edges=self.edges())
         if not below:
             raise Fault(f"{self.yosys.path} has no module")
         self.top = next((base_of(name) for name, own in modules.items() if TOP in own), None)
@@ -300,13 +315,12 @@ class Design:
     def free(self):
         """Makes inputs of what is free, and gives the name of the top module, what it has then, and the names of the ports that were given.
         Of a design that is compared all names are written."""
-        top, drawn = self.top_of("drawn.json")
-        self.check_reset(top, drawn)
-        check_drivers(top, drawn)
         named = "json -o whole.json w:*" if self.words.equal else "write_rtlil whole.il"
-        partial = TOTAL if PARTIAL & types(drawn) else ""
-        memories = (MEMORIES if any(it.startswith(MEMORY) for it in types(drawn)) else "{edges}").format(edges=self.edges())
-        self.yosys.run(FREE, partial=partial, memories=memories, chosen=CHOSEN[self.words.kind], named=named)
+        with self.yosys.alongside(FREE, partial=self.partial, memories=self.memories, chosen=CHOSEN[self.words.kind], named=named):
+            self.reading.printed()
+            top, drawn = self.top_of("drawn.json")
+            self.check_reset(top, drawn)
+            check_drivers(top, drawn)
         top, module = self.top_of("free.json")
         if not WORD.fullmatch(top):
             raise Fault(f"{top} is no name of a module")

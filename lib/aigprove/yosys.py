@@ -61,10 +61,10 @@ class Yosys:
         with open(self.place(name), "w", encoding="utf-8", errors="surrogateescape") as out:
             out.write(text)
 
-    def put_script(self, text):
+    def put_script(self, name, text):
         """Puts a script into the folder, as few lines: yosys looks through the whole design behind each."""
         commands = list(filter(None, text.split("\n")))
-        self.put("script.ys", "".join("; ".join(commands[i : i + LONGEST]) + "\n" for i in range(0, len(commands), LONGEST)))
+        self.put(name, "".join("; ".join(commands[i : i + LONGEST]) + "\n" for i in range(0, len(commands), LONGEST)))
 
     def text(self, name):
         with open(self.place(name), encoding="utf-8", errors="surrogateescape") as file:
@@ -81,46 +81,86 @@ class Yosys:
         return said
 
     def read(self, script, folders):
-        """Runs a script in the folder where we are, from which relative paths in the design are. The script is a function of where our
-        folder is, the paths of the files' copies, the folders beside them, and those of these folders."""
+        """Begins a run of a script in the folder where we are, from which relative paths in the design are, and gives it once it is ready.
+        The script is a function of where our folder is, the file that it writes to once it is ready, the paths of the files' copies, and
+        those of the folders beside them and of these."""
+        ready, told = os.pipe()
+        with open(ready, "rb", buffering=0) as waiting:
+            with open(told, "wb"):
+                run = self.begin_reading(script, folders, told)
+            # Where the run ends before it is ready, nothing is there to be read.
+            if not waiting.read(1):
+                run.printed()
+        return run
+
+    def begin_reading(self, script, folders, told):
+        """Begins that run, which has this descriptor to tell by that it is ready."""
         with contextlib.ExitStack() as opened:
             descriptors = [os.open(path, os.O_PATH | os.O_DIRECTORY) for path in [self.folder, *self.beside, *folders]]
             for descriptor in descriptors:
                 opened.callback(os.close, descriptor)
-            made, *paths = (f"/proc/self/fd/{descriptor}" for descriptor in descriptors)
+            is_ready, made, *paths = (f"/proc/self/fd/{descriptor}" for descriptor in [told, *descriptors])
             copies = {path: f"{made}/{copy}" for path, copy in self.copies.items()}
             sources = {f"{made}/{i}/source": path for i, path in enumerate(self.beside)}
             self.meanings = {**dict(zip(paths, [*self.beside, *folders])), **sources, **{copy: path for path, copy in copies.items()}}
-            self.put_script(script(made, copies, paths))
-            return self.printed(["yosys", f"{made}/script.ys"], pass_fds=descriptors)
+            self.put_script("read.ys", script(made, is_ready, copies, paths))
+            return Run(self, ["yosys", f"{made}/read.ys"], pass_fds=[told, *descriptors])
+
+    def begin(self, script, **words):
+        """Begins a run of a script in its own folder."""
+        self.put_script("script.ys", script.format(**words))
+        return Run(self, ["env", "-C", self.folder, "TMPDIR=.", "yosys", "script.ys"])
+
+    @contextlib.contextmanager
+    def alongside(self, script, **words):
+        """Runs a script in its own folder beside what is done meanwhile; where that fails, the run is ended."""
+        run = self.begin(script, **words)
+        try:
+            yield
+        except BaseException:
+            run.end()
+            raise
+        run.printed()
 
     def run(self, script, **words):
-        """Runs a script in its own folder."""
-        self.put_script(script.format(**words))
-        return self.printed(["env", "-C", self.folder, "TMPDIR=.", "yosys", "script.ys"])
+        """Runs a script in its own folder, and gives what it prints."""
+        return self.begin(script, **words).printed()
 
-    def printed(self, words, **streams):
-        """What a run prints, which has to end with status 0."""
-        with tempfile.TemporaryFile() as out:
-            status = self.status(words, stdout=out, stderr=subprocess.STDOUT, **streams)
-            out.seek(0)
-            said = plain(out.read())
+
+class Run:
+    """A run of yosys, which is ended where the time is over."""
+
+    def __init__(self, yosys, words, **streams):
+        self.yosys, self.out, self.outcome = yosys, tempfile.TemporaryFile(), None
+        self.late, left = Late(f"{yosys.path}: yosys was still at it when the time was over"), yosys.deadline - time.monotonic()
+        if left <= 0:
+            raise self.late
+        self.group = yosys.programs.start(words, stdout=self.out, stderr=subprocess.STDOUT, **streams)
+        self.timer = threading.Timer(min(left, threading.TIMEOUT_MAX), self.group.signal, [signal.SIGKILL])
+        self.timer.daemon = True
+        self.timer.start()
+
+    def end(self):
+        """Ends it, whatever it is at."""
+        self.group.signal(signal.SIGKILL)
+        self.wait()
+
+    def wait(self):
+        """Its status, once it ends, what it printed, and whether the time is over then."""
+        if self.outcome is None:
+            status = self.yosys.programs.finish(self.group)
+            self.timer.cancel()
+            with self.out:
+                self.out.seek(0)
+                self.outcome = status, plain(self.out.read()), time.monotonic() >= self.yosys.deadline
+        return self.outcome
+
+    def printed(self):
+        """What it prints, once it ends, which has to be with status 0."""
+        status, said, is_over = self.wait()
+        if status != 0 and is_over:
+            raise self.late
         if status != 0:
             why = [line for line in said.splitlines() if "ERROR: " in line]
-            raise Fault(self.told(why[0]) if why else f"yosys {ending(status)}")
+            raise Fault(self.yosys.told(why[0]) if why else f"yosys {ending(status)}")
         return said
-
-    def status(self, words, **streams):
-        """The status of a run, which is ended where the time is over."""
-        late, left = Late(f"{self.path}: yosys was still at it when the time was over"), self.deadline - time.monotonic()
-        if left <= 0:
-            raise late
-        group = self.programs.start(words, **streams)
-        timer = threading.Timer(min(left, threading.TIMEOUT_MAX), group.signal, [signal.SIGKILL])
-        timer.daemon = True
-        timer.start()
-        status = self.programs.finish(group)
-        timer.cancel()
-        if status != 0 and time.monotonic() >= self.deadline:
-            raise late
-        return status
