@@ -28,11 +28,13 @@ write_json {made}/drawn.json
 # Up to setundef no pass folds constants but sums: an x is no constant of the design. Hierarchy, memories and asynchronous resets become flat
 # registers of one clock, whose every step is one of it. What is x, and what nothing drives, becomes an input. Equal cells are merged first,
 # as proc makes those that compare with the items of a case, for each bit anew; and whole cells are folded before their bits: where there are
-# many that takes half the time. Of several names of a net the one with most attributes stays.
+# many that takes half the time. Of several names of a net the one with most attributes stays. What is asked about is kept: else one assertion
+# would stay of several that say the same.
 FREE = """read_rtlil below.il
 proc -noopt -norom
 flatten
 {chosen}
+setattr -set keep 1 t:$assert t:$assume t:$live t:$fair
 setattr -unset src c:* t:$assert %d t:$assume %d t:$live %d t:$fair %d
 opt_clean
 {partial}
