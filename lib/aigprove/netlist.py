@@ -18,6 +18,12 @@ INITIAL = re.compile(r"^    sync init$", re.MULTILINE)
 VALUES = re.compile(r"^ *(?:connect|assign|switch|update) .*$", re.MULTILINE)
 X = re.compile(r" ([1-9][0-9]*)'([01x-]*x[01x-]*)(?= |$)", re.MULTILINE)
 LINE = re.compile(r'\n(?:(module|  cell) (\S+)(?: (\S+))?| *attribute \\src "([^"]*)")(?=\n)')
+# How yosys names what is in a task or function, or in a block without a name: the scope, its number of the call or block, and the name there.
+CALL = re.compile(r"(?<=\\)([^\s\\]*?)\$func\$[^\s\\]*?:[0-9]+\$([0-9]+)(?=\.([^\s.[]+))")
+BLOCK = re.compile(r"((?<=\\)[^\s\\]*?\.|(?<=\s))\$unnamed_block\$([0-9]+)(?=\.([^\s.[]+))")
+UNNAMED = "unnamed_block"
+# The path of a net, with spaces between its parts.
+PATH = re.compile(r'[^\s"\\]+( [^\s"\\]+)+')
 # What is behind the name of what a register holds; and the index of a bit.
 STORED, INDEX = ".stored", re.compile(r"(\[[0-9]+\])?$")
 PART = re.compile(r"(.+)\$\[([0-9]+):([0-9]+)\]")
@@ -76,11 +82,47 @@ def item_of_x(text):
     return item and SWITCH.findall(text, 0, item.start())[-1]
 
 
+def by_modules(call, text):
+    """A design in yosys's own language with what is made of the text of each module."""
+    return "\nmodule ".join(map(call, text.split("\nmodule ")))
+
+
+def renamed(module):
+    """A module in which what is in tasks, functions and blocks has names that rest on these alone: by yosys's own no register would have a
+    partner in another file."""
+    if "$func$" not in module and UNNAMED not in module:
+        return module
+    return numbered(numbered(module, CALL, ""), BLOCK, UNNAMED)
+
+
+def numbered(module, pattern, behind):
+    """A module in which such names are the scope, what is to stand behind it, and the inner name; of several with one name each has its own
+    number, from 0. Where the design has such a name itself nothing changes."""
+    numbers, names = collections.defaultdict(set), {}
+    for scope, number, inner in pattern.findall(module):
+        numbers[scope, inner].add(int(number))
+    for (scope, inner), own in numbers.items():
+        for i, number in enumerate(sorted(own)):
+            names[scope, str(number), inner] = ("" if scope else "\\") + scope + behind + (f"[{i}]" if len(own) > 1 else "")
+    changed = pattern.sub(lambda found: names[found.groups()], module)
+    return changed if len(set(changed.split())) == len(set(module.split())) else module
+
+
+def paths_of(nets):
+    """The paths of the nets of a flat module that are below the top, by the names that they have once those in tasks are named."""
+    paths = {}
+    for (name, net), line in zip(nets.items(), renamed("".join(f"\\{name}\n" for name in nets)).split("\n")):
+        path, own = net["attributes"].get("hdlname", ""), line[1:]
+        if PATH.fullmatch(path):
+            above = path.rpartition(" ")[0]
+            paths[own] = path if own == name else f"{above} {own[len(above) + 1:]}"
+    return paths
+
+
 def opened(text):
     """A design in which each x is a wire that nothing drives: yosys would choose its value, or another for each reader. What isn't enabled
     has the value 0, and not x; and the first of several items that fit counts, though the design says that only one does."""
-    text = PARALLEL.sub("", UNREACHED.sub(r"\1\2'0", text))
-    return "\nmodule ".join(map(freed, text.split("\nmodule ")))
+    return by_modules(freed, PARALLEL.sub("", UNREACHED.sub(r"\1\2'0", text)))
 
 
 def freed(module):

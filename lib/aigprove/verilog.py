@@ -8,7 +8,7 @@ import re
 
 from aigprove.fronts import ASSERT, COVER, FAIR, FRONTS, LIVE, VERILOG
 from aigprove.netlist import aliases, cells_like, cells_of, check_drivers, clock_of, constants, free_names, item_of_x, opened, reached
-from aigprove.netlist import base_of, identifier, modules_of, pattern_of, roots_of, stored, types
+from aigprove.netlist import base_of, by_modules, identifier, modules_of, paths_of, pattern_of, renamed, roots_of, stored, types
 from aigprove.programs import Fault, escaped, plain
 from aigprove.replay import Module
 from aigprove.yosys import Late, Yosys
@@ -165,7 +165,6 @@ SMALL = 1 << 17
 # What finds fewer gates, and how long the text of a design is that is compared in less time without that.
 FEWER, BRIEF = "abc -g AND\nopt_clean", 1 << 20
 WIRE = re.compile(r"^  wire .*\\(\S+)$", re.MULTILINE)
-PATH = re.compile(r'[^\s"\\]+( [^\s"\\]+)+')
 FF = re.compile(r"^  cell \$ff (\S+)\n", re.MULTILINE)
 # How many signs of an assertion's text are printed.
 SPELLED = 200
@@ -280,7 +279,7 @@ class Design:
         self.top = next((base_of(name) for name, own in modules.items() if TOP in own), None)
         if self.top is None:
             raise Fault(f"{self.yosys.path} has no module that isn't empty or a black box")
-        self.yosys.put("below.il", opened(self.freed_boxes(text, modules)))
+        self.yosys.put("below.il", opened(by_modules(renamed, self.freed_boxes(text, modules))))
         return list(cells_of(self.yosys.text("all.il"))), below
 
     def parameters(self):
@@ -433,8 +432,7 @@ class Design:
         """Has yosys make the module that it simulates, in which all signals of the design are."""
         if not self.is_replayed:
             self.yosys.run(REPLAY, top=self.top, renames=self.renames, spare=self.spare())
-        nets = self.top_of("drawn.json")[1]["netnames"]
-        paths = {name: net["attributes"]["hdlname"] for name, net in nets.items() if PATH.fullmatch(net["attributes"].get("hdlname", ""))}
+        paths = paths_of(self.top_of("drawn.json")[1]["netnames"])
         placed = lambda line: f'  attribute \\hdlname "{paths[line[1]]}"\n{line[0]}' if line[1] in paths else line[0]
         # Yosys has no first value for a register of all steps, but for one of a clock.
         clock, rising = self.clock or (SPARE, True)
