@@ -227,11 +227,11 @@ def limited():
     programs = {name: f"./{name}-9" for name in ["aigedit", "aigcheck"]}
     files = {f"{name}-9": LIMITED.format(GIVEN[name]) for name in programs} | {"other.aag": STUCK}
     for options, *run in [
-        ["--engine steps,windows --bound 0", STUCK, REFUTES],
+        ["--engine windows --bound 0", STUCK, REFUTES],
         ["--engine bounded --bound 0", STUCK, REFUTES],
         ["--engine pdr", STUCK, REFUTES, ANYTHING],
         ["--engine steps", OLD, SOLVES],
-        ["--engine steps,windows --bound 0 --equal other.aag", STUCK, REFUTES],
+        ["--engine windows --bound 0 --equal other.aag", STUCK, REFUTES],
     ]:
         with running(*run, files=files) as run:
             for name in programs.values():
