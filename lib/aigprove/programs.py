@@ -445,7 +445,7 @@ class Part(Programs):
 
 
 def adopt():
-    """Makes this process the parent of all that its programs leave behind, so that `bury` finds it; whether that could be."""
+    """Makes this process the parent of all that its programs leave behind, so that `bury` finds it; tells whether it could."""
     # Only one process of ours does that.
     import ctypes
 

@@ -28,8 +28,8 @@ TICK = 0.1
 # How many seconds values that don't matter are looked for in a run, and of how many properties that it shows; and how many cadical has for
 # what is so where registers start alike.
 SECONDS, SHOWN, ALIKE = 1, 8, 5
-# Engines that have their program run before others compute something here; those that begin once one of two has ended, as less is computed in
-# the same time where there is more; and after how many seconds at the latest.
+# Engines that have their program run before others compute something here; those that begin once one of two has ended, as each
+# program is slower with more beside it; and after how many seconds at the latest.
 FIRST, LATER, BEFORE, HEAD_START = {"scorr", "registers"}, {"pdr", "bounded", "steps", "windows"}, {"registers", "bmc3"}, 0.75
 
 
