@@ -280,7 +280,7 @@ def together():
 
 def yielding():
     """An engine whose program waits while the answer of another is checked, and goes on where that takes long."""
-    first, waits = "echo $$ > $FOLDER/first; sleep 0.5", "while [ ! -s $FOLDER/first ]; do sleep 0.01; done"
+    first, waits = "echo $$ > $FOLDER/first; sleep 2", "while [ ! -s $FOLDER/first ]; do sleep 0.01; done"
     state, window = "sed 's/.*) //' /proc/$(cat $FOLDER/first)/stat > $FOLDER/state", "no bad state at any step, if none up to step 0\n"
     for check, engine, printed, wanted in [(state, "pdr", SAFE, "T"), ("sleep 1000", "windows", window + SAFE, "")]:
         solver = f"if mkdir $FOLDER/asked 2> /dev/null; then {first}; else {check}; fi; {REFUTES}"
