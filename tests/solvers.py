@@ -231,6 +231,7 @@ def limited():
         ["--engine bounded --bound 0", STUCK, REFUTES],
         ["--engine pdr", STUCK, REFUTES, ANYTHING],
         ["--engine steps", OLD, SOLVES],
+        ["--engine steps --bound 0 --equal other.aag", STUCK, REFUTES],
         ["--engine windows --bound 0 --equal other.aag", STUCK, REFUTES],
     ]:
         with running(*run, files=files) as run:
