@@ -107,6 +107,7 @@ class Maker:
         if letter in "XYU":
             name = self.new({"X": "o", "Y": "p", "U": "u"}[letter])
             self.parts["free"].append(f"{name}[{int(letter == 'Y')}:0]")
+            self.lines += [f"wire {name};"] * (letter == "U")
             return name
         if depth == 0 or self.rng.random() < 0.2:
             return self.rng.choice(self.names[letter] or [self.filled("{B, B}", 0)])

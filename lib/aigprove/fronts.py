@@ -1,16 +1,35 @@
 """Which files are of designs, what reads them, and the cells of what is asked about them."""
 import collections
+import re
 
-# By the end of a file's name: what reads it. The latches of BLIF have one clock.
-VERILOG = "read_verilog -formal -sv {include} {file}"
+# By the end of a file's name: what reads it, with the words for what is Verilog. The latches of BLIF have one clock.
+VERILOG = "read_verilog {words} -formal -sv {include} {file}"
+SCRIPT = "verilog_defaults -push\nverilog_defaults -add {inner}\nscript {file}\nverilog_defaults -pop"
 BLIF = ".blif"
 FRONTS = {
     **dict.fromkeys([".v", ".sv", ".vh", ".svh"], VERILOG),
     **dict.fromkeys([".il", ".rtlil"], "read_rtlil {file}"),
     BLIF: "read_blif -wideports {file}\nformalff -clk2ff",
-    ".ys": "script {file}",
+    ".ys": SCRIPT,
 }
 STANDARD_INPUT = "-"
+
+
+class Way(collections.namedtuple("Way", "words inner end")):
+    """A way in which yosys reads Verilog: the words for it and those for it in scripts, and what the files end with. Of lines that say whether
+    nets may be implicit the last counts for the whole file."""
+
+
+NONE, WIRE = b"\n\n`default_nettype none\n", b"\n\n`default_nettype wire\n"
+# Where names without a declaration are refused; where they are nets, and what yosys reads is shown; the same of texts whose macros are
+# expanded; and where such names were declared, perhaps some of them later, by yosys.
+STRICT = Way("-ppdump -noautowire", "-ppdump -noautowire", NONE)
+LOOKING = Way("-ppdump -dump_ast1", "-dump_ast1", WIRE)
+AGAIN = Way("-nopp -dump_ast1", "-dump_ast1", WIRE)
+DECLARED, DECLARED_LATER = Way("-nopp -noautowire", "", NONE), Way("-nopp", "", WIRE)
+# What yosys says of such a name where it is refused, and where it isn't.
+REFUSED = re.compile(r"^(.*): ERROR: Identifier `(\S+)' is implicitly declared and `default_nettype is set to none\.", re.MULTILINE)
+WARNED = re.compile(r"^(.*): Warning: Identifier `(\S+)' is implicitly declared\.$", re.MULTILINE)
 ASSERT, COVER, LIVE, FAIR = "$assert", "$cover", "$live", "$fair"
 
 

@@ -17,6 +17,16 @@ VALUED = re.compile(r"^  (?:cell (?!\$(?:mem|eqx |nex ))|process ).*?^  end$|^  
 INITIAL = re.compile(r"^    sync init$", re.MULTILINE)
 VALUES = re.compile(r"^ *(?:connect|assign|switch|update) .*$", re.MULTILINE)
 X = re.compile(r" ([1-9][0-9]*)'([01x-]*x[01x-]*)(?= |$)", re.MULTILINE)
+# A net with a constant, and what an initial block gives to one that nothing else writes; nets in a target, and their bits.
+CONSTANT = re.compile(r"\n  connect (\S.*) [0-9]+'([01]+)(?=\n)")
+PROCESS = re.compile(r"\n  process (.*?)\n  end", re.DOTALL)
+ASSIGNED, UPDATED = re.compile(r"\n    assign (\S+) [0-9]+'([01]+)(?=\n)"), re.compile(r"update (.*) (\S+)")
+ONCE = re.compile(r"\n    sync always((?:\n      update .*)*)\n    sync init(?![^\n])")
+PARTS = re.compile(r"(\\\S+)(?: \[([0-9]+)(?::([0-9]+))?\])?")
+INTERFACE = "\nattribute \\is_interface 1\n"
+# A net that the design names with points; and instances.
+DOTTED = re.compile(r"\n  (?:wire|memory) [^\n]*?(\\[^\s.]+\.[^\s]*)(?=\n)")
+CELLS = re.compile(r"\n  cell (\S+) (\\\S+)(?=\n)")
 LINE = re.compile(r'\n(?:(module|  cell) (\S+)(?: (\S+))?| *attribute \\src "([^"]*)")(?=\n)')
 # How yosys names what is in a task or function, or in a block without a name: the scope, its number of the call or block, and the name there.
 CALL = re.compile(r"(?<=\\)([^\s\\]*?)\$func\$[^\s\\]*?:[0-9]+\$([0-9]+)(?=\.([^\s.[]+))")
@@ -53,12 +63,62 @@ def cells_of(text):
 
 def modules_of(text):
     """The text of each module of a design in yosys's own language, with the attributes before it, by its name."""
-    return {found[1]: part for part in text.split("\nend") if (found := re.search(r"\nmodule (\S+)", part))}
+    return {found[1]: f"{part}\n" for part in text.split("\nend") if (found := re.search(r"\nmodule (\S+)", part))}
+
+
+def check_names(modules):
+    """Refuses a name with points that is a path to something else, too: yosys takes one for the other."""
+    for name, text in modules.items():
+        cells = None
+        for dotted in DOTTED.findall(text):
+            if cells is None:
+                cells = {cell: kind for kind, cell in CELLS.findall(text)}
+            for end in (found.start() for found in re.finditer(r"\.", dotted)):
+                other = modules.get(cells.get(dotted[:end]), "")
+                # What an interface has is declared by paths.
+                if INTERFACE not in other and re.search(rf"\n  (?:wire|memory|cell) [^\n]*\\{re.escape(dotted[end + 1:])}(?=[\n.])", other):
+                    own, cell, inner = dotted[1:], dotted[1:end], dotted[end + 1:]
+                    raise Fault(f"{base_of(name)} has a net of the name {own}, and an instance {cell} with {inner}: rename one of them")
+
+
+def check_constants(modules):
+    """Refuses nets that are given different constants, as by initial blocks where nothing else writes them: yosys takes one of these."""
+    for name, text in modules.items():
+        values, given = collections.defaultdict(set), list(constants_in(text))
+        for target, value in given:
+            for i, bit in enumerate(bits_in(target, text)):
+                values[bit].add(value[i:i + 1] or value)
+        for net in dict.fromkeys(net for (net, _), own in values.items() if len(own) > 1):
+            # What only initial blocks write and nothing reads may be the variable of loops.
+            if len(re.findall(rf" {re.escape(net)}(?=[ \n])", text)) > 1 + sum(net in target.split() for target, _ in given):
+                raise Fault(f"{base_of(name)}: {net[1:]} has several drivers, or several initial values")
+
+
+def constants_in(text):
+    """What a module's text gives to nets once: pairs of a target and a constant, its lowest bit first, or another text if it is none."""
+    yield from ((target, bits[::-1]) for target, bits in CONSTANT.findall(text))
+    for process in PROCESS.findall(text):
+        known = dict(ASSIGNED.findall(process)) if "\n    switch " not in process else {}
+        for own in ONCE.findall(process):
+            yield from ((target, known.get(source, source)[::-1]) for target, source in UPDATED.findall(own))
+
+
+def bits_in(target, text):
+    """The bits of nets in the target of an assignment in the text of a module, from the lowest on: pairs of a name and a place."""
+    for net, first, last in reversed(PARTS.findall(target)):
+        width = None if first else re.search(rf"\n  wire (?:width ([0-9]+) )?[^\n]*{re.escape(net)}(?=\n)", text)
+        ends = [int(last or first), int(first)] if first else [0, int(width[1] or 1) - 1 if width else 0]
+        yield from ((net, i) for i in range(ends[0], ends[1] + 1))
 
 
 def base_of(name):
     """The name that a module has in the design: that of one with parameters stands behind the second sign."""
     return name.split("\\")[1]
+
+
+def source_of(name):
+    """The name that a module has in the text: that of one with interfaces has theirs behind it."""
+    return base_of(name).partition("$interfaces$")[0]
 
 
 def roots_of(cells):

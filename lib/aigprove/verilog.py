@@ -6,20 +6,24 @@ import functools
 import os
 import re
 
-from aigprove.fronts import ASSERT, COVER, FAIR, FRONTS, LIVE, VERILOG
-from aigprove.netlist import aliases, cells_like, cells_of, check_drivers, clock_of, constants, free_names, item_of_x, opened, reached
-from aigprove.netlist import base_of, by_modules, identifier, modules_of, paths_of, pattern_of, renamed, roots_of, stored, types
+from aigprove.fronts import AGAIN, ASSERT, COVER, FAIR, FRONTS, LIVE, LOOKING, REFUSED, STRICT, VERILOG, WARNED
+from aigprove.netlist import aliases, cells_like, cells_of, check_constants, check_drivers, check_names, clock_of, constants, free_names
+from aigprove.netlist import base_of, by_modules, identifier, item_of_x, modules_of, opened, paths_of, pattern_of, reached, renamed, roots_of
+from aigprove.netlist import source_of, stored, types
 from aigprove.programs import Fault, escaped, plain
 from aigprove.replay import Module
+from aigprove.texts import BIND, Text, bound, expanded, moved
 from aigprove.yosys import Late, Yosys
 
 # What is z is so in JSON alone: in its own language yosys writes x.
 # It is ready, so that the next run can begin, once below.il is there: what it makes then is only looked at.
-READ = """{fronts}
+LOOK = """{fronts}
 write_rtlil {made}/all.il
 hierarchy -check {top}
 write_rtlil {made}/below.il
 tee -q -o {is_ready} log ready
+"""
+READ = LOOK + """\
 proc -noopt -norom
 flatten
 setattr -unset src c:* w:*
@@ -31,8 +35,8 @@ write_json {made}/drawn.json
 # many that takes half the time. Of several names of a net the one with most attributes stays. What is asked about is kept: else one assertion
 # would stay of several that say the same.
 FREE = """read_rtlil below.il
-proc -noopt -norom
-flatten
+setattr -unset src c:* t:$assert %d t:$assume %d t:$live %d t:$fair %d t:$cover %d
+{flat}
 {chosen}
 setattr -set keep 1 t:$assert t:$assume t:$live t:$fair
 setattr -unset src c:* t:$assert %d t:$assume %d t:$live %d t:$fair %d
@@ -59,6 +63,8 @@ setundef -undriven -expose
 write_rtlil free.il
 write_json free.json
 """
+# How the design becomes flat: where it has nets that are joined with those of instances, these have no initial values before.
+FLAT, FLAT_FIRST = "proc -noopt -norom\nflatten", "flatten\nselect -assert-none a:hierconn\nproc -noopt -norom"
 # Cells whose value is x for some operands, as a bit by an index past all bits, which may be a sum of constants; and the lines that make them
 # total, and those for memories. Where there are none the map isn't read.
 PARTIAL = re.compile(r"\n  cell \$(?:shiftx|div|mod|divfloor|modfloor|eqx|nex) ")
@@ -245,15 +251,15 @@ class Design:
         lines = [("", f"{name} is a top module too, and not asked about") for name in others]
         return lines + [line for cell in every for line in self.passed_over(cell, cell.module[1:] in below)]
 
-    def script(self, top, made, is_ready, copies, folders):
-        """The script that reads the design as far as a top module has it."""
-        include = " ".join(f"-I {folder}" for folder in folders)
-        fronts = [FRONTS[file.kind].format(file=copies[file.path], include=include) for file in self.files]
+    def script(self, top, way, made, is_ready, copies, folders):
+        """The script that reads the design as far as a top module has it, in this way."""
+        words = {"include": " ".join(f"-I {folder}" for folder in folders), "words": way.words, "inner": way.inner}
+        fronts = [FRONTS[file.kind].format(file=copies[file.path], **words) for file in self.files]
         if self.words.define:
-            fronts.insert(0, VERILOG.format(file=f"{made}/defines.v", include=""))
+            fronts.insert(0, VERILOG.format(file=f"{made}/defines.v", include="", words=""))
         # A box whose outputs are free is an empty module.
         fronts += [f"setattr -mod -unset blackbox ={name}" for name in self.words.black_box]
-        return READ.format(fronts="\n".join(fronts), top=top, made=made, is_ready=is_ready)
+        return (LOOK if way in (LOOKING, AGAIN) else READ).format(fronts="\n".join(fronts), top=top, made=made, is_ready=is_ready)
 
     def edges(self):
         """The lines that make registers of any clocks such of all steps, where that is wanted."""
@@ -262,13 +268,14 @@ class Design:
     def read_below(self, top):
         """Begins to read the design as far as a top module has it, and gives all its cells, and the names of the top module and those below."""
         try:
-            self.reading = self.yosys.read(functools.partial(self.script, top), self.words.include)
+            text = self.declared(top)
         except Fault as why:
-            raise type(why)("; ".join([str(why), *(hint for said, hint in HINTS.items() if said in str(why))])) from None
-        text = self.yosys.text("below.il")
+            told = self.yosys.told(str(why))
+            raise type(why)("; ".join([told, *(hint for said, hint in HINTS.items() if said in told)])) from None
         if place := item_of_x(text):
             raise Fault(f"{self.yosys.told(place)}: an item of this case is x or z")
         modules = modules_of(text)
+        check_constants(modules)
         below = {base_of(name) for name in modules}
         covers, lives = (f"\n  cell {kind} " in text for kind in (COVER, LIVE))
         self.has_covers, self.has_lives = covers, lives and not self.words.multiclock
@@ -281,6 +288,60 @@ class Design:
             raise Fault(f"{self.yosys.path} has no module that isn't empty or a black box")
         self.yosys.put("below.il", opened(by_modules(renamed, self.freed_boxes(text, modules))))
         return list(cells_of(self.yosys.text("all.il"))), below
+
+    def begin(self, top, way, texts, before=()):
+        """Begins to read the design as far as a top module has it, in this way, with these texts of its Verilog files, in which folders have
+        descriptors that they had before."""
+        texts_now = lambda now: {path: moved(text, before, now) + way.end for path, text in texts.items()}
+        self.reading = self.yosys.read(functools.partial(self.script, top, way), self.words.include, texts_now)
+
+    def given(self):
+        """The texts of the Verilog files."""
+        return {file.path: file.data for file in self.files if FRONTS[file.kind] == VERILOG}
+
+    def declared(self, top):
+        """Begins to read the design as far as a top module has it, and gives that in yosys's own language, in which each name is declared."""
+        try:
+            self.begin(top, STRICT, self.given())
+            texts = [Text(text) for text in expanded(self.reading.data())]
+            if not WARNED.search(self.reading.said()) and not any(BIND.search(text.words) for text in texts):
+                whole = self.yosys.text("below.il")
+                check_names(self.check_texts(texts, whole))
+                self.flat = FLAT_FIRST if "\n  attribute \\hierconn " in whole else FLAT
+                return whole
+            self.reading.printed()
+        except Fault as why:
+            if not REFUSED.search(str(why)):
+                raise
+        return self.looked_up(top)
+
+    def check_texts(self, texts, whole):
+        """Refuses what yosys reads otherwise in these texts of a whole design, and gives its modules in yosys's own language."""
+        modules = modules_of(whole)
+        for text in texts:
+            text.check(set(map(source_of, modules)))
+        return modules
+
+    def looked_up(self, top):
+        """The same, where names are looked up first, and what is bound to modules is put into them."""
+        # What looks names up takes long to be compiled.
+        from aigprove.names import Names
+
+        self.begin(top, LOOKING, self.given())
+        said, before = self.reading.printed(), self.yosys.descriptors
+        texts = dict(zip(self.given(), expanded(self.reading.data())))
+        self.check_texts(map(Text, texts.values()), self.yosys.text("below.il"))
+        if any(BIND.search(Text(text).words) for text in texts.values()):
+            texts = bound(texts)
+            self.begin(top, AGAIN, texts, before)
+            said = self.reading.printed()
+        names = Names(self.yosys, texts, said)
+        try:
+            self.begin(top, names.way, names.declaring(), before)
+        except Fault as why:
+            raise names.unknown(str(why)) or why from None
+        self.flat = FLAT_FIRST
+        return names.checked(self.yosys.text("below.il"), self.reading.said())
 
     def parameters(self):
         """The words that set parameters of the top module, which has to have them: yosys passes over others."""
@@ -317,7 +378,8 @@ class Design:
         """Makes inputs of what is free, and gives the name of the top module, what it has then, and the names of the ports that were given.
         Of a design that is compared all names are written."""
         named = "json -o whole.json w:*" if self.words.equal else "write_rtlil whole.il"
-        with self.yosys.alongside(FREE, partial=self.partial, memories=self.memories, chosen=CHOSEN[self.words.kind], named=named):
+        words = {"flat": self.flat, "partial": self.partial, "memories": self.memories, "chosen": CHOSEN[self.words.kind], "named": named}
+        with self.yosys.alongside(FREE, **words):
             self.reading.printed()
             top, drawn = self.top_of("drawn.json")
             self.check_reset(top, drawn)

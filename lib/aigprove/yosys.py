@@ -3,6 +3,7 @@ path may be a pattern or a command."""
 import contextlib
 import json
 import os
+import re
 import shutil
 import signal
 import subprocess
@@ -11,7 +12,15 @@ import threading
 import time
 
 from aigprove.programs import Fault, ending, plain
+from aigprove.texts import EXPANDED
 
+# A warning, which may go on in further lines, and the place before it.
+WARNING = re.compile(r"^(?:(.*): )?Warning: (.*(?:\n {4}.*)*)$", re.MULTILINE)
+# Warnings that aren't told, and why.
+HUSHED = {
+    "The network is combinational": "ABC says it of the gates that FREE and WRITE give it, of any design",
+    "Identifier `.*' is implicitly declared": "each such name is looked up, and refused if it is no implicit net of Verilog",
+}
 # How many commands a line of a script has at most: yosys copies the rest of a line behind each word.
 LONGEST = 1000
 
@@ -32,8 +41,10 @@ class Yosys:
             self.link(path, self.place(f"{i}/source"))
         # The path of each file, and where its copy is in the folder.
         self.copies = {file.path: self.copied(i, file) for i, file in enumerate(files)}
-        # What names stand for in what yosys says.
-        self.meanings = {}
+        # The folders' descriptors in the last run that read the design.
+        self.descriptors = []
+        # What names stand for in what yosys says, and of what it warned when it read the design, and later.
+        self.meanings, self.warnings = {}, []
 
     def link(self, path, folder):
         """Makes a folder of links to what a folder has."""
@@ -80,20 +91,33 @@ class Yosys:
             said = said.replace(name, plain(os.fsencode(self.meanings[name])).replace("\n", "\\x0a"))
         return said
 
-    def read(self, script, folders):
+    def fill(self, texts):
+        """Gives copies of files other texts, by the files' paths."""
+        for path, text in texts.items():
+            with open(self.place(self.copies[path]), "wb") as out:
+                out.write(text)
+
+    def warned(self, said):
+        """Keeps the warnings in what yosys said, each as a line."""
+        for place, text in WARNING.findall(said):
+            line = f"{self.told(place) if place else self.path}: yosys warns: {' '.join(self.told(text).split())}"
+            if line not in self.warnings and not any(re.match(hushed, text) for hushed in HUSHED):
+                self.warnings.append(line)
+
+    def read(self, script, folders, texts):
         """Begins a run of a script in the folder where we are, from which relative paths in the design are, and gives it once it is ready.
         The script is a function of where our folder is, the file that it writes to once it is ready, the paths of the files' copies, and
-        those of the folders beside them and of these."""
+        those of the folders beside them and of these. The copies' texts are a function of the folders' descriptors."""
         ready, told = os.pipe()
         with open(ready, "rb", buffering=0) as waiting:
             with open(told, "wb"):
-                run = self.begin_reading(script, folders, told)
+                run = self.begin_reading(script, folders, texts, told)
             # Where the run ends before it is ready, nothing is there to be read.
             if not waiting.read(1):
                 run.printed()
         return run
 
-    def begin_reading(self, script, folders, told):
+    def begin_reading(self, script, folders, texts, told):
         """Begins that run, which has this descriptor to tell by that it is ready."""
         with contextlib.ExitStack() as opened:
             descriptors = [os.open(path, os.O_PATH | os.O_DIRECTORY) for path in [self.folder, *self.beside, *folders]]
@@ -103,6 +127,8 @@ class Yosys:
             copies = {path: f"{made}/{copy}" for path, copy in self.copies.items()}
             sources = {f"{made}/{i}/source": path for i, path in enumerate(self.beside)}
             self.meanings = {**dict(zip(paths, [*self.beside, *folders])), **sources, **{copy: path for path, copy in copies.items()}}
+            self.descriptors, self.warnings = descriptors, []
+            self.fill(texts(descriptors))
             self.put_script("read.ys", script(made, is_ready, copies, paths))
             return Run(self, ["yosys", f"{made}/read.ys"], pass_fds=[told, *descriptors])
 
@@ -152,15 +178,27 @@ class Run:
             self.timer.cancel()
             with self.out:
                 self.out.seek(0)
-                self.outcome = status, plain(self.out.read()), time.monotonic() >= self.yosys.deadline
+                self.outcome = status, self.out.read(), time.monotonic() >= self.yosys.deadline
         return self.outcome
+
+    def data(self):
+        """The bytes that it has printed so far."""
+        if self.outcome is not None:
+            return self.outcome[1]
+        return os.pread(self.out.fileno(), os.fstat(self.out.fileno()).st_size, 0)
+
+    def said(self):
+        """What it has said so far, without the texts that it read."""
+        return plain(EXPANDED.sub(b"", self.data()))
 
     def printed(self):
         """What it prints, once it ends, which has to be with status 0."""
-        status, said, is_over = self.wait()
+        status, _, is_over = self.wait()
+        said = self.said()
         if status != 0 and is_over:
             raise self.late
         if status != 0:
             why = [line for line in said.splitlines() if "ERROR: " in line]
             raise Fault(self.yosys.told(why[0]) if why else f"yosys {ending(status)}")
+        self.yosys.warned(said)
         return said
