@@ -14,7 +14,7 @@ import time
 from machines import MACHINES
 from measuring import CHECK, DESIGNS, heads, new_folder, parser, row, run
 
-from aigprove.questions import ASSUMING, in_turn
+from aigprove.questions import ASSUMING, are_in_conflict, in_turn
 
 # The status of `timeout` where a program takes longer.
 LATE = 124
@@ -40,8 +40,8 @@ def solver_words(solver, clauses, folder):
 def asked(file, step, folder, solver):
     """What is answered, and the seconds of the question, of the solver and of the check."""
     clauses, proof, solution = (folder / name for name in ["clauses", "proof", "solution"])
-    status, making = timed([CHECK, "bounded", file, step], clauses)
-    if status == 20:
+    _, making = timed([CHECK, "bounded", file, step], clauses)
+    if are_in_conflict(clauses):
         return "settled", making, 0, 0
     before = time.process_time()
     words = solver_words(solver, clauses, folder)

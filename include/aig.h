@@ -83,7 +83,7 @@ enum aig_status {
   AIG_LITERAL_GATES = 31,
 
   /* The file is taken, and there is no answer. */
-  AIG_SETTLED = 32,        /* No bad state is reached up to step `k`, so that there are no clauses to solve. */
+  /* 32 isn't used. */
   AIG_HAS_BADS = 33,       /* Outputs would become bad state properties, and there are some. */
   AIG_NO_OUTPUT = 34,      /* There is no output of this number. */
   AIG_LARGE_QUESTION = 35, /* The question has more nodes than the limit while it is made. */
@@ -112,8 +112,8 @@ enum aig_status {
   AIG_WITNESS_BAD = 64,      /* It is of a bad state property, and one of a justice property is wanted. */
 
   /* A witness shows no bad state, or no run at all. */
-  AIG_SHOW_LATCHES = 70,    /* The state has not a value for each latch. */
-  AIG_SHOW_INPUTS = 71,     /* A step has not a value for each input. */
+  AIG_SHOW_LATCHES = 70,    /* The state has another number of values than there are latches. */
+  AIG_SHOW_INPUTS = 71,     /* A step has another number of values than there are inputs. */
   AIG_SHOW_NO_STEP = 72,    /* There is no step. */
   AIG_SHOW_NO_BAD = 73,     /* There is no bad state property of this number. */
   AIG_SHOW_START = 74,      /* The state is not known to be a start. */
@@ -231,8 +231,8 @@ uint32_t aig_clauses(const uint8_t *file, size_t file_len, uint64_t k, bool opti
                      size_t *needed);
 
 /* The clauses, in DIMACS form, of `aig_question`, and that its output is true. Before them stand a title, as in `c aigcheck bounded 5
- * sha256 SUM`, and comments that say which input or latch each input of the question is, at which step, and its variable. AIG_SETTLED only
- * where no bad state is reached up to step `k`: then there are no clauses to solve. */
+ * sha256 SUM`, and comments that say which input or latch each input of the question is, at which step, and its variable. If that
+ * output is the constant false, the clauses are `-1 0` and `1 0`, which contradict each other. */
 uint32_t aig_bounded(const uint8_t *file, size_t file_len, uint64_t k, bool optimize, uint8_t *out, size_t out_len,
                      size_t *needed);
 
@@ -247,8 +247,8 @@ uint32_t aig_window(const uint8_t *file, size_t file_len, uint64_t k, bool disti
 uint32_t aig_check_refuted(const uint8_t *file, size_t file_len, uint64_t k, bool optimize, const uint8_t *proof,
                            size_t proof_len);
 
-/* AIG_DONE only where no such run reaches a bad state at a step from 0 to `k`. `proof` is of the clauses of `aig_bounded`; where these
- * are settled it isn't read. */
+/* AIG_DONE only where no such run reaches a bad state at a step from 0 to `k`. `proof` is of the clauses of `aig_bounded`; it isn't
+ * read if the output of `aig_question` is the constant false. */
 uint32_t aig_check_refuted_to(const uint8_t *file, size_t file_len, uint64_t k, bool optimize, const uint8_t *proof,
                               size_t proof_len);
 
@@ -257,8 +257,8 @@ uint32_t aig_check_refuted_to(const uint8_t *file, size_t file_len, uint64_t k, 
 uint32_t aig_check_inductive(const uint8_t *file, size_t file_len, uint64_t k, bool distinct, bool optimize,
                              const uint8_t *proof, size_t proof_len);
 
-/* AIG_DONE only where no such run ever reaches a bad state. `base` is a proof of the clauses of `aig_bounded`, and isn't read where these
- * are settled; `step` is one of those of `aig_window`; both are for the same `k`, each with its own setting. */
+/* AIG_DONE only where no such run ever reaches a bad state. `base` is a proof of the clauses of `aig_bounded`, and isn't read if the output
+ * of `aig_question` is the constant false; `step` is one of those of `aig_window`; both are for the same `k`, each with its own setting. */
 uint32_t aig_check_safe(const uint8_t *file, size_t file_len, uint64_t k, bool distinct, bool base_optimize, const uint8_t *base,
                         size_t base_len, bool step_optimize, const uint8_t *step, size_t step_len);
 
@@ -270,9 +270,11 @@ uint32_t aig_check_certified(const uint8_t *file, size_t file_len, const uint8_t
                              bool optimize, const uint8_t *base, size_t base_len, const uint8_t *step, size_t step_len);
 
 /* AIG_DONE only where no such run ever reaches a bad state, as `witness` shows: a witness circuit of the hardware model checking
- * competition, with resets that are constants or open. An input or a latch of it that is named `= N` stands for the first file's of
- * literal N; without any such name the first ones stand for these, in order. For each condition of a certificate there is a proof of the
- * clauses that `aigcheck obligations FILE WITNESS CONDITION` prints. */
+ * competition. Its resets may be any literals, but those of latches that stand for none of the first file's may not go round in a circle.
+ * An input that is named `= N` stands for the first file's input of literal N, a latch for its latch: N is the even literal that stands in
+ * that file, or that its place means in a binary one, in decimal digits. If no input and no latch has a name that begins with `= `, the
+ * first inputs and latches stand for these, in order. For each condition of a certificate there is a proof of the clauses that
+ * `aigcheck obligations FILE WITNESS CONDITION` prints. */
 uint32_t aig_check_simulated(const uint8_t *file, size_t file_len, const uint8_t *witness, size_t witness_len, bool optimize,
                              const uint8_t *reset, size_t reset_len, const uint8_t *transition, size_t transition_len,
                              const uint8_t *property, size_t property_len, const uint8_t *base, size_t base_len,
@@ -329,12 +331,13 @@ uint32_t aig_rounds(const uint8_t *file, size_t file_len, size_t j, size_t count
 
 /* AIG_DONE only where a file's justice property `j`, from 0 on, has no fair lasso of `k` + 1 steps: no run of so many from an initial
  * state, under the constraints at each step, ends where one of its steps began, with each literal of the property and of fairness true
- * from there on. `proof` is of the clauses of `aig_query` of the text that `aig_live` gives. */
+ * from there on. `proof` is of the clauses of `aig_query` of the text that `aig_live` gives; that
+ * this call makes the same circuit as `aig_live` is only tested. */
 uint32_t aig_check_no_lasso(const uint8_t *file, size_t file_len, size_t j, uint64_t k, bool optimize, const uint8_t *proof,
                             size_t proof_len);
 
-/* AIG_DONE only where it has none of at most `k` + 1 steps. `proof` is of the clauses of `aig_bounded` of that text; where these are
- * settled it isn't read. */
+/* AIG_DONE only where it has none of at most `k` + 1 steps. `proof` is of the clauses of `aig_bounded` of that text; it isn't read
+ * if the output of `aig_question` of that text is the constant false. */
 uint32_t aig_check_no_lasso_to(const uint8_t *file, size_t file_len, size_t j, uint64_t k, bool optimize, const uint8_t *proof,
                                size_t proof_len);
 

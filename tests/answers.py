@@ -3,10 +3,10 @@
 
 Rows stand in the tables below, and were worked by hand. A row is the words of a command, which is run in the table's folder, with the
 bytes of the second cell as its file GIVEN; what is printed; and what the row is about, where that has to be said. `usage` ends with
-status 2, a line that begins with the program's name with status 1, or 20 where a question is settled, both to standard error, and all
-else goes to standard output with status 0, but for lines at its end that begin so, which are told beside it. The file that such a line
-names, and the place there, are left out but in places.tsv, and everywhere the line behind that of a refused proof. In these cells `\\n`
-is a line feed, `\\x` a byte in hexadecimal, and `{PIECE}*N` the piece N times.
+status 2, a line that begins with the program's name with status 1, both to standard error, and all else goes to standard output with
+status 0, but for lines at its end that begin so, which are told beside it. The file that such a line names, and the place there, are left
+out but in places.tsv, and everywhere the line behind that of a refused proof. In these cells `\\n` is a line feed, `\\x` a byte in
+hexadecimal, and `{PIECE}*N` the piece N times.
 
 What aigtool and aigedit print is cut at each length, too, by a limit on the size of files: then a beginning of it is there, and the
 last write is told to have failed. And rows that are made here have long clauses, limits on time and memory, and full devices.
@@ -38,8 +38,6 @@ TABLES = {
     "witnesses/lassos.tsv": "aigcheck run {} GIVEN",
 }
 FILES = TESTS / "answers"
-# What is told where the question of `bounded` is settled.
-SETTLED = b"aigcheck: no bad state up to step "
 # The programs whose printed texts are cut.
 CUT = ["aigtool", "aigedit"]
 
@@ -90,8 +88,8 @@ MADE = {
 # What limits the programs of limits.tsv: CPU seconds, and 4 GB of memory for 100,000 steps, which grows with the steps and not with the
 # pairs of them.
 LIMITS = {"": None, "cpu": limit(resource.RLIMIT_CPU, CPU), "memory": limit(resource.RLIMIT_AS, 4 << 30)}
-# The comments of the query of credits.aag for step 0: each leaf and gate is the variable of its number in the file, and one more.
-CREDITS = "../../examples/credits.aag"
+# The comments of the query of permits.aag for step 0: each leaf and gate is the variable of its number in the file, and one more.
+PERMITS = "../../examples/permits.aag"
 COMMENTS = b"c i0 at step 0 is 2\nc i1 at step 0 is 3\nc l0 at step 0 is 4\nc l1 at step 0 is 5\nc b0 at step 0 is 20\n"
 
 
@@ -99,8 +97,6 @@ def wanted_of(program, printed):
     """The status, standard output and standard error that a row wants."""
     if printed == b"usage":
         return 2, b"", harness.USAGE[program]
-    if printed.startswith(SETTLED):
-        return 20, b"", printed
     lines = printed.splitlines(keepends=True)
     said = b"".join(itertools.dropwhile(lambda line: not line.startswith(program.encode() + b": "), lines))
     out = printed.removesuffix(said)
@@ -174,9 +170,9 @@ class Answers:
                 wanted = (1, b"", f"{line.split()[0]}: write failed\n".encode())
                 self.check(line.format(**files), wanted, FILES, stdout=full)
         for form in ["", " raw"]:
-            query = harness.run([self.programs["aigtool"], "query", CREDITS, "0", *form.split()], cwd=FILES)[1]
-            text = harness.title(f"clauses 0{form}", (FILES / CREDITS).read_bytes()) + COMMENTS + query
-            self.check(f"aigcheck clauses {CREDITS} 0{form}", (0, text, b""), FILES)
+            query = harness.run([self.programs["aigtool"], "query", PERMITS, "0", *form.split()], cwd=FILES)[1]
+            text = harness.title(f"clauses 0{form}", (FILES / PERMITS).read_bytes()) + COMMENTS + query
+            self.check(f"aigcheck clauses {PERMITS} 0{form}", (0, text, b""), FILES)
             self.check_obligations("differing.aag held.aag", form)
 
     def check_obligations(self, pair, form):

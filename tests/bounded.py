@@ -4,8 +4,9 @@
 Asks of FILES (500) random machines, with constraints, resets of all three kinds and several bad states, whether a bad state is reached up
 to a step K from 0 to 12, by one question: `aigcheck bounded`, cadical, and `aigcheck refuted FILE to K` or `witness FILE to K`, whose
 witness `aigcheck run` takes. Asked about one step after the other, as by aigprove, cadical says the same, and nearly always finds the first
-step first. Where a question is settled at once, the search has to find no bad state either. The file of `aigedit
-question` has an output that can be true exactly where the search finds one. Where a bad state is reached, mangled proofs are refused.
+step first. Where the clauses are that the constant is false, and that it is true, an empty proof and one that can't be read are taken, too:
+none is read. The file of `aigedit question` has an output that can be true exactly where the search finds one. Where a bad state is
+reached, mangled proofs are refused.
 Where none is, `aigcheck window` is asked, too: by cadical's proofs of both `aigcheck safe` says that no step is bad, and by neither of
 them for both, nor by that of a window where the first is refused; and the same by cadical's proofs of each step.
 
@@ -24,6 +25,8 @@ from aigprove.questions import ASSUMING, in_turn
 LAST = 12
 # How many inputs a question may have of which all values are tried.
 FEW = 10
+# The clauses that the constant is false, and that it is true.
+FALSE = b"\np cnf 1 2\n-1 0\n1 0\n"
 
 
 class Trial(Files):
@@ -48,23 +51,19 @@ class Trial(Files):
     def run(self):
         """Asks, and compares the answer."""
         status, clauses, said = harness.run([CHECK, "bounded", self.file, str(self.step), *self.setting])
-        if status == 20:
-            self.compare_settled(clauses, said)
-        elif status == 0:
-            self.compare_asked(clauses)
-        else:
+        if status != 0 or harness.alone(said):
             self.fail(f"bounded: {said}")
+        if clauses.endswith(FALSE):
+            self.compare_unread()
+        self.compare_asked(clauses)
         self.compare_question()
         return self
 
-    def compare_settled(self, clauses, said):
-        self.counts["settled"] += 1
-        if self.is_reached or clauses or harness.unnamed(said) != f"aigcheck: no bad state up to step {self.step}\n".encode():
-            self.fail(f"settled: {clauses} {said}")
-        empty = self.put("empty", "")
-        if not self.refutes(empty):
-            self.fail("an empty proof is refused")
-        self.compare_safe(empty)
+    def compare_unread(self):
+        """Looks that no proof is read of clauses that contradict each other."""
+        self.counts["by no proof"] += 1
+        if not all(self.refutes(self.put("unread", text)) for text in ["", "no proof"]):
+            self.fail("a proof is read")
 
     def compare_asked(self, clauses):
         """Compares a solver's answer."""

@@ -9,7 +9,7 @@ import re
 
 from aiger import Machine
 from live import Steps, reachable
-from machines import NAMES, random_machine
+from machines import NAMES, random_machine, renumbered
 
 from aigprove.plain import Gates, literals_of
 
@@ -21,6 +21,11 @@ INPUTS, LATCHES = 3, 4
 def leaves_of(machine):
     """The literals of the inputs, and those of the latches."""
     return list(machine.inputs), [latch[0] for latch in machine.latches]
+
+
+def greatest(machine):
+    """The greatest variable that is defined."""
+    return max([0, *itertools.chain(*leaves_of(machine)), *(row[0] for row in machine.gates)]) // 2
 
 
 @dataclasses.dataclass
@@ -305,16 +310,19 @@ def random_copy(rng, model):
 
 def with_spare(rng, model, is_last):
     """The model with an input or a latch more that nothing else reads, the last one or any."""
-    leaf = 2 * (sum(map(len, [model.inputs, model.latches, model.gates])) + 1)
-    name, one = rng.choice([("inputs", leaf), ("latches", [leaf, rng.randrange(leaf + 2), rng.choice([0, 1, leaf])])])
+    leaf = 2 * (greatest(model) + 1)
+    next = rng.choice([0, *itertools.chain(*leaves_of(model)), *(row[0] for row in model.gates), leaf]) ^ rng.randrange(2)
+    name, one = rng.choice([("inputs", leaf), ("latches", [leaf, next, rng.choice([0, 1, leaf])])])
     given = list(getattr(model, name))
     given.insert(len(given) if is_last else rng.randint(0, len(given)), one)
     return dataclasses.replace(model, **{name: given})
 
 
 def random_claim(rng):
-    """A model, a witness circuit, and whether it is right by construction."""
+    """A model, whose variables may have gaps and gates below leaves; a witness circuit; and whether it is right by construction."""
     model = random_model(rng)
+    if rng.random() < 0.5:
+        model, _ = renumbered(rng, model)
     made, is_named = random_copy(rng, model), rng.random() < 0.7
     witness = made.by_names(rng) if is_named else made.in_order()
     # Names that say nothing.
@@ -366,7 +374,7 @@ def other_reset(rng, witness):
 
 
 def has_functions(machine):
-    """Whether some reset is a function. aigprove reads no such file."""
+    """Whether some reset is a function."""
     return any(row[0] != row[2] > 1 for row in machine.latches if len(row) > 2)
 
 
@@ -424,7 +432,7 @@ def other_names(rng, witness):
     if kind == 0 and len(given) == 2:
         names[left], names[right] = names[right], witness.names[left]
     if kind == 1:
-        names[left] = rng.choice(["= ", "= -2", "= 2 ", "= é", f"= {rng.randrange(20)}", f"= {2 * rng.randrange(10)}", *given])
+        names[left] = rng.choice(["= ", "= -2", "= 2 ", "= é", f"= {rng.randrange(30)}", f"= {2 * rng.randrange(15)}", *given])
     return dataclasses.replace(witness, names=names)
 
 

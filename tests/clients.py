@@ -28,7 +28,7 @@ CLIENTS = TESTS / "clients"
 # What a status can't tell: the number of a step, counts that don't fit, and what the other file is.
 NUMBERED = [
     (rb"\bwitness circuit: ", b"other file: "),
-    (rb"\bstep \d+ has not a value", b"a step has not a value"),
+    (rb"\bstep \d+ has another number", b"a step has another number"),
     (rb"\bhold at step \d+\n", b"hold at a step\n"),
     (rb"\bup to step \d+\n", b"up to the step\n"),
     (rb"\bdo not fit: \d+ and \d+ [a-z ]+\n", b"do not fit\n"),
@@ -66,7 +66,7 @@ SECTIONS = ["INPUTS", "LATCHES", "OUTPUTS", "BADS", "CONSTRAINTS", "JUSTICE", "F
 # The title of clauses in a table, which numbers haven't.
 TITLE = re.compile(r"^c aigcheck [^\\]*\\n")
 # The step at which a bad state is first reached, as other tools found (tests/designs/answers.tsv; of the example, README).
-REACHED = {"examples/credits.aag": 2, "tests/designs/alu_bug.aig": 4, "tests/designs/sha4.aig": 4}
+REACHED = {"examples/permits.aag": 2, "tests/designs/alu_bug.aig": 4, "tests/designs/sha4.aig": 4}
 # And one of which they found that none is.
 SAFE_DESIGN = "tests/designs/msi.aig"
 
@@ -242,7 +242,7 @@ class Clients:
         self.tally.wants("the page's C", (0, AND, b""), harness.run([program], env=loads))
         finds = {**os.environ, "PYTHONPATH": str(prefix / "lib" / "python")}
         finds.pop("LIBAIG", None)
-        first = (TOP / "examples" / "credits.aag").read_bytes().splitlines(True)[0]
+        first = (TOP / "examples" / "permits.aag").read_bytes().splitlines(True)[0]
         wanted = 0, first + b"46 proof step does not follow\n", b""
         self.tally.wants("the page's Python", wanted, harness.run([sys.executable, "-c", blocks["python"]], env=finds, cwd=TOP))
 
@@ -297,8 +297,6 @@ def by_python(aig, place, program, words, given):
     taken = [read(file), *(int(word) if word.isdigit() else read(word) for word in rest if word not in WORDS)]
     try:
         out = getattr(aig, CALLS[name])(*taken, **settings)
-    except aig.Settled as refusal:
-        return 20, b"", f"{program}: {refusal}\n".encode()
     except aig.Refused as refusal:
         return 1, b"", f"{program}: {refusal}\n".encode()
     if command == "numbers":

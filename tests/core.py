@@ -1,12 +1,13 @@
 #!/usr/bin/env python3
 """Asks bin/aigprove about a RISC-V core of 2,000 registers, beside ABC's pdr: core.py
 
-The core is picorv32, with the assertions that its author gave it, as Debian's source package nextpnr has it, which is fetched by apt-get;
-where that can't be had the test says so and passes. Its assertions hold, as pdr says too, and it is equal to what ABC makes of it. With one
+The core is picorv32, with the assertions that its author gave it, as Debian's source package nextpnr has it. apt-get fetches that from where
+this machine gets its packages. If it can't be had, the test says so and passes. Its assertions hold, as pdr says too, and it is equal to what ABC makes of it. With one
 that is wrong, by hand, which says that an instruction is never fetched for a read, the run has to end where yosys sees that assertion fail,
 in the first step in which the core fetches: it is in reset at step 0, asks for its first instruction at step 1, and has its request out at
 step 2 at the earliest."""
 import os
+import pathlib
 import re
 import subprocess
 import sys
@@ -17,19 +18,28 @@ import harness
 from harness import PROVE
 
 NAME, PLACE = "picorv32.v", "ice40/benchmark/picorv32.v"
-LIST = "deb-src {signed}http://deb.debian.org/debian bookworm main\n"
-KEYRING = "/usr/share/keyrings/debian-archive-keyring.gpg"
+# The folder of the machine's own lists of package sources, and the word in a line of theirs, of either style, that stands for built packages.
+LISTS, BUILT = pathlib.Path("/etc/apt"), re.compile(r"^(Types:\s*)?deb(?![\w-])", re.MULTILINE)
 TRUE = "assert (mem_wstrb == 0);"
 FALSE = "assert (mem_wstrb != 0);"
 ANSWER = "no bad state at any step"
 WORDS = ["-D", "FORMAL", "--top", "picorv32"]
 
 
+def list_sources(folder):
+    """Writes the machine's lists of package sources into a folder, with source packages in the place of built ones."""
+    folder.mkdir()
+    parts = LISTS / "sources.list.d"
+    for path in [LISTS / "sources.list", *parts.glob("*.list"), *parts.glob("*.sources")]:
+        if path.is_file():
+            (folder / path.name).write_text(BUILT.sub(r"\1deb-src", path.read_text()))
+
+
 def sources(package, folder):
     """The archive of the source package in Debian, which is put into a folder, or None where it can't be had."""
-    (folder / "list").write_text(LIST.format(signed=f"[signed-by={KEYRING}] " if os.path.exists(KEYRING) else ""))
+    list_sources(folder / "parts")
     (folder / "lists" / "partial").mkdir(parents=True)
-    options = {"Dir::Etc::sourcelist": folder / "list", "Dir::Etc::sourceparts": "-", "Dir::State::lists": folder / "lists"}
+    options = {"Dir::Etc::sourcelist": "/dev/null", "Dir::Etc::sourceparts": folder / "parts", "Dir::State::lists": folder / "lists"}
     apt = ["apt-get", *(f"-o{name}={value}" for name, value in options.items())]
     for words in [["update"], ["source", "--download-only", package]]:
         if harness.run([*apt, *words], cwd=folder, timeout=300)[0] != 0:

@@ -23,6 +23,6 @@ compare() {
     echo "$1: found equivalent for $2"
 }
 
-compare reencode "adder arbiter_yosys counter credits handshake pipeline pushes queue"
-compare refine "adder counter credits handshake pipeline pushes queue"
+compare reencode "adder arbiter_yosys counter handshake permits pipeline pushes queue"
+compare refine "adder counter handshake permits pipeline pushes queue"
 compare bads "adder arbiter_yosys counter"

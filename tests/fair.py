@@ -8,7 +8,9 @@ what is assumed to come again and again does so; and the fewest steps of such a 
 be one of the design, as Icarus has it. Which assertions fail the table says too, by hand.
 
 Then the small designs of fair/small.txt, whose answers are known by hand, with what is printed of them: what is again and again, and not
-once; conditions, clocks and resets. What is kept is shown again. The tools are yosys, cadical, ABC and Icarus Verilog (iverilog, vvp)."""
+once; conditions, clocks and resets. What is kept is shown again. Last, where yosys is late for the file of a design's liveness, the last
+line says that nothing was shown of liveness, behind the answer about its assertions. The tools are yosys, cadical, ABC and Icarus
+Verilog (iverilog, vvp)."""
 import collections
 import concurrent.futures
 import functools
@@ -17,12 +19,26 @@ import re
 import sys
 
 import harness
-from harness import PROVE, TESTS
+from harness import PROVE, TESTS, TOP
 
 FAIR = TESTS / "fair"
 LINE = re.compile(r"(state|free|live|fair|with|clocked): (.*)")
 SIGNAL = re.compile(r"([\w.]+)(?:\[(\d+):0\])?")
 ASSERTION = re.compile(r"(always @(\*|\(posedge clk\)) )?(if \(\w+\) )?\w+: (assert|assume) property \(.*\);")
+# What Python runs: aigprove, with a yosys that is late for the file of a design's liveness, whatever the time is.
+LATE = """import sys
+sys.path.insert(0, sys.argv.pop(1))
+from aigprove import command, yosys
+def late(*_):
+    raise yosys.Late("yosys is late")
+command.lives = late
+command.main()
+"""
+BOTH = """module top(input clk); reg q = 0; always @(posedge clk) q <= !q;
+  safe: assert property (q || !q);
+  live: assert property (s_eventually q);
+endmodule
+"""
 # Prints what a design does in each state that its runs come to, with all values of its inputs: the state, the inputs, the condition and the
 # signal of each assertion and of each assumption, and the next state.
 BENCH = """module bench;
@@ -280,6 +296,16 @@ def small_faults(design, calls, folder):
             yield f"{words}: {again} is shown again of {printed}"
 
 
+def late_faults(folder):
+    """What is wrong of what is said of a design of which there is no file of its liveness in time."""
+    folder.mkdir()
+    (folder / "design.v").write_text(BOTH)
+    given = harness.run([sys.executable, "-c", LATE, str(TOP / "lib"), "-q", "--engine", "pdr", "design.v"], cwd=folder)
+    wanted = (0, b"no bad state at any step\nnothing was shown of liveness\n", b"aigprove: yosys is late\n")
+    if given != wanted:
+        yield f"{given}, and {wanted} is wanted"
+
+
 def main():
     words = harness.parser(__doc__)
     words.add_argument("--only", metavar="NAME", help="this design alone, or `small` for the small ones")
@@ -291,6 +317,8 @@ def main():
             tally.wants(f"{design.name} {design.parameters}", [], wrong)
         for i, (design, calls) in enumerate(small() if only in (None, "small") else []):
             tally.wants(design, [], list(small_faults(design, calls, folder / f"small-{i}")))
+        if only in (None, "small"):
+            tally.wants("late for liveness", [], list(late_faults(folder / "late")))
     return tally.end()
 
 

@@ -78,14 +78,14 @@ def known(machine, state, inputs):
 def first_fault(machine, j, state, rows):
     """What is wrong before the first step, if anything is."""
     if len(state) != len(machine.latches):
-        return "the state has not a value for each latch"
+        return "the state has another number of values than there are latches"
     if not rows:
         return "no step"
     if j >= len(machine.justice):
         return "no such justice property"
     resets = [latch[2] if len(latch) > 2 else 0 for latch in machine.latches]
     is_start = all(reset > 1 or bit is bool(reset) for reset, bit in zip(resets, state))
-    return None if is_start else "the state is no start"
+    return None if is_start else "the state isn't known to be initial"
 
 
 def unmet(literals, loop):
@@ -101,7 +101,7 @@ def said_of(machine, j, state, rows):
     states, steps = [], []
     for t, row in enumerate(rows):
         if len(row) != len(machine.inputs):
-            return False, f"step {t} has not a value for each input"
+            return False, f"step {t} has another number of values than there are inputs"
         values = known(machine, state, row)
         if any(values[literal] is not True for literal in machine.constraints):
             return False, f"a constraint is not known to hold at step {t}"

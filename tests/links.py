@@ -7,10 +7,11 @@ to a file or folder where it is a path from the top, from crates/, or from specs
 file of code alone, in a crate that the line names. A part in capitals, or with a star, stands for
 any name, and what follows it isn't looked at. A code span that is a name in parts, as those of crates, functions and types, has to be
 the name of a crate or stand in a file of code. Each block of the kind `rust` has to stand, line by line, in a file of crates/ or
-examples/.
+examples/. And no file of the repository may name another host than that of the AIGER report and that of the names of XML.
 """
 import collections
 import re
+import subprocess
 import sys
 
 from harness import TOP
@@ -28,6 +29,8 @@ CODE = (".rt", ".antt")
 SOURCES = (".rt", ".antt", ".py", ".h", ".v", ".tsv")
 # Files that a reader makes.
 EXAMPLES = ("check.sh",)
+# A host in an address, and those that files may name.
+HOST, HOSTS = re.compile(r"\w+://([\w.-]+\.[a-z]+)"), ("fmv.jku.at", "www.w3.org")
 
 
 def anchors(text):
@@ -112,10 +115,17 @@ def rust_faults(text, sources):
             yield f"stands in no file of crates/ or examples/: {block.splitlines()[0]}"
 
 
+def host_faults():
+    """The hosts that files of the repository name and may not, each with its file."""
+    listed = subprocess.run(["git", "grep", "-I", "-E", r"[a-z]+://[a-z]"], cwd=TOP, capture_output=True, text=True, check=True).stdout
+    for path, text in (line.split(":", 1) for line in listed.splitlines()):
+        yield from (f"{path}: names the host {host}" for host in HOST.findall(text) if host not in HOSTS)
+
+
 def main():
     pages = [TOP / "README.md", *sorted(TOP.glob("docs/*.md"))]
     sources = [path.read_text() for pattern in ["crates/*/src/**/*.rt", "examples/*/*.rt.txt"] for path in TOP.glob(pattern)]
-    files, wrong, links = Files(), [], 0
+    files, wrong, links = Files(), [*host_faults()], 0
     for page in pages:
         text = page.read_text()
         links += len(LINK.findall(text))

@@ -185,7 +185,7 @@ class Lives:
 
     def without_end(self, machine, out, what):
         """Checks what aigprove says of runs without end that meet the fairness, and gives the status that goes with it."""
-        can, cannot = (f"the assumptions {word} be met without end" in out for word in ["can", "can't"])
+        can, cannot = (line in out for line in ["the assumptions can be met without end: ", "the assumptions can't be met without end: "])
         self.tally.check(not (cannot if has_lasso(machine, machine.fairness) else can), f"without end: {what}")
         return EMPTY if cannot else NONE
 

@@ -40,6 +40,16 @@ def live_machine(rng):
     return small_machine(rng, justice=(1, 2))
 
 
+def renumbered(rng, machine):
+    """The machine with other numbers for its variables, of which some may be left out; and its greatest variable, or one above."""
+    count = len(machine.inputs) + len(machine.latches) + len(machine.gates)
+    most = count + rng.choice([0, 0, 1, 5])
+    new = [0, *rng.sample(range(1, most + 1), count)]
+    turn = lambda it: 2 * new[it // 2] + it % 2 if isinstance(it, int) else list(map(turn, it))
+    made = {name: turn(section) for name, section in vars(machine).items() if name != "names"}
+    return Machine(**made, names=machine.names), most
+
+
 def random_machine(rng):
     """A machine of random gates, with constraints that hold for most inputs."""
     inputs, latches = rng.randint(0, 3), rng.randint(1, 5)

@@ -230,9 +230,10 @@ class Pair(Files):
         self.compare_matched(printed)
         if status != (10 if first is not None else 20 if unmet is None else 0):
             self.fail(f"a search finds a difference at step {first}, and no run from step {unmet} on, and aigprove: {status} {printed} {said}")
-        lines, alike, behind = f"\n{printed}", self.said if self.has_alike() else "", self.setting_behind()
-        different = re.search(f"\na difference at step ([0-9]+){behind}{alike}: (.*)\n", lines)
-        if (f"\nequal at every step{behind}{alike}\n" in lines) != (first is None) or (different is None) != (first is None):
+        lines, alike = f"\n{printed}", self.said if self.has_alike() else ""
+        behind = self.setting_behind() + alike + self.matched_behind()
+        different = re.search(f"\na difference at step ([0-9]+){behind}: (.*)\n", lines)
+        if (f"\nequal at every step{behind}\n" in lines) != (first is None) or (different is None) != (first is None):
             self.fail(f"a search finds a difference at step {first}, and aigprove: {printed}")
         counted = self.machine.constraints + (self.other_machine.constraints if self.setting != "first" else [])
         unmet_line = f"\nthe assumptions can't be met from step {unmet} on: the answer is empty\n"
@@ -254,6 +255,10 @@ class Pair(Files):
         is_same = self.mitered(kept) == miter and not (keep / "both.aag").exists()
         if again is None or (harness.shown_again(keep) is not None) != is_same:
             self.fail("what is kept isn't shown again, or is with the other file turned")
+
+    def matched_behind(self):
+        """What aigprove says behind lines of signals that it put in another order: nothing of files without names."""
+        return ""
 
     def compare_matched(self, printed):
         """Compares what aigprove says of how signals are matched: nothing of files without names."""
@@ -301,7 +306,7 @@ class Pair(Files):
         way = "by-name" if all(name is not None for machine in both for _, name in opened(machine)) else "by-order"
         matched = partners(way, *both)
         is_equal = bool(matched) and not differ_at(*both, starting(*both, matched), self.setting, k)
-        alike = f"{self.setting_behind()}, registers with open start alike {way.replace('-', ' ')}"
+        alike = f"{self.setting_behind()}, registers with open start alike {way.replace('-', ' ')}{self.matched_behind()}"
         wanted = f"\nequal at step {k}{alike}\n--starts {way} compares so\n"
         if (wanted in lines) != is_equal or ("compares so" in lines) != is_equal:
             self.fail(f"a search finds that registers that start alike {way} {'do' if is_equal else 'do not'} make step {k} equal: {lines}")
@@ -389,8 +394,11 @@ class ByName(Pair):
         self.counts[f"{'equal' if first is None else 'different'}{' by name' * bool(self.by_name)}"] += 1
         return self.counts
 
+    def matched_behind(self):
+        return f", {' and '.join(self.by_name)} matched by name" if self.by_name else ""
+
     def compare_matched(self, printed):
-        told = re.findall("^(.*) are matched by name$", printed, re.MULTILINE)
+        told = re.findall("^(.*) are matched by name: ", printed, re.MULTILINE)
         if told != self.by_name:
             self.fail(f"matched by name are {self.by_name}, and aigprove: {printed}")
 

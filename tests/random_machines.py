@@ -30,7 +30,7 @@ from trials import Files, told
 from aigprove.aiger import Lines
 from aigprove.witness import Witness, read
 
-EXAMPLES = [str(TOP / "examples" / f"{name}.aag") for name in ["credits", "queue", "pipeline", "handshake"]]
+EXAMPLES = [str(TOP / "examples" / f"{name}.aag") for name in ["permits", "queue", "pipeline", "handshake"]]
 BOUND = 6
 # Engines that show the steps up to the bound.
 BY_STEPS = ["steps", "steps,windows", "steps,windows,bmc3,pdr", "bounded"]

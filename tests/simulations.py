@@ -7,22 +7,23 @@ latches of its own keep; with its leaves in the model's order, and in another wi
 input and latches more that are its own. Resets of own latches are functions, too. cadical refutes what `aigcheck obligations` prints for
 each condition, and by these proofs `aigcheck certified` takes it. It takes none whose own latches' resets go round in a circle.
 
-FILES (20) small random machines, with constraints, resets of all three kinds and several bad states, have witness circuits that are
-right by construction, most often, and then mangled: a gate, a reset, a next value, a bad literal or a constraint is another, a latch
+FILES (20) small random machines, with constraints, resets of all three kinds and several bad states, whose variables may have gaps and
+gates below leaves, have witness circuits that are right by construction, most often, and then mangled: a gate, a reset, a next value, a bad literal or a constraint is another, a latch
 becomes an input, leaves change places or names. Resets of these are functions, too. A search over all values of both circuits' leaves
 says from the definitions which conditions hold, which leaves are shared, and whether resets go round in a circle. What is printed for a
 condition has a solution exactly where it doesn't hold. By cadical's proofs a certificate is taken exactly where all five hold; else it is
-refused by the first that doesn't, with the proof of another. Of the first PROVED files aigprove says the same where resets are constant
-or open, or takes more: an invariant whose steps aren't the model's.
+refused by the first that doesn't, with the proof of another. Of the first PROVED files aigprove says the same, or takes more: an invariant
+whose steps aren't the model's.
 
 It ends at the first that differs. The solver and ABC are the Debian packages cadical and berkeley-abc. It is no part of tests/run."""
 import concurrent.futures
+import dataclasses
 import re
 from pathlib import Path
 
 import harness
 from aiger import machine_of
-from claims import CONDITIONS, MANGLES, Copy, Search, Untold, by_invariant, by_steps, going_round, has_functions, random_claim, with_own
+from claims import CONDITIONS, MANGLES, Copy, Search, Untold, by_invariant, by_steps, going_round, greatest, random_claim, with_own
 from harness import CHECK, PROVE, TESTS, TOOL, numbers, output, rows
 from trials import Files, counted, run_files, told
 
@@ -144,11 +145,18 @@ class Trial(Claims):
         super().__init__(folder, seed)
         self.model, self.witness, is_right = random_claim(self.rng)
         self.is_safe = self.model.first_bad() is None
-        self.file, self.setting = self.put("model.aag", self.model.text()), self.rng.choice([[], ["raw"]])
+        self.file, self.setting = self.put("model.aag", self.text()), self.rng.choice([[], ["raw"]])
         search = Search(self.model, self.witness)
         if is_right and not search.goes_round() and search.broken():
             self.pair(self.witness)
             self.fail(f"right by construction, and a search finds broken {search.broken()}")
+
+    def text(self):
+        """The text of the model, whose gates may stand in any order."""
+        gates = list(self.model.gates)
+        if self.rng.random() < 0.5:
+            self.rng.shuffle(gates)
+        return dataclasses.replace(self.model, gates=gates).text(most=greatest(self.model))
 
     def run(self):
         for _ in range(self.rng.choice([0, 1, 1, 2])):
@@ -157,7 +165,7 @@ class Trial(Claims):
             search = Search(self.model, self.witness)
         except Untold as error:
             why, leaf = error.args
-            self.refuse(f"leaf {leaf // 2}: {why}", self.pair(self.witness), self.setting)
+            self.refuse(f"node {leaf // 2}: {why}", self.pair(self.witness), self.setting)
             self.counts["refused by a name"] += 1
         else:
             self.compare_found(search)
@@ -177,7 +185,7 @@ class Trial(Claims):
         if not broken and not self.is_safe:
             self.fail(f"all conditions hold, and a bad state is reached at step {self.model.first_bad()}")
         self.compare(pair, broken, self.setting)
-        if int(self.folder.name) < PROVED and not has_functions(self.witness.machine):
+        if int(self.folder.name) < PROVED:
             self.compare_proved(pair, broken)
 
 

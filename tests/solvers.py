@@ -173,6 +173,17 @@ def worded():
             ["--limit 0 t.aag", "argument --limit: 0 is no number of nodes"],
             ["--starts by-name t.aag", "--starts is for --equal"],
             ["--constraints both t.aag", "--constraints is for --equal"],
+            ["--reset 1x t.aag", "argument --reset: 1x is no signal with a value 0 or 1 and a number of steps, as rst_n=0:2"],
+            ["-D 1x t.aag", "argument -D/--define: 1x is no NAME or NAME=TEXT of one line, as WIDTH=8"],
+            ["--black-box 1x t.aag", "argument --black-box: 1x is no name of a module"],
+            ["--parameter 1x t.aag", "argument --parameter: 1x is no NAME=NUMBER, as WIDTH=8 or MODE=2'b10 (-D gives a text)"],
+            ["--engine no t.aag", "argument --engine: no names others than bmc3, pdr, bounded, steps, windows, scorr, registers, rounds and abc"],
+            ["--justice 0 --each t.aag", "--justice goes with none of --equal, --certificate, --run, --each and --property"],
+            ["--run t --write-certificate c t.aag", "--write-certificate is about an answer of our own, and not with --certificate and --run"],
+            ["--json j t.aag", "--json is for the table of --each"],
+            ["--each --property 0 t.aag", "--property is about one question, and not with --each"],
+            ["--tasks t.aag", "--tasks keeps what is asked about in a folder: --keep FOLDER says which"],
+            ["--gather f --keep k t.aag", "--gather asks nothing: --keep FOLDER goes on with what FOLDER has"],
         ]:
             status, out, said, left = run.result(wrong.split(" "), words)
             yield wrong, (2, "", [f"aigprove: error: {why}"], []), (status, out, said.splitlines()[-1:], left)
@@ -183,7 +194,7 @@ def worded():
 
 def faulty():
     """What can't be read or written: one line, which names it."""
-    with running(TOGGLE, abc=RUN) as run:
+    with running(TOGGLE, abc=RUN, files={"itself": "-f itself", "listed": "-x t.aag"}) as run:
         (run.folder / "locked").mkdir(mode=0)
         words = [*run.words[:-1], "--engine", "bmc3"]
         for given, why in [
@@ -192,6 +203,9 @@ def faulty():
             ["t.aag/t", "t.aag/t: Not a directory"],
             ["\udcff\n", "\\udcff\\n: No such file or directory"],
             ["a" * 300, f"{'a' * 300}: File name too long"],
+            ["-f itself", "itself is in itself"],
+            ["-f listed", "listed: -x is no file, -D, -I or -f"],
+            ["t.aag --top nope", "t.aag is no design, so it has no module nope"],
             ["t.aag --keep locked", "locked: File exists"],
             ["t.aag --keep a/b", "a/b: No such file or directory"],
             ["t.aag --run missing", "missing: No such file or directory"],

@@ -85,7 +85,7 @@ def paths_are_spelled_out(room):
 
 
 def what_is_left_out_is_told(room):
-    """By aigcheck of each file, however it comes, and where the question is settled; and of no file beside a refusal."""
+    """By aigcheck of each file, however it comes, and of no file beside a refusal."""
     harness.write_files(room.folder, FILES)
     for name in ["live.aag", "live.aig", "just.aag", "fair.aag"]:
         told = lines(room.checker, [(name, LEFT_OUT)])
@@ -94,8 +94,8 @@ def what_is_left_out_is_told(room):
         piped = told.replace(name.encode(), b"/dev/stdin")
         ends(room, room.checker, ["clauses", "/dev/stdin", "0"], 0, asked, piped, input=FILES[name])
     ends(room, room.checker, ["clauses", "safe.aag", "0"], 0, titled("clauses 0", "safe.aag", ASKED), b"")
-    settled = [("none.aag", b"no bad state up to step 1"), ("none.aag", LEFT_OUT)]
-    ends(room, room.checker, ["bounded", "none.aag", "1"], 20, b"", lines(room.checker, settled))
+    never = titled("bounded 1", "none.aag", b"p cnf 1 2\n-1 0\n1 0\n")
+    ends(room, room.checker, ["bounded", "none.aag", "1"], 0, never, lines(room.checker, [("none.aag", LEFT_OUT)]))
     ends(room, room.checker, ["clauses", "cut.aag", "0"], 1, b"", lines(room.checker, [("cut.aag", b"line 4: bad line in justice")]))
     refused = harness.advised(lines(room.checker, [("conflict", b"proof step does not follow")]))
     ends(room, room.checker, ["refuted", "live.aag", "0", "conflict"], 1, b"", refused)

@@ -109,6 +109,11 @@ class Header:
         self.inputs, self.latches, self.outputs, self.gates = self.counts[1:5]
         self.bads, self.constraints, self.justice, self.fairness = self.counts[5:9]
 
+    def count(self, circuit, greatest):
+        """Counts again what a circuit has, up to this greatest variable."""
+        of = [circuit.inputs, circuit.latches, circuit.outputs, circuit.gates, circuit.bads, circuit.constraints, circuit.justice]
+        self.is_old, self.counts = False, [greatest, *map(len, of), len(circuit.fairness)]
+
 
 class Symbols:
     """The header of a file and its names, whose lists and gates are passed over."""

@@ -46,7 +46,8 @@ END = "--\0"
 # Options that name files, folders and programs.
 NAMED = [
     ("equal", "OTHER", "compare FILE with this file"),
-    ("certificate", "CERT", "check a witness circuit or an inductive machine in AIGER form that somebody else made, or an invariant that pdr of ABC wrote of FILE"),
+    ("certificate", "CERT", "check a witness circuit, perhaps with functions as resets, or an inductive machine in AIGER form that somebody else made, "
+     "or an invariant that pdr of ABC wrote of FILE"),
     ("write-certificate", "OUT", "write a certificate of the answer that no bad state is reached to OUT, a witness circuit"),
     ("run", "WITNESS", "check a witness that somebody else made, or what ABC's write_cex wrote"),
     ("keep", "FOLDER", "make FOLDER, with what shows each line, and check.sh, which shows it again"),
@@ -58,7 +59,9 @@ NAMED = [
     *((program, "PROGRAM", f"another program {program} than the one that is found") for program in ["abc", *BELIEVED]),
 ]
 ABOUT = """\
-Asks whether the machine of an AIGER file can reach a bad state, and believes no engine: what is printed was checked by aigcheck.
+Asks whether the machine of an AIGER file can reach a bad state, and believes no engine: aigcheck checks each answer (safe, bad, equal, fair)
+before it is printed, and each step that is shown on the way. It doesn't check what is printed about yosys and what yosys says, about how
+signals are matched, about registers that are open at the start, or about the conditions that a wrong certificate doesn't meet.
 
 Engines look for an answer side by side, and the first that is checked is printed:
   bmc3, pdr commands of ABC, whose counterexamples become witnesses and whose invariant becomes a certificate
@@ -366,6 +369,13 @@ def raced(words, above, judge):
                 break
             judge.programs.stop()
             judge.programs = programs.Programs(words.jobs, words.memory)
+    except Late as why:
+        if not races:
+            raise
+        # The assertions have their answer, and the time was over while yosys made the file of what is asked next.
+        programs.say(why)
+        print("nothing was shown of liveness")
+        statuses.append(OPEN)
     finally:
         end_scripts(races if words.keep else [])
     return next((it for it in (UNSAFE, FAILED, OPEN) if it in statuses), SAFE)

@@ -2,6 +2,7 @@
 latches stand for the file's its names say, or else their order. What is asked about them is aigcheck's; names are told alone."""
 import re
 
+from aigprove.plain import Gates
 from aigprove.questions import Question
 
 CONDITIONS = ["reset", "transition", "property", "base", "step"]
@@ -36,6 +37,19 @@ def is_named(witness):
 def told(broken):
     """The line of the conditions that aren't met, if there are such."""
     return [f"it doesn't meet the conditions: {', '.join(broken)}"] if broken else []
+
+
+def with_open_resets(circuit, starts):
+    """Has latches whose resets are functions start open, and, where it `starts`, by a constraint with the values of these: the same for a
+    question about step 0, and for one about steps from any state without it. Programs that know no such resets take it."""
+    gates, found = Gates(2 * (circuit.header.counts[0] + 1)), [i for i, reset in enumerate(circuit.resets) if reset > 1]
+    for i in found:
+        latch, reset = circuit.latches[i], circuit.resets[i]
+        if starts and reset != latch:
+            circuit.constraints.append(gates.choice(latch, reset, reset ^ 1))
+        circuit.resets[i] = latch
+    circuit.gates += gates.rows
+    circuit.header.count(circuit, gates.next // 2 - 1)
 
 
 def leaves(circuit):

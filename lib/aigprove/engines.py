@@ -239,6 +239,10 @@ class Abc:
         Certificate(self.race, Sealed(made)).run()
 
 
+# How aigedit says that a certificate doesn't begin with the file's leaves, or that a reset is no constant and not the latch itself.
+NO_JOINT = ("aigedit: files do not fit: ", "aigedit: other file: bad literal in latches")
+
+
 class Certificate(Asking):
     """A certificate, sealed, or an invariant that ABC wrote of the file. The file beside it is asked about by clauses of a form."""
 
@@ -257,13 +261,14 @@ class Certificate(Asking):
         self.race.certificate(claim, self.certificate)
 
     def joint(self):
-        """The file beside the certificate. None where this doesn't begin with the file's inputs and latches, but may simulate it still."""
+        """The file beside the certificate. None where this doesn't begin with the file's inputs and latches, or has resets that are functions,
+        but may simulate it still."""
         if self.source.can_be_simulated and conditions.is_named(self.certificate):
             return None
         try:
             return self.judge.made("join", self.source.asked, self.certificate)
         except Fault as why:
-            if not (self.source.can_be_simulated and str(why).startswith("aigedit: files do not fit: ")):
+            if not (self.source.can_be_simulated and str(why).startswith(NO_JOINT)):
                 raise
             return None
 
@@ -296,9 +301,12 @@ class Certificate(Asking):
     def breaking(self, solutions):
         """What breaks the first condition of those that are of the certificate's own steps, if one is broken."""
         for name in [name for name in conditions.questions() if name in solutions][:1]:
-            text = self.judge.text(self.certificate)
+            given = self.judge.circuit(self.certificate, "the certificate")
+            conditions.with_open_resets(given, name == "base")
+            text = self.judge.text(Sealed(given.text()))
             circuit = self.judge.circuit(text, "the certificate")
-            conditions.name_shared(circuit, self.race.circuit, self.source.circuit())
+            # Names have the literals of the file as it is given.
+            conditions.name_shared(circuit, self.judge.circuit(self.source.asked, "FILE"), self.source.circuit())
             _, solution = self.solver.ask(conditions.questions()[name], text)
             yield self.broken(circuit, name, solution)
 

@@ -5,8 +5,6 @@ import tempfile
 from aigprove.aiger import LIMIT, Circuit, Lines
 from aigprove.programs import Fault, Sealed, ending
 
-# The status of `aigcheck bounded` where no bad state is reached, as is seen without a solver.
-SETTLED = 20
 # How the first line of what aigcheck says ends where a proof doesn't follow.
 STEP = "proof step does not follow"
 
@@ -27,17 +25,16 @@ class Judge:
         # The proof that is the empty clause alone, and the one without a step.
         self.empty_clause, self.nothing = Sealed(b"0\n"), Sealed(b"")
 
-    def ended(self, words, statuses, **streams):
-        """The status of a program, which has to be one of these, and what it prints."""
-        status, printed, said = self.programs.output(words, **streams)
-        if status not in statuses:
+    def print(self, words, out):
+        """Has a program print into a file; it has to end with status 0."""
+        status, _, said = self.programs.output(words, stdout=out)
+        if status != 0:
             raise Fault(said.partition("\n")[0] or f"{words[0]} {ending(status)}")
-        return status, printed
 
     def printed(self, *words):
-        """What a program prints, sealed; it has to end with status 0."""
+        """What a program prints, sealed."""
         with tempfile.TemporaryFile() as out:
-            self.ended(words, [0], stdout=out)
+            self.print(words, out)
             out.seek(0)
             return Sealed(out)
 
@@ -54,10 +51,9 @@ class Judge:
         return Circuit(Lines(file.bytes(), what), self.limit)
 
     def print_question(self, question, file, out):
-        """Prints the clauses of a question, if it has any: whether it does."""
+        """Prints the clauses of a question into a file."""
         words = self.queries if question.command == "query" else [*self.aigcheck, question.command]
-        statuses = [0, SETTLED] if question.command == "bounded" else [0]
-        return self.ended([*words, file, question.k, *question.form], statuses, stdout=out)[0] == 0
+        self.print([*words, file, question.k, *question.form], out)
 
     def refusal(self, claim):
         """Why aigcheck doesn't print the line of a claim, where a proof doesn't follow; else None, and other faults are raised."""

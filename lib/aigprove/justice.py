@@ -49,7 +49,7 @@ class Justice(Asked):
         # The name of the file that was given among what is kept, which may stand in a folder.
         self.file = folder + self.given.name
         self.name, self.stem = f"justice-{number}.aag", f"{whole.stems[1]}-{number}"
-        self.safe, self.so_far = f"no fair run of j{number}", f"no fair lasso of j{number}"
+        self.safe, self.so_far, self.nothing = f"no fair run of j{number}", f"no fair lasso of j{number}", f"nothing was shown of j{number}"
         if number >= self.given.header().justice:
             raise Fault(f"{self.path}: no such justice property")
 

@@ -42,6 +42,7 @@ class Pair(Asked):
         self.begin(way)
         self.by_name = [] if len(designs) == 2 else self.put_in_order()
         if self.by_name:
+            self.behind = f", {' and '.join(self.by_name)} matched by name"
             self.begin(way)
         # From here on both circuits are seldom read.
         self.by_position, self.known = list(self.lines_by_position()), None
@@ -71,14 +72,14 @@ class Pair(Asked):
         return [*circuits[:1], *(matched.arranged(circuit, orders) for circuit in circuits[1:])]
 
     def put_in_order(self):
-        """Puts the second file's signals in the order of the first's, of the kinds of which both files have the same names in another order;
-        the letters of these."""
+        """Puts the second file's signals in the order of the first's, of the kinds of which both files have the same names in another order,
+        and gives the words for these kinds. All that aigcheck says is then of the file that was made so."""
         orders = matched.orders(*self.symbols())
         changed = {letter: places for letter, places in orders.items() if places and places != sorted(places)}
         if changed:
             self.other.take(Sealed(matched.arranged(self.other.circuit(), changed).text()))
             self.known = None
-        return list(changed)
+        return [SIGNALS[letter][0] for letter in changed]
 
     def begin(self, way):
         """Makes the miter, with registers of open start that begin so."""
@@ -127,7 +128,7 @@ class Pair(Asked):
         return made if made.starts.partners else None
 
     def up_to(self, k):
-        return super().up_to(k) + self.said
+        return super().up_to(k) + self.said + self.behind
 
     def assumed(self, header):
         """Those of both files, or of the first: registers can always start alike."""
@@ -201,7 +202,7 @@ class Pair(Asked):
         yield from self.other.about()
         yield from self.alone
         yield from self.same_free()
-        yield from (f"{SIGNALS[letter][0]} are matched by name" for letter in self.by_name)
+        yield from (f"{kind} are matched by name: those of the second file are checked in the order of the first" for kind in self.by_name)
         yield from self.by_position
 
     def lines_by_position(self):
@@ -241,7 +242,7 @@ class Pair(Asked):
         shown, compared = Shown(self.first.circuit()), self.compared()
         places = [compared[bad] for bad in sorted(told.bad for told in tolds)]
         names = [shown.place(*place) if place else "constraints" for place in places]
-        return f"a difference at step {len(tolds[0].steps) - 1}{self.said}: {', '.join(names)}"
+        return f"a difference at step {len(tolds[0].steps) - 1}{self.said}{self.behind}: {', '.join(names)}"
 
     def lines(self, shown, circuit, told):
         """Lines of a run, without values that registers have only to start alike, and of the constraints that differ at its end."""

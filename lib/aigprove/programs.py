@@ -197,7 +197,7 @@ class Group:
 
     def reading(self):
         """How far it has read each long file, in words."""
-        return [f"{100 * read_of(self.process.pid, file) // file.size()} % of {file.size() >> 20} MiB checked" for file in self.reads]
+        return [f"{100 * read_of(self.process.pid, file) // file.size()} % of {file.size() >> 20} MiB read" for file in self.reads]
 
     def signal(self, number):
         signal_group(self.process.pid, number)

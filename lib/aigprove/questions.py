@@ -8,6 +8,8 @@ from aigprove.programs import Fault, Folder, ending, plain, tell
 
 # How many bytes of what a solver says on standard error are passed on.
 SAID = 4096
+# How clauses end that say last that variable 1 is true, which is false by their first.
+CONFLICT = b"\n1 0\n"
 # What cadical is told for a proof with hints. One about assumptions has none, and stands where nothing takes a variable away.
 HINTED, ASSUMING = "--lrat=1", "--plain"
 
@@ -32,6 +34,13 @@ def cadical():
     except FileNotFoundError:
         return []
     return ["cadical", "-q", "--no-binary", *[HINTED] * (b"--lrat" in options)]
+
+
+def are_in_conflict(path):
+    """Whether the clauses of a question about the steps up to K say at once that it has no solution: its output is the constant false."""
+    with open(path, "rb") as clauses:
+        clauses.seek(max(0, os.path.getsize(path) - len(CONFLICT)))
+        return clauses.read() == CONFLICT
 
 
 def in_turn(clauses):
@@ -78,12 +87,13 @@ class Solver:
         return made
 
     def ask(self, question, file):
-        """Whether a question has a solution, as it says, and the solution or the proof, which nobody has looked at. One that has none at
-        once needs no proof."""
+        """Whether a question has a solution, as it says, and the solution or the proof, which nobody has looked at. One about the steps up
+        to K whose clauses are in conflict at once isn't asked, and needs no proof."""
         with Folder(self.above) as folder:
             with folder.make("clauses.cnf") as out:
-                if not self.judge.print_question(question, file, out):
-                    return False, self.judge.nothing
+                self.judge.print_question(question, file, out)
+            if question.command == "bounded" and are_in_conflict(folder.place("clauses.cnf")):
+                return False, self.judge.nothing
             return self.answer(folder, self.told(question, folder))
 
     def answer(self, folder, words):

@@ -181,7 +181,7 @@ class Race:
 
     def print_claim(self, claim, prefix="", is_answer=False):
         """Prints a line that was checked, and keeps what shows it."""
-        self.print_line(prefix + claim.line, is_answer)
+        self.print_line(prefix + claim.line + self.source.behind, is_answer)
         if self.evidence:
             self.evidence.shows(claim)
 
@@ -306,7 +306,7 @@ class Race:
 
     def print_open(self):
         """Prints up to which step all were shown, unless that was the last line."""
-        line = self.source.up_to(self.steps - 1) if self.steps else "nothing was shown"
+        line = self.source.up_to(self.steps - 1) if self.steps else self.source.nothing
         if line != self.last or self.words.quiet:
             self.print_line(line, True)
         return OPEN

@@ -46,9 +46,9 @@ class Given:
         self.say_left_out(words)
 
     def say_left_out(self, words):
-        """Says what of a design isn't asked about, nor later."""
-        for kind, line in self.design.left_out if self.design and not words.quiet else []:
-            if kind not in words.later:
+        """Says of what yosys warns in a design, and what of it isn't asked about, nor later."""
+        if self.design and not words.quiet:
+            for line in [*self.design.yosys.warnings, *(line for kind, line in self.design.left_out if kind not in words.later)]:
                 say(line)
 
     def take(self, file):
@@ -120,8 +120,11 @@ class Asked:
 
     # What stands before lines that aigcheck prints of a file that was made of others, the line of what is shown in the end, and the
     # beginning of one of what was shown so far; what is said of a file about which nothing can be asked; and what stands before a line of
-    # one step.
+    # one step; and what stands behind each line that aigcheck prints of a file in which this package put signals in another order.
     prefix, safe, so_far, empty, of_step = "", "no bad state at any step", "no bad state", "no bad state property", ""
+    behind = ""
+    # The line where nothing was shown.
+    nothing = "nothing was shown"
     # Whether there are files that count its rounds, and whether a certificate may be a witness circuit that simulates it.
     counts, can_be_simulated = False, True
 
@@ -215,7 +218,9 @@ class Source(Asked):
 
     def __init__(self, words, above, judge, given=None):
         self.given, self.path = Given(words.files, words, above, judge, self.stem, given), words.files[0]
-        self.name, self.asked, self.is_old = self.given.name, self.given.file, is_old(self.given.line)
+        self.name, self.asked = self.given.name, self.given.file
+        # The outputs of a design with covers alone are no bad states.
+        self.is_old = is_old(self.given.line) and (not self.given.design or BLIF in self.given.kinds)
         if self.given.design and BLIF not in self.given.kinds and not (self.given.design.assertions or self.has_later(words.later)):
             raise Fault(f"{self.path}: {self.given.design.top} has no assertion")
         if self.is_old:

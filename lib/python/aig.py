@@ -17,9 +17,9 @@ import os
 import pathlib
 from typing import NamedTuple
 
-__all__ = "Clauses Lasso Refused Settled Shown query_numbers".split()
+__all__ = "Clauses Lasso Refused Shown query_numbers".split()
 
-DONE, SMALL, MEMORY, SETTLED = 0, 1, 2, 32
+DONE, SMALL, MEMORY = 0, 1, 2
 
 _here = pathlib.Path(__file__).resolve().parent
 _library = ctypes.CDLL(os.environ.get("LIBAIG", str(_here.parent / "libaig.so")))
@@ -37,10 +37,6 @@ class Refused(Exception):
     def __init__(self, status: int):
         super().__init__(_message(status))
         self.status = status
-
-
-class Settled(Refused):
-    """There are no clauses to solve: no bad state is reached up to the step."""
 
 
 class Clauses(NamedTuple):
@@ -101,7 +97,7 @@ def _refusal(status: int) -> Exception:
     """What is raised for a status that is no answer."""
     if status == MEMORY:
         return MemoryError(_message(status))
-    return Settled(status) if status == SETTLED else Refused(status)
+    return Refused(status)
 
 
 def _answer(name: str, *words, kind=ctypes.c_uint8, more: int = 0) -> tuple:

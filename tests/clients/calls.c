@@ -51,7 +51,7 @@ static _Noreturn void refuse(uint32_t status) {
   size_t needed = 0;
   if (aig_message(status, (uint8_t *)text, sizeof text - 1, &needed) != AIG_DONE) wrong("a text doesn't fit");
   text[needed] = 0;
-  end(status == AIG_SETTLED ? 20 : 1, text);
+  end(1, text);
 }
 
 /* Whether each byte is the one that was put there. */

@@ -45,7 +45,7 @@ fn main() -> ExitCode {
         }
         Err(status) => {
             eprintln!("rows: {status}");
-            ExitCode::from(if status == aig::Status::SETTLED { 20 } else { 1 })
+            ExitCode::FAILURE
         }
     }
 }

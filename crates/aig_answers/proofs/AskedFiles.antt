@@ -25,7 +25,8 @@ use Rattle.aig_answers.specs.Asking.{AsksBounded, AsksOfBads, IsAskedWithin, IsS
 use Rattle.aig_answers.specs.Encoded.{IsEncoded, IsEncodedQuestion}
 use Rattle.aig_answers.specs.Naming.{IsNamed}
 use Rattle.aig_answers.specs.Solving.{WitnessWithin}
-use Rattle.aig_answers.proofs.Single.{refused_same}
+use Rattle.aig_answers.specs.Said.{SaysValues, SaysWitness}
+use Rattle.aig_answers.proofs.Single.{refused_same, values_same}
 use Rattle.aig_answers.proofs.BoundedVerdicts.{count_of}
 use Rattle.aig_answers.specs.declared.bounded_checks.naming.Named.{Named}
 use Rattle.aig_bounded.specs.declared.question.BoundedCircuit.{BoundedCircuit}
@@ -130,14 +131,18 @@ module _ (limit k : ℕ) (optimize : Bool) (lists : CircuitLists) (old new : Opt
     taken = read.taken;
   }
 
-  -- a known witness of the lists' circuit shows a bad state of the file's machine
+  -- a known witness of the lists' circuit shows a bad state of the file's machine, and is the one that
+  -- the answer says
   pub shown_of : ((f : File) (limit : ℕ) (w : Witness) → Fits f limit → IsKnownWitness (circuit_of
       f) w → ShowsBad f w)
-      → (w : witnesses.Witness) → lists.properties.bads.items ≢ []
+      → (text : Option (List ℕ)) (made : BoundedClauses) (w : witnesses.Witness)
+      → lists.properties.bads.items ≢ []
+      → IsEncodedQuestion (lists_circuit lists) k optimize made
       → WitnessWithin (lists_circuit lists) k (said_by w)
+      → SaysValues text made (lists_circuit lists) (said_by w)
       → IsReadAs (IsAskedWithin limit) (λ f w. ShowsBad f (said_by w) × (length (said_by w).steps ≤
-      k + 1)) old new w
-  shown_of law w some known = record {
+      k + 1) × SaysWitness text k optimize f (said_by w)) old new w
+  shown_of law text made w some is known said = record {
     file = read.file;
     bytes = read.bytes;
     holds = (read.holds, bads_of limit k optimize lists old new read some);
@@ -145,6 +150,12 @@ module _ (limit k : ℕ) (optimize : Bool) (lists : CircuitLists) (old new : Opt
       law read.file limit (said_by w) read.holds.1 (subst (λ c. IsKnownWitness c (said_by
           w)) read.means known.0),
       known.1,
+      (
+        (made, asks_file limit k optimize lists old new read made is),
+        λ other asks. values_same (circuit_of read.file) k optimize made other
+            (asks_file limit k optimize lists old new read made is) asks text (circuit_of read.file)
+            (said_by w) (subst (λ c. SaysValues text made c (said_by w)) read.means said),
+      ),
     );
     taken = read.taken;
   }

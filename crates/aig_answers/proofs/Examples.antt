@@ -1,6 +1,8 @@
 -- Wrong answers, of which the definitions are false: of another step, of a window for which there is
 -- no room, and of a file that asks nothing.
 use Rattle.aig_base.proofs.Words.{◌≡◌, ℕ, zero, suc, ◌+◌, ◌*◌, Bool, true, false, ◌&&◌, ◌||◌, None, Some, List, [], ◌∷◌, refl, sym, arith, ◌==◌, false≢true}
+use Rattle.aig_base.specs.declared.logic.three.Lbool.TheVariants.{FALSE, TRUE, NONE}
+use Rattle.aig_bounded.specs.declared.place.Place.{Place}
 use Rattle.aig_circuit.specs.declared.node.AigNodeType.TheVariants.{False, Leaf}
 use Rattle.aig_circuit.specs.declared.node.AigLatch.{AigLatch}
 use Rattle.aig_circuit.proofs.Words.{Circuit, only_false, edge_to, no_properties, IsRun, IsInitial}
@@ -12,6 +14,7 @@ use Rattle.aig_reader.specs.Verdicts.{Accepted, Crowded, IsSaidOf, IsVerdictOn, 
 use Rattle.aig_runs.specs.Safety.{IsCircuitSafeAt}
 use Rattle.aig_runs.specs.declared.window.Window.TheVariants.{Plain, Distinct}
 use Rattle.aig_answers.specs.Answers.{asked_verdict, window_size, window_verdict}
+use Rattle.aig_answers.specs.Said.{IsSaid}
 
 -- ---- another step
 
@@ -123,3 +126,19 @@ no_bads_are_not_safe bytes accepts on =
 -- nor told as want of memory
 no_bads_are_not_short : ¬ IsSaidOf (asked_verdict 5 2) (two_latches []) Short
 no_bads_are_not_short said = let none = two_latches-no_bads in cc
+
+-- ---- another witness
+
+-- a value is true that no input of the question stands for
+no_value_of_its_own : (y : ℕ → Bool) (step leaf : ℕ) → ¬ IsSaid [] [] y step leaf TRUE
+no_value_of_its_own y step leaf said = let found = said.1.0 refl in let none = found.1 in cc
+
+-- a value is false that the answer makes true
+no_turned_value : (y : ℕ → Bool) (n step leaf : ℕ) → y n ≡ true
+    → ¬ IsSaid (n ∷ []) (record { step = step; leaf = leaf } ∷ []) y step leaf FALSE
+no_turned_value y n step leaf holds said = let turned = said.1.1 (0, refl, holds) in cc
+
+-- a value is open
+no_open_value : (inputs : List ℕ) (places : List Place) (y : ℕ → Bool) (step leaf : ℕ)
+    → ¬ IsSaid inputs places y step leaf NONE
+no_open_value inputs places y step leaf said = said.0 refl

@@ -1,12 +1,12 @@
 -- The run that values say: its start, and the values that are put into it.
-use Rattle.aig_base.proofs.Words.{◌≡◌, ◌≢◌, ℕ, zero, suc, ◌+◌, ◌<◌, ◌≤◌, ◌⊎◌, eqb, Bool, true, false, Option, Some, None, List, [], ◌∷◌, ◌++◌, length, map, get_or, set, inl, inr, refl, sym, ap, ap₂, subst, ◌∙◌, arith, AllByRecursion, AllZip, false≢true, All-from_recursion, All-map, All-push, All-set, Contains-get_or, recursion_from_All, get_or_from_slice_get, same_Some, slice_get_within, AllZip-long}
+use Rattle.aig_base.proofs.Words.{◌≡◌, ◌≢◌, ℕ, zero, suc, ◌+◌, ◌<◌, ◌≤◌, ◌⊎◌, eqb, Bool, true, false, Option, Some, None, List, [], ◌∷◌, ◌++◌, length, map, get_or, set, inl, inr, refl, sym, ap, ap₂, subst, ◌∙◌, arith, AllByRecursion, AllZip, false≢true, All-from_recursion, All-map, All-push, All-set, Contains-get_or, recursion_from_All, get_or_from_slice_get, same_Some, slice_get, slice_get-get_or, slice_get_within, AllZip-long, IsTrue}
 use Rattle.std.specs.Prelude.{All, AllPairs, IfSome, Vec, replicate, slice_index}
 use Rattle.std.specs.declared.alloc.Global.{Global}
 use borrow.Author.Count.{below_more}
 use Rattle.std.proofs.lemmas.Bool.Decides.{eqb_tells}
 use Rattle.std.proofs.lemmas.List.{get_or-map, get_or-set_other, get_or-set_same, get_or_default, length-append, length-map, length-replicate, length-set, map-set}
 use Rattle.aig_base.specs.declared.logic.three.Lbool.{Lbool}
-use Rattle.aig_base.specs.declared.logic.three.Lbool.TheVariants.{FALSE, NONE}
+use Rattle.aig_base.specs.declared.logic.three.Lbool.TheVariants.{FALSE, TRUE, NONE}
 use Rattle.aig_circuit.specs.declared.edge.AigEdge.{AigEdge}
 use Rattle.aig_circuit.specs.declared.node.AigLatch.{AigLatch}
 use Rattle.aig_circuit.proofs.Words.{Circuit, latch_leaves, edge_to, HasConstantInit}
@@ -19,7 +19,7 @@ use Rattle.aig_bounded.specs.Question.{IsPlace, IsQuestion}
 use Rattle.aig_answers.specs.declared.bounded_checks.naming.Named.{Named}
 use Rattle.aig_answers.specs.Asking.{assigned}
 use Rattle.aig_answers.specs.Naming.{IsNamed, leaf_of}
-use Rattle.aig_answers.specs.Solving.{Begins, HasPlace, HasRoom, put, start_value, value_at, value_of_init, value_said, with_value}
+use Rattle.aig_answers.specs.Solving.{Begins, HasPlace, HasRoom, IsBlank, IsOpenAt, SaysOnly, put, start_value, value_at, value_of_init, value_said, with_value}
 
 -- ---- the start
 
@@ -71,6 +71,46 @@ begins c k count state rows constant is width long all = record {
         Global). row.items) rows (λ i d h. subst AreGiven (sym (all i d h)) (given_false count)));
   };
 }
+
+-- what holds of each item, and of what stands for one that isn't there, holds at each place
+each_or : {A : Type 0} (P : A → Type 0) (xs : List A) (i : ℕ) (d : A) → All P xs → P d
+    → P (get_or xs i d)
+each_or P [] i d all is = is
+each_or P (x ∷ xs) zero d all is = all 0 d (omega arith)
+each_or P (x ∷ xs) (suc i) d all is =
+    each_or P xs i d (λ j e h. all (suc j) e (omega (arith, h))) is
+
+init_untrue : (init : Option AigEdge) → init ≡ None → value_of_init init ≢ TRUE
+init_untrue None free is = cc
+init_untrue (Some e) free is = cc
+
+starts_untrue : (latchs : List AigLatch) (number : ℕ)
+    → ((d : AigLatch) → (get_or latchs number d).init ≡ None)
+    → get_or (map start_value latchs) number NONE ≢ TRUE
+starts_untrue [] number free is = cc
+starts_untrue (latch ∷ latchs) zero free is = init_untrue latch.init (free latch) is
+starts_untrue (latch ∷ latchs) (suc number) free is = starts_untrue latchs number free is
+
+row_untrue : (count number : ℕ) → get_or (replicate count FALSE) number NONE ≢ TRUE
+row_untrue zero number is = cc
+row_untrue (suc count) zero is = cc
+row_untrue (suc count) (suc number) is = row_untrue count number is
+
+-- nothing is true at first
+pub blank : (c : Circuit) (count : ℕ) (state : List Lbool) (rows : List (Vec Lbool Global))
+    → state ≡ map start_value c.latchs → All (λ row. row.items ≡ replicate count FALSE) rows
+    → IsBlank c (record { bad = 0; state = state; steps = rows_of rows })
+blank c count state rows is all name free = by name.is_latch name.step name.number free
+  where
+    by : (b : Bool) (step number : ℕ) → IsOpenAt b c step number
+        → value_at b (record { bad = 0; state = state; steps = rows_of rows }) step number ≢ TRUE
+    by true step number free true_now =
+        starts_untrue c.latchs number free.1 (ap (λ s. get_or s number NONE) (sym is) ∙ true_now)
+    by false step number free true_now =
+        each_or (λ row. get_or row number NONE ≢ TRUE) (rows_of rows) step []
+        (All-map (λ row. get_or row number NONE ≢ TRUE) (λ (row : Vec Lbool Global). row.items) rows
+        (λ i d h. subst (λ row. get_or row number NONE ≢ TRUE) (sym (all i d h))
+        (row_untrue count number))) (λ no. cc) true_now
 
 -- a row of false values more
 pub rows_more : (count : ℕ) (old made : List (Vec Lbool Global)) (row : Vec Lbool Global)
@@ -212,6 +252,44 @@ others false false w step number at which v there start apart = by (eqb_tells at
         get_or-set_other old number which v NONE (λ is. apart refl (sym same.1) (sym is)))
     by (inr other) = ap (λ r. get_or r which NONE) (get_or-set_other w.steps step at row [] other.1)
 
+-- ---- names
+
+one_name : (x y : Named) → x.step ≡ y.step → x.is_latch ≡ y.is_latch → x.number ≡ y.number → x ≡ y
+one_name x y step latch number =
+    let make : ℕ → Bool → ℕ → Named = λ s b n. record { step = s; is_latch = b; number = n } in
+    ap (λ s. make s x.is_latch x.number) step ∙ ap₂ (make y.step) latch number
+
+-- two names are one, or differ
+same_name : (x y : Named) → (x ≡ y) ⊎ (x ≢ y)
+same_name x y = by x.is_latch y.is_latch refl refl (eqb_tells x.step y.step) (eqb_tells x.number y.number)
+  where
+    counted : x.is_latch ≡ y.is_latch → ((eqb x.step y.step ≡ true) × (x.step ≡ y.step)) ⊎ ((eqb x.step y.step ≡ false) × (x.step ≢ y.step))
+        → ((eqb x.number y.number ≡ true) × (x.number ≡ y.number)) ⊎ ((eqb x.number y.number ≡ false) × (x.number ≢ y.number))
+        → (x ≡ y) ⊎ (x ≢ y)
+    counted latch (inl step) (inl number) = inl (one_name x y step.1 latch number.1)
+    counted latch (inr step) number = inr (λ is. step.1 (ap (λ (n : Named). n.step) is))
+    counted latch step (inr number) = inr (λ is. number.1 (ap (λ (n : Named). n.number) is))
+
+    by : (a b : Bool) → x.is_latch ≡ a → y.is_latch ≡ b
+        → ((eqb x.step y.step ≡ true) × (x.step ≡ y.step)) ⊎ ((eqb x.step y.step ≡ false) × (x.step ≢ y.step))
+        → ((eqb x.number y.number ≡ true) × (x.number ≡ y.number)) ⊎ ((eqb x.number y.number ≡ false) × (x.number ≢ y.number))
+        → (x ≡ y) ⊎ (x ≢ y)
+    by true true is are step number = counted (is ∙ sym are) step number
+    by false false is are step number = counted (is ∙ sym are) step number
+    by true false is are step number =
+        inr (λ same. false≢true (sym are ∙ sym (ap (λ (n : Named). n.is_latch) same) ∙ is))
+    by false true is are step number =
+        inr (λ same. false≢true (sym is ∙ ap (λ (n : Named). n.is_latch) same ∙ are))
+
+open_at_start : (b : Bool) (c : Circuit) (step number : ℕ) → IsOpenAt b c step number → b ≡ true
+    → step ≡ 0
+open_at_start true c step number free is = free.0
+open_at_start false c step number free is = absurd (false≢true is)
+
+known_true : (b : Bool) → known_of b ≡ TRUE → b ≡ true
+known_true true is = refl
+known_true false is = cc
+
 -- ---- all values
 
 -- the leaves are as many as their names
@@ -228,6 +306,7 @@ leaves_long c k asks output places named question zip =
 abbrev pub SaysTo : Circuit → ℕ → List Named → List ℕ → List Lbool → ℕ → Witness → Type 0
 SaysTo c k named leaves values i w = Begins c k w × ((j : ℕ) (d : Named) → j < i
     → value_said w (get_or named j d) ≡ known_of (assigned values (slice_index leaves j)))
+    × SaysOnly c named leaves values w
 
 module _ (c : Circuit) (k : ℕ) (places : List Place) (named : List Named) (are : All (IsPlace c)
     places)
@@ -270,15 +349,43 @@ module _ (c : Circuit) (k : ℕ) (places : List Place) (named : List Named) (are
       (get_or named i e).number (usable_at i e h)
 
   module _ (leaves : List ℕ) (values : List Lbool) where
+    -- after a value more, what is true has a name
+    only_more : (w : Witness) (i : ℕ) (e : Named) (v : Lbool) → Begins c k w → i < length named
+        → v ≡ known_of (assigned values (slice_index leaves i))
+        → SaysOnly c named leaves values w
+        → SaysOnly c named leaves values (with_value w (get_or named i e) v)
+    only_more w i e v begun h is only name free true_now = by (same_name (get_or named i e) name)
+      where
+        by : (get_or named i e ≡ name) ⊎ (get_or named i e ≢ name)
+            → (j : ℕ) × (slice_get named j ≡ Some name) × IsTrue (assigned values (slice_index leaves
+            j))
+        by (inl same) =
+            let there = written (get_or named i e).is_latch w (get_or named i e).step
+            (get_or named i e).number v (room_at w begun i e h) in
+            let now = ap (value_said (with_value w (get_or named i e) v)) same ∙ true_now in (
+              i,
+              slice_get-get_or named i e h ∙ ap Some same,
+              known_true (assigned values (slice_index leaves i)) (sym is ∙ sym there ∙ now),
+            )
+        by (inr apart) =
+            let start : (get_or named i e).is_latch ≡ true → name.is_latch ≡ true
+            → (get_or named i e).step ≡ name.step
+            = λ b t. latch_at_start (get_or named i e).is_latch c k (get_or named i e).step
+            (get_or named i e).number (usable_at i e h) b
+            ∙ sym (open_at_start name.is_latch c name.step name.number free t) in
+            let stays = others (get_or named i e).is_latch name.is_latch w (get_or named i e).step
+            (get_or named i e).number name.step name.number v (room_at w begun i e h) start
+            (λ b s n. apart (one_name (get_or named i e) name s b n)) in
+            only name free (sym stays ∙ true_now)
+
     -- a value more
     pub said_more : (w : Witness) (i : ℕ) (e : Named) (v : Lbool) → Begins c k w → i < length named
         → v ≡ known_of (assigned values (slice_index leaves i))
         → ((j : ℕ) (d : Named) → j < i → value_said w (get_or named j d) ≡ known_of (assigned
         values (slice_index leaves j)))
-        → Begins c k (with_value w (get_or named i e) v)
-        × ((j : ℕ) (d : Named) → j < i + 1 → value_said (with_value w (get_or named i e) v) (get_or
-        named j d) ≡ known_of (assigned values (slice_index leaves j)))
-    said_more w i e v begun h is so_far =
+        → SaysOnly c named leaves values w
+        → SaysTo c k named leaves values (i + 1) (with_value w (get_or named i e) v)
+    said_more w i e v begun h is so_far only =
         let name = get_or named i e in
         let fit = usable_at i e h in
         let place = room_at w begun i e h in
@@ -300,8 +407,11 @@ module _ (c : Circuit) (k : ℕ) (places : List Place) (named : List Named) (are
         let here : Says i = λ d. subst (λ (n : Named). value_said made n ≡ known_of (assigned
         values (slice_index leaves i))) (get_or_default named i e d h) (written name.is_latch w
         name.step name.number v place ∙ is) in
-        let all = below_more Says i earlier here in
-        (kept c k w begun name.is_latch name.step name.number v fit known, λ j d lt. all j lt d)
+        let all = below_more Says i earlier here in (
+          kept c k w begun name.is_latch name.step name.number v fit known,
+          λ j d lt. all j lt d,
+          only_more w i e v begun h is only,
+        )
 
 -- ---- a value in its row
 

@@ -10,11 +10,14 @@ use Rattle.aig_refutation.specs.Checking.{Shows}
 use Rattle.aig_witness.specs.declared.solutions.error.SolutionError.{SolutionError}
 use Rattle.aig_witness.specs.declared.solutions.error.SolutionError.TheVariants as solutions
 use Rattle.aig_witness.specs.SolverAnswers.{GivesSolution, solution_in}
+use Rattle.aig_witness.specs.Witness.{Witness}
+use Rattle.aig_base.specs.declared.logic.three.Lbool.{Lbool}
 use Rattle.aig_bounded.proofs.Single.{question_same}
 use Rattle.aig_answers.specs.declared.bounded_checks.clauses.BoundedClauses.{BoundedClauses}
 use Rattle.aig_answers.specs.declared.bounded_checks.error.BoundedAnswerError.{BoundedAnswerError}
 use Rattle.aig_answers.specs.declared.bounded_checks.error.BoundedAnswerError.TheVariants as errors
-use Rattle.aig_answers.specs.Asking.{AsksOfBads, IsSettled, RefusesAnswer, ShowsProof, TellsOfProof, assigned}
+use Rattle.aig_answers.specs.Said.{SaysRun, SaysValues}
+use Rattle.aig_answers.specs.Asking.{AreSaid, AsksOfBads, IsSettled, RefusesAnswer, ShowsProof, TellsOfProof, assigned}
 
 module _ (c : Circuit) (k : ℕ) (optimize : Bool) (one other : BoundedClauses)
     (is : AsksOfBads c k optimize one) (are : AsksOfBads c k optimize other) where
@@ -68,16 +71,32 @@ module _ (c : Circuit) (k : ℕ) (optimize : Bool) (one other : BoundedClauses)
     shown = λ unsettled. shown_same (left p) r (told.shown (λ settled. unsettled (settled_forth settled)));
   }
 
-  -- and an answer is refused with both
+  -- an answer says the same of both
+  same_said : (text : Option (List ℕ)) (values : List Lbool) → AreSaid text one values
+      → AreSaid text other values
+  same_said text values said = (
+    said.0 ∙ ap length same_clauses,
+    subst (λ n. IfSome text (λ bytes. solution_in n bytes ≡ Ok values)) (ap length same_clauses) said.1,
+  )
+
+  -- and says one witness
+  pub values_same : (text : Option (List ℕ)) (d : Circuit) (w : Witness) → SaysValues text one d w
+      → SaysValues text other d w
+  values_same text d w (values, said, run) = (
+    values,
+    same_said text values said,
+    subst (λ places. SaysRun d second.inputs places (assigned values) w) same.2
+        (subst (λ (x : Circuit). SaysRun d x.inputs one.question.places.items (assigned values) w)
+        same.0 run),
+  )
+
+  -- and is refused with both
   pub refused_same : (text : Option (List ℕ)) (failed : Bool) (bads : ℕ) (e : SolutionError)
       → RefusesAnswer text failed bads one e → RefusesAnswer text failed bads other e
   refused_same text failed bads (solutions.Check e) refused = absurd refused
   refused_same text failed bads solutions.NoBad (values, said, none) = (
     values,
-    (
-      said.0 ∙ ap length same_clauses,
-      subst (λ n. IfSome text (λ bytes. solution_in n bytes ≡ Ok values)) (ap length same_clauses) said.1,
-    ),
+    same_said text values said,
     λ few holds. none few (ap₂ (λ (lists : List (List (List Lit))) (extra : List (List Lit)). are_true (assigned values) (clauses_in lists ++ extra)) same_clauses same_further ∙ holds),
   )
   refused_same text failed bads e refused =

@@ -1,6 +1,6 @@
 -- A solution of a question's clauses says a run that reaches a bad state.
-use Rattle.aig_base.proofs.Words.{◌≡◌, ◌≢◌, ℕ, zero, suc, ◌+◌, ◌<◌, ◌≤◌, Bool, true, false, Some, List, [], ◌∷◌, ◌++◌, length, map, get_or, refl, sym, ap, subst, ◌∙◌, arith, AllZip, eq-eqb, ne_eqb, Any-from_list_any, get_or_from_slice_get, slice_get_within, AllZip-long}
-use Rattle.std.specs.Prelude.{◌^◌, AllPairs, IsTrue, None, if◌then◌else◌}
+use Rattle.aig_base.proofs.Words.{◌≡◌, ◌≢◌, ℕ, zero, suc, ◌+◌, ◌<◌, ◌≤◌, Bool, true, false, Option, Some, List, [], ◌∷◌, ◌++◌, length, map, take, get_or, refl, sym, ap, ap₂, subst, ◌∙◌, arith, All-from_recursion, AllByRecursion, AllZip, eq-eqb, false≢true, ne_eqb, Any-from_list_any, get_or_from_slice_get, same_Some, slice_get-get_or, slice_get_within, AllZip-long}
+use Rattle.std.specs.Prelude.{◌^◌, AllPairs, IfSome, IsTrue, MatchOption, None, if◌then◌else◌, slice_get, slice_index}
 use Rattle.std.proofs.lemmas.List.{get_or_append_left, get_or-append-add, get_or-map, get_or_default, length-append, length-map}
 use Rattle.aig_base.specs.declared.logic.three.Lbool.{Lbool}
 use Rattle.aig_base.specs.declared.logic.three.Lbool.TheVariants.{FALSE, TRUE, NONE}
@@ -20,7 +20,8 @@ use Rattle.aig_bounded.specs.Question.{IsQuestion, Reaches, ReadsPlaces}
 use Rattle.aig_answers.specs.declared.bounded_checks.naming.Named.{Named}
 use Rattle.aig_answers.specs.Asking.{assigned, is_true}
 use Rattle.aig_answers.specs.Naming.{IsNamed, leaf_of}
-use Rattle.aig_answers.specs.Solving.{Begins, IsConstrained, IsReached, SaysAll, after, value_at}
+use Rattle.aig_answers.specs.Said.{IsSaid, IsSaidStart, SaysRun}
+use Rattle.aig_answers.specs.Solving.{Begins, IsConstrained, IsReached, SaysAll, SaysOnly, after, value_at}
 use Rattle.aig_answers.proofs.Saying.{IsUsable, usable_at}
 
 -- ---- values
@@ -28,6 +29,19 @@ use Rattle.aig_answers.proofs.Saying.{IsUsable, usable_at}
 true_known : (b : Bool) → is_true (known_of b) ≡ b
 true_known true = refl
 true_known false = refl
+
+true_is : (value : Lbool) → is_true value ≡ true → value ≡ TRUE
+true_is FALSE is = absurd (false≢true is)
+true_is TRUE is = refl
+true_is NONE is = absurd (false≢true is)
+
+-- an item of the first ones is one of all
+taken_get : {A : Type 0} (n : ℕ) (xs : List A) (i : ℕ) (x : A) → slice_get (take n xs) i ≡ Some x
+    → slice_get xs i ≡ Some x
+taken_get zero xs i x is = cc
+taken_get (suc n) [] i x is = cc
+taken_get (suc n) (y ∷ ys) zero x is = is
+taken_get (suc n) (y ∷ ys) (suc i) x is = taken_get n ys i x is
 
 agrees_true : (known : Lbool) → Agrees known (is_true known)
 agrees_true FALSE = refl
@@ -222,6 +236,122 @@ module _ (c : Circuit) (is : IsCircuit c) (closed : IsClosed c) (k : ℕ) (w : W
         sym (ap (λ t. run t p.leaf) (sym is_named.0) ∙ named_value name.is_latch name.step
         name.number p.leaf fit is_named.1
         ∙ ap is_true (said i nameless low) ∙ true_known (assigned values n)))
+
+    -- ---- and says just these
+
+    -- an input of the question stands where what has its name is
+    placed : (j leaf : ℕ) (name : Named) → slice_get named j ≡ Some name
+        → leaf_of c name.is_latch name.number ≡ Some leaf
+        → slice_get places j ≡ Some (record { step = name.step; leaf = leaf })
+    placed j leaf name found is =
+        let low = slice_get_within named j name found in
+        let there : j < length places = omega (arith, low, AllZip-long (IsNamed c) places named zip)
+        in
+        let p = get_or places j nowhere in
+        let stands : IsNamed c p name = subst (IsNamed c p)
+        (get_or_from_slice_get named j name nameless found)
+        (zip_at (IsNamed c) places named j nowhere nameless zip there) in
+        let make : ℕ → ℕ → Place = λ s l. record { step = s; leaf = l } in
+        slice_get-get_or places j nowhere there
+        ∙ ap Some (ap₂ make (sym stands.0) (same_Some _ _ (sym stands.1 ∙ is)))
+
+    -- and has the run's value
+    read_at : (j step leaf : ℕ) → slice_get places j ≡ Some (record { step = step; leaf = leaf })
+        → assigned values (get_or asks.inputs j 0) ≡ run step leaf
+    read_at j step leaf found =
+        let make : ℕ → ℕ → Place = λ s l. record { step = s; leaf = l } in
+        let p : Place = make step leaf in
+        let low = slice_get_within places j p found in
+        let at = zip_at (λ n p. assigned values n ≡ run p.step p.leaf) asks.inputs places j 0 nowhere
+        reads (omega (arith, low, count)) in
+        at ∙ ap (λ (q : Place). run q.step q.leaf) (get_or_from_slice_get places j p nowhere found)
+
+    module _ (only : SaysOnly c named asks.inputs values w) where
+      -- a value that the run has is said where it is true only by its name
+      said_by_run : (step leaf : ℕ) (value : Lbool) → value ≢ NONE → run step leaf ≡ is_true value
+          → (value ≡ TRUE → (j : ℕ) × (slice_get places j ≡ Some (record {
+            step = step;
+            leaf =
+                leaf;
+          })) × IsTrue (assigned values (slice_index asks.inputs j)))
+          → IsSaid asks.inputs places (assigned values) step leaf value
+      said_by_run step leaf value known runs named_so = (
+        known,
+        (
+          named_so,
+          λ at. true_is value (sym runs ∙ sym (read_at at.0 step leaf at.1) ∙ at.2),
+        ),
+      )
+
+      input_said : (t i : ℕ) → t < length w.steps → i < length c.inputs
+          → IsSaid asks.inputs places (assigned values) t (get_or c.inputs i 0) (get_or (row t) i
+          NONE)
+      input_said t i low h =
+          let given = All-from_recursion (λ known. known ≢ NONE) (row t) (All-from_recursion
+          (AllByRecursion (λ known. known ≢ NONE)) w.steps begun.given.steps t [] low) in
+          let name : Named = record { step = t; is_latch = false; number = i } in
+          said_by_run t (get_or c.inputs i 0) (get_or (row t) i NONE)
+          (given i NONE (omega (arith, h, wide t low))) (input_at t low i h)
+          (λ now. let found = only name tt now in (
+            found.0,
+            placed found.0 (get_or c.inputs i 0) name found.1 (slice_get-get_or c.inputs i 0 h),
+            found.2,
+          ))
+
+      free_said : (i : ℕ) (d : AigLatch) → i < length c.latchs → (get_or c.latchs i d).init ≡ None
+          → IsSaid asks.inputs places (assigned values) 0 (get_or c.latchs i d).input (get_or w.state
+          i NONE)
+      unfolding state_at
+      free_said i d h free =
+          let given = All-from_recursion (λ known. known ≢ NONE) w.state begun.given.state in
+          let name : Named = record { step = 0; is_latch = true; number = i } in
+          let there : i < length leaves = omega (arith, h, leaves_long) in
+          let leaf : get_or leaves i 0 ≡ (get_or c.latchs i d).input =
+          get_or-map (λ (l : AigLatch). l.input) c.latchs i d 0 h in
+          let free_at : (e : AigLatch) → (get_or c.latchs i e).init ≡ None
+          = λ e. ap (λ (l : AigLatch). l.init) (get_or_default c.latchs i e d h) ∙ free in
+          said_by_run 0 (get_or c.latchs i d).input (get_or w.state i NONE)
+          (given i NONE (omega (arith, h, begun.latches))) (ap (run 0) (sym leaf) ∙ latch_at 0 some i h)
+          (λ now. let found = only name (refl, free_at) now in (
+            found.0,
+            placed found.0 (get_or c.latchs i d).input name found.1
+                (slice_get-get_or leaves i 0 there ∙ ap Some leaf),
+            found.2,
+          ))
+
+      start_said : (i : ℕ) (d : AigLatch) → i < length c.latchs
+          → IsSaidStart asks.inputs places (assigned values) (get_or c.latchs i d) (get_or w.state i
+          NONE)
+      start_said i d h = by (get_or c.latchs i d).init refl (begun.start i d h)
+        where
+          by : (init : Option AigEdge) → (get_or c.latchs i d).init ≡ init
+              → IfSome init (λ e. (e.node_id ≡ 0) × (get_or w.state i NONE ≡ known_of e.compl))
+              → MatchOption init (IsSaid asks.inputs places (assigned values) 0
+              (get_or c.latchs i d).input (get_or w.state i NONE))
+              (λ e. get_or w.state i NONE ≡ known_of e.compl)
+          by None free start = free_said i d h free
+          by (Some e) has start = start.1
+
+      -- the run up to a step is the one that the values say
+      pub says_run : (bad n : ℕ) → SaysRun c asks.inputs places (assigned values) (record {
+        bad = bad;
+        state = w.state;
+        steps = take n w.steps;
+      })
+      says_run bad n = record {
+        state = zip_from (IsSaidStart asks.inputs places (assigned values)) c.latchs w.state
+            nothing NONE (sym begun.latches) (λ i h. start_said i nothing h);
+        steps = λ t line found.
+            let there = taken_get n w.steps t line found in
+            let low = slice_get_within w.steps t line there in
+            subst (AllZip (IsSaid asks.inputs places (assigned values) t) c.inputs)
+            (get_or_from_slice_get w.steps t line [] there)
+            (zip_from (IsSaid asks.inputs places (assigned values) t) c.inputs (row t) 0 NONE
+            (sym (wide t low)) (λ i h. input_said t i low h));
+      }
+        where
+          nothing : AigLatch
+          nothing = record { input = 0; next = edge_to 0 false; init = None }
 
     -- a solution reaches a bad state
     pub solution_reaches : length c.properties.bads ≤ 2 ^ 32 → IsReached c w.state w.steps None

@@ -4,6 +4,7 @@ pub mod Asking
 pub mod Encoded
 pub mod Naming
 pub mod Solving
+pub mod Said
 pub mod Certificates
 pub mod Comparing
 pub mod PairParts

@@ -1,6 +1,6 @@
 -- Serves private clauses alone.
 -- The run that values of a question's variables say, and its first bad state.
-use Rattle.std.specs.Prelude.{◌≡◌, ℕ, ◌+◌, ◌<◌, ◌≤◌, ◌^◌, Bool, true, false, Option, Some, None, List, [], length, take, All, slice_index, slice_index_or, slice_set}
+use Rattle.std.specs.Prelude.{◌≡◌, ◌≢◌, ℕ, ◌+◌, ◌<◌, ◌≤◌, ◌^◌, Bool, true, false, IsTrue, Option, Some, None, List, [], length, take, All, slice_get, slice_index, slice_index_or, slice_set}
 use Rattle.aig_base.specs.declared.logic.three.Lbool.{Lbool}
 use Rattle.aig_base.specs.declared.logic.three.Lbool.TheVariants.{FALSE, TRUE, NONE}
 use Rattle.aig_circuit.specs.declared.edge.AigEdge.{AigEdge}
@@ -69,6 +69,27 @@ abbrev pub SaysAll : List Named → List ℕ → List Lbool → Witness → Type
 SaysAll named leaves values w =
     (i : ℕ) (d : Named) → i < length named
     → value_said w (slice_index_or named i d) ≡ known_of (assigned values (slice_index leaves i))
+
+-- a latch without initial edge at step 0, or an input at a step
+abbrev pub IsOpenAt : Bool → Circuit → ℕ → ℕ → Type 0
+IsOpenAt true c step number =
+    (step ≡ 0) × ((d : AigLatch) → (slice_index_or c.latchs number d).init ≡ None)
+IsOpenAt false c step number = Unit {0}
+
+-- and so what has this name
+abbrev pub IsOpen : Circuit → Named → Type 0
+IsOpen c name = IsOpenAt name.is_latch c name.step name.number
+
+-- of these nothing is true
+abbrev pub IsBlank : Circuit → Witness → Type 0
+IsBlank c w = (name : Named) → IsOpen c name → value_said w name ≢ TRUE
+
+-- or just what has a name, and a true value at its place
+abbrev pub SaysOnly : Circuit → List Named → List ℕ → List Lbool → Witness → Type 0
+SaysOnly c named leaves values w =
+    (name : Named) → IsOpen c name → value_said w name ≡ TRUE
+    → (j : ℕ) × (slice_get named j ≡ Some name)
+    × IsTrue (assigned values (slice_index leaves j))
 
 -- ---- its first bad state
 

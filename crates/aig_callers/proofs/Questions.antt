@@ -103,8 +103,10 @@ module _ (laws : Laws) (one : SpellOne) (limit k : ℕ) (optimize : Bool) (file 
       bounded_hindered
       bounded_verdict (IsAskedWithin limit) (AnswersProof left k optimize before after) old new
       failed answer own takes (λ b g h. h.0.0)
-      (λ r means. subst (λ t. Shows (length made.clauses) clauses t (Err r)) (same ∙ known)
-      ((means.1 made printed.asks).shown printed.unsettled))
+      (λ r means.
+      let of_clauses = means.1 made printed.asks in
+      subst (λ t. Shows (length made.clauses) clauses t (Err r)) (same ∙ known)
+      (of_clauses.shown (λ settled. let taken = (of_clauses.settled settled).0 in cc)))
       is told shown p
 
 -- ---- two files

@@ -57,7 +57,8 @@ module _ {F W : Type 0} (bytes : List ℕ) (left : F → Option (List ℕ)) (rea
   abbrev pub IsOf : Result F OpenError → Type 0
   IsOf file = IfOk file (λ source. left source ≡ Some bytes)
 
-  text_opened : (file : Result F OpenError) (w made : W) (out : List ℕ) (u : Unit {0}) → held w ≡ Some [] → held made ≡ Some out
+  text_opened : (file : Result F OpenError) (w made : W) (out : List ℕ) (u : Unit {0})
+      → held w ≡ Some [] → held made ≡ Some out
       → IsOf file → RunsOpened left read_failed held write_failed commands.Text file w (Ok u) made
       → (f : File) × Accepts bytes LIMIT f × (out ≡ text_of (circuit_of f))
   text_opened (Ok file) w made out u first last known (rest, runs) =
@@ -69,7 +70,8 @@ module _ {F W : Type 0} (bytes : List ℕ) (left : F → Option (List ℕ)) (rea
   text_opened (Err e) w made out u first last known runs = cc
 
   -- a program that is done has printed the text of the file's circuit
-  pub text_printed : (w made : W) (out : List ℕ) (done : Result (Unit {0}) ToolError) → held w ≡ Some [] → held made ≡ Some out
+  pub text_printed : (w made : W) (out : List ℕ) (done : Result (Unit {0}) ToolError)
+      → held w ≡ Some [] → held made ≡ Some out
       → Done ≡ ended done → PrintsOn (λ p file. IsOf file) left read_failed held write_failed flushed commands.Text path w done made
       → (f : File) × Accepts bytes LIMIT f × (out ≡ text_of (circuit_of f))
   text_printed w made out (Err e) first last is prints = cc

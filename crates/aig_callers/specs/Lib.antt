@@ -1,3 +1,4 @@
+pub mod Instances
 pub mod Leaves
 pub mod Taking
 pub mod Texts

@@ -6,11 +6,11 @@ use Rattle.aig_base.specs.declared.logic.literal.Lit.{Lit}
 use Rattle.aig_dimacs.specs.Reading.{parse_formula}
 use Rattle.aig_reader.specs.Verdicts.{IsSettled}
 use Rattle.aig_refutation.specs.Checking.{all_live}
-use Rattle.aig_refutation.specs.Forms.{is_binary}
+use Rattle.aig_refutation.specs.Forms.{is_binary, is_numbered}
 use Rattle.aig_refutation.specs.Proofs.{allowed}
 use Rattle.aig_refutation.specs.Rat.{is_rat_refutation}
 use Rattle.aig_refutation.specs.Steps.{PlainStep, Refute, Step}
-use Rattle.aig_refutation.specs.Written.{AreInOrder, AreWithin, IsNumber, IsPlainStep, IsWrittenStep, binary_text, plain_text, proof_text}
+use Rattle.aig_refutation.specs.Written.{AreInOrder, AreWithin, IsBinaryStep, IsNumber, IsPlainStep, IsWrittenStep, binary_text, numbered_text, plain_text, proof_text}
 use Rattle.aig_refutation.specs.declared.error.RefutationError.{RefutationError}
 use Rattle.aig_refutation.specs.declared.error.RefutationError.TheVariants as refutation
 use Rattle.aig_answers.specs.Answers as answering
@@ -52,11 +52,24 @@ pub record IsBinaryDrat (variables : ℕ) (clauses : List (List Lit)) (bytes : L
     pub told : is_binary (binary_text steps) ≡ true
     pub refutes : Refute clauses steps
 
--- a proof, in any of the three forms, whose steps follow from the clauses
+-- a binary LRAT proof of such steps as a text has, which is told from a text and from binary DRAT
+pub record IsBinaryLrat (variables : ℕ) (clauses : List (List Lit)) (bytes : List ℕ) : Type 0
+  where
+    pub steps : List Step
+    pub text : bytes ≡ numbered_text steps
+    pub spelled : AreWithin IsWrittenStep (allowed variables) steps
+    pub small : All IsBinaryStep steps
+    pub told : is_binary (numbered_text steps) ≡ true
+    pub numbered : is_numbered (numbered_text steps) ≡ true
+    pub order : AreInOrder (all_live clauses) steps
+    pub refutes : IsTrue (is_rat_refutation clauses steps)
+
+-- a proof, in any of the four forms, whose steps follow from the clauses
 abbrev pub IsProof : ℕ → List (List Lit) → List ℕ → Type 0
 IsProof variables clauses bytes =
     IsLrat variables clauses bytes
-    ⊎ (IsDrat variables clauses bytes ⊎ IsBinaryDrat variables clauses bytes)
+    ⊎ (IsDrat variables clauses bytes
+    ⊎ (IsBinaryDrat variables clauses bytes ⊎ IsBinaryLrat variables clauses bytes))
 
 -- a proof of the clauses that a plain reader reads from the text
 pub record IsProofOf (text bytes : List ℕ) : Type 0 where

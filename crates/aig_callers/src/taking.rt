@@ -21,7 +21,8 @@ use aig_edits::{PairError, Pairing, print_joint};
 use aig_format::reads_exactly;
 use aig_join::miters_are_one;
 use aig_refutation::{
-    ordered_rat_refutations_are_taken, written_plain_proofs_are_taken, written_proofs_are_taken,
+    ordered_rat_refutations_are_taken, written_numbered_proofs_are_taken,
+    written_plain_proofs_are_taken, written_proofs_are_taken,
 };
 use aig_runs::Window;
 use aig_tool_commands::{Command, ToolError, run};
@@ -61,6 +62,7 @@ pub fn taken_at_step(
 {
     reads_exactly();
     written_proofs_are_taken();
+    written_numbered_proofs_are_taken();
     ordered_rat_refutations_are_taken();
     written_plain_proofs_are_taken();
     let text = clauses_text(alloc, file, k, optimize)?;
@@ -101,6 +103,7 @@ pub fn taken_of_window(
 {
     reads_exactly();
     written_proofs_are_taken();
+    written_numbered_proofs_are_taken();
     ordered_rat_refutations_are_taken();
     written_plain_proofs_are_taken();
     let text = window_text(alloc, file, k, form, optimize)?;
@@ -132,6 +135,7 @@ pub fn taken_up_to_step(
 {
     reads_exactly();
     written_proofs_are_taken();
+    written_numbered_proofs_are_taken();
     ordered_rat_refutations_are_taken();
     written_plain_proofs_are_taken();
     let text = bounded_text(alloc, file, k, optimize)?;
@@ -172,6 +176,7 @@ pub fn taken_of_certificate(
 {
     reads_exactly();
     written_proofs_are_taken();
+    written_numbered_proofs_are_taken();
     ordered_rat_refutations_are_taken();
     written_plain_proofs_are_taken();
     let text = obligations_text(alloc, file, certificate, optimize)?;
@@ -254,6 +259,7 @@ pub fn taken_as_equal(
 {
     reads_exactly();
     written_proofs_are_taken();
+    written_numbered_proofs_are_taken();
     ordered_rat_refutations_are_taken();
     written_plain_proofs_are_taken();
     miters_are_one();

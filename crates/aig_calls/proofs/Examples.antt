@@ -56,10 +56,6 @@ no_flag_of_base :
     ≢ simulation_status (simulation.Condition Base (conditions.Refutation refutation.Line))
 no_flag_of_base is = let status : 4137 ≡ 2089 = is in omega (arith, status)
 
--- the step of a settled question is added to its status
-no_step_added : check_status (checks.Settled 3) ≢ 35
-no_step_added is = let status : 32 ≡ 35 = is in omega (arith, status)
-
 -- a window of two files is refused as one of a file
 no_window_of_file : made_status (safety.File answers.NoBads)
     ≢ safety_status (safety.File answers.NoBads)

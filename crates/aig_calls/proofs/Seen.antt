@@ -177,7 +177,8 @@ module _ (w made : Writer) where
   question_seen k limit f (Err edit.Write) means = means
   question_seen k limit f (Err x) means = means
 
-  pub info_seen : (f : File) (r : Result (Unit {0}) EditError) → PrintsInfo all_held put_failed w made f r
+  pub info_seen : (f : File) (r : Result (Unit {0}) EditError)
+      → PrintsInfo all_held put_failed w made f r
       → PrintsInfo bytes_of has_failed (wrote w) (wrote made) f r
   info_seen f (Ok done) means = means
   info_seen f (Err edit.Write) means = means
@@ -378,10 +379,12 @@ module _ {W : Type 0} {held : W → Option (List ℕ)} {write_failed : W → Boo
 
   pub comparing_seen : {comparison : Comparison} {optimize : Bool} {r rest s other c tried p used q spent : Reader}
       → RunsComparing bytes_left read_failed bytes_left read_failed bytes_left read_failed
-      bytes_left read_failed bytes_left read_failed held write_failed comparison optimize limit r s c p q w
+      bytes_left read_failed bytes_left read_failed held write_failed comparison optimize limit r
+      s c p q w
       result rest other tried used spent made
       → RunsComparing bytes_of has_failed bytes_of has_failed bytes_of has_failed bytes_of
-      has_failed bytes_of has_failed bytes_of has_failed comparison optimize limit (read r) (read s) (read c)
+      has_failed bytes_of has_failed bytes_of has_failed comparison optimize limit (read r)
+      (read s) (read c)
       (read p) (read q) (seen held write_failed w) result (read rest) (read other) (read tried)
       (read used) (read spent) (seen held write_failed made)
   comparing_seen =

@@ -335,7 +335,6 @@ abbrev pub check_status : CheckError → ℕ
 check_status checks.Open = 10
 check_status checks.Memory = memory
 check_status checks.Write = memory
-check_status (checks.Settled k) = 32
 check_status (checks.Answer e) = answer_status e
 check_status (checks.Solution e) = solution_status e
 check_status (checks.Show e) = show_status e

@@ -67,7 +67,7 @@ pub extern "C" fn aig_window(
 }
 
 /// The clauses, in DIMACS form, that ask for a bad state of a file's machine at a step up to `k`, and before them comments that say
-/// what each input of the question is. Where the question is settled no bad state is reached, and nothing is given.
+/// what each input of the question is.
 #[unsafe(no_mangle)]
 pub extern "C" fn aig_bounded(
     alloc: Global,

@@ -42,7 +42,7 @@ pub extern "C" fn aig_check_refuted(
 }
 
 /// Checks a proof, in LRAT or DRAT, that the clauses of a file's question up to step `k` can't be satisfied: then no run of its
-/// machine reaches a bad state at a step from 0 to `k`. A question that is settled needs no proof.
+/// machine reaches a bad state at a step from 0 to `k`. No proof is read if the question's output is the constant false.
 #[unsafe(no_mangle)]
 pub extern "C" fn aig_check_refuted_to(
     alloc: Global,

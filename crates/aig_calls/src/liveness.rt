@@ -38,8 +38,8 @@ pub extern "C" fn aig_check_no_lasso(
 }
 
 /// Checks a proof, in LRAT or DRAT, that the clauses of the question of the live circuit of a file's justice property `j`, from 0 on,
-/// up to step `k` can't be satisfied: then the property has no fair lasso of at most `k + 1` steps. A question that is settled needs
-/// no proof.
+/// up to step `k` can't be satisfied: then the property has no fair lasso of at most `k + 1` steps. No proof is read if the
+/// question's output is the constant false.
 #[unsafe(no_mangle)]
 pub extern "C" fn aig_check_no_lasso_to(
     alloc: Global,

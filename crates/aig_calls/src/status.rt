@@ -53,8 +53,6 @@ const TWICE: u32 = 15;
 const SYNTAX: u32 = 16;
 /// A number of a section is no literal that may stand there. The section's number is added.
 const LITERAL: u32 = 24;
-/// The question of a bounded check is settled: no bad state is reached.
-const SETTLED: u32 = 32;
 /// Outputs would become bad literals, and the file has some.
 const HAS_BADS: u32 = 33;
 /// The file has no output of the number.
@@ -533,7 +531,6 @@ impl HasNumber for CheckError {
         match self {
             CheckError::Open => HEADER,
             CheckError::Memory | CheckError::Write => MEMORY,
-            CheckError::Settled(_) => SETTLED,
             CheckError::Answer(error) => of_answer(error),
             CheckError::Solution(error) => of_solution(error),
             CheckError::Show(error) => of_show(error),

@@ -28,14 +28,17 @@ use Rattle.aig_check_commands.specs.Printing.{IsQueryText}
 use Rattle.aig_check_commands.specs.Running.{IsClausesText}
 use Rattle.aig_check_commands.specs.Titling.{title_of}
 
-pub line_at : {X : Type 0} (line : ℕ × X → List ℕ) (xs : List X) (i : ℕ) (d : X) → i < length xs → line (get_or (enumerate_from 0 xs) i (0, d)) ≡ line (i, get_or xs i d)
+pub line_at : {X : Type 0} (line : ℕ × X → List ℕ) (xs : List X) (i : ℕ) (d : X) → i < length xs
+    → line (get_or (enumerate_from 0 xs) i (0, d)) ≡ line (i, get_or xs i d)
 line_at {X} line xs i d h = ap line (get_or-enumerate_from 0 xs i (0, d) h) ∙ ap (λ j. line (j, get_or xs i d)) (zero-add i)
 
 -- a pair of two lists
-pub get_or-pair : {K X : Type 0} (ks : List K) (xs : List X) (i : ℕ) (k : K) (x : X) → i < length ks → i < length xs → k ≡ get_or ks i k → x ≡ get_or xs i x
+pub get_or-pair : {K X : Type 0} (ks : List K) (xs : List X) (i : ℕ) (k : K) (x : X) → i < length ks
+    → i < length xs → k ≡ get_or ks i k → x ≡ get_or xs i x
     → get_or (zip ks xs) i (k, x) ≡ (k, x)
 get_or-pair ks xs i k x low down at is =
-    get_or-zip ks xs i (k, x) low down ∙ ap (λ n. (n, get_or xs i x)) (sym at) ∙ ap (λ y. (k, y)) (sym is)
+    get_or-zip ks xs i (k, x) low down ∙ ap (λ n. (n, get_or xs i x)) (sym at) ∙ ap (λ y. (k, y))
+    (sym is)
 
 -- ---- comments are passed over
 
@@ -83,14 +86,16 @@ comments_passed c u k =
     (passed-append inputs latches (passed-flat_map (input_lines c u) (inputs_passed c u) (range_with_len 0 (k + 1))) (passed-flat_map latch_comment (λ x. literal_passed 108 x.0 0 (lit_to x.1 true) refl) (enumerate_from 0 (latch_leaves c.latchs))))
     (passed-flat_map (bad_line k) (λ x. literal_passed 98 x.0 k (lit_of x.1) refl) (enumerate_from 0 (last_bads c k u)))
 
-place_passed : (is_latch : Bool) (number step n : ℕ) → ArePassed (literal_line (letter_of is_latch) number step (lit_to n true))
+place_passed : (is_latch : Bool) (number step n : ℕ)
+    → ArePassed (literal_line (letter_of is_latch) number step (lit_to n true))
 place_passed true number step n = literal_passed 108 number step (lit_to n true) refl
 place_passed false number step n = literal_passed 105 number step (lit_to n true) refl
 
 bounded_passed : (made : BoundedClauses) → ArePassed (bounded_comments made)
 unfolding bounded_comments
 bounded_passed made =
-    passed-flat_map place_line (λ x. place_passed x.1.is_latch x.1.number x.1.step x.0) (zip made.question.circuit.inputs.items made.named.items)
+    passed-flat_map place_line (λ x. place_passed x.1.is_latch x.1.number x.1.step x.0)
+    (zip made.question.circuit.inputs.items made.named.items)
 
 -- the clauses behind comments are read again
 again : (front : List ℕ) (variables : ℕ) (clauses : List (List Lit)) → ArePassed front

@@ -65,7 +65,8 @@ module _ {R S C P Q : Type 0} {left : R → Option (List ℕ)} {failed : R → B
       (EqualsBy comparison given given_failed limit optimize (base_left p) (step_left q) c tried)
       comparing.first_verdict comparing.second_verdict comparing.IsOwn r s (Ok tt) rest other
       → ChecksComparing left failed left_of failed_of given given_failed base_left base_failed
-      step_left step_failed comparison optimize limit r s c p q rest other tried used spent (Ok (always_line comparison))
+      step_left step_failed comparison optimize limit r s c p q rest other tried used spent
+      (Ok (always_line comparison))
   compare_answered told = record {
     reads = reads_on left failed left_of failed_of limit r s rest other
         (TellsOfComparing given given_failed comparison optimize limit (base_left p) (step_left q) c tried)

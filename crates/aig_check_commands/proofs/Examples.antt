@@ -1,11 +1,12 @@
 -- The comments of a small query, computed; and wrong words and lines, of which the definitions are
 -- false.
-use Rattle.aig_base.proofs.Words.{◌≡◌, ◌≢◌, ◌⊎◌, ℕ, Bool, true, false, None, Ok, Option, List, [], ◌∷◌, ◌++◌, length, refl, ap, subst, sym, arith, length-append, ◌∙◌, inl, inr, Some, same_Some}
+use Rattle.aig_base.proofs.Words.{◌≡◌, ◌≢◌, ◌⊎◌, ℕ, All, Bool, true, false, None, Ok, Option, List, [], ◌∷◌, ◌++◌, length, refl, ap, subst, sym, arith, length-append, ◌∙◌, inl, inr, Some, same_Some, false≢true, Err, Result}
 use Rattle.std.specs.Prelude.{◌^◌, IsTrue, codes, decimal, not, slice_get, slice_index, slice_index_or}
 use Rattle.std.specs.Fmt.{digits}
 use Rattle.aig_base.specs.Clauses.{lit_to}
 use Rattle.aig_circuit.specs.declared.node.AigNodeType.TheVariants.{False, Leaf}
-use Rattle.aig_circuit.proofs.Words.{Circuit, only_false, edge_to, no_properties}
+use Rattle.aig_circuit.specs.declared.edge.AigEdge.{AigEdge}
+use Rattle.aig_circuit.proofs.Words.{Circuit, Properties, only_false, edge_to, lit_of, no_properties}
 use Rattle.aig_format.specs.File.{File}
 use Rattle.aig_format.specs.Text.{IsNumber}
 use Rattle.aig_join.specs.declared.starts.Matching.TheVariants.{ByName}
@@ -18,6 +19,9 @@ use Rattle.aig_reader.specs.Verdicts.{Accepted, Judges}
 use Rattle.aig_refutation.specs.declared.error.RefutationError.{RefutationError}
 use Rattle.aig_answers.specs.declared.error.AnswerError.{AnswerError}
 use Rattle.aig_answers.specs.declared.error.AnswerError.TheVariants as answers
+use Rattle.aig_answers.specs.declared.bounded_checks.clauses.BoundedClauses.{BoundedClauses}
+use Rattle.aig_answers.specs.Asking.{AsksBounded, IsSettled}
+use Rattle.aig_check_commands.specs.Bounded.{IsBoundedText, safe_to_line}
 use Rattle.aig_check_commands.specs.Titles.{title_text}
 use Rattle.aig_simulation.specs.declared.condition.Condition.{Condition}
 use Rattle.aig_simulated.specs.Simulated.{TellsOfCondition}
@@ -30,8 +34,18 @@ use Rattle.aig_check_commands.specs.declared.command.Command.{Command}
 use Rattle.aig_check_commands.specs.declared.command.FileCommand.{FileCommand}
 use Rattle.aig_check_commands.specs.declared.justice.Justice.{Justice}
 use Rattle.aig_check_commands.proofs.Calling.{no_justice}
+use Rattle.aig_command_line.specs.declared.files.OpenError.{OpenError}
+use Rattle.aig_command_line.specs.declared.files.OpenError.TheVariants as opening
+use Rattle.aig_answers.specs.declared.bounded_checks.error.BoundedAnswerError.TheVariants as bounded
+use Rattle.aig_reader.specs.declared.error.ReadError.TheVariants as read
+use Rattle.aig_check_commands.specs.declared.error.CheckError.{CheckError}
 use Rattle.aig_check_commands.specs.declared.error.CheckError.TheVariants as errors
-use Rattle.aig_check_commands.specs.Running.{Answers, IsErrorOf, TellsOfGiven, error_status, file_verdict, shown_line, step_line, window_line}
+use Rattle.aig_check_commands.specs.Running.{Answers, IsErrorOf, TellsOfGiven, file_verdict, shown_line, step_line, window_line, ChecksFile, verdict_of}
+use Rattle.aig_check_commands.specs.Acting.{Acts}
+use Rattle.aig_check_commands.specs.Inputs.{bytes_of, has_failed}
+use Rattle.aig_check_commands.specs.Living.{PrintsMade}
+use Rattle.aig_check_commands.specs.Opening.{OnOpening}
+use Rattle.aig_check_commands.specs.Printed.{EndsWith}
 use Rattle.aig_command_line.specs.Arguments.{Arguments, GivesArguments, setting_words}
 use Rattle.aig_command_line.specs.Limits.{IsLimited}
 use Rattle.aig_check_commands.specs.declared.command.Action.{Action}
@@ -380,6 +394,29 @@ unfolding title_text
 no_bare_clauses optimize bytes others f g rest is =
     let letter : 98 ≡ 97 = ap (λ text. slice_index text 2) is.exact in omega (arith, letter)
 
+-- ---- questions up to a step
+
+-- where no solver is needed, the further clause is that the constant is true
+settled_extra : (f : File) (k : ℕ) (optimize : Bool) (made : BoundedClauses)
+    → AsksBounded f k optimize made → IsSettled made → made.extra ≡ (lit_to 0 true ∷ []) ∷ []
+settled_extra f k optimize made asks settled =
+    let outputs = subst (λ (p : Properties AigEdge). All (λ e. e ≡ edge_to 0 false) p.outputs)
+    asks.asks.properties settled in
+    asks.exact ∙ ap (λ e. (lit_of e ∷ []) ∷ []) (outputs 0 (edge_to 0 false) (omega arith))
+
+-- nothing is printed, or a line that claims something
+no_silent_question : (bytes : Option (List ℕ)) (f : File) (k : ℕ) (optimize : Bool)
+    → ¬ IsBoundedText bytes f k optimize []
+unfolding title_text
+no_silent_question bytes f k optimize is =
+    let letter : 0 ≡ 99 = ap (λ text. slice_index text 0) is.exact in omega (arith, letter)
+
+no_claim : (bytes : Option (List ℕ)) (f : File) (k : ℕ) (optimize : Bool)
+    → ¬ IsBoundedText bytes f k optimize (safe_to_line k)
+unfolding title_text
+no_claim bytes f k optimize is =
+    let letter : 110 ≡ 99 = ap (λ text. slice_index text 0) is.exact in omega (arith, letter)
+
 -- ---- errors
 
 -- one proof is refused as the second of two
@@ -392,14 +429,6 @@ no_second_proof comparison k limit optimize base step f g e refuses = refuses
 no_proof_of_clauses : (k : ℕ) (optimize : Bool) (e : RefutationError)
     → ¬ IsErrorOf (commands.Clauses k optimize) (errors.Answer (answers.Refutation e))
 no_proof_of_clauses k optimize e is = is
-
--- another step is told as settled
-no_other_step : (optimize : Bool) → ¬ IsErrorOf (commands.Bounded 1 optimize) (errors.Settled 0)
-no_other_step optimize is = omega (arith, is)
-
--- a settled question ends as a refused file does
-no_status_of_refusals : (k : ℕ) → error_status (errors.Settled k) ≢ error_status errors.Open
-no_status_of_refusals k same = omega (arith, same)
 
 -- a witness that is refused is told as a read that failed, where none did
 no_failed_read : (limit : ℕ) (old new given : Option (List ℕ))
@@ -419,3 +448,39 @@ no_condition_left_out : {W : Type 0} (held : W → Option (List ℕ)) (write_fai
     (condition : Condition) → ¬ TellsOfCondition limit optimize texts f g condition (Ok tt)
     → ¬ TellsOfSimulated held write_failed optimize limit texts w made f g (Ok tt)
 no_condition_left_out _ _ _ _ _ _ _ _ _ condition refused told = refused (told.0.2 condition)
+
+-- memory is told in the place of a file that can't be opened
+no_memory_before_files : {F W : Type 0} (left : F → Option (List ℕ)) (failed : F → Bool)
+    (held : W → Option (List ℕ)) (write_failed : W → Bool) (limit : ℕ) (c : Asked) (path : List ℕ)
+    (paths further : List (List ℕ)) (w made : W) (result : Result (Unit {0}) CheckError)
+    → result ≡ Err errors.Memory
+    → ¬ Acts (λ p file. file ≡ Err opening.Refused) left failed held write_failed limit c
+    (path ∷ paths) further w result made
+no_memory_before_files {F} {W} left failed held write_failed limit c path paths further w made
+    result memory acts =
+    on _ acts.file acts.opened acts.leads
+  where
+    on : (Holds : F → Type 0) (file : Result F OpenError) → file ≡ Err opening.Refused
+        → ¬ OnOpening Holds (λ e. (result ≡ Err e) × (made ≡ w)) file
+    on Holds (Ok f) is leads = cc
+    on Holds (Err opening.Refused) is leads = let told = leads.0 in cc
+
+-- a read of what is made of FILE is told to have failed
+no_failed_read_of_a_text : {S W : Type 0} (left_of : S → Option (List ℕ)) (failed_of : S → Bool)
+    (held : W → Option (List ℕ)) (write_failed : W → Bool) (limit k : ℕ) (optimize : Bool) (p used : S)
+    (w made : W) (text : List ℕ)
+    → ¬ PrintsMade left_of failed_of held write_failed limit
+    (asked.File (commands.RefutedTo k optimize)) (p ∷ []) (used ∷ []) w made text
+    (Err (errors.Bounded (bounded.Read read.Stream)))
+no_failed_read_of_a_text left_of failed_of held write_failed limit k optimize p used w made text told =
+    on told.1.answer told.1.holds told.1.ends
+  where
+    on : (x : Result (List ℕ) CheckError)
+        → ChecksFile bytes_of has_failed left_of failed_of (commands.RefutedTo k optimize) limit
+        (Some text, false) p (Some told.0, false) used x
+        → ¬ EndsWith held write_failed x w (Err (errors.Bounded (bounded.Read read.Stream))) made
+    on (Ok line) holds ends = let not = ends.0 in cc
+    on (Err e) holds ends =
+        let same : Err (errors.Bounded (bounded.Read read.Stream)) ≡ Err e = ends.0 in
+        let one : e ≡ errors.Bounded (bounded.Read read.Stream) = cc in
+        false≢true (holds.verdict.stream (ap verdict_of one))

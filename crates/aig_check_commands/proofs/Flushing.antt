@@ -284,9 +284,8 @@ module _ {W : Type 0} (held : W → Option (List ℕ)) (write_failed : W → Boo
         done
     means_ended true property f text told = (
       told.0,
-      told.1,
-      ran_ended bytes_of has_failed left_of failed_of c (Some text, told.0) told.1 files others
-          told.2,
+      ran_ended bytes_of has_failed left_of failed_of c (Some text, false) (Some told.0, false) files
+          others told.1,
     )
     means_ended false property f text told =
         concludes_ended held write_failed w made flat keeps u (fair_line c property)
@@ -317,7 +316,9 @@ module _ {W : Type 0} (held : W → Option (List ℕ)) (write_failed : W → Boo
     pub acts_ended : (paths further : List (List ℕ))
         → Acts opens left failed held write_failed limit c paths further w (Ok u) made
         → Acts opens left failed held write_failed limit c paths further w done flat
-    acts_ended paths further (inl acts) =
-        inl (opens_on opens (paths ++ further) _ _ _ _
-        (λ files ran. (ran.0, on_ended files ran.0 ran.1)) (λ e no. let is = no.0 in cc) acts)
-    acts_ended paths further (inr short) = let is = short.0 in cc
+    acts_ended paths further acts =
+        opens_on opens (paths ++ further) _ _ _ _
+        (λ files told. elim told [
+          | inl ran ↦ inl (ran.0, on_ended files ran.0 ran.1)
+          | inr short ↦ (let is = short.0 in cc)
+        ]) (λ e no. let is = no.0 in cc) acts

@@ -127,11 +127,11 @@ live_of (Some n) property f m is live = cc
 
 -- what was given beside its text was taken
 module _ (runs_are : AreLassos) (limit : ℕ) (a : Justice) (f : File) (m : Circuit)
-    (made : IsMadeOf a f m) (failed : Bool) (rest : Stream) (w done : Discarded) where
+    (made : IsMadeOf a f m) (rest : Stream) (w done : Discarded) where
   file_shows : {P : Type 0} {given : P → Option (List ℕ)} {given_failed : P → Bool} (p used : P)
       (c : FileCommand) (text : List ℕ) → 0 < beside_of (commands.File c)
       → IsTrue (is_asked (Some a) (commands.File c))
-      → ChecksFile bytes_of has_failed given given_failed c limit (Some (text_of m), failed) p rest
+      → ChecksFile bytes_of has_failed given given_failed c limit (Some (text_of m), false) p rest
       used (Ok text)
       → ShowsFair (commands.File c) a.property f
   file_shows p used (on_file.Refuted k optimize) text some asked runs =
@@ -162,9 +162,10 @@ module _ (runs_are : AreLassos) (limit : ℕ) (a : Justice) (f : File) (m : Circ
   pair_shows : {S P Q : Type 0} {left_of : S → Option (List ℕ)} {failed_of : S → Bool}
       {base_left : P → Option (List ℕ)} {base_failed : P → Bool} {step_left : Q → Option (List ℕ)}
       {step_failed : Q → Bool} (s other : S) (p used : P) (q spent : Q) (c : PairCommand)
-      (text : List ℕ) → 0 < beside_of (commands.Pair c) → IsTrue (is_asked (Some a) (commands.Pair c))
+      (text : List ℕ) → 0 < beside_of (commands.Pair c)
+      → IsTrue (is_asked (Some a) (commands.Pair c))
       → ChecksPair bytes_of has_failed left_of failed_of base_left base_failed step_left step_failed
-      c limit (Some (text_of m), failed) s p q rest other used spent (Ok text)
+      c limit (Some (text_of m), false) s p q rest other used spent (Ok text)
       → ShowsFair (commands.Pair c) a.property f
   pair_shows s other p used q spent (on_pair.Certified optimize) text some asked runs =
       let both = runs.reads in
@@ -178,7 +179,7 @@ module _ (runs_are : AreLassos) (limit : ℕ) (a : Justice) (f : File) (m : Circ
   ran_shows : {S : Type 0} (left_of : S → Option (List ℕ)) (failed_of : S → Bool) (c : Command)
       (files others : List S) → 0 < beside_of c → IsTrue (is_asked (Some a) c)
       → Ran bytes_of has_failed left_of failed_of keeps_nothing never_fails limit c
-      (Some (text_of m), failed) files w (Ok tt) rest others done
+      (Some (text_of m), false) files w (Ok tt) rest others done
       → ShowsFair c a.property f
   ran_shows left_of failed_of (commands.File c) [] [] some asked ran =
       let text = text_of_printed ran in file_shows tt tt c text.0 some asked text.1
@@ -219,8 +220,8 @@ pub shows_fair : {S : Type 0} (left_of : S → Option (List ℕ)) (failed_of : S
     → ShowsFair c a.property f
 shows_fair left_of failed_of runs_are limit a f m made c files others some asked checks =
     let on = checks.2 in
-    ran_shows runs_are limit a f m made on.0 on.1 checks.0 checks.1 left_of failed_of c files others
-    some asked on.2
+    ran_shows runs_are limit a f m made (Some on.0, false) checks.0 checks.1 left_of failed_of c
+    files others some asked on.1
 
 -- ---- the making
 
@@ -442,7 +443,8 @@ concludes_refused held write_failed line Shown Checks w made e not checks same =
 -- a check that was passed, and the line was written, or a beginning of it
 pub concludes_written : {W E : Type 0} {held : W → Option (List ℕ)} {write_failed : W → Bool}
     {line : List ℕ} {Shown : Type 0} {w made : W} (Checks : Result (Unit {0}) CheckError → Type 0)
-    (x : Result (Unit {0}) E) → Checks (Ok tt) → Shown → WritesOrStops held write_failed w x line made
+    (x : Result (Unit {0}) E) → Checks (Ok tt) → Shown
+    → WritesOrStops held write_failed w x line made
     → Concludes held write_failed line Shown Checks w made (after_writing x)
 concludes_written Checks (Ok u) checks shown writes = (checks, shown, writes.ok, writes.sound)
 concludes_written Checks (Err e) checks shown writes = (checks, shown, writes.err)
@@ -514,21 +516,25 @@ module _ {R S : Type 0} (left : R → Option (List ℕ)) (failed : R → Bool)
       no_write e (ran_apart left failed left_of failed_of keeps_nothing never_fails limit r rest w
       made (Err e) c files others ran)
 
-  module _ {W : Type 0} (held : W → Option (List ℕ)) (write_failed : W → Bool) (w made : W)
-      (result : Result (Unit {0}) CheckError) where
-    -- a command that was run on a text
-    pub ran_on_text : (text : List ℕ) (c : Command) (files others : List S)
-        → left r ≡ Some text
-        → Ran left failed left_of failed_of held write_failed limit c r files w result rest others
-        made
-        → PrintsMade left_of failed_of held write_failed limit c files others w made text result
-    ran_on_text text c files others is ran =
-        let seen = ran_seen (λ x. (left x, failed x)) bytes_of has_failed held write_failed limit r
-        rest w made result (λ (x : S). x) left_of failed_of c files others ran in (
-          failed r,
-          (left rest, failed rest),
-          rw (is, map-id files, map-id others) at seen,
-        )
+-- the bytes of a text in memory are known, and no read of them fails
+abbrev known : List ℕ → Option (List ℕ)
+known bytes = Some bytes
+
+abbrev never : List ℕ → Bool
+never bytes = false
+
+-- a command that was run on such a text
+pub ran_on_text : {S W : Type 0} (left_of : S → Option (List ℕ)) (failed_of : S → Bool)
+    (held : W → Option (List ℕ)) (write_failed : W → Bool) (limit : ℕ) (text rest : List ℕ)
+    (w made : W) (result : Result (Unit {0}) CheckError) (c : Command) (files others : List S)
+    → Ran known never left_of failed_of held write_failed limit c text files w result rest others
+    made
+    → PrintsMade left_of failed_of held write_failed limit c files others w made text result
+ran_on_text {S} left_of failed_of held write_failed limit text rest w made result c files others
+    ran =
+    let seen = ran_seen (λ x. (known x, never x)) bytes_of has_failed held write_failed limit text
+    rest w made result (λ (x : S). x) left_of failed_of c files others ran in
+    (rest, rw (map-id files, map-id others) at seen)
 
 -- ---- which commands print
 

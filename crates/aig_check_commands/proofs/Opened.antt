@@ -1,12 +1,13 @@
 -- Files that are opened in order.
-use Rattle.aig_base.proofs.Words.{◌≡◌, ◌<◌, ◌≤◌, ℕ, zero, suc, Global, List, String, [], ◌∷◌, ◌++◌, Ok, Err, ap, arith, get_or, length, length-append, map, refl, string_bytes, subst, sym, take}
+use Rattle.aig_base.proofs.Words.{◌≡◌, ◌+◌, ◌<◌, ◌≤◌, ℕ, zero, suc, Global, List, String, [], ◌∷◌, ◌++◌, ◌∙◌, Ok, Err, ap, arith, get_or, length, length-append, map, map_more, refl, string_bytes, subst, sym, take}
 use Rattle.std.specs.List.{remove}
 use Rattle.std.specs.Prelude.{Result}
 use Rattle.aig_command_line.specs.declared.files.OpenError.{OpenError}
 use Rattle.aig_check_commands.specs.declared.command.Command.{Command}
 use Rattle.aig_check_commands.specs.declared.command.Command.TheVariants as commands
 use Rattle.aig_check_commands.specs.declared.error.CheckError.{CheckError}
-use Rattle.aig_check_commands.specs.Fits.{LacksOne}
+use Rattle.aig_check_commands.specs.declared.error.CheckError.TheVariants as errors
+use Rattle.aig_check_commands.specs.Fits.{AreUnlisted, LacksOne}
 use Rattle.aig_check_commands.specs.CommandWords.{paths_of}
 use Rattle.aig_check_commands.specs.Opening.{AreOpened, OnOpening, OpensAll, unopened}
 
@@ -79,9 +80,21 @@ module _ {F : Type 0} (opens : List ℕ → Result F OpenError → Type 0) where
   all_opened [] more (f ∷ fs) gs are also = absurd are
   all_opened (path ∷ paths) more [] gs are also = absurd are
 
+  -- one more was opened
+  pub opened_more : (words : List (String Global)) (i : ℕ) (word : String Global) (fs : List F)
+      (f : F) → i < length words → word ≡ get_or words i word
+      → AreOpened opens (map string_bytes (take i words)) fs → opens (string_bytes word) (Ok f)
+      → AreOpened opens (map string_bytes (take (i + 1) words)) (fs ++ f ∷ [])
+  opened_more words i word fs f low at are is =
+      let front = map string_bytes (take i words) in
+      let more = ap (λ (w : String Global). front ++ string_bytes w ∷ []) at
+      ∙ sym (map_more string_bytes words i word low) in
+      subst (λ ps. AreOpened opens ps (fs ++ f ∷ [])) more
+      (all_opened front (string_bytes word ∷ []) fs (f ∷ []) are (is, tt))
+
   -- one is not opened, before others or behind them
   pub lacks_before : (paths more : List (List ℕ)) (e : CheckError) → LacksOne opens paths e
-      → LacksOne opens (paths ++ more) e
+      → AreUnlisted opens (paths ++ more) e
   lacks_before [] more e lacks = absurd lacks
   lacks_before (path ∷ paths) more e lacks = record {
     file = lacks.file;
@@ -91,8 +104,10 @@ module _ {F : Type 0} (opens : List ℕ → Result F OpenError → Type 0) where
   }
 
   pub lacks_behind : (paths more : List (List ℕ)) (fs : List F) (e : CheckError)
-      → AreOpened opens paths fs → LacksOne opens more e → LacksOne opens (paths ++ more) e
-  lacks_behind [] more [] e are lacks = lacks
+      → AreOpened opens paths fs → LacksOne opens more e → AreUnlisted opens (paths ++ more) e
+  lacks_behind [] more [] e are lacks =
+      opens_on more (λ fs. ⊥) (λ fs. e ≡ errors.Memory) (λ x. x ≡ e) (λ x. x ≡ e)
+      (λ fs no. absurd no) (λ x is. is) lacks
   lacks_behind (path ∷ paths) more (f ∷ fs) e are lacks = record {
     file = Ok f;
     opened = are.0;
@@ -100,6 +115,12 @@ module _ {F : Type 0} (opens : List ℕ → Result F OpenError → Type 0) where
   }
   lacks_behind [] more (f ∷ fs) e are lacks = absurd are
   lacks_behind (path ∷ paths) more [] e are lacks = absurd are
+
+  -- all are opened, and memory runs out
+  pub unlisted : (paths more : List (List ℕ)) (fs gs : List F) → AreOpened opens paths fs
+      → AreOpened opens more gs → AreUnlisted opens (paths ++ more) errors.Memory
+  unlisted paths more fs gs are also =
+      opens_as (paths ++ more) (fs ++ gs) _ _ (all_opened paths more fs gs are also) refl
 
 -- each command is on one file or two
 pub paths_few : (c : Command) → (0 < paths_of c) × (paths_of c ≤ 2)

@@ -221,7 +221,8 @@ module _ {W T E : Type 0} {held : W → Option (List ℕ)} {failed : W → Bool}
   }
 
 -- behind a line that names them, clauses are read again
-part_again : (name : List ℕ) (made : WindowClauses) → ArePassed (name ++ 10 ∷ []) → IsFormula (length made.clauses) (formula_of made)
+part_again : (name : List ℕ) (made : WindowClauses) → ArePassed (name ++ 10 ∷ [])
+    → IsFormula (length made.clauses) (formula_of made)
     → parse_formula (part_text name made) ≡ Some (length made.clauses, formula_of made)
 part_again name made passed formula =
     parse_formula-passed (name ++ 10 ∷ []) (dimacs_of (length made.clauses) (formula_of made)) passed

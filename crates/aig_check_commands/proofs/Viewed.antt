@@ -60,7 +60,8 @@ read_as Means Other so was = record {
 }
 
 -- what holds of a text may be another thing that follows
-if_ok : {P Q : List ℕ → Type 0} (x : Result (List ℕ) CheckError) → ((text : List ℕ) → P text → Q text)
+if_ok : {P Q : List ℕ → Type 0} (x : Result (List ℕ) CheckError)
+    → ((text : List ℕ) → P text → Q text)
     → IfOk x P → IfOk x Q
 if_ok (Ok text) so is = so text is
 if_ok (Err e) so is = tt
@@ -340,7 +341,8 @@ module _ {R A : Type 0} (to : R → A) (left : A → Option (List ℕ)) (failed 
         (λ y. failed_of (on y)) (λ y. left_of (on y)) (λ y. failed_of (on y)) comparison optimize limit
         r s c p q rest other tried used spent x
         → ChecksComparing left failed left_of failed_of left_of failed_of left_of failed_of left_of
-        failed_of comparison optimize limit (to r) (on s) (on c) (on p) (on q) (to rest) (on other) (on tried)
+        failed_of comparison optimize limit (to r) (on s) (on c) (on p) (on q) (to rest)
+        (on other) (on tried)
         (on used) (on spent) x
     miter_seen {comparison = comparison} {optimize = optimize} {c = c} {tried = tried} {p = p} {used = used} {q = q}
         {spent = spent} told =
@@ -475,7 +477,8 @@ concludes_on held write_failed line Shown Checks Also w made so (Err e) told =
 
 -- and what is told of what is made
 tells_on : (a : Justice) (Means Also : File → List ℕ → Result (Unit {0}) CheckError → Type 0)
-    (x : Result (Unit {0}) CheckError) → ((f : File) (text : List ℕ) → Means f text x → Also f text x)
+    (x : Result (Unit {0}) CheckError)
+    → ((f : File) (text : List ℕ) → Means f text x → Also f text x)
     → (f : File) → TellsMade a Means f x → TellsMade a Also f x
 tells_on a Means Also (Ok u) so f told = (told.0, told.1, so f _ told.2)
 tells_on a Means Also (Err (errors.Unmade e)) so f told = told
@@ -491,9 +494,8 @@ module _ {S B : Type 0} (on : S → B) (left_of : B → Option (List ℕ)) (fail
       text x
   prints_seen held write_failed w made text x told = (
     told.0,
-    told.1,
-    ran_seen (λ y. y) bytes_of has_failed held write_failed limit (Some text, told.0) told.1 w made x
-        on left_of failed_of c files others told.2,
+    ran_seen (λ y. y) bytes_of has_failed held write_failed limit (Some text, false)
+        (Some told.0, false) w made x on left_of failed_of c files others told.1,
   )
 
 module _ {S B : Type 0} (on : S → B) (left_of : B → Option (List ℕ)) (failed_of : B → Bool)

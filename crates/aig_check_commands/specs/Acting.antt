@@ -38,17 +38,17 @@ RanOn left failed held write_failed limit c (r ∷ files) w result (rest ∷ oth
 RanOn left failed held write_failed limit c files w result others made = ⊥
 
 -- What is done with the files at the paths, which are opened first, in order: FILE, the file beside
--- it, and what the words name beside these. Where one isn't opened, or memory for a list of them
--- runs out, nothing is written.
+-- it, and what the words name beside these. Where one isn't opened, that is the error, and nothing
+-- is written; nor is where all are opened, and memory for a list of them runs out.
 abbrev pub Acts : {F W : Type 0} → (List ℕ → Result F OpenError → Type 0)
     → (F → Option (List ℕ)) → (F → Bool) → (W → Option (List ℕ)) → (W → Bool) → ℕ → Asked
     → List (List ℕ) → List (List ℕ) → W → Result Unit CheckError → W → Type 0
 Acts {F} opens left failed held write_failed limit c paths further w result made =
     OpensAll opens (paths ++ further)
-    (λ files. (others : List F)
+    (λ files. ((others : List F)
     × RanOn left failed held write_failed limit c files w result others made)
+    ⊎ ((result ≡ Err errors.Memory) × (made ≡ w)))
     (λ e. (result ≡ Err e) × (made ≡ w))
-    ⊎ ((result ≡ Err errors.Memory) × (made ≡ w))
 
 -- what the words ask for was done, and how the program ends by it
 pub record Obeys {F W : Type 0} (opens : List ℕ → Result F OpenError → Type 0)

@@ -9,10 +9,10 @@ use Rattle.aig_answers.specs.declared.bounded_checks.clauses.BoundedClauses.{Bou
 use Rattle.aig_answers.specs.declared.bounded_checks.error.BoundedAnswerError.{BoundedAnswerError}
 use Rattle.aig_answers.specs.declared.bounded_checks.naming.Named.{Named}
 use Rattle.aig_answers.specs.Asking.{AsksBounded, IsSettled, ShowsProof}
+use Rattle.aig_answers.specs.Said.{SaysWitness}
 use Rattle.aig_dimacs.specs.Reading.{parse_formula}
 use Rattle.aig_dimacs.specs.Text.{dimacs_of}
 use Rattle.aig_format.specs.File.{File}
-use Rattle.aig_runs.specs.Queries.{IsSafeTo}
 use Rattle.aig_check_commands.specs.Sums.{IsSum}
 use Rattle.aig_check_commands.specs.Titles.{title_text}
 use Rattle.aig_check_commands.specs.declared.titles.title.Question.TheVariants as questions
@@ -42,28 +42,21 @@ unfoldable pub bounded_comments : BoundedClauses → List ℕ
 bounded_comments made =
     flat_map place_line (zip made.question.circuit.inputs.items made.named.items)
 
--- the text of a question of the file of these bytes that isn't settled: its title, with their sum,
--- the lines of its inputs, and then its clauses; from it a plain reader reads just these again
+-- The text of a question of the file of these bytes: its title, with their sum, the lines of its
+-- inputs, and then its clauses; from it a plain reader reads just these again. It is the same where
+-- no solver is needed: the clauses then say that the constant node is false, and that it is true.
 pub record IsBoundedText (bytes : Option (List ℕ)) (f : File) (k : ℕ) (optimize : Bool)
     (text : List ℕ) : Type 0 where
   pub sum : List ℕ
   pub sums : IsSum bytes sum
   pub made : BoundedClauses
   pub asks : AsksBounded f k optimize made
-  pub unsettled : ¬ IsSettled made
   pub exact : text
       ≡ title_text (title_of (questions.Bounded k) optimize sum)
       ++ bounded_comments made
       ++ dimacs_of (length made.clauses) (clauses_in made.clauses ++ made.extra)
   pub again : parse_formula text
       ≡ Some (length made.clauses, clauses_in made.clauses ++ made.extra)
-
--- a question of the file is settled, and no bad state is reached up to step k
-pub record IsSettledTo (k : ℕ) (optimize : Bool) (f : File) : Type 0 where
-  pub made : BoundedClauses
-  pub asks : AsksBounded f k optimize made
-  pub settled : IsSettled made
-  pub safe : IsSafeTo f k
 
 -- ---- proofs
 
@@ -80,9 +73,12 @@ pub record TellsProof (given : Option (List ℕ)) (k : ℕ) (optimize : Bool) (f
 
 -- ---- witnesses
 
--- the text of a witness of at most k + 1 steps that shows a bad state of the file's machine
-pub record IsWitnessToText (f : File) (k : ℕ) (text : List ℕ) : Type 0 where
+-- the text of a witness of at most k + 1 steps that shows a bad state of the file's machine; it is
+-- the one that the solver's answer to the file's question says
+pub record IsWitnessToText (given : Option (List ℕ)) (f : File) (k : ℕ) (optimize : Bool)
+    (text : List ℕ) : Type 0 where
   pub witness : Witness
   pub steps : length witness.steps ≤ k + 1
   pub shows : ShowsBad f witness
   pub exact : text ≡ witness_text witness
+  pub said : SaysWitness given k optimize f witness

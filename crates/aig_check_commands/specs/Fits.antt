@@ -6,6 +6,7 @@ use Rattle.aig_command_line.specs.Limits.{IsLimit}
 use Rattle.aig_check_commands.specs.declared.command.Call.{Call}
 use Rattle.aig_check_commands.specs.declared.command.Command.{Command}
 use Rattle.aig_check_commands.specs.declared.error.CheckError.{CheckError}
+use Rattle.aig_check_commands.specs.declared.error.CheckError.TheVariants as errors
 use Rattle.aig_check_commands.specs.Justice.{is_asked}
 use Rattle.aig_check_commands.specs.CommandWords.{beside_of, paths_of, step_of}
 use Rattle.aig_check_commands.specs.Opening.{OpensAll}
@@ -26,3 +27,9 @@ AreFor c files = length files ≡ paths_of c + beside_of c
 abbrev pub LacksOne : {F : Type 0} → (List ℕ → Result F OpenError → Type 0) → List (List ℕ)
     → CheckError → Type 0
 LacksOne opens paths e = OpensAll opens paths (λ files. ⊥) (λ x. x ≡ e)
+
+-- why there is no list of the files at the paths: one of them isn't opened, and is refused so, or
+-- all are, and memory runs out
+abbrev pub AreUnlisted : {F : Type 0} → (List ℕ → Result F OpenError → Type 0) → List (List ℕ)
+    → CheckError → Type 0
+AreUnlisted opens paths e = OpensAll opens paths (λ files. e ≡ errors.Memory) (λ x. x ≡ e)

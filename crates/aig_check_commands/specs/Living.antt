@@ -70,9 +70,9 @@ pub record RunsMade {R : Type 0} (left : R → Option (List ℕ)) (failed : R �
   pub reads : ReadsFile left failed limit (TellsMade a Means) made_verdict IsMadeOwn r result rest
   pub unread : IfErr result (λ e. IsOfMaking e → Unread)
 
--- this holds of the bytes of the text, and of what is left of them
+-- this holds of the bytes of the text, and of what is left of them: no read of these fails
 abbrev pub OnText : (Stream → Stream → Type 0) → List ℕ → Type 0
-OnText Reads text = (failed : Bool) × (rest : Stream) × Reads (Some text, failed) rest
+OnText Reads text = (rest : List ℕ) × Reads (Some text, false) (Some rest, false)
 
 -- ---- answers
 

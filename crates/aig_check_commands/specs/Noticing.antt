@@ -1,12 +1,12 @@
 -- Part of what is promised.
 -- What is told beside an answer.
-use Rattle.std.specs.Prelude.{◌≡◌, ℕ, Bool, true, false, List, Option, codes, is_none}
+use Rattle.std.specs.Prelude.{◌≡◌, ◌≢◌, ℕ, Bool, true, false, List, Option, codes, is_none}
 use Rattle.std.specs.List.{FoldsTo}
 use Rattle.aig_command_line.specs.Notices.{lines_of, tells_line}
 use Rattle.aig_command_line.specs.declared.notice.Headers.{Headers}
 use Rattle.aig_command_line.specs.declared.notice.Regard.{Regard}
 use Rattle.aig_command_line.specs.declared.status.Ending.{Ending}
-use Rattle.aig_command_line.specs.declared.status.Ending.TheVariants as endings
+use Rattle.aig_command_line.specs.declared.status.Ending.TheVariants.{Done}
 use Rattle.aig_join.specs.declared.comparison.Constraints.{Constraints}
 use Rattle.aig_join.specs.declared.comparison.Constraints.TheVariants.{OfBoth}
 use Rattle.aig_check_commands.specs.declared.command.Asked.{Asked}
@@ -16,7 +16,6 @@ use Rattle.aig_check_commands.specs.declared.command.FileCommand.TheVariants as 
 use Rattle.aig_check_commands.specs.declared.command.PairCommand.TheVariants as on_pair
 use Rattle.aig_check_commands.specs.declared.justice.Justice.{Justice}
 use Rattle.aig_check_commands.specs.declared.error.CheckError.{CheckError}
-use Rattle.aig_check_commands.specs.declared.error.CheckError.TheVariants as errors
 use Rattle.aig_check_commands.specs.CommandWords.{IsCall}
 
 -- justice and fairness are left out, but where a justice property is asked about, and by `run`: it
@@ -43,19 +42,13 @@ compares c = false
 abbrev pub regard_of : Asked → Regard
 regard_of c = record { leaves_out = leaves_out c.justice c.command; compares = compares c.command }
 
--- the program has answered: it did what was asked, or the question is settled
-abbrev pub IsAnswer : Ending CheckError → Type 0
-IsAnswer endings.Done = Unit {0}
-IsAnswer (endings.Refused (errors.Settled k)) = Unit {0}
-IsAnswer ending = ⊥
-
--- beside an answer each file's lines are told, and else nothing
+-- where the program is done, each file's lines are told, and else nothing
 pub record TellsBeside {T : Type 0} (tells : T → Option (List ℕ) → T → Type 0)
     (words : List (List ℕ)) (headers : Headers) (ending : Ending CheckError) (old new : T) : Type 0
   where
-    pub answered : IsAnswer ending → (limit : ℕ) (c : Asked) (paths further : List (List ℕ))
+    pub done : ending ≡ Done → (limit : ℕ) (c : Asked) (paths further : List (List ℕ))
         → IsCall words limit c paths further
         → FoldsTo (tells_line tells) old (lines_of (codes "aigcheck") paths (regard_of c) headers) new
-    pub otherwise : ¬ IsAnswer ending → new ≡ old
+    pub otherwise : ending ≢ Done → new ≡ old
     pub nothing : ((limit : ℕ) (c : Asked) (paths further : List (List ℕ))
         → ¬ IsCall words limit c paths further) → new ≡ old

@@ -51,7 +51,7 @@ use Rattle.aig_check_commands.specs.Printed.{Printed}
 use Rattle.aig_check_commands.specs.Sums.{IsSum}
 use Rattle.aig_check_commands.specs.Titles.{title_text}
 use Rattle.aig_check_commands.specs.declared.titles.title.Question.TheVariants as questions
-use Rattle.aig_check_commands.specs.Bounded.{IsBoundedText, IsSettledTo, IsWitnessToText, TellsProof, safe_to_line}
+use Rattle.aig_check_commands.specs.Bounded.{IsBoundedText, IsWitnessToText, TellsProof, safe_to_line}
 use Rattle.aig_check_commands.specs.Comments.{comments_of, named_text}
 use Rattle.aig_check_commands.specs.Titling.{is_distinct, title_of}
 use Rattle.aig_check_commands.specs.declared.command.FileCommand.{FileCommand}
@@ -141,7 +141,8 @@ Answers (commands.Witness k optimize) given bytes f text = IsWitnessText given f
 Answers commands.Run given bytes f text = IsShownLine given f text
 Answers (commands.Bounded k optimize) given bytes f text = IsBoundedText bytes f k optimize text
 Answers (commands.RefutedTo k optimize) given bytes f text = (text ≡ safe_to_line k) × IsSafeTo f k
-Answers (commands.WitnessTo k optimize) given bytes f text = IsWitnessToText f k text
+Answers (commands.WitnessTo k optimize) given bytes f text =
+    IsWitnessToText given f k optimize text
 
 -- ---- files
 
@@ -183,7 +184,6 @@ verdict_of errors.Write = Accepted
 verdict_of errors.Memory = Short
 verdict_of errors.Open = Refused
 verdict_of (errors.Bounded e) = bounding.verdict_of e
-verdict_of (errors.Settled k) = Accepted
 verdict_of (errors.Safe e) = safety.verdict_of e
 verdict_of (errors.Equality e) = equality.first_verdict e
 verdict_of (errors.Lasso e) = showing.verdict_of (claims.Lasso e)
@@ -196,12 +196,6 @@ verdict_of (errors.Simulation e) = simulating.first_verdict e
 abbrev pub error_of_claim : ClaimError → CheckError
 error_of_claim (claims.Show e) = errors.Show e
 error_of_claim (claims.Lasso e) = errors.Lasso e
-
--- the status of the process that it ends with: 20 is that of a SAT solver whose clauses can't be
--- satisfied
-abbrev pub error_status : CheckError → ℕ
-error_status (errors.Settled k) = 20
-error_status e = 1
 
 -- the command has this error in the place of an answer
 abbrev pub IsErrorOf : FileCommand → CheckError → Type 0
@@ -216,7 +210,6 @@ IsErrorOf (commands.Witness k optimize) (errors.Solution e) = Unit {0}
 IsErrorOf commands.Run (errors.Show e) = e ≢ shows.File read.Open
 IsErrorOf commands.Run (errors.Lasso e) = Unit {0}
 IsErrorOf (commands.Bounded k optimize) (errors.Bounded e) = IsOfQuestion e
-IsErrorOf (commands.Bounded k optimize) (errors.Settled step) = step ≡ k
 IsErrorOf (commands.RefutedTo k optimize) (errors.Bounded e) = IsOfCheck e
 IsErrorOf (commands.WitnessTo k optimize) (errors.Bounded e) = IsOfWitness e
 IsErrorOf c e = ⊥
@@ -229,7 +222,6 @@ IsOfFileAlone (errors.Show (shows.File e)) = Unit {0}
 IsOfFileAlone (errors.Bounded (bounded.Refutation e)) = ⊥
 IsOfFileAlone (errors.Bounded (bounded.Solution e)) = ⊥
 IsOfFileAlone (errors.Bounded e) = Unit {0}
-IsOfFileAlone (errors.Settled k) = Unit {0}
 IsOfFileAlone e = ⊥
 
 -- the solver's answer to the query of the file is refused so
@@ -274,12 +266,6 @@ TellsOfAnswer (commands.WitnessTo k optimize) limit old new given failed e =
     IsReadAs (IsAskedWithin limit) (bounding.RefusesSolution given failed k optimize) old new e
 TellsOfAnswer c limit old new given failed e = ⊥
 
--- the question of the file is settled
-abbrev pub TellsOfSettled : FileCommand → ℕ → Option (List ℕ) → Option (List ℕ) → Type 0
-TellsOfSettled (commands.Bounded k optimize) limit old new =
-    IsReadAs (IsAskedWithin limit) (λ f u. IsSettledTo k optimize f) old new (tt {0})
-TellsOfSettled c limit old new = ⊥
-
 -- the question of the file is too large only where the bound of what is made passes the limit
 abbrev pub TellsOfQuestion : FileCommand → ℕ → Option (List ℕ) → Option (List ℕ)
     → BoundedAnswerError → Type 0
@@ -310,7 +296,6 @@ TellsOfGiven c limit old new given failed (errors.Bounded (bounded.Solution e)) 
     TellsOfAnswer c limit old new given failed e
 TellsOfGiven c limit old new given failed (errors.Bounded (bounded.Question e)) =
     TellsOfQuestion c limit old new (bounded.Question e)
-TellsOfGiven c limit old new given failed (errors.Settled k) = TellsOfSettled c limit old new
 TellsOfGiven c limit old new given failed e = Unit {0}
 
 -- a proof is taken where its text shows what is asked
@@ -351,7 +336,7 @@ pub record ChecksFile {R P : Type 0} (left : R → Option (List ℕ)) (read_fail
   pub taken : IfOk answer (λ text. TakesProof c limit (left r) (left rest) (given p))
   -- what is given beside the file is read only where the file is taken
   pub unread : IfErr answer (λ e. IsOfFileAlone e → used ≡ p)
-  -- and a refusal of it, or of a settled question, tells why
+  -- and a refusal of it tells why
   pub refusal : IfErr answer
       (TellsOfGiven c limit (left r) (left rest) (given p) (given_failed used))
 

@@ -233,7 +233,6 @@ about_error (errors.Solution e) = about_solution e
 about_error (errors.Show e) = about_show e
 about_error (errors.Certificate e) = about_certificate e
 about_error (errors.Bounded e) = about_bounded e
-about_error (errors.Settled k) = whole subjects.File
 about_error (errors.Safe e) = about_safety e
 about_error (errors.Equality e) = about_equality e
 about_error (errors.Lasso fault) = about_lasso fault

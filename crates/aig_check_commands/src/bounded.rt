@@ -16,9 +16,7 @@ use crate::comments::buffer_literal;
 use crate::error::CheckError;
 use crate::printing::{after_writing, tell_formula, write_line};
 use crate::titles::{Question, Summed, Title, write_title};
-use aig_answers::{
-    BoundedClauses, Named, bounded, bounded_witness, check_bounded, refuted_questions_are_safe,
-};
+use aig_answers::{BoundedClauses, Named, bounded, bounded_witness, check_bounded};
 use aig_base::{Sink, Source, StreamFault, Var};
 use aig_command_line::Origin;
 use aig_dimacs::write_dimacs;
@@ -106,13 +104,9 @@ fn print_bounded_of<R: Source + Drop, B: Origin, W: Sink>(
         (rest : R) × Runs R.left R.failed nothing_given nothing_fails W.held W.failed
         command limit r tt w.old result rest tt w.new }
 {
-    refuted_questions_are_safe();
     let mut file = Summed::<R, B>::new(r);
     let made = bounded(alloc, &mut file, limit, k, optimize)?;
     tell_formula(&made.clauses, &made.extra);
-    if made.is_settled() {
-        return Err(CheckError::Settled(k));
-    }
     let title = Title {
         question: Question::Bounded { k },
         optimize,
@@ -123,8 +117,7 @@ fn print_bounded_of<R: Source + Drop, B: Origin, W: Sink>(
 }
 
 /// Prints the clauses of one question: whether a bad state is reached at a step up to `k`. Before them stand their title, and comments
-/// that say which input or latch of the file each input of the question is, at which step, and its variable. Where the question is
-/// settled, no bad state is reached, and nothing is printed: `Settled`.
+/// that say which input or latch of the file each input of the question is, at which step, and its variable.
 pub fn print_bounded<R: Source + Drop, W: Sink>(
     alloc: Global,
     limit: usize,

@@ -1,7 +1,7 @@
 //! Why the program doesn't do what was asked.
 
 ghost use Rattle.std.specs.Prelude.{◌≡◌};
-ghost use Rattle.aig_check_commands.specs.Running.{error_of_claim, error_status};
+ghost use Rattle.aig_check_commands.specs.Running.{error_of_claim};
 ghost use Rattle.aig_check_commands.specs.declared.error.CheckError.TheVariants as errors;
 
 use aig_answers::{
@@ -9,7 +9,6 @@ use aig_answers::{
     StepsError,
 };
 use aig_base::{MemoryError, StreamFault};
-use aig_command_line::HasStatus;
 use aig_edits::EditError;
 use aig_simulated::SimulationError;
 use aig_witness::{ClaimError, LassoFault, ShowError, SolutionError};
@@ -42,9 +41,6 @@ pub enum CheckError {
     /// There is no answer about the steps up to one.
     #[error(transparent)]
     Bounded(BoundedAnswerError),
-    /// No bad state is reached up to this step, so that there are no clauses to solve.
-    #[error("no bad state up to step {0}")]
-    Settled(usize),
     /// It isn't shown that no bad state is reached at any step.
     #[error(transparent)]
     Safe(SafetyError),
@@ -66,17 +62,6 @@ pub enum CheckError {
     /// A witness circuit doesn't show that no bad state is reached at any step.
     #[error(transparent)]
     Simulation(SimulationError),
-}
-
-impl HasStatus for CheckError {
-    ghost status = { error_status };
-
-    fn status(&self) -> u8 {
-        match self {
-            CheckError::Settled(_) => 20,
-            _ => 1,
-        }
-    }
 }
 
 impl From<AnswerError> for CheckError {

@@ -1,9 +1,8 @@
 //! The files that a command reads, in the order of the words that name them.
 
-ghost use Rattle.std.specs.Prelude.{◌≡◌, ◌⊎◌, ◌+◌, ◌≤◌, ◌++◌, List, IfErr, IfOk, length, map, string_bytes, vec_capacity};
-ghost use Rattle.aig_check_commands.specs.Fits.{AreFor, Fits, LacksOne};
+ghost use Rattle.std.specs.Prelude.{◌≡◌, ◌+◌, ◌≤◌, ◌++◌, List, IfErr, IfOk, length, map, string_bytes, vec_capacity};
+ghost use Rattle.aig_check_commands.specs.Fits.{AreFor, AreUnlisted, Fits, LacksOne};
 ghost use Rattle.aig_check_commands.specs.Opening.{AreOpened};
-ghost use Rattle.aig_check_commands.specs.declared.error.CheckError.TheVariants as errors;
 
 use crate::command::Call;
 use crate::error::CheckError;
@@ -29,7 +28,20 @@ fn open_beside<F: Opens>(
     Ok(())
 }
 
-/// Opens FILE, the file beside it, and then what is given beside these.
+/// Opens the files at paths, in order, and keeps none of them.
+fn try_each<F: Opens>(files: &F, paths: &[String]) -> Result<(), CheckError>
+    ensures opens { IfOk result (λ done. (each : List F.File)
+        × AreOpened (F.opens files.now) (map string_bytes paths.now) each) }
+    ensures refused { IfErr result (LacksOne (F.opens files.now) (map string_bytes paths.now)) }
+{
+    for path in paths {
+        files.open(path.as_str())?;
+    }
+    Ok(())
+}
+
+/// Opens FILE, the file beside it, and then what is given beside these. Where there is no memory for a list of them, each is tried, so
+/// that one that can't be opened is told all the same.
 pub(crate) fn open_all<F: Opens>(
     alloc: Global,
     files: &F,
@@ -41,10 +53,12 @@ pub(crate) fn open_all<F: Opens>(
         IfOk result (λ all. AreOpened (F.opens files.now) paths all.items) }
     ensures refused { let paths = map string_bytes call.now.paths.now
         ++ map string_bytes call.now.further.now in
-        IfErr result (λ e. LacksOne (F.opens files.now) paths e ⊎ (e ≡ errors.Memory)) }
+        IfErr result (AreUnlisted (F.opens files.now) paths) }
     ensures fits { IfOk result (λ all. AreFor call.now.asked.command all.items) }
 {
     let Ok(mut opened) = Vec::with_capacity(alloc, call.paths.len() + call.further.len()) else {
+        try_each(files, call.paths)?;
+        try_each(files, call.further)?;
         return Err(CheckError::Memory);
     };
     open_beside(files, call.paths, &mut opened)?;

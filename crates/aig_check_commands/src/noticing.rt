@@ -1,7 +1,7 @@
 //! What an answer isn't about.
 
-ghost use Rattle.std.specs.Prelude.{◌≡◌, ◌↔◌, true, IfOk, IfSome, IsErr, IsNone, map, string_bytes};
-ghost use Rattle.aig_check_commands.specs.Noticing.{IsAnswer, TellsBeside, is_within, regard_of};
+ghost use Rattle.std.specs.Prelude.{◌≡◌, IfOk, IfSome, IsErr, IsNone, map, string_bytes};
+ghost use Rattle.aig_check_commands.specs.Noticing.{TellsBeside, is_within, regard_of};
 
 use crate::command::{Asked, Command, FileCommand, PairCommand, call_of};
 use crate::error::CheckError;
@@ -37,16 +37,6 @@ fn regard_of(asked: Asked) -> Regard
     }
 }
 
-/// Whether a program that ends so has answered.
-fn is_answer(ending: Ending<CheckError>) -> bool
-    ensures { (result ≡ true) ↔ IsAnswer ending }
-{
-    match ending {
-        Ending::Done | Ending::Refused(CheckError::Settled(_)) => true,
-        _ => false,
-    }
-}
-
 /// Tells beside an answer to these words what it isn't about.
 fn tell_beside<T: Teller>(
     words: &[String],
@@ -57,9 +47,9 @@ fn tell_beside<T: Teller>(
     ensures { let given = map string_bytes words.now in
         TellsBeside T.tells given headers ending errors.old errors.new }
 {
-    if !is_answer(ending) {
+    let Ending::Done = ending else {
         return;
-    }
+    };
     let Some(call) = call_of(words) else {
         return;
     };

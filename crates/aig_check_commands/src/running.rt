@@ -29,8 +29,8 @@ use crate::safe::print_safe;
 use crate::safe_by_steps::print_safe_by_steps;
 use crate::simulated::{print_obligation, print_simulated};
 use aig_answers::Window;
-use aig_base::{FromRead, Sink, Source};
-use aig_command_line::Discarded;
+use aig_base::{Sink, Source};
+use aig_command_line::{Discarded, InMemory};
 use aig_edit_laws::fair_runs_are_lassos;
 use std::alloc::Global;
 
@@ -356,7 +356,7 @@ fn check_made<R: Source, S: Source, W: Sink>(
 {
     fair_runs_are_lassos();
     let text = made_text(alloc, limit, justice, file)?;
-    let mut source = FromRead::new(text.as_slice());
+    let mut source = InMemory::new(text.as_slice());
     check(alloc, limit, command, &mut source, inputs, &mut Discarded)?;
     after_writing(write_fair(w, command, justice.property))
 }
@@ -380,7 +380,7 @@ fn print_made<R: Source, S: Source + Drop, W: Sink>(
         w.new) ((others ≡ inputs.items) × (w.new ≡ w.old)) file.old result file.new }
 {
     let text = made_text(alloc, limit, justice, file)?;
-    let source = FromRead::new(text.as_slice());
+    let source = InMemory::new(text.as_slice());
     print(alloc, limit, command, source, inputs, w)
 }
 

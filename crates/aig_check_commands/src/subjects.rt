@@ -377,7 +377,6 @@ pub(crate) fn about_error(error: CheckError) -> About
         CheckError::Show(error) => about_show(error),
         CheckError::Certificate(error) => about_certificate(error),
         CheckError::Bounded(error) => about_bounded(error),
-        CheckError::Settled(_) => whole(Subject::File),
         CheckError::Safe(error) => about_safety(error),
         CheckError::Equality(error) => about_equality(error),
         CheckError::Lasso(fault) => about_lasso(fault),

@@ -188,8 +188,8 @@ no_line_when_done : (line : Option (List ℕ))
     → ¬ IsEnd {E = List ℕ} tells Some (codes "aigedit") (codes "usage") Done [] (line ∷ [])
 no_line_when_done line is = cc
 
--- words that ask for nothing have status 2, and a refusal has its own
-usage-status : status_of (λ e. e) NoCommand ≡ 2
+-- words that ask for nothing have status 2
+usage-status : status_of {E = ℕ} NoCommand ≡ 2
 usage-status = refl
 
 no_refusal_done : (e : ℕ) → ended {E = ℕ} (Err e) ≢ Done

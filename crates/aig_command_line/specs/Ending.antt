@@ -24,11 +24,11 @@ pub record WritesLine {W E : Type 0} (held : W → Option (List ℕ)) (write_fai
   pub done : OnOk result (IsTrue (flushed made))
   pub fault : IfErr result (λ e. e ≡ cause)
 
--- the status of the process: what it refused for has one of its own
-abbrev pub status_of : {E : Type 0} → (E → ℕ) → Ending E → ℕ
-status_of status Done = 0
-status_of status (Refused e) = status e
-status_of status NoCommand = 2
+-- the status of the process
+abbrev pub status_of : {E : Type 0} → Ending E → ℕ
+status_of Done = 0
+status_of (Refused e) = 1
+status_of NoCommand = 2
 
 -- Nothing is told where the program is done, and else one line: its name and what it refused for,
 -- or how it is used.

@@ -1,9 +1,8 @@
 //! What a refusal is about.
 
-ghost use Rattle.aig_command_line.specs.Faults.{error_of, fault_text};
+ghost use Rattle.aig_command_line.specs.Faults.{fault_text};
 
 use crate::path::ShownPath;
-use crate::status::HasStatus;
 use crate::tally::Place;
 use std::fmt::{self, Display};
 
@@ -37,17 +36,6 @@ impl<'a, E: Display> Display for Fault<'a, E> {
                     Place::Byte(byte) => write!(f, "{path}: byte {byte}: {error}"),
                 }
             }
-        }
-    }
-}
-
-impl<'a, E: HasStatus> HasStatus for Fault<'a, E> {
-    ghost status = { λ fault. E.status (error_of fault) };
-
-    fn status(&self) -> u8 {
-        match self {
-            Fault::Alone(error) => error.status(),
-            Fault::In { error, .. } => error.status(),
         }
     }
 }

@@ -1,21 +1,10 @@
 //! How a program ends.
 
-ghost use Rattle.std.specs.Prelude.{◌≡◌, ◌≢◌, ⊤, List, Option, Some, codes, ℕ};
+ghost use Rattle.std.specs.Prelude.{◌≡◌, ⊤, List, Option, Some, codes, ℕ};
 ghost use Rattle.std.specs.Fmt.{◌++?◌};
 ghost use Rattle.aig_command_line.specs.Ending.{IsEnd, IsMapped, ended, status_of};
 
 use std::fmt::Display;
-
-/// What a program refuses something for.
-pub trait HasStatus {
-    /// The status of the process.
-    ghost status: { Self → ℕ };
-
-    /// The status of the process, which is that of nothing that is done.
-    fn status(&self) -> u8
-        ensures exact { result ≡ status self.now }
-        ensures refuses { result ≢ 0 };
-}
 
 /// How a program ends.
 #[derive(Clone, Copy)]
@@ -50,16 +39,14 @@ impl<E> Ending<E> {
             Ending::NoCommand => Ending::NoCommand,
         }
     }
-}
 
-impl<E: HasStatus> Ending<E> {
-    /// The status of the process: 0 where it is done, that of what it refused for, and 2 where there is no command.
+    /// The status of the process: 0 where it is done, 1 where it refused what was asked, and 2 where there is no command.
     pub fn status(&self) -> u8
-        ensures { result ≡ status_of E.status self.now }
+        ensures { result ≡ status_of self.now }
     {
         match self {
             Ending::Done => 0,
-            Ending::Refused(fault) => fault.status(),
+            Ending::Refused(_) => 1,
             Ending::NoCommand => 2,
         }
     }
@@ -98,13 +85,13 @@ impl<'a, R: Eprint> Teller for StandardError<'a, R> {
 
 /// Tells how a program ends, by a line where it isn't done: its name and what it refused for, or how it is used. Returns the
 /// status of the process.
-pub fn end<E: Display + HasStatus, T: Teller>(
+pub fn end<E: Display, T: Teller>(
     program: &str,
     usage: &str,
     ending: &Ending<E>,
     errors: &mut T,
 ) -> u8
-    ensures status { result ≡ status_of E.status ending.now }
+    ensures status { result ≡ status_of ending.now }
     ensures told { IsEnd T.tells E.output program.now usage.now ending.now errors.old errors.new }
 {
     match ending {

@@ -24,7 +24,7 @@ use crate::command::{Command, FileCommand, USAGE, call_of};
 use aig_base::{MemoryError, Sink, Source, StreamFault};
 use aig_circuit::{CircuitLists, CircuitView};
 use aig_command_line::{
-    Ending, Flush, HasStatus, Help, OpenError, Opens, Placed, asked, read_placed, write_text,
+    Ending, Flush, Help, OpenError, Opens, Placed, asked, read_placed, write_text,
 };
 use aig_edits::{
     EditError, PairError, Pairing, write_edit, write_info, write_joint, write_live, write_question,
@@ -60,14 +60,6 @@ impl From<StreamFault> for CommandError {
 
     fn from(_fault: StreamFault) -> CommandError {
         CommandError::Write
-    }
-}
-
-impl HasStatus for CommandError {
-    ghost status = { λ _. 1 };
-
-    fn status(&self) -> u8 {
-        1
     }
 }
 

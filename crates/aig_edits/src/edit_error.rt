@@ -19,7 +19,7 @@ pub enum EditError {
     #[error("constraints and several bad state properties (aigedit compress makes these one)")]
     ManyBads,
     /// The file has bad literals, where its outputs would become them.
-    #[error("has bad states already")]
+    #[error("has a bad state property already")]
     HasBads,
     /// The file has no output of the number that is asked for.
     #[error("no such output")]
@@ -34,7 +34,7 @@ pub enum EditError {
     #[error("no bad state property (aigedit bads makes outputs such)")]
     NoBads,
     /// The question has more nodes than the limit while it is made.
-    #[error("question passes the limit")]
+    #[error("question may pass the limit")]
     QuestionTooLarge,
     /// The circuit with its further steps may have more nodes than the limit.
     #[error("unrolled circuit may pass the limit")]

@@ -163,7 +163,7 @@ pub fn print_live<R: Source, W: Sink>(
     write_live(alloc, j, &CircuitView::new(&lists), w)
 }
 
-/// Reads a file in the AIGER format, and makes its live circuit, which `print_live` writes. Requires `1 <= limit <= 2^31`.
+/// Reads a file in the AIGER format, and makes the lists of its live circuit. Requires `1 <= limit <= 2^31`.
 ///
 /// # Errors
 ///

@@ -128,7 +128,7 @@ module _ (f : File) (good : HasGoodLines f) (compact : is_compact f ≡ true) wh
       ap (λ k. nodes_in_row f.gates k 0) n ∙ nodes_are (suc f.greatest) 0 ∙ ap (λ vs. nodes_from f 0 (0 ∷ vs)) (ap (λ n. numbers_from n 1) exact ∙ sym (order-compact f compact))
 
   -- the sections by variable are the file's circuit
-  pub compact_circuit : (sections : Sections) → AreListsByVariable sections.lists f → sections.nodes.items ≡ nodes_of_variables f.greatest f.gates → IsCircuitOf f sections
+  pub compact_circuit : (sections : Sections) → AreListsByVariable sections.lists f → sections.numbered.nodes.items ≡ nodes_of_variables f.greatest f.gates → IsCircuitOf f sections
   compact_circuit sections h placed = λ names.
       let all = AllProperties-weaker IsWithin (λ e. edge_from e ≡ edge_of f e) edge_is f.properties sections_within.properties in
       let nodes = placed ∙ nodes_same in

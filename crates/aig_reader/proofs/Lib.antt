@@ -16,6 +16,7 @@ pub mod Resets
 pub mod Accepting
 pub mod FileCircuit
 pub mod Steps
+pub mod Told
 pub mod ReadNames
 pub mod ResetCircuits
 pub mod ReadLeaves

@@ -79,7 +79,7 @@ resets_within resets f definable allowed =
     (rec_both Own Allowed f.latches (on_latches (IsDefinable f.greatest) f definable) allowed)
 
 -- a variable of a compact file is known
-known_within : (f : File) → HasGoodLines f → is_compact f ≡ true → (v : ℕ) → v ≤ f.greatest
+pub known_within : (f : File) → HasGoodLines f → is_compact f ≡ true → (v : ℕ) → v ≤ f.greatest
     → is_known f v ≡ true
 known_within f good compact zero h = refl
 known_within f good compact (suc v) h =

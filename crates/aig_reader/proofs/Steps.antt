@@ -15,9 +15,11 @@ use Rattle.aig_lexer.proofs.Taking.{misses_test, takes_tested}
 use Rattle.aig_reader.specs.declared.error.ReadError.{ReadError}
 use Rattle.aig_reader.specs.declared.sections.Sections.{Sections}
 use Rattle.aig_reader.specs.Faults.{section_cause}
-use Rattle.aig_reader.specs.Numbered.{AreListsByNumber, AreSectionsOf, IsCircuitOf}
+use Rattle.aig_reader.specs.Numbered.{AreListsByNumber, AreSectionsOf, IsCircuitOf, IsNumberedAs}
 use Rattle.aig_circuit.specs.declared.node.AigNode.{AigNode}
 use Rattle.aig_reader.specs.Gates.{AreFirstNodes}
+use Rattle.aig_reader.specs.Reading.{TellsNodes}
+use Rattle.aig_reader.specs.declared.variable_nodes.VariableNodes.TheVariants.{Own}
 use Rattle.aig_reader.specs.Resets.{knows_resets, latch_with_reset}
 use Rattle.aig_reader.specs.Rules.{keeps, parse_lines_by, parse_sections_by}
 use Rattle.aig_reader.specs.declared.latches.Resets.{Resets}
@@ -25,6 +27,7 @@ use Rattle.aig_reader.proofs.Resets.{compact_knows, lines_tell_by}
 use Rattle.aig_reader.specs.Sections.{AreListsByVariable, HasGoodLines, file_by}
 use Rattle.aig_reader.proofs.FileCircuit.{inputs_is, latchs_is, compact_circuit}
 use Rattle.aig_reader.proofs.PlacedNodes.{first_all}
+use Rattle.aig_reader.proofs.Told.{own_told}
 use Rattle.aig_format.proofs.Entries.{rec_weaker, length-defined, on_used}
 
 module _ (resets : Resets) (header : Header)
@@ -33,23 +36,23 @@ module _ (resets : Resets) (header : Header)
   abbrev is_kept : Parts → Bool
   is_kept y = keeps header.kind (file_by header y)
 
-  sections_are : (sections : Sections) → IsCircuitOf (file_by header x) sections
+  sections_are : (sections : Sections) → IsNumberedAs (file_by header x) sections
       → AreSectionsOf header sections x
   sections_are sections is =
       let counts = (lines_tell_by resets header.kind (numbers_of header) x (taken.taken ++ []) []
       good (taken.reads [])).0.counts in
-      let inputs = ap length (inputs_is (file_by header x) sections is) ∙ length-map x.inputs (λ e. node_of_variable (file_by header x) (e / 2)) in
-      let latchs = ap length (latchs_is (file_by header x) sections is)
+      let inputs = ap length (inputs_is (file_by header x) sections is.0) ∙ length-map x.inputs (λ e. node_of_variable (file_by header x) (e / 2)) in
+      let latchs = ap length (latchs_is (file_by header x) sections is.0)
       ∙ length-map x.latches (latch_with_reset (file_by header x)) in
       record {
-        circuit = is;
+        numbered = is;
         inputs = omega (arith, inputs, counts.inputs, sections.lists.inputs.ok.0);
         latchs = omega (arith, latchs, counts.latches, sections.lists.latchs.ok.0);
       }
 
   -- numbered sections, or a refusal, after the last gate
   pub numbered_made : {X : Type 0} (sections : X → Sections) (result : Result X ReadError)
-      → Tested section_cause (is_kept x) (λ y. IsCircuitOf (file_by header x) (sections y)) result
+      → Tested section_cause (is_kept x) (λ y. IsNumberedAs (file_by header x) (sections y)) result
       → Makes section_cause (λ y. AreSectionsOf header (sections y)) b a result
       (parse_sections_by resets header.kind (numbers_of header))
   numbered_made sections (Ok y) h = (
@@ -77,14 +80,19 @@ module _ (f : File) where
 
   -- in a compact file the lines' sections are the circuit's
   pub compact_judged : (sections : Sections) → HasGoodLines f → AreListsByVariable sections.lists f
-      → AreFirstNodes f.gates sections.nodes.items → vec_len sections.nodes ≡ f.greatest + 1
-      → is_compact f ≡ true → (keeps f.kind f ≡ true) × IsCircuitOf f sections
-  compact_judged sections good lists nodes all compact = (
+      → AreFirstNodes f.gates sections.numbered.nodes.items
+      → vec_len sections.numbered.nodes ≡ f.greatest + 1
+      → sections.numbered.variables ≡ Own f.greatest
+      → is_compact f ≡ true → (keeps f.kind f ≡ true) × IsNumberedAs f sections
+  compact_judged sections good lists nodes all own compact = (
     and_from (is_accepted_order f.kind f) (knows_resets f) (by_kind f.kind)
         (compact_knows f good compact),
-    compact_circuit f good compact sections lists
-        (first_all f.greatest f.gates sections.nodes.items nodes
-        (omega (arith, all, sections.nodes.ok.0))),
+    (
+      compact_circuit f good compact sections lists
+          (first_all f.greatest f.gates sections.numbered.nodes.items nodes
+          (omega (arith, all, sections.numbered.nodes.ok.0))),
+      subst (TellsNodes f) (sym own) (own_told f good compact),
+    ),
   )
     where
       by_kind : (kind : FileKind) → is_accepted_order kind f ≡ true
@@ -104,7 +112,8 @@ module _ (f : File) where
       ∙ ap (λ b. b || well_founded_rules) well_founded)) h
 
   -- nodes and lists under the numbers of variables are the circuit's
-  pub numbered_circuit : (sections : Sections) → sections.nodes.items ≡ (circuit_of f).nodes
+  pub numbered_circuit : (sections : Sections)
+      → sections.numbered.nodes.items ≡ (circuit_of f).nodes
       → AreListsByNumber f sections.lists → IsCircuitOf f sections
   numbered_circuit sections nodes h = λ names.
       let inputs = h.inputs in let latchs = h.latchs in let properties = h.properties in

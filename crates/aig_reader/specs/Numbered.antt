@@ -1,6 +1,6 @@
 -- Serves private clauses alone.
 -- Lists under the numbers of a file's variables.
-use Rattle.std.specs.Prelude.{◌≡◌, ℕ, ◌/◌, Bool, true, false, if◌then◌else◌, ◌&&◌, List, [], ◌∷◌, All, IsTrue, map, Option, Some, None, vec_len}
+use Rattle.std.specs.Prelude.{◌≡◌, ℕ, ◌/◌, Bool, true, false, ◌&&◌, List, [], ◌∷◌, All, IsTrue, map, Option, Some, None, vec_len}
 use Rattle.std.specs.Ordering.{nat_cmp}
 use Rattle.std.specs.FinMap.{FinMap}
 use Rattle.std.specs.List.{list_all, flat_map}
@@ -20,6 +20,7 @@ use Rattle.aig_ordering.specs.Gates.{nodes_in}
 use Rattle.aig_ordering.specs.Numbers.{has_number, number_at, number_in}
 use Rattle.aig_ordering.specs.Tables.{AreMarksOf, AreNodesOf}
 use Rattle.aig_renumber.specs.Numbers.{IsEdgeIn, IsLatchIn}
+use Rattle.aig_reader.specs.Reading.{TellsNodes, node_in}
 use Rattle.aig_reader.specs.Resets.{circuit_with_resets, latch_with_reset}
 use Rattle.aig_reader.specs.declared.sections.Lists.{Lists}
 use Rattle.aig_reader.specs.declared.sections.Sections.{Sections}
@@ -86,8 +87,7 @@ HasNumber table v = IsTrue (has_number table v)
 
 -- the table has the number of each variable that is 0 or defined, and no others
 abbrev pub AreNumbersOf : File → List ℕ → Type 0
-AreNumbersOf f numbers =
-    (v : ℕ) → number_at numbers v ≡ (if is_known f v then Some (node_of_variable f v) else None)
+AreNumbersOf f numbers = (v : ℕ) → number_at numbers v ≡ node_in f v
 
 -- the entries of each list have numbers in the table
 pub record HaveNumbers (table : List ℕ) (lists : Lists) : Type 0 where
@@ -114,8 +114,12 @@ IsCircuitOf f sections =
     (names : FinMap nat_cmp (List ℕ))
     → circuit_with sections names ≡ record (circuit_with_resets f) { names = names }
 
+-- and of each variable its node is told
+abbrev pub IsNumberedAs : File → Sections → Type 0
+IsNumberedAs f sections = IsCircuitOf f sections × TellsNodes f sections.numbered.variables
+
 -- these are the sections of a file of this header, with as many inputs and latches as it says
 pub record AreSectionsOf (header : Header) (sections : Sections) (x : Parts) : Type 0 where
-  pub circuit : IsCircuitOf (file_by header x) sections
+  pub numbered : IsNumberedAs (file_by header x) sections
   pub inputs : vec_len sections.lists.inputs ≡ header.inputs
   pub latchs : vec_len sections.lists.latchs ≡ header.latches

@@ -12,7 +12,8 @@ use Rattle.aig_format.specs.ParseTested.{fits_header, may_define, may_use, tests
 use Rattle.aig_ordering.specs.Lists.{edge_from}
 use Rattle.aig_reader.specs.declared.latches.Resets.{Resets}
 use Rattle.aig_reader.specs.declared.latches.Resets.TheVariants.{Values, Functions}
-use Rattle.aig_reader.specs.Reading.{AreListsOf}
+use Rattle.aig_reader.specs.declared.variable_nodes.NumberedLists.{NumberedLists}
+use Rattle.aig_reader.specs.Reading.{AreListsOf, TellsNodes}
 use Rattle.aig_reader.specs.Resets.{AcceptsWithResets, AreListsWithResets, knows_resets, reset_in}
 
 -- ---- lines
@@ -101,3 +102,7 @@ AcceptsBy Functions = AcceptsWithResets
 abbrev pub AreListsBy : Resets → File → CircuitLists → Type 0
 AreListsBy Values = AreListsOf
 AreListsBy Functions = AreListsWithResets
+
+-- and of each variable its node is told
+abbrev pub IsNumberedBy : Resets → File → NumberedLists → Type 0
+IsNumberedBy resets f read = AreListsBy resets f read.lists × TellsNodes f read.variables

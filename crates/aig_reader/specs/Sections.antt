@@ -65,7 +65,7 @@ pub record AreLinesOf (f : File) (complete : Bool) (entries : Lists) (variables 
 -- the circuit of these sections, with these names
 abbrev pub circuit_with : Sections → FinMap nat_cmp (List ℕ) → Circuit
 circuit_with s names = record {
-  nodes = s.nodes.items;
+  nodes = s.numbered.nodes.items;
   inputs = s.lists.inputs.items;
   latchs = s.lists.latchs.items;
   properties = properties_of s.lists.properties;

@@ -16,7 +16,9 @@ mod properties;
 mod reader;
 mod sections;
 mod table;
+mod variable_nodes;
 mod variables;
 
 pub use error::{ReadError, Section};
-pub use reader::{read, read_with, read_with_resets};
+pub use reader::{read, read_numbered, read_with, read_with_resets};
+pub use variable_nodes::{NumberedLists, VariableNodes};

@@ -15,15 +15,14 @@ use crate::gates::read_gates;
 use crate::inputs::read_inputs;
 use crate::latches::{Resets, read_latches};
 use crate::properties::read_properties;
-use crate::sections::Lists;
+use crate::sections::{Lists, Numbered};
 use crate::variables::DefinedVariables;
 use aig_base::Source;
-use aig_circuit::AigNode;
 use aig_lexer::{Header, InputBuffer};
 use std::alloc::Global;
 
 /// Reads the lines of the sections after the header line: their entries into empty lists, under the numbers of their nodes,
-/// which are returned.
+/// which are returned, with those of the variables.
 pub fn read_lines<R: Source>(
     alloc: Global,
     buffer: &mut InputBuffer,
@@ -32,14 +31,14 @@ pub fn read_lines<R: Source>(
     resets: Resets,
     variables: &mut DefinedVariables,
     lists: &mut Lists,
-) -> Result<Vec<AigNode>, ReadError>
+) -> Result<Numbered, ReadError>
     requires few { header.greatest < 2 ^ 31 }
     requires good { has_enough header.kind (numbers_of header) ≡ true }
     requires enough { header.inputs + header.latches + header.gates ≤ header.greatest }
     requires defined { AreDefined header.kind header.greatest variables.old [] }
     requires empty { AreEmpty lists.old }
     ensures { Makes section_cause
-        (λ nodes. AreSectionsOf header (record { nodes = nodes; lists = lists.new }))
+        (λ numbered. AreSectionsOf header (record { numbered = numbered; lists = lists.new }))
         (feed R.left R.failed R.pulls buffer.old r.old)
         (feed R.left R.failed R.pulls buffer.new r.new) result
         (parse_sections_by resets header.kind (numbers_of header)) }

@@ -13,14 +13,15 @@ ghost use Rattle.aig_ordering.specs.Gates.{nodes_in};
 ghost use Rattle.aig_ordering.specs.Numbers.{has_number};
 ghost use Rattle.aig_ordering.specs.Tables.{AreMarksOf, AreNodesOf, order_cause};
 ghost use Rattle.aig_reader.specs.Faults.{section_cause};
-ghost use Rattle.aig_reader.specs.Numbered.{AreNumbersOf, AreRenumbered, AreTablesOf, HaveNumbers, IsCircuitOf, have_operands, init_passes, lists_pass, resets_pass};
+ghost use Rattle.aig_reader.specs.Numbered.{AreNumbersOf, AreRenumbered, AreTablesOf, HaveNumbers, IsNumberedAs, have_operands, init_passes, lists_pass, resets_pass};
 ghost use Rattle.aig_reader.specs.Resets.{knows_resets};
 ghost use Rattle.aig_reader.specs.Rules.{keeps};
 ghost use Rattle.aig_reader.specs.Sections.{AreLinesOf, HasGoodLines};
 
 use crate::error::{ReadError, Section};
 use crate::gate_store::GateStore;
-use crate::sections::Lists;
+use crate::sections::{Lists, Numbered};
+use crate::variable_nodes::VariableNodes;
 use crate::variables::DefinedVariables;
 use aig_circuit::{AigLatch, AigNode};
 use aig_lexer::LineError;
@@ -111,19 +112,21 @@ impl Lists {
         renumber_properties(numbers, &mut self.properties);
     }
 
-    /// Numbers the defined variables by level, and returns the nodes. `marked` has a bit for each that is defined.
+    /// Numbers the defined variables by level, and returns the nodes, and which of them the variables are. `marked` has a bit for each
+    /// variable that is defined.
     fn by_level(
         &mut self,
         alloc: Global,
         gates: Vec<GateEntry>,
         marked: &[u64],
-    ) -> Result<Vec<AigNode>, ReadError>
+    ) -> Result<Numbered, ReadError>
         requires tables { (f : File) × AreTablesOf f gates.items marked.now self.old }
         requires few { vec_len gates ≤ 2 ^ 31 }
         ensures { (f : File) → AreTablesOf f gates.items marked.now self.old
             → Tested section_cause
             ((uses_known f && list_all (has_level f) f.gates) && knows_resets f)
-            (λ nodes. IsCircuitOf f (record { nodes = nodes; lists = self.new })) result }
+            (λ numbered. IsNumberedAs f (record { numbered = numbered; lists = self.new }))
+            result }
     {
         let numbered = number_nodes(alloc, gates, marked);
         let (nodes, table) = Section::Gates.result_of(numbered)?;
@@ -132,11 +135,12 @@ impl Lists {
             return Err(ReadError::Literal(section));
         }
         self.renumber(&numbers);
-        Ok(nodes)
+        let variables = VariableNodes::Table(table);
+        Ok(Numbered { nodes, variables })
     }
 
-    /// Puts the lists under the numbers of nodes, and returns the nodes. Refuses what is used and not defined, and gates that
-    /// stand on themselves. `greatest` is the greatest variable, and `is_complete` tells whether no variable is missing.
+    /// Puts the lists under the numbers of nodes, and returns the nodes, and which of them the variables are. Refuses what is used and
+    /// not defined, and gates that stand on themselves. `greatest` is the greatest variable, and `is_complete` tells whether no variable is missing.
     pub fn number(
         &mut self,
         alloc: Global,
@@ -144,17 +148,20 @@ impl Lists {
         variables: &DefinedVariables,
         greatest: u32,
         is_complete: bool,
-    ) -> Result<Vec<AigNode>, ReadError>
+    ) -> Result<Numbered, ReadError>
         requires { (f : File) × (greatest ≡ f.greatest)
             × AreLinesOf f is_complete self.old variables.now gates }
         ensures { (f : File) → greatest ≡ f.greatest
             → AreLinesOf f is_complete self.old variables.now gates
             → Tested section_cause (keeps f.kind f)
-            (λ nodes. IsCircuitOf f (record { nodes = nodes; lists = self.new })) result }
+            (λ numbered. IsNumberedAs f (record { numbered = numbered; lists = self.new }))
+            result }
     {
         let len = greatest as usize + 1;
         if is_complete && gates.is_in_order() {
-            return Ok(gates.into_nodes(len)?);
+            let nodes = gates.into_nodes(len)?;
+            let variables = VariableNodes::Own(greatest as usize);
+            return Ok(Numbered { nodes, variables });
         }
         let gates = gates.into_table(alloc, len)?;
         let marked = match variables {

@@ -6,10 +6,10 @@ ghost use Rattle.aig_format.specs.Fits.{Accepts, has_enough};
 ghost use Rattle.aig_lexer.specs.Header.{numbers_of};
 ghost use Rattle.aig_lexer.specs.Takes.{Makes, feed};
 ghost use Rattle.aig_reader.specs.Faults.{section_cause};
-ghost use Rattle.aig_reader.specs.Reading.{AreListsOf, IsReadAs};
+ghost use Rattle.aig_reader.specs.Reading.{AreListsOf, IsNumberedOf, IsReadAs};
 ghost use Rattle.aig_reader.specs.Numbered.{AreSectionsOf};
 ghost use Rattle.aig_reader.specs.Resets.{AcceptsWithResets, AreListsWithResets, SaysWhy};
-ghost use Rattle.aig_reader.specs.Rules.{AcceptsBy, AreListsBy, parse_sections_by};
+ghost use Rattle.aig_reader.specs.Rules.{AcceptsBy, IsNumberedBy, parse_sections_by};
 ghost use Rattle.aig_reader.specs.Verdicts.{Accepted, Judges, verdict_by, verdict_of};
 
 use crate::error::{ReadError, names_result};
@@ -17,6 +17,7 @@ use crate::header::read_header;
 use crate::latches::Resets;
 use crate::lines::read_lines;
 use crate::sections::{Lists, Sections};
+use crate::variable_nodes::NumberedLists;
 use crate::variables::DefinedVariables;
 use aig_base::Source;
 use aig_circuit::CircuitLists;
@@ -44,6 +45,27 @@ pub fn read<R: Source>(alloc: Global, r: &mut R, limit: usize) -> Result<Circuit
     read_with(alloc, &mut buffer, r, limit)
 }
 
+/// Reads a file as `read` does, and also tells which of its nodes the file's variables are.
+// The frame with the buffer is not its callers'.
+#[inline(never)]
+pub fn read_numbered<R: Source>(
+    alloc: Global,
+    r: &mut R,
+    limit: usize,
+) -> Result<NumberedLists, ReadError>
+    requires { limit ≤ 2 ^ 31 }
+    // The bytes that were read are a file that is accepted, the lists are those of its circuit, and the nodes those of its variables.
+    ensures circuit { IfOk result
+        (IsReadAs (λ bytes. Accepts bytes limit) IsNumberedOf (R.left r.old) (R.left r.new)) }
+    // Each file that is accepted is taken, and a refusal says why.
+    ensures verdict { Judges (λ _. Accepted) limit (R.left r.old) (R.left r.new) (R.failed r.new)
+        (verdict_by verdict_of result) }
+    ensures never_open { IsErrOf result ReadError.Open → ⊥ }
+{
+    let mut buffer = InputBuffer::new();
+    read_by(alloc, &mut buffer, r, limit, Resets::Values)
+}
+
 /// Reads a file as `read` does, through the caller's buffer: first the bytes that are in it, and then those of `r`.
 ///
 /// After an error the buffer still has the bytes that were pulled of `r` and not taken (`InputBuffer::window`): the last byte that was
@@ -67,7 +89,8 @@ pub fn read_with<R: Source>(
         (R.failed r.new) (verdict_by verdict_of result) }
     ensures never_open { IsErrOf result ReadError.Open → ⊥ }
 {
-    read_by(alloc, buffer, r, limit, Resets::Values)
+    let read = read_by(alloc, buffer, r, limit, Resets::Values)?;
+    Ok(read.lists)
 }
 
 /// Reads a file as `read` does, where the reset of a latch may be any literal of a variable that is defined: a function of inputs and
@@ -90,7 +113,8 @@ pub fn read_with_resets<R: Source>(
         (SaysWhy (AcceptsWithResets limit) limit (R.left r.old) (R.failed r.new)) }
 {
     let mut buffer = InputBuffer::new();
-    read_by(alloc, &mut buffer, r, limit, Resets::Functions)
+    let read = read_by(alloc, &mut buffer, r, limit, Resets::Functions)?;
+    Ok(read.lists)
 }
 
 /// Reads a file through the caller's buffer, with the resets that the rule allows.
@@ -100,10 +124,10 @@ fn read_by<R: Source>(
     r: &mut R,
     limit: usize,
     resets: Resets,
-) -> Result<CircuitLists, ReadError>
+) -> Result<NumberedLists, ReadError>
     requires { limit ≤ 2 ^ 31 }
     ensures circuit { IfOk result
-        (IsReadAs (AcceptsBy resets limit) (AreListsBy resets)
+        (IsReadAs (AcceptsBy resets limit) (IsNumberedBy resets)
         (feed R.left R.failed R.pulls buffer.old r.old).coming
         (feed R.left R.failed R.pulls buffer.new r.new).coming) }
     ensures whole { OnOk result ((R.failed r.new ≡ false)
@@ -138,6 +162,6 @@ fn read_sections<R: Source>(
 {
     let mut variables = DefinedVariables::new(alloc, header.kind, header.greatest);
     let mut lists = Lists::new(alloc);
-    let nodes = read_lines(alloc, buffer, r, header, resets, &mut variables, &mut lists)?;
-    Ok(Sections { nodes, lists })
+    let numbered = read_lines(alloc, buffer, r, header, resets, &mut variables, &mut lists)?;
+    Ok(Sections { numbered, lists })
 }

@@ -1,6 +1,6 @@
 -- Turns of conditions, the questions of a small witness circuit and what errors say, computed; and
 -- wrong answers, of which the definitions are false.
-use Rattle.aig_base.proofs.Words.{◌≡◌, ◌≢◌, ℕ, ◌<◌, ◌≤◌, Bool, true, false, None, Option, Some, Ok, Err, List, [], ◌∷◌, length, slice_index_or, refl, ap, subst, arith, empty}
+use Rattle.aig_base.proofs.Words.{◌≡◌, ◌≢◌, ℕ, ◌*◌, ◌<◌, ◌≤◌, ◌∙◌, Bool, true, false, codes, None, Option, Some, Ok, Err, List, [], ◌∷◌, length, slice_index_or, refl, ap, subst, arith, empty}
 use Rattle.aig_circuit.specs.declared.edge.AigEdge.{AigEdge}
 use Rattle.aig_circuit.specs.declared.node.AigNodeType.{AigNodeType}
 use Rattle.aig_circuit.specs.declared.node.AigNodeType.TheVariants.{False, Leaf}
@@ -8,13 +8,17 @@ use Rattle.aig_circuit.specs.declared.node.AigNode.{AigNode}
 use Rattle.aig_circuit.proofs.Words.{Circuit, edge_to, no_properties}
 use Rattle.aig_format.specs.declared.FileKind.TheVariants.{Text}
 use Rattle.aig_format.proofs.Words.{File, circuit_of}
+use Rattle.aig_format.specs.Text.{value_of}
 use Rattle.aig_format.specs.Numbering.{node_of_variable, variables_in_order}
+use Rattle.aig_reader.specs.Reading.{node_in}
 use Rattle.aig_reader.specs.Resets.{circuit_with_resets}
 use Rattle.aig_reader.specs.Verdicts.{Accepted, Refused}
 use Rattle.aig_reader.specs.declared.error.ReadError.TheVariants as read
 use Rattle.aig_refutation.specs.declared.error.RefutationError.{RefutationError}
 use Rattle.aig_refutation.specs.declared.error.RefutationError.TheVariants as refutation
 use Rattle.aig_simulation.specs.Exact.{model_leaf, question_of}
+use Rattle.aig_simulation.specs.Named.{IsFor}
+use Rattle.aig_simulation.proofs.Alike.{same_digits}
 use Rattle.aig_simulation.specs.declared.condition.Condition.{Condition}
 use Rattle.aig_simulation.specs.declared.condition.Condition.TheVariants.{Transition, Property, Base, Step}
 use Rattle.aig_simulation.specs.declared.error.QuestionError.TheVariants as questions
@@ -136,6 +140,61 @@ no_answer_past_limit optimize text bad told =
 
 no_limit_short : (bad : AigEdge) → ¬ IsNoQuestion 2 (asking bad) questions.TooLarge
 no_limit_short bad none = let many : 2 < 2 = none in omega (arith, many)
+
+-- ---- names
+
+-- a latch of literal 6, of which variables 1 and 2 are left out
+abbrev gap : File
+gap = record toggled {
+  greatest = 3;
+  latches = record { literal = 6; next = 6; reset = None } ∷ [];
+  properties = record no_properties { bads = 6 ∷ [] };
+}
+
+-- it is node 1, and no variable left out is a node
+gap-nodes : (node_in gap 3 ≡ Some 1) × (node_in gap 1 ≡ None)
+unfolding node_of_variable variables_in_order
+gap-nodes = (refl, refl)
+
+-- a name calls it by its literal
+six-named : IsFor (node_in gap) 1 (codes "= 6")
+unfolding node_of_variable variables_in_order
+six-named = (
+  codes "6",
+  refl,
+  (
+    3,
+    record {
+      some = λ e. cc;
+      each = ((omega arith, omega arith), tt);
+      value = refl;
+      small = omega arith;
+    },
+    refl,
+  ),
+)
+
+-- and not by twice its node
+no_two_named : ¬ IsFor (node_in gap) 1 (codes "= 2")
+unfolding node_of_variable variables_in_order
+no_two_named (digits, is, (v, number, node)) =
+    let two : codes "2" ≡ digits = same_digits (codes "2") digits is in
+    let twice : 2 ≡ 2 * v = ap value_of two ∙ number.value in
+    let one : v ≡ 1 = omega arith in
+    let none : ◌≡◌ {A = Option ℕ} None (Some 1) = subst (λ n. node_in gap n ≡ Some 1) one node in
+    cc
+
+-- in a file without gaps both are one
+abbrev staying : File
+staying = record gap {
+  greatest = 1;
+  latches = record { literal = 2; next = 2; reset = None } ∷ [];
+  properties = record no_properties { bads = 2 ∷ [] };
+}
+
+staying-nodes : node_in staying 1 ≡ Some 1
+unfolding node_of_variable variables_in_order
+staying-nodes = refl
 
 -- ---- answers
 

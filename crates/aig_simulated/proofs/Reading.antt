@@ -2,25 +2,26 @@
 use Rattle.aig_base.proofs.Words.{◌≡◌, ℕ, Bool, false, List, None, Option, Result, sym, subst, ◌∙◌, IfErr, IfSome, IsAtEnd}
 use Rattle.aig_circuit.specs.declared.view.CircuitLists.{CircuitLists}
 use Rattle.aig_format.proofs.Words.{File, Accepts}
-use Rattle.aig_reader.specs.Reading.{AreListsOf, IsReadAs}
+use Rattle.aig_reader.specs.Reading.{IsNumberedOf, IsReadAs}
 use Rattle.aig_reader.specs.Resets.{AcceptsWithResets, AreListsWithResets, SaysWhy}
 use Rattle.aig_reader.specs.Verdicts.{Accepted, Judges, Verdict, verdict_by}
 use Rattle.aig_reader.specs.declared.error.ReadError.{ReadError}
+use Rattle.aig_reader.specs.declared.variable_nodes.NumberedLists.{NumberedLists}
 use Rattle.aig_simulated.specs.Witnesses.{ReadsWitness, refusal_by}
 
 module _ {R S : Type 0} (left : R → Option (List ℕ)) (failed : R → Bool)
     (left_of : S → Option (List ℕ)) (failed_of : S → Bool) (limit : ℕ) (r : R) (s : S) (rest : R)
     (other : S) where
   -- both were taken
-  pub both_taken : {X F : Type 0} (own theirs : CircuitLists)
+  pub both_taken : {X F : Type 0} (own : NumberedLists) (theirs : CircuitLists)
       (Means : File → File → Result X F → Type 0) (first : F → Verdict)
       (refusal : F → Option ReadError) (Own : F → Type 0) (made : Result X F)
       → Judges (λ _. Accepted) limit (left r) (left rest) (failed rest) Accepted
       → (failed_of other ≡ false) × IsAtEnd (left_of other)
-      → IsReadAs (λ bytes. Accepts bytes limit) AreListsOf (left r) (left rest) own
+      → IsReadAs (λ bytes. Accepts bytes limit) IsNumberedOf (left r) (left rest) own
       → IsReadAs (AcceptsWithResets limit) AreListsWithResets (left_of s) (left_of other) theirs
       → verdict_by first made ≡ Accepted → refusal_by refusal made ≡ None → IfErr made Own
-      → ((f g : File) → AreListsOf f own → AreListsWithResets g theirs → Means f g made)
+      → ((f g : File) → IsNumberedOf f own → AreListsWithResets g theirs → Means f g made)
       → ReadsWitness left failed left_of failed_of limit Means first refusal Own r s made rest other
   both_taken own theirs Means first refusal Own made told whole f g same none errors means = record {
     verdict = subst (Judges (λ _. Accepted) limit (left r) (left rest) (failed rest)) (sym same)

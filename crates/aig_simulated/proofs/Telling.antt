@@ -5,7 +5,7 @@ use Rattle.aig_answers.specs.declared.windows.WindowClauses.{WindowClauses}
 use Rattle.aig_circuit.specs.Circuit.{Circuit, IsCircuit}
 use Rattle.aig_circuit.specs.View.{lists_circuit}
 use Rattle.aig_format.proofs.Words.{Accepts, File, Fits, circuit_of}
-use Rattle.aig_reader.specs.Reading.{AreListsOf}
+use Rattle.aig_reader.specs.Reading.{AreListsOf, node_in}
 use Rattle.aig_reader.specs.Resets.{AreListsWithResets, circuit_with_resets}
 use Rattle.aig_reader.specs.Verdicts.{Accepted, verdict_by}
 use Rattle.aig_runs.specs.Queries.{IsSafeTo}
@@ -67,7 +67,7 @@ pub record Known : Type 0 where
 -- the question of a claim that was read of two files is theirs
 pub question_of_files : (condition : Condition) (f g : File) (claim : Claim)
     → AreListsOf f claim.model → AreListsWithResets g claim.witness
-    → Shares (circuit_of f) (circuit_with_resets g) claim.shared.items
+    → Shares (node_in f) (circuit_of f) (circuit_with_resets g) claim.shared.items
     → IsQuestionOf condition f g (question_in condition claim)
 question_of_files condition f g claim model witness shares = (
   claim.shared.items,
@@ -80,13 +80,14 @@ question_of_files condition f g claim model witness shares = (
 
 -- of two lists of shared leaves that say the same there is one question
 pub one_question : (condition : Condition) (f g : File) (q other : Circuit)
-    → ((model witness : Circuit) (shared more : Sharing) → Shares model witness shared
-    → Shares model witness more → (n : ℕ) → model_leaf shared n ≡ model_leaf more n)
+    → ((node : ℕ → Option ℕ) (model witness : Circuit) (shared more : Sharing)
+    → Shares node model witness shared → Shares node model witness more → (n : ℕ)
+    → model_leaf shared n ≡ model_leaf more n)
     → IsQuestionOf condition f g q → IsQuestionOf condition f g other → q ≡ other
 one_question condition f g q other alike is also =
     is.2
     ∙ ap (λ leaf. question_of condition leaf (circuit_of f) (circuit_with_resets g))
-    (fun_ext (alike (circuit_of f) (circuit_with_resets g) is.0 also.0 is.1 also.1))
+    (fun_ext (alike (node_in f) (circuit_of f) (circuit_with_resets g) is.0 also.0 is.1 also.1))
     ∙ sym also.2
 
 module _ {P : Type 0} (known : Known) (limit : ℕ) (optimize : Bool) (left : P → Option (List ℕ))

@@ -18,17 +18,19 @@ use Rattle.aig_simulated.specs.declared.error.SimulationError.{SimulationError}
 use Rattle.aig_simulated.specs.declared.error.SimulationError.TheVariants as errors
 use Rattle.aig_simulated.specs.Simulated.{IsNoQuestion, LeavesProof, Proofs, TellsOfQuestion, proof_for, question_in, turn_of}
 
--- the claim is of these circuits, or it is said why there is none
-abbrev pub MakesClaim : Circuit → Circuit → Result Claim SimulationError → Type 0
-MakesClaim m w (Ok claim) =
+-- the claim is of these circuits, or it is said why there is none; `node` says which node of the
+-- model a variable of its file is
+abbrev pub MakesClaim : (ℕ → Option ℕ) → Circuit → Circuit → Result Claim SimulationError → Type 0
+MakesClaim node m w (Ok claim) =
     (m.properties.bads ≢ []) × (lists_circuit claim.model ≡ m)
-    × (lists_circuit claim.witness ≡ w) × Shares m w claim.shared.items
+    × (lists_circuit claim.witness ≡ w) × Shares node m w claim.shared.items
     × (¬ IsCircular claim.shared.items w)
-MakesClaim m w (Err errors.NoBads) = m.properties.bads ≡ []
-MakesClaim m w (Err (errors.Sharing e)) = (m.properties.bads ≢ []) × IsFault m w e
-MakesClaim m w (Err errors.Circular) =
-    (m.properties.bads ≢ []) × ((shared : Sharing) × Shares m w shared × IsCircular shared w)
-MakesClaim m w (Err e) = ⊥
+MakesClaim node m w (Err errors.NoBads) = m.properties.bads ≡ []
+MakesClaim node m w (Err (errors.Sharing e)) =
+    (m.properties.bads ≢ []) × IsFault node m w e
+MakesClaim node m w (Err errors.Circular) =
+    (m.properties.bads ≢ []) × ((shared : Sharing) × Shares node m w shared × IsCircular shared w)
+MakesClaim node m w (Err e) = ⊥
 
 -- the condition holds of the claim
 abbrev pub HoldsIn : Claim → Condition → Type 0

@@ -8,7 +8,7 @@ use Rattle.aig_circuit.specs.Circuit.{Circuit, IsCircuit}
 use Rattle.aig_circuit.specs.View.{lists_circuit}
 use Rattle.aig_format.specs.Circuit.{circuit_of}
 use Rattle.aig_format.specs.File.{File}
-use Rattle.aig_reader.specs.Reading.{AreListsOf}
+use Rattle.aig_reader.specs.Reading.{AreListsOf, node_in}
 use Rattle.aig_reader.specs.Resets.{AreListsWithResets, circuit_with_resets}
 use Rattle.aig_reader.specs.Verdicts.{Accepted, Verdict, verdict_of}
 use Rattle.aig_reader.specs.declared.error.ReadError.{ReadError}
@@ -128,7 +128,7 @@ question_in condition claim =
 -- the question for a condition of the files, of which there is one (`condition_questions_are_one`)
 abbrev pub IsQuestionOf : Condition → File → File → Circuit → Type 0
 IsQuestionOf condition f g q =
-    (shared : Sharing) × Shares (circuit_of f) (circuit_with_resets g) shared
+    (shared : Sharing) × Shares (node_in f) (circuit_of f) (circuit_with_resets g) shared
     × (q ≡ question_of condition (model_leaf shared) (circuit_of f) (circuit_with_resets g))
 
 -- why there are no clauses of the question q
@@ -155,7 +155,7 @@ HasBads f = f.properties.bads ≢ []
 -- the resets of the witness circuit's own latches go round in a circle
 abbrev pub GoRound : File → File → Type 0
 GoRound f g =
-    (shared : Sharing) × Shares (circuit_of f) (circuit_with_resets g) shared
+    (shared : Sharing) × Shares (node_in f) (circuit_of f) (circuit_with_resets g) shared
     × IsCircular shared (circuit_with_resets g)
 
 -- the lists are those of the files' circuits and of the leaves that these share, and no resets go
@@ -163,10 +163,11 @@ GoRound f g =
 abbrev pub Claims : File → File → Result Claim SimulationError → Type 0
 Claims f g (Ok claim) =
     HasBads f × AreListsOf f claim.model × AreListsWithResets g claim.witness
-    × Shares (circuit_of f) (circuit_with_resets g) claim.shared.items
+    × Shares (node_in f) (circuit_of f) (circuit_with_resets g) claim.shared.items
     × (¬ IsCircular claim.shared.items (circuit_with_resets g))
 Claims f g (Err errors.NoBads) = f.properties.bads ≡ []
-Claims f g (Err (errors.Sharing e)) = HasBads f × IsFault (circuit_of f) (circuit_with_resets g) e
+Claims f g (Err (errors.Sharing e)) =
+    HasBads f × IsFault (node_in f) (circuit_of f) (circuit_with_resets g) e
 Claims f g (Err errors.Circular) = HasBads f × GoRound f g
 Claims f g (Err e) = ⊥
 
@@ -186,7 +187,7 @@ Certifies limit optimize texts f g (Ok done) =
     × ((condition : Condition) → TellsOfCondition limit optimize texts f g condition (Ok tt))
 Certifies limit optimize texts f g (Err errors.NoBads) = f.properties.bads ≡ []
 Certifies limit optimize texts f g (Err (errors.Sharing e)) =
-    HasBads f × IsFault (circuit_of f) (circuit_with_resets g) e
+    HasBads f × IsFault (node_in f) (circuit_of f) (circuit_with_resets g) e
 Certifies limit optimize texts f g (Err errors.Circular) = HasBads f × GoRound f g
 Certifies limit optimize texts f g (Err (errors.Condition failing e)) =
     HasBads f
@@ -217,7 +218,7 @@ Obliges limit optimize condition f g (Ok o) =
     HasBads f × ((q : Circuit) × IsQuestionOf condition f g q × IsObligation limit optimize q o)
 Obliges limit optimize condition f g (Err errors.NoBads) = f.properties.bads ≡ []
 Obliges limit optimize condition f g (Err (errors.Sharing e)) =
-    HasBads f × IsFault (circuit_of f) (circuit_with_resets g) e
+    HasBads f × IsFault (node_in f) (circuit_of f) (circuit_with_resets g) e
 Obliges limit optimize condition f g (Err errors.Circular) = HasBads f × GoRound f g
 Obliges limit optimize condition f g (Err (errors.Condition asked (conditions.Question e))) =
     HasBads f × ((q : Circuit) × IsQuestionOf condition f g q × IsNoQuestion limit q e)

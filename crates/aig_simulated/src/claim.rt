@@ -3,6 +3,7 @@
 ghost use Rattle.std.specs.Prelude.{◌^◌, ◌≤◌, IfOk};
 ghost use Rattle.aig_circuit.specs.Circuit.{IsCircuit};
 ghost use Rattle.aig_circuit.specs.View.{lists_circuit};
+ghost use Rattle.aig_reader.specs.Reading.{node_told};
 ghost use Rattle.aig_simulated.specs.Conditions.{MakesClaim};
 ghost use Rattle.aig_simulated.specs.Simulated.{Claims, IsClaim, IsOfClaim, first_verdict, refusal_of};
 ghost use Rattle.aig_simulated.specs.Witnesses.{ReadsWitness};
@@ -10,6 +11,7 @@ ghost use Rattle.aig_simulated.specs.Witnesses.{ReadsWitness};
 use crate::error::SimulationError;
 use aig_base::Source;
 use aig_circuit::{CircuitLists, CircuitView};
+use aig_reader::NumberedLists;
 use aig_simulation::{is_circular, shared_leaves};
 use std::alloc::Global;
 
@@ -24,22 +26,27 @@ pub struct Claim {
     pub shared: Vec<(usize, usize)>,
 }
 
-/// What is claimed by two circuits.
+/// What is claimed by two circuits, where a name calls a leaf of the first one by a literal of its file.
 fn claim_of(
     alloc: Global,
-    model: CircuitLists,
+    file: NumberedLists,
     witness: CircuitLists,
 ) -> Result<Claim, SimulationError>
-    requires model { IsCircuit (lists_circuit model) }
+    requires model { IsCircuit (lists_circuit file.lists) }
     requires witness { IsCircuit (lists_circuit witness) }
-    ensures makes { MakesClaim (lists_circuit model) (lists_circuit witness) result }
+    ensures makes { MakesClaim (node_told file.variables) (lists_circuit file.lists)
+        (lists_circuit witness) result }
     ensures claim { IfOk result IsClaim }
 {
+    let NumberedLists {
+        lists: model,
+        variables,
+    } = file;
     if model.properties.bads.is_empty() {
         return Err(SimulationError::NoBads);
     }
     let simulating = CircuitView::new(&witness);
-    let shared = shared_leaves(alloc, &CircuitView::new(&model), &simulating)?;
+    let shared = shared_leaves(alloc, &CircuitView::new(&model), &variables, &simulating)?;
     if is_circular(alloc, &simulating, &shared)? {
         return Err(SimulationError::Circular);
     }
@@ -51,7 +58,7 @@ fn claim_of(
 }
 
 /// Reads two files in the AIGER format, a file and a witness circuit, and tells which leaves they share, as `aig_simulation::shared_leaves`
-/// does. The witness circuit is read only where the file is taken, and its resets may be functions (`aig_reader::read_with_resets`).
+/// does by the literals of the file. The witness circuit is read only where the file is taken, and its resets may be functions (`aig_reader::read_with_resets`).
 /// Requires `1 <= limit <= 2^31`.
 ///
 /// # Errors
@@ -75,7 +82,7 @@ pub fn read_simulation<R: Source, S: Source>(
         refusal_of IsOfClaim file.old witness.old result file.new witness.new }
     ensures claim { IfOk result IsClaim }
 {
-    let model = aig_reader::read(alloc, file, limit)?;
+    let model = aig_reader::read_numbered(alloc, file, limit)?;
     let witness = match aig_reader::read_with_resets(alloc, witness, limit) {
         Ok(witness) => witness,
         Err(error) => return Err(SimulationError::Witness(error)),

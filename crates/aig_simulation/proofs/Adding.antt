@@ -1,5 +1,5 @@
 -- Pairs that are found by names, one leaf after another.
-use Rattle.aig_base.proofs.Words.{◌≡◌, ◌≢◌, ℕ, ◌+◌, ◌<◌, ◌==◌, ◌⊎◌, ◌||◌, Bool, true, false, List, [], ◌∷◌, ◌++◌, length, map, take, set, get_or, refl, sym, ap, subst, ◌∙◌, arith, inl, inr, All, AllPairs, Contains, All-contains, All-push, Contains-append_cases, Contains-append_left, Contains-get_or, Contains-push, Contains-push_cases, all_pairs_push, append_assoc, eq-eqb, eqb-true, false≢true, get_or_default, length-set, get_or-set_other, get_or-set_same, get_or-take, length-take, list_any-append, map-append, or-false, take_more}
+use Rattle.aig_base.proofs.Words.{◌≡◌, ◌≢◌, ℕ, ◌+◌, ◌<◌, ◌==◌, ◌⊎◌, ◌||◌, Bool, true, false, Option, List, [], ◌∷◌, ◌++◌, length, map, take, set, get_or, refl, sym, ap, subst, ◌∙◌, arith, inl, inr, All, AllPairs, Contains, All-contains, All-push, Contains-append_cases, Contains-append_left, Contains-get_or, Contains-push, Contains-push_cases, all_pairs_push, append_assoc, eq-eqb, eqb-true, false≢true, get_or_default, length-set, get_or-set_other, get_or-set_same, get_or-take, length-take, list_any-append, map-append, or-false, take_more}
 use Rattle.aig_circuit.specs.Renumber.{is_in}
 use Rattle.aig_renumber.proofs.Kept.{is_in-back, is_in-there}
 use Rattle.aig_renumber.proofs.Places.{Contains-map, Contains-map_back}
@@ -19,8 +19,9 @@ abbrev AreApart : List ℕ → Type 0
 AreApart ns = AllPairs (λ m n. m ≢ n) ns
 
 -- a name for a leaf has the form
-pub form_of : (names : Names) (m n : ℕ) → IsNamed (IsFor m) names n → IsNamed IsMapping names n
-form_of names m n is = (is.0, is.1, (is.2.0, is.2.1))
+pub form_of : (node : ℕ → Option ℕ) (names : Names) (m n : ℕ) → IsNamed (IsFor node m) names n
+    → IsNamed IsMapping names n
+form_of node names m n is = (is.0, is.1, (is.2.0, is.2.1))
 
 -- the first leaves are among the first and one more
 more_has : (leaves : List ℕ) (i d n : ℕ) → i < length leaves → Contains (take i leaves) n
@@ -53,13 +54,15 @@ later_is_new leaves i d within apart has =
     let same : get_or leaves i n ≡ n = get_or_default leaves i n d within in
     apart k i n low within (at ∙ sym same)
 
-module _ (names : Names) (leaves : List ℕ) (P : ℕ → Type 0) (before : Sharing) where
+module _ (node : ℕ → Option ℕ) (names : Names) (leaves : List ℕ) (P : ℕ → Type 0)
+    (before : Sharing) where
   module _ (after : Sharing) (marks : List Bool) (i d : ℕ) (within : i < length leaves)
-      (so_far : AddsNamed names (take i leaves) P before after marks) where
+      (so_far : AddsNamed node names (take i leaves) P before after marks) where
     abbrev leaf : ℕ
     leaf = get_or leaves i d
 
-    old_each : All (λ p. IsNamed (IsFor p.0) names p.1 × P p.0 × Contains (take (i + 1) leaves) p.1)
+    old_each : All
+        (λ p. IsNamed (IsFor node p.0) names p.1 × P p.0 × Contains (take (i + 1) leaves) p.1)
         so_far.added
     old_each k e h =
         let p = so_far.named.each k e h in
@@ -67,7 +70,7 @@ module _ (names : Names) (leaves : List ℕ) (P : ℕ → Type 0) (before : Shar
 
     -- a leaf whose name hasn't the form
     pub adds_skip : ¬ IsNamed IsMapping names leaf
-        → AddsNamed names (take (i + 1) leaves) P before after marks
+        → AddsNamed node names (take (i + 1) leaves) P before after marks
     adds_skip none = record {
       added = so_far.added;
       pairs = so_far.pairs;
@@ -97,14 +100,15 @@ module _ (names : Names) (leaves : List ℕ) (P : ℕ → Type 0) (before : Shar
               later_is_new leaves i d within apart
               (subst (Contains (take i leaves)) found.2
               (All-contains
-              (λ (p : ℕ × ℕ). IsNamed (IsFor p.0) names p.1 × P p.0 × Contains (take i leaves) p.1)
+              (λ (p : ℕ × ℕ). IsNamed (IsFor node p.0) names p.1 × P p.0
+              × Contains (take i leaves) p.1)
               so_far.added found.0 so_far.named.each new).2)
         ]
 
     -- one pair more
     pub adds_pair : (m : ℕ) → AreApart leaves → (¬ Contains (seconds before) leaf)
-        → IsNamed (IsFor m) names leaf → P m → m < length marks → get_or marks m false ≡ false
-        → AddsNamed names (take (i + 1) leaves) P before (after ++ (m, leaf) ∷ [])
+        → IsNamed (IsFor node m) names leaf → P m → m < length marks → get_or marks m false ≡ false
+        → AddsNamed node names (take (i + 1) leaves) P before (after ++ (m, leaf) ∷ [])
         (set marks m true)
     adds_pair m apart not is holds inside free = record {
       added = so_far.added ++ (m, leaf) ∷ [];
@@ -113,7 +117,7 @@ module _ (names : Names) (leaves : List ℕ) (P : ℕ → Type 0) (before : Shar
           ∙ append_assoc before so_far.added ((m, leaf) ∷ []);
       named = record {
         each = All-push
-            (λ p. IsNamed (IsFor p.0) names p.1 × P p.0 × Contains (take (i + 1) leaves) p.1)
+            (λ p. IsNamed (IsFor node p.0) names p.1 × P p.0 × Contains (take (i + 1) leaves) p.1)
             so_far.added (m, leaf) old_each (is, holds, new_has leaves i d within);
         all = λ n has form.
             subst (λ l. Contains l n) (sym (map-append (λ (p : ℕ × ℕ). p.1) so_far.added ((m, leaf)
@@ -169,9 +173,9 @@ module _ (names : Names) (leaves : List ℕ) (P : ℕ → Type 0) (before : Shar
 
     -- a leaf of the model that is taken
     pub twice : (m : ℕ) → AreApart leaves → (¬ Contains (seconds before) leaf)
-        → All (λ p. IsNamed (IsFor p.0) names p.1) before → IsNamed (IsFor m) names leaf
+        → All (λ p. IsNamed (IsFor node p.0) names p.1) before → IsNamed (IsFor node m) names leaf
         → m < length marks → get_or marks m false ≡ true
-        → IsRefused names leaves P before (errors.Twice leaf)
+        → IsRefused node names leaves P before (errors.Twice leaf)
     twice m apart not named is inside full =
         let has = is_in-back (firsts after) m (sym (so_far.taken m inside) ∙ full) in
         let found = Contains-map_back (λ (p : ℕ × ℕ). p.0) after m has in
@@ -184,22 +188,22 @@ module _ (names : Names) (leaves : List ℕ) (P : ℕ → Type 0) (before : Shar
               m,
               found.0.1,
               is,
-              subst (λ k. IsNamed (IsFor k) names found.0.1) found.2
-                  (All-contains (λ (p : ℕ × ℕ). IsNamed (IsFor p.0) names p.1) before found.0 named
-                  old),
+              subst (λ k. IsNamed (IsFor node k) names found.0.1) found.2
+                  (All-contains (λ (p : ℕ × ℕ). IsNamed (IsFor node p.0) names p.1) before found.0
+                  named old),
               λ same. not (subst (Contains (seconds before)) same
                   (Contains-map (λ (p : ℕ × ℕ). p.1) before found.0 old)),
               inl (Contains-map (λ (p : ℕ × ℕ). p.1) before found.0 old),
             )
             | inr new ↦ (
                 let each = All-contains
-                (λ (p : ℕ × ℕ). IsNamed (IsFor p.0) names p.1 × P p.0 × Contains (take i leaves)
-                p.1)
+                (λ (p : ℕ × ℕ). IsNamed (IsFor node p.0) names p.1 × P p.0
+                × Contains (take i leaves) p.1)
                 so_far.added found.0 so_far.named.each new in (
                   m,
                   found.0.1,
                   is,
-                  subst (λ k. IsNamed (IsFor k) names found.0.1) found.2 each.0,
+                  subst (λ k. IsNamed (IsFor node k) names found.0.1) found.2 each.0,
                   λ same. later_is_new leaves i d within apart
                       (subst (Contains (take i leaves)) same each.2),
                   inr (taken_has leaves i found.0.1 each.2),

@@ -1,5 +1,5 @@
 -- The pairs that are shared.
-use Rattle.aig_base.proofs.Words.{◌≡◌, ◌≢◌, ℕ, zero, suc, ◌<◌, List, [], ◌∷◌, ◌++◌, length, map, take, get_or, refl, sym, ap, ap₂, subst, ◌∙◌, arith, inl, inr, All, AllPairs, Contains, All-append, All-contains, All-same, Contains-append_cases, Contains-append_left, Contains-append_right, Contains-get_or, get_or-take, length-take, map-append, zip}
+use Rattle.aig_base.proofs.Words.{◌≡◌, ◌≢◌, ℕ, zero, suc, ◌<◌, Option, List, [], ◌∷◌, ◌++◌, length, map, take, get_or, refl, sym, ap, ap₂, subst, ◌∙◌, arith, inl, inr, All, AllPairs, Contains, All-append, All-contains, All-same, Contains-append_cases, Contains-append_left, Contains-append_right, Contains-get_or, get_or-take, length-take, map-append, zip}
 use Rattle.aig_circuit.proofs.Circuits.{AllPairs-append, latch_leaves-leaves}
 use Rattle.aig_circuit.proofs.Words.{Circuit, IsCircuit, IsLeaf, latch_leaves}
 use Rattle.aig_simulation.specs.Questions.{CanShareLeaves}
@@ -9,14 +9,14 @@ use Rattle.aig_simulation.proofs.Adding.{form_of}
 
 -- ---- by names
 
-module _ (model witness : Circuit) (is_model : IsCircuit model)
+module _ (node : ℕ → Option ℕ) (model witness : Circuit) (is_model : IsCircuit model)
     (is_witness : IsCircuit witness) where
   abbrev leaves : List ℕ
   leaves = witness.inputs ++ latch_leaves witness.latchs
 
   -- the leaves of named pairs
   named_leaves : (names : Names) (ns : List ℕ) (P : ℕ → Type 0) (pairs : Sharing)
-      → AreNamed names ns P pairs
+      → AreNamed node names ns P pairs
       → ((n : ℕ) → P n → IsLeaf model.nodes n) → ((n : ℕ) → Contains ns n → IsLeaf witness.nodes n)
       → All (λ p. IsLeaf model.nodes p.0) pairs × All (λ p. IsLeaf witness.nodes p.1) pairs
   named_leaves names ns P pairs are of_model of_witness = (
@@ -40,7 +40,7 @@ module _ (model witness : Circuit) (is_model : IsCircuit model)
       All-contains (IsLeaf witness.nodes) (latch_leaves witness.latchs) n
       (latch_leaves-leaves witness is_witness) has
 
-  pub named_can : (shared : Sharing) → SharesByName model witness shared
+  pub named_can : (shared : Sharing) → SharesByName node model witness shared
       → CanShareLeaves shared model witness
   named_can shared by_name =
       let first = named_leaves witness.names witness.inputs (Contains model.inputs) by_name.inputs
@@ -63,8 +63,8 @@ module _ (model witness : Circuit) (is_model : IsCircuit model)
       }
 
   -- a leaf with the form is in a pair
-  in_pair : (shared : Sharing) → SharesByName model witness shared → (n : ℕ) → Contains leaves n
-      → IsNamed IsMapping witness.names n → Contains (map (λ (p : ℕ × ℕ). p.1) shared) n
+  in_pair : (shared : Sharing) → SharesByName node model witness shared → (n : ℕ)
+      → Contains leaves n → IsNamed IsMapping witness.names n → Contains (map (λ (p : ℕ × ℕ). p.1) shared) n
   in_pair shared by_name n has form =
       let both : map (λ (p : ℕ × ℕ). p.1) shared
       ≡ map (λ (p : ℕ × ℕ). p.1) by_name.inputs ++ map (λ (p : ℕ × ℕ). p.1) by_name.latches =
@@ -81,7 +81,7 @@ module _ (model witness : Circuit) (is_model : IsCircuit model)
       ])
 
   -- with no pair no leaf has the form
-  pub none_named : (shared : Sharing) → SharesByName model witness shared → shared ≡ []
+  pub none_named : (shared : Sharing) → SharesByName node model witness shared → shared ≡ []
       → HasNoMapping witness
   none_named shared by_name none k d h form =
       let has = in_pair shared by_name (get_or leaves k d) (Contains-get_or leaves k d h) form in
@@ -90,18 +90,18 @@ module _ (model witness : Circuit) (is_model : IsCircuit model)
       absurd (omega (arith, nowhere.1))
 
   -- and with a pair one has
-  pub some_named : (shared : Sharing) → SharesByName model witness shared → (shared ≡ [] → ⊥)
+  pub some_named : (shared : Sharing) → SharesByName node model witness shared → (shared ≡ [] → ⊥)
       → ¬ HasNoMapping witness
   some_named shared by_name some none = by shared refl
     where
       of_list : (names : Names) (ns : List ℕ) (P : ℕ → Type 0) (pairs : Sharing)
-          → AreNamed names ns P pairs → (p : ℕ × ℕ) → Contains pairs p
+          → AreNamed node names ns P pairs → (p : ℕ × ℕ) → Contains pairs p
           → Contains ns p.1 × IsNamed IsMapping names p.1
       of_list names ns P pairs are p has =
           let each = All-contains
-          (λ (q : ℕ × ℕ). IsNamed (IsFor q.0) names q.1 × P q.0 × Contains ns q.1) pairs p are.each
-          has in
-          (each.2, form_of names p.0 p.1 each.0)
+          (λ (q : ℕ × ℕ). IsNamed (IsFor node q.0) names q.1 × P q.0 × Contains ns q.1) pairs p
+          are.each has in
+          (each.2, form_of node names p.0 p.1 each.0)
 
       no_pair : (p : ℕ × ℕ) → Contains shared p → ⊥
       no_pair p has =

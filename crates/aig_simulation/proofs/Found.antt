@@ -1,5 +1,5 @@
 -- The pairs that both lists of leaves give by their names.
-use Rattle.aig_base.proofs.Words.{◌≡◌, ℕ, ◌<◌, Bool, false, List, [], ◌++◌, length, map, get_or, sym, ap, subst, ◌∙◌, arith, inl, inr, All, Contains, All-contains, Contains-append_left, Contains-append_right, cases_lt, false≢true}
+use Rattle.aig_base.proofs.Words.{◌≡◌, ℕ, ◌<◌, Bool, false, Option, List, [], ◌++◌, length, map, get_or, sym, ap, subst, ◌∙◌, arith, inl, inr, All, Contains, All-contains, Contains-append_left, Contains-append_right, cases_lt, false≢true}
 use Rattle.std.proofs.lemmas.List.{get_or_past}
 use Rattle.aig_circuit.specs.declared.node.AigNodeType.TheVariants.{Leaf}
 use Rattle.aig_circuit.proofs.Circuits.{latch_leaves-leaves}
@@ -36,9 +36,9 @@ at_within marks n at = elim (cases_lt n (length marks)) [
 ]
 
 -- leaves of a list that has all that are marked
-weaker : (names : Names) (ns : List ℕ) (P Q : ℕ → Type 0) (pairs : Sharing)
-    → ((n : ℕ) → P n → Q n) → AreNamed names ns P pairs → AreNamed names ns Q pairs
-weaker names ns P Q pairs each are = record {
+weaker : (node : ℕ → Option ℕ) (names : Names) (ns : List ℕ) (P Q : ℕ → Type 0) (pairs : Sharing)
+    → ((n : ℕ) → P n → Q n) → AreNamed node names ns P pairs → AreNamed node names ns Q pairs
+weaker node names ns P Q pairs each are = record {
   each = λ k d h.
       let p = are.each k d h in
       (p.0, each (get_or pairs k d).0 p.1, p.2);
@@ -46,25 +46,26 @@ weaker names ns P Q pairs each are = record {
 }
 
 -- the names of pairs that were found
-pub pairs_named : (names : Names) (ns : List ℕ) (P : ℕ → Type 0) (pairs : Sharing)
-    (marks : List Bool) → AddsNamed names ns P [] pairs marks
-    → All (λ p. IsNamed (IsFor p.0) names p.1) pairs
-pairs_named names ns P pairs marks adds =
-    subst (All (λ p. IsNamed (IsFor p.0) names p.1)) (sym adds.pairs)
+pub pairs_named : (node : ℕ → Option ℕ) (names : Names) (ns : List ℕ) (P : ℕ → Type 0)
+    (pairs : Sharing) (marks : List Bool) → AddsNamed node names ns P [] pairs marks
+    → All (λ p. IsNamed (IsFor node p.0) names p.1) pairs
+pairs_named node names ns P pairs marks adds =
+    subst (All (λ p. IsNamed (IsFor node p.0) names p.1)) (sym adds.pairs)
     (λ k d h. (adds.named.each k d h).0)
 
 -- they are of these leaves
-pub pairs_among : (names : Names) (ns : List ℕ) (P : ℕ → Type 0) (pairs : Sharing)
-    (marks : List Bool) → AddsNamed names ns P [] pairs marks → (n : ℕ)
+pub pairs_among : (node : ℕ → Option ℕ) (names : Names) (ns : List ℕ) (P : ℕ → Type 0)
+    (pairs : Sharing) (marks : List Bool) → AddsNamed node names ns P [] pairs marks → (n : ℕ)
     → Contains (map (λ (p : ℕ × ℕ). p.1) pairs) n → Contains ns n
-pairs_among names ns P pairs marks adds n has =
+pairs_among node names ns P pairs marks adds n has =
     let found = Contains-map_back (λ (p : ℕ × ℕ). p.1) pairs n has in
     subst (Contains ns) found.2
-    (All-contains (λ (p : ℕ × ℕ). IsNamed (IsFor p.0) names p.1 × P p.0 × Contains ns p.1)
+    (All-contains (λ (p : ℕ × ℕ). IsNamed (IsFor node p.0) names p.1 × P p.0 × Contains ns p.1)
     adds.added found.0 adds.named.each (subst (λ l. Contains l found.0) adds.pairs found.1)).2
 
-module _ (model witness : Circuit) (is_model : IsCircuit model) (is_witness : IsCircuit witness)
-    (inputs latches : List Bool) (of_inputs : Marks inputs model.inputs)
+module _ (node : ℕ → Option ℕ) (model witness : Circuit) (is_model : IsCircuit model)
+    (is_witness : IsCircuit witness) (inputs latches : List Bool)
+    (of_inputs : Marks inputs model.inputs)
     (of_latches : Marks latches (latch_leaves model.latchs))
     (inputs_long : length inputs ≡ length model.nodes)
     (latches_long : length latches ≡ length model.nodes) where
@@ -84,7 +85,8 @@ module _ (model witness : Circuit) (is_model : IsCircuit model) (is_witness : Is
 
   -- why no pair of inputs is made
   pub input_fault : (e : SharingError)
-      → IsRefused witness.names witness.inputs (IsAt inputs) [] e → IsFault model witness e
+      → IsRefused node witness.names witness.inputs (IsAt inputs) [] e
+      → IsFault node model witness e
   input_fault errors.Memory refused = tt
   input_fault (errors.Unknown n) refused =
       inl (refused.0, (refused.1.0, λ m has. refused.1.1 m (input_at m has)))
@@ -103,11 +105,11 @@ module _ (model witness : Circuit) (is_model : IsCircuit model) (is_witness : Is
       )
 
   module _ (first : Sharing) (one : List Bool)
-      (adds : AddsNamed witness.names witness.inputs (IsAt inputs) [] first one) where
+      (adds : AddsNamed node witness.names witness.inputs (IsAt inputs) [] first one) where
     -- and why no pair of latches
     pub latch_fault : (e : SharingError)
-        → IsRefused witness.names (latch_leaves witness.latchs) (IsAt latches) first e
-        → IsFault model witness e
+        → IsRefused node witness.names (latch_leaves witness.latchs) (IsAt latches) first e
+        → IsFault node model witness e
     latch_fault errors.Memory refused = tt
     latch_fault (errors.Unknown n) refused =
         inr (refused.0, (refused.1.0, λ m has. refused.1.1 m (latch_at m has)))
@@ -120,7 +122,8 @@ module _ (model witness : Circuit) (is_model : IsCircuit model) (is_witness : Is
             elim r.5 [
               | inl before ↦
                   Contains-append_left witness.inputs (latch_leaves witness.latchs) r.1
-                  (pairs_among witness.names witness.inputs (IsAt inputs) first one adds r.1 before)
+                  (pairs_among node witness.names witness.inputs (IsAt inputs) first one adds r.1
+                  before)
               | inr has ↦
                   Contains-append_right witness.inputs (latch_leaves witness.latchs) r.1 has
             ],
@@ -135,20 +138,20 @@ module _ (model witness : Circuit) (is_model : IsCircuit model) (is_witness : Is
         (latch_leaves witness.latchs)
     latches_apart k d h has =
         is_witness.apart k d h
-        (pairs_among witness.names witness.inputs (IsAt inputs) first one adds
+        (pairs_among node witness.names witness.inputs (IsAt inputs) first one adds
         (get_or (latch_leaves witness.latchs) k d) has)
 
     -- all pairs
     pub shares_by_name : (second : Sharing) (two : List Bool)
-        → AddsNamed witness.names (latch_leaves witness.latchs) (IsAt latches) first second two
-        → SharesByName model witness second
+        → AddsNamed node witness.names (latch_leaves witness.latchs) (IsAt latches) first second two
+        → SharesByName node model witness second
     shares_by_name second two more = record {
       inputs = adds.added;
       latches = more.added;
       pairs = more.pairs ∙ ap (λ l. l ++ more.added) adds.pairs;
-      named_inputs = weaker witness.names witness.inputs (IsAt inputs) (Contains model.inputs)
+      named_inputs = weaker node witness.names witness.inputs (IsAt inputs) (Contains model.inputs)
           adds.added (at_has inputs model.inputs of_inputs) adds.named;
-      named_latches = weaker witness.names (latch_leaves witness.latchs) (IsAt latches)
+      named_latches = weaker node witness.names (latch_leaves witness.latchs) (IsAt latches)
           (Contains (latch_leaves model.latchs)) more.added
           (at_has latches (latch_leaves model.latchs) of_latches) more.named;
       once = more.once;

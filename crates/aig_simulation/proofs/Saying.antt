@@ -1,9 +1,9 @@
 -- What a name says, and pairs by order.
-use Rattle.aig_base.proofs.Words.{◌≡◌, ◌≢◌, ℕ, zero, suc, ◌+◌, ◌<◌, ◌≤◌, Bool, Option, Some, None, List, [], ◌∷◌, ◌++◌, length, take, get_or, refl, sym, ap, subst, ◌∙◌, arith, MatchOption, same_Some, zip, add-one}
+use Rattle.aig_base.proofs.Words.{◌≡◌, ◌≢◌, ℕ, zero, suc, ◌+◌, ◌*◌, ◌<◌, ◌≤◌, Bool, Option, Some, None, List, [], ◌∷◌, ◌++◌, length, take, get_or, refl, sym, ap, subst, ◌∙◌, arith, MatchOption, same_Some, zip, add-one}
 use Rattle.std.proofs.Common.{Bor}
 use Rattle.std.specs.FinMap.{get}
 use Rattle.aig_simulation.specs.Marked.{IsAt}
-use Rattle.aig_simulation.specs.Named.{IsMapping, IsFor, IsNamed, Names, sharing_prefix}
+use Rattle.aig_simulation.specs.Named.{IsMapping, IsFor, IsLiteralOf, IsNamed, Names, sharing_prefix}
 
 -- what follows both bytes of the prefix
 pub both_bytes : (name rest : List ℕ) (r : Option (Bor (List ℕ))) → name ≡ 61 ∷ rest
@@ -16,14 +16,24 @@ both_bytes name rest None first none = λ more is. none more (same_rest (sym fir
     same_rest : {more : List ℕ} → 61 ∷ rest ≡ 61 ∷ 32 ∷ more → rest ≡ 32 ∷ more
     same_rest e = cc
 
+-- digits are those of the literal of one node
+pub one_leaf : (node : ℕ → Option ℕ) (m k : ℕ) (digits : List ℕ) → IsLiteralOf node m digits
+    → IsLiteralOf node k digits → m ≡ k
+one_leaf node m k digits one other =
+    let twice : 2 * one.0 ≡ 2 * other.0 = sym one.1.value ∙ other.1.value in
+    let same : one.0 ≡ other.0 = omega arith in
+    same_Some m k (sym one.2 ∙ ap node same ∙ other.2)
+
 -- what is said of a text is said of the node whose name it is
-pub said : (names : Names) (n : ℕ) (text : List ℕ) (marks : List Bool) (node : Option ℕ)
+pub said : (of : ℕ → Option ℕ) (names : Names) (n : ℕ) (text : List ℕ) (marks : List Bool)
+    (node : Option ℕ)
     → get names n ≡ Some text
-    → MatchOption node (¬ IsMapping text) (λ m. IsAt marks m × IsFor m text)
-    → MatchOption node (¬ IsNamed IsMapping names n) (λ m. IsAt marks m × IsNamed (IsFor m) names n)
-said names n text marks None known none = λ named.
+    → MatchOption node (¬ IsMapping text) (λ m. IsAt marks m × IsFor of m text)
+    → MatchOption node (¬ IsNamed IsMapping names n)
+    (λ m. IsAt marks m × IsNamed (IsFor of m) names n)
+said of names n text marks None known none = λ named.
     none (subst IsMapping (same_Some _ _ (sym named.1 ∙ known)) named.2)
-said names n text marks (Some m) known is = (is.0, (text, known, is.1))
+said of names n text marks (Some m) known is = (is.0, (text, known, is.1))
 
 -- ---- pairs by order
 

@@ -11,7 +11,6 @@ use crate::clauses::{print_clauses, query_clauses, read_unrolled};
 use crate::command::Command;
 use aig::{Aig, ReadError, WriteError};
 use aig_base::{LitVvec, MemoryError, Sink, Source, StreamFault};
-use aig_command_line::HasStatus;
 use aig_encode::EncodeError;
 use std::alloc::Global;
 use thiserror::Error;
@@ -36,14 +35,6 @@ pub enum ToolError {
     /// The answer wasn't written.
     #[error(transparent)]
     Write(WriteError),
-}
-
-impl HasStatus for ToolError {
-    ghost status = { λ _. 1 };
-
-    fn status(&self) -> u8 {
-        1
-    }
 }
 
 impl From<ReadError> for ToolError {

@@ -12,11 +12,11 @@ pub enum WitnessFault {
     /// Memory ran out.
     #[error("out of memory")]
     Memory,
-    /// The state has not a value for each latch.
-    #[error("the state has not a value for each latch")]
+    /// The state has another number of values than there are latches.
+    #[error("the state has another number of values than there are latches")]
     Latches,
-    /// The inputs of this step have not a value for each input.
-    #[error("step {0} has not a value for each input")]
+    /// The inputs of this step have another number of values than there are inputs.
+    #[error("step {0} has another number of values than there are inputs")]
     Inputs(usize),
     /// There is no step.
     #[error("no step")]
@@ -25,7 +25,7 @@ pub enum WitnessFault {
     #[error("no such bad state property")]
     NoBad,
     /// Some latch has not the value that it starts with, or it is not known.
-    #[error("the state is no start")]
+    #[error("the state isn't known to be initial")]
     Start,
     /// Some constraint doesn't hold at this step, or it is not known whether it does.
     #[error("a constraint is not known to hold at step {0}")]

@@ -15,11 +15,6 @@ pub use made::*;
 #[derive(Clone, Copy, PartialEq, Eq)]
 pub struct Status(pub u32);
 
-impl Status {
-    /// No bad state is reached up to the step, so that there are no clauses to solve.
-    pub const SETTLED: Status = Status(32);
-}
-
 /// What a call gives, or why it doesn't.
 pub type Result<T> = std::result::Result<T, Status>;
 

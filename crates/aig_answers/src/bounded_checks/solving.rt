@@ -10,8 +10,9 @@ ghost use Rattle.aig_witness.specs.Machine.{ShowsBad};
 ghost use Rattle.aig_witness.specs.Shown.{IsKnownWitness};
 ghost use Rattle.aig_witness.specs.Witness.{said_by};
 ghost use Rattle.aig_bounded.specs.Question.{question_size};
-ghost use Rattle.aig_answers.specs.Asking.{AreSolution, IsAskedWithin, IsOfWitness, RefusesAnswer, TellsOfSize, TellsOfSolution, bounded_verdict, verdict_of};
+ghost use Rattle.aig_answers.specs.Asking.{AreSolution, IsAskedWithin, IsOfWitness, RefusesAnswer, TellsOfSize, TellsOfSolution, assigned, bounded_verdict, verdict_of};
 ghost use Rattle.aig_answers.specs.Encoded.{IsEncodedQuestion};
+ghost use Rattle.aig_answers.specs.Said.{SaysRun, SaysValues, SaysWitness};
 ghost use Rattle.aig_answers.specs.Solving.{WitnessWithin};
 
 use crate::bounded_checks::clauses::{BoundedClauses, ask_lists};
@@ -40,6 +41,9 @@ fn witness_of(
         × IsEncodedQuestion (lists_circuit lists.now) k optimize made.now }
     ensures known { IfOk result (λ found. IfSome found
         (λ w. WitnessWithin (lists_circuit lists.now) k (said_by w))) }
+    ensures said { IfOk result (λ found. IfSome found (λ w. SaysRun (lists_circuit lists.now)
+        made.now.question.circuit.inputs.items made.now.question.places.items
+        (assigned values.now) (said_by w))) }
     ensures none { IfOk result (λ found. IfNone found
         (length lists.now.properties.bads.items ≤ 2 ^ 32 → ¬ AreSolution made.now values.now)) }
 {
@@ -66,6 +70,8 @@ fn solve<P: Source>(
     requires asks { (optimize : Bool)
         × IsEncodedQuestion (lists_circuit lists.now) k optimize made.now }
     ensures known { IfOk result (λ w. WitnessWithin (lists_circuit lists.now) k (said_by w)) }
+    ensures said { IfOk result (λ w. SaysValues (P.left solution.old) made.now
+        (lists_circuit lists.now) (said_by w)) }
     ensures refusal { IfErr result (RefusesAnswer (P.left solution.old) (P.failed solution.new)
         (length lists.now.properties.bads.items) made.now) }
 {
@@ -98,9 +104,10 @@ pub fn bounded_witness<R: Source, P: Source>(
     requires some { 1 ≤ limit }
     requires few { limit ≤ 2 ^ 31 }
     // The bytes that were read are a file within the limit, with a bad literal, and the witness shows a bad state of its machine at
-    // a step from 0 to k.
+    // a step from 0 to k. Its values are those that the answer says.
     ensures answer { IfOk result (IsReadAs (IsAskedWithin limit)
-        (λ f w. ShowsBad f (said_by w) × (length (said_by w).steps ≤ k + 1))
+        (λ f w. ShowsBad f (said_by w) × (length (said_by w).steps ≤ k + 1)
+        × SaysWitness (P.left solution.old) k optimize f (said_by w))
         (R.left r.old) (R.left r.new)) }
     // A file is refused exactly where it isn't within the limit or has no bad literal, and a refusal says why.
     ensures verdict { Judges bounded_verdict limit (R.left r.old) (R.left r.new) (R.failed r.new)

@@ -11,7 +11,7 @@ ghost use Rattle.aig_witness.specs.Witness.{said_by};
 ghost use Rattle.aig_bounded.specs.Question.{IsQuestion};
 ghost use Rattle.aig_answers.specs.Asking.{assigned, is_true};
 ghost use Rattle.aig_answers.specs.Naming.{IsNamed};
-ghost use Rattle.aig_answers.specs.Solving.{Begins, HasRoom, SaysAll, start_value, with_value};
+ghost use Rattle.aig_answers.specs.Solving.{Begins, HasRoom, IsBlank, SaysAll, SaysOnly, start_value, with_value};
 
 use crate::bounded_checks::clauses::BoundedClauses;
 use crate::bounded_checks::naming::Named;
@@ -86,7 +86,8 @@ fn false_inputs(alloc: Global, k: usize, count: usize) -> Result<Vec<Vec<Lbool>>
 /// The start of a run, and inputs that are false at the steps 0 to `k`.
 fn first_witness(alloc: Global, circuit: &CircuitView<'_>, k: usize) -> Result<Witness, MemoryError>
     requires { All HasConstantInit circuit.now.latchs }
-    ensures { IfOk result (λ w. Begins circuit.now k (said_by w)) }
+    ensures begins { IfOk result (λ w. Begins circuit.now k (said_by w)) }
+    ensures blank { IfOk result (λ w. IsBlank circuit.now (said_by w)) }
 {
     let state = first_state(alloc, circuit.latchs())?;
     let steps = false_inputs(alloc, k, circuit.inputs().len())?;
@@ -125,6 +126,8 @@ pub(crate) fn said_values(
         made.now.question.places.items made.now.named.items }
     ensures begins { IfOk result (λ w. Begins circuit.now k (said_by w)) }
     ensures said { IfOk result (λ w. SaysAll made.now.named.items
+        made.now.question.circuit.inputs.items values.now (said_by w)) }
+    ensures only { IfOk result (λ w. SaysOnly circuit.now made.now.named.items
         made.now.question.circuit.inputs.items values.now (said_by w)) }
 {
     let leaves = &made.question.circuit.inputs;

@@ -14,11 +14,11 @@ pub enum SharingError {
     #[error("out of memory")]
     Memory,
     /// The name of this leaf of the witness circuit begins as one that says for which leaf of the model it stands, but what follows is no
-    /// literal of an input of the model, or of a latch where the leaf is a latch's.
-    #[error("leaf {0}: its name has no literal of such a leaf of the model")]
+    /// literal that an input of the model has in its file, or a latch where the leaf is a latch's.
+    #[error("node {0}: its name has no literal of such a leaf of the model")]
     Unknown(usize),
     /// This leaf of the witness circuit has the literal of one for which another stands already.
-    #[error("leaf {0}: its name has the literal of another")]
+    #[error("node {0}: its name has the literal of another")]
     Twice(usize),
 }
 

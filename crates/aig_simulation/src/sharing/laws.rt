@@ -1,6 +1,6 @@
 //! A law of shared leaves.
 
-ghost use Rattle.std.specs.Prelude.{◌≡◌, ℕ};
+ghost use Rattle.std.specs.Prelude.{◌≡◌, ℕ, Option};
 ghost use Rattle.aig_circuit.specs.Circuit.{Circuit};
 ghost use Rattle.aig_simulation.specs.Named.{Shares};
 ghost use Rattle.aig_simulation.specs.Exact.{model_leaf};
@@ -8,6 +8,7 @@ ghost use Rattle.aig_simulation.specs.Simulation.{Sharing};
 
 /// Law: for each model and each witness circuit there is one way to share leaves, in whichever order the pairs stand.
 pub fn shared_leaves_are_one()
-    ensures { (model witness : Circuit) (shared other : Sharing) → Shares model witness shared
-        → Shares model witness other → (n : ℕ) → model_leaf shared n ≡ model_leaf other n }
+    ensures { (node : ℕ → Option ℕ) (model witness : Circuit) (shared other : Sharing)
+        → Shares node model witness shared → Shares node model witness other → (n : ℕ)
+        → model_leaf shared n ≡ model_leaf other n }
 {}

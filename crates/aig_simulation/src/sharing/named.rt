@@ -1,14 +1,15 @@
 //! What the name of a leaf says.
 
-ghost use Rattle.std.specs.Prelude.{◌≡◌, ◌≢◌, ◌*◌, ◌++◌, ℕ, List, MatchOption, MatchResult};
+ghost use Rattle.std.specs.Prelude.{◌≡◌, ◌≢◌, ◌++◌, ℕ, List, MatchOption, MatchResult};
 ghost use Rattle.aig_circuit.specs.View.{names_of};
-ghost use Rattle.aig_format.specs.Text.{IsNumber};
+ghost use Rattle.aig_reader.specs.Reading.{node_told};
 ghost use Rattle.aig_simulation.specs.Marked.{IsAt};
-ghost use Rattle.aig_simulation.specs.Named.{IsMapping, IsFor, IsNamed, sharing_prefix};
+ghost use Rattle.aig_simulation.specs.Named.{IsMapping, IsFor, IsLiteralOf, IsNamed, sharing_prefix};
 ghost use Rattle.aig_simulation.specs.declared.sharing.error.SharingError.TheVariants as errors;
 
 use crate::sharing::error::SharingError;
 use aig_command_line::steps;
+use aig_reader::VariableNodes;
 use std::collections::HashMap;
 
 /// What follows the prefix of a name that says for which leaf it stands.
@@ -22,17 +23,33 @@ fn behind_prefix(name: &str) -> Option<&str>
     }
 }
 
-/// The marked node whose literal the text is.
-fn marked_node(marks: &[bool], text: &str) -> Option<usize>
-    ensures { MatchOption result ((m : ℕ) → IsAt marks.now m → ¬ IsNumber (2 * m) text.now)
-        (λ m. IsAt marks.now m × IsNumber (2 * m) text.now) }
+/// The node whose literal the text is.
+fn node_of_literal(variables: &VariableNodes, text: &str) -> Option<usize>
+    ensures { let node = node_told variables.now in
+        MatchOption result ((m : ℕ) → ¬ IsLiteralOf node m text.now)
+        (λ m. IsLiteralOf node m text.now) }
 {
     // The number that a word gives is that of decimal digits, as a literal is.
     let Some(literal) = steps(text) else {
         return None;
     };
-    let node = literal / 2;
-    if literal % 2 == 0 && node < marks.len() && marks[node] {
+    if literal % 2 == 0 {
+        variables.node(literal / 2)
+    } else {
+        None
+    }
+}
+
+/// The marked node whose literal the text is.
+fn marked_node(variables: &VariableNodes, marks: &[bool], text: &str) -> Option<usize>
+    ensures { let node = node_told variables.now in
+        MatchOption result ((m : ℕ) → IsAt marks.now m → ¬ IsLiteralOf node m text.now)
+        (λ m. IsAt marks.now m × IsLiteralOf node m text.now) }
+{
+    let Some(node) = node_of_literal(variables, text) else {
+        return None;
+    };
+    if node < marks.len() && marks[node] {
         Some(node)
     } else {
         None
@@ -40,15 +57,16 @@ fn marked_node(marks: &[bool], text: &str) -> Option<usize>
 }
 
 /// The marked node whose literal the name has behind the prefix.
-fn node_by_name(marks: &[bool], name: &str) -> Result<Option<usize>, ()>
-    ensures { MatchResult result
-        (λ node. MatchOption node (¬ IsMapping name.now) (λ m. IsAt marks.now m × IsFor m name.now))
-        (λ _. IsMapping name.now × ((m : ℕ) → IsAt marks.now m → ¬ IsFor m name.now)) }
+fn node_by_name(variables: &VariableNodes, marks: &[bool], name: &str) -> Result<Option<usize>, ()>
+    ensures { let node = node_told variables.now in MatchResult result
+        (λ found. MatchOption found (¬ IsMapping name.now)
+        (λ m. IsAt marks.now m × IsFor node m name.now))
+        (λ _. IsMapping name.now × ((m : ℕ) → IsAt marks.now m → ¬ IsFor node m name.now)) }
 {
     let Some(text) = behind_prefix(name) else {
         return Ok(None);
     };
-    match marked_node(marks, text) {
+    match marked_node(variables, marks, text) {
         Some(node) => Ok(Some(node)),
         None => Err(()),
     }
@@ -58,19 +76,22 @@ fn node_by_name(marks: &[bool], name: &str) -> Result<Option<usize>, ()>
 #[tactic(auto, using(aig_circuit::proofs::Names::get_names))]
 pub(crate) fn node_for(
     names: &HashMap<usize, String>,
+    variables: &VariableNodes,
     marks: &[bool],
     leaf: usize,
 ) -> Result<Option<usize>, SharingError>
-    ensures { let known = names_of names.now.entries in MatchResult result
-        (λ node. MatchOption node (¬ IsNamed IsMapping known leaf)
-        (λ m. IsAt marks.now m × IsNamed (IsFor m) known leaf))
+    ensures { let known = names_of names.now.entries in
+        let node = node_told variables.now in
+        MatchResult result
+        (λ found. MatchOption found (¬ IsNamed IsMapping known leaf)
+        (λ m. IsAt marks.now m × IsNamed (IsFor node m) known leaf))
         (λ e. (e ≡ errors.Unknown leaf) × IsNamed IsMapping known leaf
-        × ((m : ℕ) → IsAt marks.now m → ¬ IsNamed (IsFor m) known leaf)) }
+        × ((m : ℕ) → IsAt marks.now m → ¬ IsNamed (IsFor node m) known leaf)) }
 {
     let Some(name) = names.get(&leaf) else {
         return Ok(None);
     };
-    match node_by_name(marks, name.as_str()) {
+    match node_by_name(variables, marks, name.as_str()) {
         Ok(node) => Ok(node),
         Err(()) => Err(SharingError::Unknown(leaf)),
     }

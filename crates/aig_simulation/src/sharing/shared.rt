@@ -3,6 +3,7 @@
 ghost use Rattle.std.specs.Prelude.{◌≡◌, ◌++◌, IfErr, IfOk, OnOk};
 ghost use Rattle.std.specs.List.{zip};
 ghost use Rattle.aig_circuit.specs.Circuit.{IsCircuit, latch_leaves};
+ghost use Rattle.aig_reader.specs.Reading.{node_told};
 ghost use Rattle.aig_simulation.specs.Named.{IsFault, Shares, SharesByName, in_order};
 ghost use Rattle.aig_simulation.specs.Questions.{CanShareLeaves};
 
@@ -11,6 +12,7 @@ use crate::sharing::marks::marks_of;
 use crate::sharing::naming::push_named;
 use aig_base::MemoryError;
 use aig_circuit::{AigLatch, CircuitView};
+use aig_reader::VariableNodes;
 use std::alloc::Global;
 
 /// The leaves of latches.
@@ -45,10 +47,12 @@ fn push_in_order(
 fn pairs_by_name(
     alloc: Global,
     model: &CircuitView<'_>,
+    variables: &VariableNodes,
     witness: &CircuitView<'_>,
 ) -> Result<Vec<(usize, usize)>, SharingError>
-    ensures shares { IfOk result (λ shared. SharesByName model.now witness.now shared.items) }
-    ensures fault { IfErr result (IsFault model.now witness.now) }
+    ensures shares { IfOk result
+        (λ shared. SharesByName (node_told variables.now) model.now witness.now shared.items) }
+    ensures fault { IfErr result (IsFault (node_told variables.now) model.now witness.now) }
     ensures circuit { IfOk result (λ _. IsCircuit model.now × IsCircuit witness.now) }
 {
     let count = model.nodes().len();
@@ -62,6 +66,7 @@ fn pairs_by_name(
         &mut shared,
         &mut taken,
         witness.names(),
+        variables,
         &inputs,
         witness.inputs(),
     )?;
@@ -69,6 +74,7 @@ fn pairs_by_name(
         &mut shared,
         &mut taken,
         witness.names(),
+        variables,
         &latches,
         &witness_latches,
     )?;
@@ -96,11 +102,11 @@ fn pairs_in_order(
 /// Returns which leaves of a witness circuit stand for leaves of a model, as pairs of the model's leaf and the one that stands
 /// for it.
 ///
-/// A leaf of the witness circuit whose name is `= ` and a literal of the model stands for the leaf of that literal, which is
-/// twice the number of its node: an input for an input, a latch for a latch. So it is in the competition's certificates, where the
-/// file of the model has its variables in the order of the binary form. Where no input and no latch has such a name, the
-/// first inputs stand for the first inputs and the first latches for the first latches, as many as both circuits have. Leaves
-/// of the model for which none stands are free in what the certificate says, which shows no less.
+/// A leaf of the witness circuit whose name is `= ` and a literal stands for the leaf that has this literal in the file of the model:
+/// an input for an input, a latch for a latch, as in the competition's certificates. The literal is even, in decimal digits without a
+/// sign, and `variables` says which node its variable is. Where no input and no latch has a name that begins so, the first inputs stand
+/// for the first inputs and the first latches for the first latches, as many as both circuits have. Leaves of the model for which none
+/// stands are free in what the certificate says, which shows no less.
 ///
 /// # Errors
 ///
@@ -110,13 +116,15 @@ fn pairs_in_order(
 pub fn shared_leaves(
     alloc: Global,
     model: &CircuitView<'_>,
+    variables: &VariableNodes,
     witness: &CircuitView<'_>,
 ) -> Result<Vec<(usize, usize)>, SharingError>
-    ensures shares { IfOk result (λ shared. Shares model.now witness.now shared.items) }
+    ensures shares { IfOk result
+        (λ shared. Shares (node_told variables.now) model.now witness.now shared.items) }
     ensures can { IfOk result (λ shared. CanShareLeaves shared.items model.now witness.now) }
-    ensures fault { IfErr result (IsFault model.now witness.now) }
+    ensures fault { IfErr result (IsFault (node_told variables.now) model.now witness.now) }
 {
-    let named = pairs_by_name(alloc, model, witness)?;
+    let named = pairs_by_name(alloc, model, variables, witness)?;
     if !named.is_empty() {
         return Ok(named);
     }

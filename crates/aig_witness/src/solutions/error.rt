@@ -41,7 +41,7 @@ pub enum SolutionError {
     #[error("solution ends before its 0")]
     Unfinished,
     /// No bad state property is true at the last step.
-    #[error("no bad state property is true in the solution")]
+    #[error("the solution shows no bad state")]
     NoBad,
     /// The witness that the values say shows no bad state.
     #[error("{0}")]

@@ -19,6 +19,7 @@ returns-clause-taken c =
       numbered = c.written_proofs_are_taken.ensures;
       plain = c.written_plain_proofs_are_taken.ensures.text;
       binary = c.written_plain_proofs_are_taken.ensures.binary;
+      worded = c.written_numbered_proofs_are_taken.ensures;
     } in
     let joint = c.in_ok-miter.ensures in
     let asked = c.in_ok-text.ensures in

@@ -12,6 +12,7 @@ returns-clause-taken c =
       numbered = c.written_proofs_are_taken.ensures;
       plain = c.written_plain_proofs_are_taken.ensures.text;
       binary = c.written_plain_proofs_are_taken.ensures.binary;
+      worded = c.written_numbered_proofs_are_taken.ensures;
     } in
     let told = c.in_ok-text.ensures in
     parts_taken laws c.reads_exactly.ensures.one 16777216 c.args.file.now c.args.certificate.now

@@ -34,4 +34,5 @@ returns g c =
     let vs = c.args.named.now in
     let xs = c.loop-n.yielded in
     let long = zip_end ks vs xs c.into_iter-n-iterator.result c.loop-n.n-iterator c.next.new.self _ (search rules) (search rules) c.loop-n.yielded_by c.in-None.is c.next.ensures.steps in
-    all_done place_line (zip ks vs) (length xs) (omega (arith, long, length-zip ks vs)) c.loop-n.invariant
+    all_done place_line (zip ks vs) (length xs) (omega (arith, long, length-zip ks vs))
+    c.loop-n.invariant

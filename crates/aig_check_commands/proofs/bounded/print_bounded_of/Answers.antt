@@ -3,11 +3,10 @@ use Rattle.aig_base.specs.Formula.{clauses_in}
 use Rattle.aig_dimacs.specs.Text.{dimacs_of}
 use Rattle.aig_check_commands.specs.Titles.{title_text}
 use Rattle.aig_check_commands.specs.declared.titles.title.Question.TheVariants.{Bounded}
-use Rattle.aig_check_commands.specs.declared.error.CheckError.TheVariants as errors
 use Rattle.aig_check_commands.specs.Bounded.{bounded_comments}
 use Rattle.aig_check_commands.specs.Titling.{title_of}
 use Rattle.aig_check_commands.proofs.Commenting.{bounded_again}
-use Rattle.aig_check_commands.proofs.Outcomes.{answer_ends, question_refused, read_again, refused, summed}
+use Rattle.aig_check_commands.proofs.Outcomes.{answer_ends, question_refused, read_again, summed}
 use Rattle.aig_check_commands.proofs.Placing.{inputs_few}
 use Rattle.aig_check_commands.proofs.bounded.print_bounded_of.Goals as goal
 
@@ -24,23 +23,6 @@ returns-in_err-made g c =
     let e = c.in_err-made.field-0.0 in
     rw (sym c.new-file.ensures, p.1, p.2)
     (c.bounded.new.r.source, question_refused e told.verdict told.own told.own told.large refl refl)
-
-pub returns-then-is_settled : goal.returns-then-is_settled
-returns-then-is_settled g c =
-    let told = c.in_ok-made.ensures in
-    let made = c.in_ok-made.made in
-    let settled = c.is_settled.ensures.0 c.if-is_settled.true in
-    rw (sym c.new-file.ensures) (
-      c.bounded.new.r.source,
-      refused (errors.Settled c.args.k) told.verdict refl refl (λ alone. refl)
-          (read_again told.answer (λ bytes f holds asks. record {
-            made = made;
-            asks = asks;
-            settled = settled;
-            safe = c.refuted_questions_are_safe.ensures.folded f c.args.limit c.args.k c.args.optimize
-                made holds.0.1 asks settled;
-          })),
-    )
 
 pub returns : goal.returns
 returns g c =
@@ -59,9 +41,6 @@ returns g c =
             sums = summed g.B.Origin.bytes sum told.verdict start c.finish.ensures;
             made = made;
             asks = asks;
-            unsettled = λ settled.
-                let true_test = c.is_settled.ensures.1 settled in
-                let false_test = c.if-is_settled.false in cc;
             exact = refl;
             again = bounded_again t made c.tell_formula.ensures.formula;
           })) c.write_bounded.ensures,

@@ -25,4 +25,5 @@ returns g c =
       steps = shown.1;
       shows = shown.0;
       exact = refl;
+      said = shown.2;
     })) c.write_witness.ensures)

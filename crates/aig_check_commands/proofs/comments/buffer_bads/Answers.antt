@@ -10,7 +10,8 @@ returns-in_err-buffer_literal g c =
     let es = c.args.bads.now in
     let none = edge_to 0 false in
     let turn = rw (c.to_lit.ensures, ← line_at (bad_line c.args.k) es c.loop-i.i none c.loop-i-test.true) at c.in_err-buffer_literal.ensures in
-    failed_turn (bad_line c.args.k) (enumerate_from 0 es) c.loop-i.i (0, none) (omega (arith, length-enumerate_from 0 es)) c.loop-i.invariant turn (search rules)
+    failed_turn (bad_line c.args.k) (enumerate_from 0 es) c.loop-i.i (0, none)
+    (omega (arith, length-enumerate_from 0 es)) c.loop-i.invariant turn (search rules)
 
 pub loop-i-preserved : goal.loop-i-preserved
 loop-i-preserved g c =
@@ -22,4 +23,5 @@ loop-i-preserved g c =
 pub returns : goal.returns
 returns g c =
     let es = c.args.bads.now in
-    all_done (bad_line c.args.k) (enumerate_from 0 es) c.loop-i.i (omega (arith, length-enumerate_from 0 es)) c.loop-i.invariant
+    all_done (bad_line c.args.k) (enumerate_from 0 es) c.loop-i.i
+    (omega (arith, length-enumerate_from 0 es)) c.loop-i.invariant

@@ -21,7 +21,8 @@ buffer_bads-requires g c =
     let is = c.last_bads.ensures.unrolled in
     let Few = λ (e : AigEdge). e.node_id < 2 ^ 31 in
     let are = All-weaker (IsInRange u.unrolled.nodes) Few (λ e h. omega (arith, c.requires.few)) u.unrolled.properties.bads is.unrolled.properties.bads in
-    rw c.last_bads.ensures.value (All-drop Few (u.steps * length u.circuit.properties.bads) u.unrolled.properties.bads are)
+    rw c.last_bads.ensures.value
+    (All-drop Few (u.steps * length u.circuit.properties.bads) u.unrolled.properties.bads are)
 
 pub returns-in_err-buffer_steps : goal.returns-in_err-buffer_steps
 unfolding comments_of

@@ -12,7 +12,8 @@ pub place-requires-clause-leaf : goal.place-requires-clause-leaf
 place-requires-clause-leaf g c =
     let circuit = c.args.asked.now.circuit in
     let has = rw (c.inputs-inputs.ensures.value, c.circuit.ensures.value) at (Contains-get_or c.inputs-inputs.result.now c.loop-i.i 0 c.loop-i-test.true) in
-    rw (c.requires.places, c.inputs-inputs.ensures.value, c.circuit.ensures.value) (inputs_are_others circuit c.circuit.ensures.unrolled.circuit _ has)
+    rw (c.requires.places, c.inputs-inputs.ensures.value, c.circuit.ensures.value)
+    (inputs_are_others circuit c.circuit.ensures.unrolled.circuit _ has)
 
 pub new-place-requires : goal.new-place-requires
 new-place-requires g c =

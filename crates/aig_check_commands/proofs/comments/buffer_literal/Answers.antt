@@ -14,7 +14,8 @@ returns-in_err-buffer_named g c =
 pub returns-in_err-write_bytes : goal.returns-in_err-write_bytes
 unfolding literal_line
 returns-in_err-write_bytes g c =
-    failed_among (sign_of c.args.lit ∷ (decimal (variable_of c.args.lit + 1) ++ 10 ∷ []) ∷ []) c.in_ok-buffer_named.ensures.ok c.in_err-write_bytes.ensures (search rules)
+    failed_among (sign_of c.args.lit ∷ (decimal (variable_of c.args.lit + 1) ++ 10 ∷ []) ∷ [])
+    c.in_ok-buffer_named.ensures.ok c.in_err-write_bytes.ensures (search rules)
 
 pub returns-in_err-write_bytes-2 : goal.returns-in_err-write_bytes-2
 unfolding literal_line

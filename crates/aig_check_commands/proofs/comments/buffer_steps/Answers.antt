@@ -22,7 +22,8 @@ returns-in_err-buffer_inputs g c =
     let count = c.args.asked.now.steps + 1 in
     let lt : c.loop-t.t < count = rw c.steps-t-end.ensures.value at c.loop-t-test.true in
     let turn = rw (← at count c.loop-t.t lt) at c.in_err-buffer_inputs.ensures in
-    failed_turn lines (range_with_len 0 count) c.loop-t.t 0 (omega (arith, length-range_with_len 0 count)) c.loop-t.invariant turn (search rules)
+    failed_turn lines (range_with_len 0 count) c.loop-t.t 0
+    (omega (arith, length-range_with_len 0 count)) c.loop-t.invariant turn (search rules)
 
 pub loop-t-preserved : goal.loop-t-preserved
 loop-t-preserved g c =
@@ -36,4 +37,5 @@ pub returns : goal.returns
 returns g c =
     let lines = input_lines c.args.asked.now.circuit c.args.asked.now.unrolled in
     let count = c.args.asked.now.steps + 1 in
-    all_done lines (range_with_len 0 count) c.loop-t.t (omega (arith, length-range_with_len 0 count)) c.loop-t.invariant
+    all_done lines (range_with_len 0 count) c.loop-t.t
+    (omega (arith, length-range_with_len 0 count)) c.loop-t.invariant

@@ -1,6 +1,6 @@
-use Rattle.aig_base.proofs.Words.{◌++◌, ◌∷◌, [], ◌∙◌, Err, Ok, List, String, Global, ap, append-nil, append_assoc, arith, err_from_is_err_and, length, length-append, length-map, length-take-le, map, map_more, refl, string_bytes, subst, sym, take, take_all}
+use Rattle.aig_base.proofs.Words.{◌++◌, ◌∷◌, [], ◌∙◌, Err, Ok, List, String, Global, ap, append-nil, append_assoc, arith, err_from_is_err_and, length, length-append, length-map, length-take-le, map, refl, string_bytes, subst, sym, take, take_all}
 use Rattle.aig_check_commands.specs.Opening.{AreOpened}
-use Rattle.aig_check_commands.proofs.Opened.{all_opened, lacks_at, opened_length}
+use Rattle.aig_check_commands.proofs.Opened.{lacks_at, opened_length, opened_more}
 use Rattle.aig_check_commands.proofs.inputs.open_beside.Goals as goal
 
 pub loop-path-init : goal.loop-path-init
@@ -30,17 +30,11 @@ pub loop-path-preserved : goal.loop-path-preserved
 loop-path-preserved g c =
     let opened = c.loop-path.invariant in
     let opens = g.F.Opens.opens c.args.files.now in
-    let paths = c.args.paths.now in
-    let i = c.loop-path.path-index in
-    let x = c.path-item.result in
-    let f = c.in_ok-open.field-0 in
-    let front = map string_bytes (take i paths) in
-    let more = ap (λ (y : String Global). front ++ string_bytes y ∷ []) c.path-item.is
-    ∙ sym (map_more string_bytes paths i x c.loop-path-test.true) in (
+    let f = c.in_ok-open.field-0 in (
       opened.0 ++ f ∷ [],
-      subst (λ ps. AreOpened opens ps (opened.0 ++ f ∷ [])) more
-          (all_opened opens front (string_bytes x ∷ []) opened.0 (f ∷ []) opened.1
-          (subst (λ p. opens p (Ok f)) c.as_str.ensures.value c.in_ok-open.ensures, tt)),
+      opened_more opens c.args.paths.now c.loop-path.path-index c.path-item.result opened.0 f
+          c.loop-path-test.true c.path-item.is opened.1
+          (subst (λ p. opens p (Ok f)) c.as_str.ensures.value c.in_ok-open.ensures),
       c.push_reserved.ensures.items ∙ ap (λ l. l ++ f ∷ []) opened.2
           ∙ append_assoc c.args.opened.now.items opened.0 (f ∷ []),
       c.push_reserved.ensures.capacity ∙ opened.3,

@@ -9,7 +9,8 @@ returns-in_err-write_bytes g c =
 
 pub returns-in_err-write_number : goal.returns-in_err-write_number
 returns-in_err-write_number g c =
-    failed_among (codes "at step " ∷ (decimal c.args.step ++ c.args.end ∷ []) ∷ []) c.in_ok-write_bytes.ensures.ok c.in_err-write_number.ensures (search rules)
+    failed_among (codes "at step " ∷ (decimal c.args.step ++ c.args.end ∷ []) ∷ [])
+    c.in_ok-write_bytes.ensures.ok c.in_err-write_number.ensures (search rules)
 
 pub returns-in_err-write_bytes-2 : goal.returns-in_err-write_bytes-2
 returns-in_err-write_bytes-2 g c =

@@ -8,6 +8,7 @@ returns c =
     let needed = c.args.needed.now in (
       h.lists,
       h.has_clauses,
-      formula_of c.args.circuit.now c.args.optimize needed.marks.items needed.clauses c.args.free c.args.extra.now c.requires.few h c.requires.below
+      formula_of c.args.circuit.now c.args.optimize needed.marks.items needed.clauses c.args.free
+          c.args.extra.now c.requires.few h c.requires.below
           (omega (arith, c.len.ensures.few, c.len.ensures.count)),
     )

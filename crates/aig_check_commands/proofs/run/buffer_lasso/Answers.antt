@@ -22,7 +22,8 @@ pub returns-in_err-write_number-2 : goal.returns-in_err-write_number-2
 returns-in_err-write_number-2 g c =
     let s = c.args.shown in
     let first = Buffers-trans (Buffers-trans c.in_ok-write_bytes.ensures.ok c.in_ok-write_number.ensures.ok) c.in_ok-write_bytes-2.ensures.ok in
-    failed_among (codes "to " ∷ (decimal s.last ++ 10 ∷ []) ∷ []) first c.in_err-write_number-2.ensures (search rules)
+    failed_among (codes "to " ∷ (decimal s.last ++ 10 ∷ []) ∷ []) first
+    c.in_err-write_number-2.ensures (search rules)
 
 pub returns-in_err-write_bytes-3 : goal.returns-in_err-write_bytes-3
 returns-in_err-write_bytes-3 g c =

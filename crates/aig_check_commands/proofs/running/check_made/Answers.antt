@@ -23,17 +23,18 @@ returns-in_err-check g c =
     let property = c.args.justice.property in
     let files = c.args.inputs.now in
     let others = c.check.new.inputs in
-    let on = ran_on_text _ _ _ _ _ _ _ _ _ _ _ _ c.as_slice.result.now d files others (rw c.new-source.ensures.reader)
-    c.in_err-check.ensures in
+    let text = c.new-source.result in
+    let on = ran_on_text _ _ _ _ _ text _ _ _ _ d files others c.in_err-check.ensures in
     let made = ChecksMade g.S.Source.left g.S.Source.failed g.W.Sink.held g.W.Sink.failed
     c.args.limit property d files others c.args.w.now c.args.w.now in
     rw (p.1, p.2) (ran g.R.Source.left g.R.Source.failed c.args.limit c.args.justice made _
-    c.args.file.now _ c.in_ok-text.text (Err e) (ran_no_making _ _ _ _ _ _ _ _ _ _ _ _ d files others c.in_err-check.ensures)
+    c.args.file.now _ c.in_ok-text.text (Err e)
+    (ran_no_making _ _ _ _ _ _ _ _ _ _ _ _ d files others c.in_err-check.ensures)
     c.in_ok-text.ensures
-    (λ f m of is. subst (λ t. made f t (Err e)) (c.as_slice.ensures.value ∙ is)
+    (λ f m of is. subst (λ t. made f t (Err e)) (c.new-source.ensures ∙ c.as_slice.ensures.value ∙ is)
     (concludes_refused g.W.Sink.held g.W.Sink.failed (fair_line d property) (ShowsFair d property f)
-    (ChecksText g.S.Source.left g.S.Source.failed c.args.limit d files others
-    c.as_slice.result.now) c.args.w.now c.args.w.now e
+    (ChecksText g.S.Source.left g.S.Source.failed c.args.limit d files others text) c.args.w.now
+    c.args.w.now e
     (ran_no_write _ _ _ _ _ _ _ _ _ d files others e c.in_err-check.ensures) (_, _, on) refl)))
 
 pub returns : goal.returns
@@ -42,8 +43,8 @@ returns g c =
     let property = c.args.justice.property in
     let files = c.args.inputs.now in
     let others = c.check.new.inputs in
-    let on = ran_on_text _ _ _ _ _ _ _ _ _ _ _ _ c.as_slice.result.now d files others
-    (rw c.new-source.ensures.reader) c.in_ok-check.ensures in
+    let text = c.new-source.result in
+    let on = ran_on_text _ _ _ _ _ text _ _ _ _ d files others c.in_ok-check.ensures in
     let made = ChecksMade g.S.Source.left g.S.Source.failed g.W.Sink.held g.W.Sink.failed
     c.args.limit property d files others c.args.w.now c.write_fair.new.w in
     rw c.after_writing.ensures (ran g.R.Source.left g.R.Source.failed c.args.limit c.args.justice
@@ -51,7 +52,7 @@ returns g c =
     (written_no_making c.write_fair.result) c.in_ok-text.ensures
     (λ f m of is.
     let checks = subst (λ t. ChecksText g.S.Source.left g.S.Source.failed c.args.limit d files others
-    t (Ok tt)) (c.as_slice.ensures.value ∙ is) (_, _, on) in
+    t (Ok tt)) (c.new-source.ensures ∙ c.as_slice.ensures.value ∙ is) (_, _, on) in
     concludes_written (ChecksText g.S.Source.left g.S.Source.failed c.args.limit d files others
     (text_of m)) c.write_fair.result checks
     (shows_fair g.S.Source.left g.S.Source.failed c.fair_runs_are_lassos.ensures c.args.limit

@@ -21,13 +21,13 @@ returns g c =
     let d = c.args.command in
     let files = c.args.inputs.items in
     let raw = c.print.ensures in
-    let on = ran_on_text _ _ _ _ _ _ _ _ _ _ _ _ c.as_slice.result.now d files raw.1 (rw c.new-source.ensures.reader)
-    raw.2 in
+    let on = ran_on_text _ _ _ _ _ c.new-source.result _ _ _ _ d files raw.1 raw.2 in
     let means = PrintsMade g.S.Source.left g.S.Source.failed g.W.Sink.held g.W.Sink.failed
     c.args.limit d files raw.1 c.args.w.now c.print.new.w in (
       raw.1,
       ran g.R.Source.left g.R.Source.failed c.args.limit c.args.justice (λ (f : File). means) _
-          c.args.file.now _ c.in_ok-text.text c.print.result (ran_no_making _ _ _ _ _ _ _ _ _ _ _ _ d files raw.1 raw.2)
+          c.args.file.now _ c.in_ok-text.text c.print.result
+          (ran_no_making _ _ _ _ _ _ _ _ _ _ _ _ d files raw.1 raw.2)
           c.in_ok-text.ensures
-          (λ f m of is. subst (λ t. means t c.print.result) (c.as_slice.ensures.value ∙ is) on),
+          (λ f m of is. subst (λ t. means t c.print.result) (c.new-source.ensures ∙ c.as_slice.ensures.value ∙ is) on),
     )

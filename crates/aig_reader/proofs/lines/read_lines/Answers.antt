@@ -192,5 +192,5 @@ returns g c =
     let inputs = inputs_of g at.In_ok-result_of in
     let made = rw c.in_ok-gates.was at (gates_of g at.After-gates_result inputs (latches_of g at.In_ok-result_of-2 inputs)) in
     numbered_made c.args.resets c.args.header c.requires.good made.0 _ _ made.2
-    (λ nodes. record { nodes = nodes; lists = c.number.new.self }) c.number.result
+    (λ numbered. record { numbered = numbered; lists = c.number.new.self }) c.number.result
     (c.number.ensures (file_by c.args.header made.0) refl made.1)

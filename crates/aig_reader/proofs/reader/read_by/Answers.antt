@@ -1,4 +1,4 @@
-use Rattle.aig_base.proofs.Words.{◌≡◌, ◌∙◌, ◌++◌, [], ℕ, List, ap, arith, Consumes-trans, err_from_is_err_and}
+use Rattle.aig_base.proofs.Words.{◌≡◌, ◌∙◌, ◌++◌, [], ℕ, List, ap, arith, subst, sym, Consumes-trans, err_from_is_err_and}
 use Rattle.aig_circuit.proofs.Words.{latch_leaves, names_of}
 use Rattle.aig_circuit.specs.declared.node.AigLatch.{AigLatch}
 use Rattle.aig_format.proofs.Words.{file_from, parse_fitting_header}
@@ -11,6 +11,8 @@ use Rattle.aig_reader.proofs.HeaderLines.{header_good, header_small, header_with
 use Rattle.aig_reader.proofs.FileCircuit.{circuit_is, nodes_distinct}
 use Rattle.aig_reader.proofs.Resets.{lists_by}
 use Rattle.aig_reader.proofs.ReadNames.{names_fault, names_in, no_names_in, no_names_left}
+use Rattle.aig_reader.proofs.Told.{told_with_names}
+use Rattle.aig_reader.specs.Reading.{TellsNodes}
 use Rattle.aig_reader.proofs.reader.read_by.Goals as goal
 
 pub returns-in_err-header-clause-refusal : goal.returns-in_err-header-clause-refusal
@@ -50,7 +52,7 @@ read_names-names-requires-clause-distinct g c =
     let accepts = accepted c.args.resets c.args.limit _ _ body taken [] []
     (no_names_left (numbers_of header)) in
     rw (c.deref.ensures.value, c.deref-2.ensures.value)
-    (nodes_distinct (file_from body []) c.in_ok-sections.sections made.1.circuit c.args.resets
+    (nodes_distinct (file_from body []) c.in_ok-sections.sections made.1.numbered.0 c.args.resets
     c.args.limit _ accepts)
 
 pub returns-in_err-names-clause-refusal : goal.returns-in_err-names-clause-refusal
@@ -92,8 +94,13 @@ returns-clause-circuit g c =
       file = file_from body names.0;
       bytes = taken.taken ++ names.2;
       holds = accepts;
-      means = lists_by c.args.resets c.args.limit _ (file_from body names.0) c.with_names.result
-          accepts (c.with_names.ensures ∙ circuit_is body names.0 s map made.1.circuit kept);
+      means = (
+        lists_by c.args.resets c.args.limit _ (file_from body names.0) c.with_names.result.lists
+            accepts
+            (c.with_names.ensures.lists ∙ circuit_is body names.0 s map made.1.numbered.0 kept),
+        subst (TellsNodes (file_from body names.0)) (sym c.with_names.ensures.variables)
+            (told_with_names body names.0 s.numbered.variables made.1.numbered.1),
+      );
       taken = Consumes-trans _ _ _ taken.taken names.2 taken.advances.consumed names.4.consumed;
     }
 

@@ -1,6 +1,7 @@
 use Rattle.aig_base.proofs.Words.{◌≡◌, ◌==◌, ◌∙◌, Bool, Global, Vec, [], ap, arith, eq-eqb, false, false≢true, length, refl, sym, vec_len}
 use Rattle.aig_circuit.specs.declared.edge.AigEdge.{AigEdge}
 use Rattle.aig_circuit.specs.Circuit.{Circuit}
+use Rattle.aig_reader.specs.Reading.{node_told}
 use Rattle.aig_simulation.specs.Circular.{IsCircular}
 use Rattle.aig_simulation.specs.Named.{Shares}
 use Rattle.aig_simulation.specs.Questions.{CanShareLeaves}
@@ -17,12 +18,13 @@ some_bads bads empty is some none =
 
 pub returns-then-branch-clause-makes : goal.returns-then-branch-clause-makes
 returns-then-branch-clause-makes c =
+    let node = node_told c.args.file.variables in
     let shared = c.in_ok-shared.shared.items in (
-      some_bads c.args.model.properties.bads c.is_empty.result c.is_empty.ensures
+      some_bads c.args.file.lists.properties.bads c.is_empty.result c.is_empty.ensures
           c.if-is_empty.false,
       (
         shared,
-        carry2 (λ (m w : Circuit). Shares m w shared) _ _ _ _ c.new.ensures
+        carry2 (λ (m w : Circuit). Shares node m w shared) _ _ _ _ c.new.ensures
             c.new-simulating.ensures c.in_ok-shared.ensures.shares,
         carry2 IsCircular _ _ _ _ c.deref.ensures.value c.new-simulating.ensures
             (c.in_ok-is_circular.ensures.exact.0 c.if-branch.true),
@@ -31,13 +33,14 @@ returns-then-branch-clause-makes c =
 
 pub returns-clause-makes : goal.returns-clause-makes
 returns-clause-makes c =
+    let node = node_told c.args.file.variables in
     let shared = c.in_ok-shared.shared.items in (
-      some_bads c.args.model.properties.bads c.is_empty.result c.is_empty.ensures
+      some_bads c.args.file.lists.properties.bads c.is_empty.result c.is_empty.ensures
           c.if-is_empty.false,
       refl,
       refl,
-      carry2 (λ (m w : Circuit). Shares m w shared) _ _ _ _ c.new.ensures c.new-simulating.ensures
-          c.in_ok-shared.ensures.shares,
+      carry2 (λ (m w : Circuit). Shares node m w shared) _ _ _ _ c.new.ensures
+          c.new-simulating.ensures c.in_ok-shared.ensures.shares,
       λ circular. false≢true
           (sym c.if-branch.false
           ∙ c.in_ok-is_circular.ensures.exact.1

@@ -80,8 +80,10 @@ returns-in_err-witness-clause-refusal g c =
 pub returns-clause-answer : goal.returns-clause-answer
 returns-clause-answer g c =
     shown_of c.args.limit c.args.k c.args.optimize c.in_ok-lists.lists _ _
-    c.in_ok-lists.ensures.circuit c.known_witnesses_show.ensures c.in_ok-witness.witness
-    c.in_ok-made.ensures.said c.in_ok-witness.ensures.known
+    c.in_ok-lists.ensures.circuit c.known_witnesses_show.ensures
+    (g.P.Source.left c.args.solution.now) c.in_ok-made.made c.in_ok-witness.witness
+    c.in_ok-made.ensures.said c.in_ok-made.ensures.asks c.in_ok-witness.ensures.known
+    c.in_ok-witness.ensures.said
 
 pub returns-clause-verdict : goal.returns-clause-verdict
 returns-clause-verdict g c =

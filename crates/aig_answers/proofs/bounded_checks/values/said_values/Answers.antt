@@ -28,6 +28,13 @@ set_value-requires c =
     q.steps q.distinct (rw c.deref-name-items.ensures.value c.requires.named) _
     c.loop-i.invariant.0 c.loop-i.i _ c.loop-i-test.true
 
+pub loop-i-init : goal.loop-i-init
+loop-i-init c = (
+  c.in_ok-witness.ensures.begins,
+  λ j d low. absurd (omega (arith, low)),
+  λ name free now. absurd (c.in_ok-witness.ensures.blank name free now),
+)
+
 pub loop-i-preserved : goal.loop-i-preserved
 loop-i-preserved c =
     let q = c.requires.asks.1 in
@@ -49,5 +56,5 @@ loop-i-preserved c =
     get_or_default leaves i c.index.result.now 0 (omega (arith, low, count))) in
     let more = said_more circuit c.args.k made.question.places.items named q.are_places q.steps
     q.distinct c.requires.named leaves values w i nameless v c.loop-i.invariant.0 low is
-    c.loop-i.invariant.1 in
+    c.loop-i.invariant.1 c.loop-i.invariant.2 in
     subst (SaysTo circuit c.args.k named leaves values (i + 1)) (sym path) more

@@ -11,6 +11,7 @@ use Rattle.aig_reader.specs.Numbered.{AreNumbersOf, AreTablesOf, have_operands, 
 use Rattle.aig_reader.specs.Resets.{knows_resets}
 use Rattle.aig_reader.specs.Sections.{AreListsByVariable}
 use Rattle.aig_reader.specs.declared.sections.Lists.{Lists}
+use Rattle.aig_reader.specs.declared.variable_nodes.VariableNodes.TheVariants.{Table}
 use Rattle.aig_reader.proofs.ByLevel.{lists_have, lists_known, lists_numbered, resets_known}
 use Rattle.aig_reader.proofs.Numbered.{in_gates, no_lists, no_nodes, well_founded-is}
 use Rattle.aig_reader.proofs.Steps.{numbered_circuit}
@@ -84,7 +85,12 @@ returns c = λ f t.
       and_from (uses_known f && list_all (has_level f) f.gates) (knows_resets f)
           (well_founded-is f (list_all (has_level f) f.gates) true true known.0 both.1 ∙ both.0)
           known.1,
-      numbered_circuit f record { nodes = c.in_ok-nodes.nodes; lists = c.renumber.new.self }
-          nodes.1.0 (lists_numbered f table are c.args.self.now t.lists known.0 known.1
-          c.renumber.new.self c.renumber.ensures),
+      (
+        numbered_circuit f record {
+          numbered = record { nodes = c.in_ok-nodes.nodes; variables = Table c.in_ok-nodes.table };
+          lists = c.renumber.new.self;
+        } nodes.1.0 (lists_numbered f table are c.args.self.now t.lists known.0 known.1
+            c.renumber.new.self c.renumber.ensures),
+        nodes.1.1,
+      ),
     )

@@ -5,6 +5,7 @@ use Rattle.aig_ordering.specs.Tables.{AreMarksOf, AreNodesOf}
 use Rattle.aig_ordering.proofs.NodesIn.{length-nodes_in}
 use Rattle.aig_reader.specs.Numbered.{AreTablesOf}
 use Rattle.aig_reader.specs.Sections.{AreLinesOf}
+use Rattle.aig_reader.specs.declared.variable_nodes.VariableNodes.TheVariants.{Own}
 use Rattle.aig_reader.proofs.Defined.{marks_of}
 use Rattle.aig_reader.proofs.Steps.{well_founded_judged, nodes_placed, compact_judged}
 use Rattle.aig_reader.proofs.sections.Lists.number.Goals as goal
@@ -13,8 +14,11 @@ use Rattle.aig_reader.proofs.sections.Lists.number.Goals.{After-deref, else-is_c
 pub returns-then-is_in_order : goal.returns-then-is_in_order
 returns-then-is_in_order c = λ f top h.
     let compact : is_compact f ≡ true = sym h.compact ∙ rw (c.if-is_complete.true, sym c.is_in_order.ensures, c.if-is_in_order.true) refl in
-    let made = c.in_ok-into_nodes.ensures f.greatest _ f.gates (ap (λ (n : ℕ). n + 1) top) h.gates in
-    compact_judged f record { nodes = c.in_ok-into_nodes.field-0; lists = c.args.self.now } h.good h.lists made.0 (omega (arith, made.1, top)) compact
+    let made = c.in_ok-nodes.ensures f.greatest _ f.gates (ap (λ (n : ℕ). n + 1) top) h.gates in
+    compact_judged f record {
+      numbered = record { nodes = c.in_ok-nodes.nodes; variables = Own c.args.greatest };
+      lists = c.args.self.now;
+    } h.good h.lists made.0 (omega (arith, made.1, top)) (ap Own top) compact
 
 -- where not all gates rise, or a variable is missing: what the tables tell
 module _ (c : After-deref) (f : File) (top : c.args.greatest ≡ f.greatest) (h : AreLinesOf f c.args.is_complete c.args.self.now c.args.variables.now c.args.gates) where

@@ -2,6 +2,7 @@ use Rattle.aig_base.proofs.Words.{◌≡◌, ◌∙◌, Some, ap, option_map, st
 use Rattle.std.specs.FinMap.{get}
 use Rattle.aig_circuit.proofs.Names.{get_names}
 use Rattle.aig_circuit.specs.View.{names_of}
+use Rattle.aig_reader.specs.Reading.{node_told}
 use Rattle.aig_simulation.proofs.Saying.{said}
 use Rattle.aig_simulation.proofs.sharing.named.node_for.Goals as goal
 
@@ -13,4 +14,5 @@ returns-in-Ok c =
     get_names es c.args.leaf
     ∙ ap (option_map string_bytes) (sym c.in-Some.ensures.value)
     ∙ ap Some (sym c.as_str.ensures.value) in
-    said (names_of es) c.args.leaf text c.args.marks.now c.in-Ok.node known c.in-Ok.ensures
+    said (node_told c.args.variables.now) (names_of es) c.args.leaf text c.args.marks.now
+    c.in-Ok.node known c.in-Ok.ensures

@@ -1,5 +1,6 @@
 use Rattle.aig_base.proofs.Words.{◌≡◌, ◌<◌, ◌+◌, ◌++◌, ◌∷◌, ◌∙◌, ℕ, [], Vec, Global, ap, arith, err_from_is_err_and, get_or, length, subst, sym, take, Contains-get_or}
 use Rattle.aig_circuit.specs.View.{names_of}
+use Rattle.aig_reader.specs.Reading.{node_told}
 use Rattle.aig_simulation.specs.Marked.{AddsNamed, IsAt, IsRefused}
 use Rattle.aig_simulation.proofs.Adding.{adds_pair, adds_skip, twice}
 use Rattle.aig_simulation.proofs.Found.{at_within}
@@ -8,17 +9,19 @@ use Rattle.aig_simulation.proofs.sharing.naming.push_named.Goals.{in-Some+else-t
 
 pub returns-in_err-node-clause-refused : goal.returns-in_err-node-clause-refused
 returns-in_err-node-clause-refused c =
+    let node = node_told c.args.variables.now in
     let p = err_from_is_err_and c.from_residual.result c.from_residual.ensures.1 in
     let leaves = c.args.leaves.now in
     let i = c.loop-leaf.leaf-index in
     let h = c.in_err-node.ensures in
     rw (p.1, p.2)
-    (subst (IsRefused (names_of c.args.names.now.entries) leaves (IsAt c.args.marks.now)
+    (subst (IsRefused node (names_of c.args.names.now.entries) leaves (IsAt c.args.marks.now)
     c.args.shared.now.items)
     (sym h.0) (Contains-get_or leaves i 0 c.loop-leaf-test.true, (h.1, h.2)))
 
 pub returns-then-taken-node-clause-refused : goal.returns-then-taken-node-clause-refused
 returns-then-taken-node-clause-refused c =
+    let node = node_told c.args.variables.now in
     let leaves = c.args.leaves.now in
     let i = c.loop-leaf.leaf-index in
     let names = names_of c.args.names.now.entries in
@@ -30,13 +33,14 @@ returns-then-taken-node-clause-refused c =
     let as_many : length c.args.taken.now ≡ length marks = c.requires.count in
     let kept : length taken ≡ length c.args.taken.now = c.loop-leaf.auto.taken in
     let inside : m < length taken = omega arith in
-    twice names leaves (IsAt marks) c.args.shared.now.items c.loop-leaf.shared.items taken i 0
+    twice node names leaves (IsAt marks) c.args.shared.now.items c.loop-leaf.shared.items taken i 0
     c.loop-leaf-test.true c.loop-leaf.invariant m c.requires.leaves
     (c.requires.apart i 0 c.loop-leaf-test.true) c.requires.named found.1 inside
     c.if-taken-node.true
 
 pub loop-leaf-preserved : goal.loop-leaf-preserved
 loop-leaf-preserved c =
+    let node = node_told c.args.variables.now in
     let leaves = c.args.leaves.now in
     let i = c.loop-leaf.leaf-index in
     let names = names_of c.args.names.now.entries in
@@ -56,21 +60,22 @@ loop-leaf-preserved c =
           let pushed = ap (λ (v : Vec (ℕ × ℕ) Global). v.items) w.shared-is ∙
           w.in_ok-push-in-Some.ensures.items in
           subst
-          (λ pairs. AddsNamed names (take (i + 1) leaves) (IsAt marks) before pairs
+          (λ pairs. AddsNamed node names (take (i + 1) leaves) (IsAt marks) before pairs
           c.match-branch-2.taken)
           (sym pushed)
           (subst
-          (AddsNamed names (take (i + 1) leaves) (IsAt marks) before (after ++ (m, leaf) ∷ []))
+          (AddsNamed node names (take (i + 1) leaves) (IsAt marks) before (after ++ (m, leaf) ∷ []))
           (sym w.taken-is)
-          (adds_pair names leaves (IsAt marks) before after taken i 0 c.loop-leaf-test.true
+          (adds_pair node names leaves (IsAt marks) before after taken i 0 c.loop-leaf-test.true
           c.loop-leaf.invariant m c.requires.leaves (c.requires.apart i 0 c.loop-leaf-test.true)
           found.1 found.0 inside w.if-taken-node.false)))
       | in-None w ↦
           subst
-          (λ pairs. AddsNamed names (take (i + 1) leaves) (IsAt marks) before pairs
+          (λ pairs. AddsNamed node names (take (i + 1) leaves) (IsAt marks) before pairs
           c.match-branch-2.taken)
           (sym (ap (λ (v : Vec (ℕ × ℕ) Global). v.items) w.shared-is))
-          (subst (AddsNamed names (take (i + 1) leaves) (IsAt marks) before after) (sym w.taken-is)
-          (adds_skip names leaves (IsAt marks) before after taken i 0 c.loop-leaf-test.true
+          (subst (AddsNamed node names (take (i + 1) leaves) (IsAt marks) before after)
+          (sym w.taken-is)
+          (adds_skip node names leaves (IsAt marks) before after taken i 0 c.loop-leaf-test.true
           c.loop-leaf.invariant (rw w.in-None.is at c.in_ok-node.ensures)))
     ]

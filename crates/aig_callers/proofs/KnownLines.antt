@@ -1,0 +1,337 @@
+-- What the contract of `aigcheck` says of words and files that are known.
+use Rattle.aig_base.proofs.Words.{◌≡◌, ℕ, ◌+◌, ◌^◌, ◌<◌, Bool, true, false, not, IsTrue, List, [], ◌∷◌, ◌++◌, inl, inr, length, Option, None, Some, Result, Ok, Err, IfOk, Appends, IsAtEnd, refl, sym, ap, subst, ◌∙◌, arith, ◌==◌, false≢true, true≢false, codes, same_Some}
+use Rattle.std.specs.Prelude.{MatchOption, decimal, slice_index}
+use Rattle.std.proofs.lemmas.Fmt.{decimal_digit}
+use Rattle.aig_format.specs.File.{File}
+use Rattle.aig_format.specs.Fits.{Accepts}
+use Rattle.aig_format.specs.Text.{IsNumber}
+use Rattle.aig_runs.specs.Queries.{IsSafeTo}
+use Rattle.aig_join.specs.Constraints.{AreEqualMachinesBy}
+use Rattle.aig_join.specs.declared.comparison.Constraints.TheVariants.{OfBoth}
+use Rattle.aig_reader.specs.Reading.{IsReadAs}
+use Rattle.aig_command_line.specs.Arguments.{AreStep, further_of}
+use Rattle.aig_command_line.specs.declared.status.Ending.TheVariants.{Done}
+use Rattle.aig_command_line.specs.declared.files.OpenError.{OpenError}
+use Rattle.aig_command_line.specs.Ending.{ended}
+use Rattle.aig_simulated.specs.Simulated.{proofs_of}
+use Rattle.aig_check_commands.specs.declared.command.Action.{Action}
+use Rattle.aig_check_commands.specs.declared.command.Asked.{Asked}
+use Rattle.aig_check_commands.specs.declared.command.Command.{Command}
+use Rattle.aig_check_commands.specs.declared.command.Command.TheVariants as commands
+use Rattle.aig_check_commands.specs.declared.command.FileCommand.{FileCommand}
+use Rattle.aig_check_commands.specs.declared.command.FileCommand.TheVariants as on_file
+use Rattle.aig_check_commands.specs.declared.command.PairCommand.{PairCommand}
+use Rattle.aig_check_commands.specs.declared.command.PairCommand.TheVariants as on_pair
+use Rattle.aig_check_commands.specs.declared.justice.Justice.{Justice}
+use Rattle.aig_check_commands.specs.declared.error.CheckError.{CheckError}
+use Rattle.aig_check_commands.specs.Acting.{Acts, RanBy, RanOn}
+use Rattle.aig_check_commands.specs.CommandWords.{IsCall, command_of, form_of, name_of, paths_of, prints}
+use Rattle.aig_check_commands.specs.Inputs.{Ran}
+use Rattle.aig_check_commands.specs.Justice.{AreJustice, is_asked}
+use Rattle.aig_check_commands.specs.Living.{MeansMade, ShowsFair, fair_line}
+use Rattle.aig_check_commands.specs.Opening.{AreOpened, OnOpening, OpensAll, unopened}
+use Rattle.aig_check_commands.specs.Pairs.{PairAnswers, RunsPair, safe_line}
+use Rattle.aig_check_commands.specs.Running.{IsAskedBy, Runs, nothing_fails, nothing_given}
+use Rattle.aig_check_commands.proofs.Outcomes.{text_of_printed}
+use Rattle.aig_callers.specs.Instances.{AreNamed, IsOf, Shows, ShowsAsked}
+use Rattle.aig_callers.proofs.Asking.{all_taken}
+use Rattle.aig_callers.proofs.Answered.{both_read, printed}
+use Rattle.aig_callers.proofs.Text.{all_held}
+
+-- ---- files
+
+-- a file that a command asks about is one within the limit
+asked_file : (c : FileCommand) (bytes : List ℕ) (f : File) → IsAskedBy c (2 ^ 24) bytes f
+    → Accepts bytes (2 ^ 24) f
+asked_file (on_file.Clauses k optimize) bytes f is = is.0.0
+asked_file (on_file.Window k form optimize) bytes f is = is.0.0
+asked_file (on_file.Refuted k optimize) bytes f is = is.0.0
+asked_file (on_file.Inductive k form optimize) bytes f is = is.0.0
+asked_file (on_file.Witness k optimize) bytes f is = is.0.0
+asked_file on_file.Run bytes f is = is
+asked_file (on_file.Bounded k optimize) bytes f is = is.0
+asked_file (on_file.RefutedTo k optimize) bytes f is = is.0
+asked_file (on_file.WitnessTo k optimize) bytes f is = is.0
+
+module _ {F : Type 0} (opens : List ℕ → Result F OpenError → Type 0) where
+  -- where no error is told, all files are opened
+  all_opened : (paths : List (List ℕ)) (Holds : List F → Type 0) (Fails : CheckError → Type 0)
+      → ((e : CheckError) → ¬ Fails e) → OpensAll opens paths Holds Fails
+      → (files : List F) × AreOpened opens paths files × Holds files
+  all_opened [] Holds Fails never holds = ([], tt, holds)
+  all_opened (path ∷ paths) Holds Fails never o =
+      by (λ f. all_opened paths (λ fs. Holds (f ∷ fs)) Fails never) o.file o.opened o.leads
+    where
+      by : ((f : F) → OpensAll opens paths (λ fs. Holds (f ∷ fs)) Fails
+          → (files : List F) × AreOpened opens paths files × Holds (f ∷ files))
+          → (file : Result F OpenError) → opens path file
+          → OnOpening (λ f. OpensAll opens paths (λ fs. Holds (f ∷ fs)) Fails) Fails file
+          → (files : List F) × AreOpened opens (path ∷ paths) files × Holds files
+      by more (Ok f) is leads = let rest = more f leads in (f ∷ rest.0, (is, rest.1), rest.2)
+      by more (Err e) is leads = absurd (never (unopened e) leads)
+
+-- ---- what was printed
+
+module _ {F W : Type 0} (file other : List ℕ) (left : F → Option (List ℕ)) (failed : F → Bool)
+    (held : W → Option (List ℕ)) (write_failed : W → Bool) where
+  -- what opening a path gives
+  abbrev pub OpensFiles : List ℕ → Result F OpenError → Type 0
+  OpensFiles path opened = IfOk opened (λ source.
+      (path ≡ codes "FILE" → left source ≡ Some file)
+      × (path ≡ codes "OTHER" → left source ≡ Some other))
+
+  module _ (w made : W) (out : List ℕ) (empty : held w ≡ Some []) (all : held made ≡ Some out)
+    where
+      -- a line that was written is all
+      whole : (text : List ℕ) → Appends (held w) (held made) text → out ≡ text
+      whole text appends = all_held (held w) (held made) out text empty all appends
+
+      -- a file that was read to its end, and what is meant for it
+      read_of : {T : Type 0} {Holds : List ℕ → File → Type 0} {Means : File → T → Type 0} {x : T}
+          (r rest : F) → left r ≡ Some file → ((bytes : List ℕ) (f : File) → Holds bytes f
+          → Accepts bytes (2 ^ 24) f) → IsReadAs Holds Means (left r) (left rest) x
+          → IsAtEnd (left rest) → IsOf file (λ f. Means f x)
+      read_of r rest is accepts read end =
+          let taken = all_taken file read.bytes (left r) (left rest) is read.taken end in (
+            read.file,
+            subst (λ b. Accepts b (2 ^ 24) read.file) taken (accepts read.bytes read.file read.holds),
+            read.means,
+          )
+
+      -- the answer to two files is so of them
+      pair_told : (c : PairCommand) (base step bytes others : Option (List ℕ)) (f g : File)
+          (text : List ℕ) → PairAnswers c (2 ^ 24) base step bytes others f g text
+          → Accepts file (2 ^ 24) f → Accepts other (2 ^ 24) g → out ≡ text
+          → Shows (commands.Pair c) file other out
+      pair_told (on_pair.Certified optimize) base step bytes others f g text answers one two is =
+          (f, one, (is ∙ answers.0, answers.1.0.1))
+      pair_told (on_pair.Equal comparison k optimize) base step bytes others f g text answers one two
+          is =
+          (f, one, (g, two, (is ∙ answers.0, answers.1.0.1)))
+      pair_told (on_pair.Obligations optimize) base step bytes others f g text answers one two is = tt
+      pair_told (on_pair.AlwaysEqual comparison k form o y) base step bytes others f g text answers one
+          two is =
+          (f, one, (g, two, (is ∙ answers.0, answers.1.0.1)))
+
+      pair_shown : {P Q : Type 0} {given : P → Option (List ℕ)} {given_failed : P → Bool}
+          {step : Q → Option (List ℕ)} {step_failed : Q → Bool} (c : PairCommand) (r rest s beside : F)
+          (p used : P) (q spent : Q) (u : Unit {0}) → left r ≡ Some file → left s ≡ Some other
+          → RunsPair left failed left failed given given_failed step step_failed held write_failed c
+          (2 ^ 24) r s p q w (Ok u) rest beside used spent made
+          → Shows (commands.Pair c) file other out
+      pair_shown c r rest s beside p used q spent u is also ran =
+          let told = text_of_printed ran in
+          let both = both_read left failed left failed (2 ^ 24) _ _ _ _ r rest s beside file other
+          told.0 told.1.reads is also in
+          pair_told c _ _ _ _ both.0 both.1 told.0 both.4 both.2 both.3 (whole told.0 told.2)
+
+      -- the file beside FILE is OTHER, where the command is on two
+      abbrev Beside : Command → List F → Type 0
+      Beside c [] = Unit {0}
+      Beside c (s ∷ files) = paths_of c ≡ 2 → left s ≡ Some other
+
+      no_beside : (c : Command) (files : List F) → paths_of c ≡ 1 → Beside c files
+      no_beside c [] one = tt
+      no_beside c (s ∷ files) one = λ two. absurd (omega (arith, one, two))
+
+      ran_shown : (c : Command) (r rest : F) (files others : List F) (u : Unit {0})
+          → left r ≡ Some file → Beside c files
+          → Ran left failed left failed held write_failed (2 ^ 24) c r files w (Ok u) rest others made
+          → Shows c file other out
+      ran_shown (commands.File c) r rest [] [] u is beside ran =
+          let told = printed left failed nothing_given nothing_fails held write_failed c (2 ^ 24) r rest
+          tt tt w made file out u ran is empty all in
+          (told.0, asked_file c file told.0 told.1, (nothing_given tt, told.2.1))
+      ran_shown (commands.File c) r rest (p ∷ []) (used ∷ []) u is beside ran =
+          let told = printed left failed left failed held write_failed c (2 ^ 24) r rest p used w made
+          file out u ran is empty all in
+          (told.0, asked_file c file told.0 told.1, (left p, told.2.1))
+      ran_shown (commands.Pair c) r rest (s ∷ []) (next ∷ []) u is beside ran =
+          pair_shown c r rest s next tt tt tt tt u is (beside refl) ran
+      ran_shown (commands.Pair c) r rest (s ∷ p ∷ []) (next ∷ used ∷ []) u is beside ran =
+          pair_shown c r rest s next p used tt tt u is (beside refl) ran
+      ran_shown (commands.Pair c) r rest (s ∷ p ∷ q ∷ []) (next ∷ used ∷ spent ∷ []) u is beside ran =
+          pair_shown c r rest s next p used q spent u is (beside refl) ran
+      ran_shown (commands.Safe k form o y) r rest (p ∷ q ∷ []) (used ∷ spent ∷ []) u is beside ran =
+          let told = text_of_printed ran in
+          let of = read_of r rest is (λ bytes f holds. holds.0.0) told.1.text.1
+          (told.1.verdict.whole tt).1 in
+          (of.0, of.1, (whole told.0 told.2 ∙ told.1.text.0, of.2.0))
+      ran_shown (commands.SafeBySteps k form o y) r rest files others u is beside ran =
+          let told = text_of_printed ran.runs in
+          let of = read_of r rest is (λ bytes f holds. holds.0.0) told.1.text.1
+          (told.1.verdict.whole tt).1 in
+          (of.0, of.1, (whole told.0 told.2 ∙ told.1.text.0, of.2.0))
+      ran_shown (commands.EqualBy comparison o) r rest (s ∷ c ∷ p ∷ q ∷ [])
+          (next ∷ tried ∷ used ∷ spent ∷ []) u is beside ran =
+          let told = text_of_printed ran in
+          let both = both_read left failed left failed (2 ^ 24) _ _ _ _ r rest s next file other told.0
+          told.1.reads is (beside refl) in
+          (both.0, both.2, (both.1, both.3, (whole told.0 told.2 ∙ both.4.0, both.4.1.0.1)))
+      ran_shown (commands.Simulated o) r rest (s ∷ a ∷ b ∷ c ∷ d ∷ e ∷ [])
+          (next ∷ a_rest ∷ b_rest ∷ c_rest ∷ d_rest ∷ e_rest ∷ []) u is beside ran =
+          let of = read_of r rest is (λ bytes f holds. holds) (ran.reads.answer refl refl)
+          (ran.reads.verdict.whole tt).1 in
+          (of.0, of.1, (whole safe_line of.2.means.1, of.2.means.0.1))
+      ran_shown (commands.Obligation condition o) r rest files others u is beside ran = tt
+      ran_shown c r rest files others u is beside ran = absurd ran
+
+      -- a line about a justice property was written
+      fair_told : (b : Bool) (c : Command) (a : Justice) (files others : List F) (u : Unit {0})
+          (f : File) (text : List ℕ) → IsTrue (not b)
+          → MeansMade b left failed held write_failed (2 ^ 24) a.property c files others w made f text
+          (Ok u)
+          → (out ≡ fair_line c a.property) × ShowsFair c a.property f
+      fair_told true c a files others u f text checks told = absurd (false≢true checks)
+      fair_told false c a files others u f text checks told =
+          (whole (fair_line c a.property) told.2, told.1)
+
+      by_shown : (asked : Option Justice) (c : Command) (r rest : F) (files others : List F)
+          (u : Unit {0}) → left r ≡ Some file → Beside c files
+          → RanBy left failed left failed held write_failed (2 ^ 24) asked c r files w (Ok u) rest
+          others made
+          → ShowsAsked (record { justice = asked; command = c }) file other out
+      by_shown None c r rest files others u is beside ran =
+          ran_shown c r rest files others u is beside ran
+      by_shown (Some a) c r rest files others u is beside ran = λ checks.
+          let of = read_of r rest is (λ bytes f holds. holds) (ran.reads.answer refl)
+          (ran.reads.verdict.whole tt).1 in
+          (of.0, of.1, fair_told (prints c) c a files others u of.0 _ checks of.2.2)
+
+      on_shown : (c : Asked) (paths further : List (List ℕ)) (files others : List F) (u : Unit {0})
+          → AreNamed (paths_of c.command) paths → AreOpened OpensFiles (paths ++ further) files
+          → RanOn left failed held write_failed (2 ^ 24) c files w (Ok u) others made
+          → ShowsAsked c file other out
+      on_shown c (path ∷ []) further (r ∷ files) (rest ∷ others) u named are ran =
+          by_shown c.justice c.command r rest files others u (are.0.0 named.1)
+          (no_beside c.command files named.0) ran
+      on_shown c (path ∷ next ∷ []) further (r ∷ s ∷ files) (rest ∷ others) u named are ran =
+          by_shown c.justice c.command r rest (s ∷ files) others u (are.0.0 named.0)
+          (λ two. are.1.0.1 named.1) ran
+      on_shown c (path ∷ next ∷ []) further (r ∷ []) others u named are ran = absurd are.1
+      on_shown c (path ∷ paths) further [] others u named are ran = absurd are
+      on_shown c (path ∷ paths) further (r ∷ files) [] u named are ran = absurd ran
+      on_shown c paths further files others u named are ran = absurd named
+
+      -- a program that is done has printed it
+      pub printed_done : (c : Asked) (paths further : List (List ℕ))
+          → AreNamed (paths_of c.command) paths → (done : Result (Unit {0}) CheckError)
+          → Done ≡ ended done
+          → Acts OpensFiles left failed held write_failed (2 ^ 24) c paths further w done made
+          → ShowsAsked c file other out
+      printed_done c paths further named (Ok u) is acts =
+          let opened = all_opened OpensFiles (paths ++ further) _ _ (λ e told. let h = told.0 in cc) acts in
+          elim opened.2 [
+            | inl ran ↦ on_shown c paths further opened.0 ran.0 u named opened.1 ran.1
+            | inr short ↦ (let h = short.0 in cc)
+          ]
+      printed_done c paths further named (Err e) is acts = cc
+
+-- ---- words
+
+-- whether the first word begins with a dash
+abbrev dashed : List (List ℕ) → Bool
+dashed ((c ∷ cs) ∷ words) = c == 45
+dashed words = false
+
+no_dash : (words : List (List ℕ)) (cs : List ℕ) → dashed words ≡ false
+    → (more : List (List ℕ)) → ¬ (words ≡ (45 ∷ cs) ∷ more)
+no_dash words cs plain more is = false≢true (sym plain ∙ ap dashed is)
+
+-- the words of a command with all its settings left out
+abbrev pub plain_words : Action → List (List ℕ) → List (List ℕ) → List (List ℕ)
+    → List (List ℕ)
+plain_words a paths steps further = name_of a ∷ (paths ++ (steps ++ (further ++ [])))
+
+module _ (justice : Option Justice) (words : List (List ℕ)) (a : Action)
+    (paths steps further : List (List ℕ)) (k : ℕ) where
+  -- they give it
+  pub given_call : ((more : List (List ℕ)) → ¬ (words ≡ codes "--limit" ∷ more))
+      → AreJustice justice words (plain_words a paths steps further)
+      → dashed (plain_words a paths steps further) ≡ false → length paths ≡ (form_of a).paths
+      → AreStep (form_of a).step k steps → length further ≡ further_of (form_of a) k
+      → IsTrue (is_asked justice (command_of a k false true))
+      → IsCall words (2 ^ 24) (record { justice = justice; command = command_of a k false true })
+      paths further
+  given_call no_limit asked plain count step beside allowed = record {
+    rest = words;
+    limited = inr (record { other = no_limit; all = refl; usual = refl });
+    more = plain_words a paths steps further;
+    asked = asked;
+    constraints = OfBoth;
+    others = plain_words a paths steps further;
+    said = (no_dash (plain_words a paths steps further) _ plain, refl);
+    usual = command_of a k false true;
+    arguments = record {
+      paths = paths;
+      step = k;
+      further = further;
+      distinct = false;
+      optimize = true;
+    };
+    gives = inl (record {
+      action = a;
+      gives = record {
+        steps = steps;
+        spelled = refl;
+        paths = count;
+        step = step;
+        further = beside;
+        distinct = λ is. absurd (false≢true is);
+        raw = λ is. absurd (false≢true is);
+      };
+      command = refl;
+    });
+    command = refl;
+    allowed = allowed;
+    on = refl;
+    beside = refl;
+  }
+
+-- without a justice property
+pub plain_call : (a : Action) (paths steps further : List (List ℕ)) (k : ℕ)
+    → dashed (plain_words a paths steps further) ≡ false → length paths ≡ (form_of a).paths
+    → AreStep (form_of a).step k steps → length further ≡ further_of (form_of a) k
+    → IsCall (plain_words a paths steps further) (2 ^ 24)
+    (record { justice = None; command = command_of a k false true }) paths further
+plain_call a paths steps further k plain count step beside =
+    given_call None (plain_words a paths steps further) a paths steps further k
+    (no_dash (plain_words a paths steps further) _ plain)
+    (no_dash (plain_words a paths steps further) _ plain, refl) plain count step beside refl
+
+-- a digit
+pub digit : (n : ℕ) → n < 10 → IsNumber n ((48 + n) ∷ [])
+digit n low = record {
+  some = λ none. cc;
+  each = ((omega (arith, low), omega (arith, low)), tt);
+  value = omega (arith, low);
+  small = omega (arith, low);
+}
+
+-- a line that ends with one
+pub digit_line : (text : List ℕ) (n : ℕ) → n < 10
+    → text ++ (decimal n ++ 10 ∷ []) ≡ text ++ ((48 + n) ∷ 10 ∷ [])
+digit_line text n low = ap (λ d. text ++ (d ++ 10 ∷ [])) (decimal_digit n low)
+
+-- with the first justice property
+pub justice_call : (a : Action) (paths steps further : List (List ℕ)) (k : ℕ)
+    → dashed (plain_words a paths steps further) ≡ false → length paths ≡ (form_of a).paths
+    → AreStep (form_of a).step k steps → length further ≡ further_of (form_of a) k
+    → IsTrue (is_asked (Some (record { property = 0; rounds = None })) (command_of a k false true))
+    → IsCall (codes "--justice" ∷ codes "0" ∷ plain_words a paths steps further) (2 ^ 24)
+    (record {
+      justice = Some (record { property = 0; rounds = None });
+      command = command_of a k false true;
+    }) paths further
+justice_call a paths steps further k plain count step beside allowed =
+    given_call (Some (record { property = 0; rounds = None }))
+    (codes "--justice" ∷ codes "0" ∷ plain_words a paths steps further) a paths steps further k
+    (λ more is. omega (arith, ap third is)) (
+      plain_words a paths steps further,
+      (codes "0", refl, digit 0 (omega arith)),
+      (no_dash (plain_words a paths steps further) _ plain, refl),
+    ) plain count step beside allowed
+  where
+    third : List (List ℕ) → ℕ
+    third [] = 0
+    third (word ∷ words) = slice_index word 2

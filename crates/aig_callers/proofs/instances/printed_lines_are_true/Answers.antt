@@ -1,0 +1,149 @@
+use Rattle.aig_base.proofs.Words.{◌≡◌, ℕ, List, [], ◌∷◌, ◌++◌, refl, ◌∙◌, arith, codes, decimal}
+use Rattle.std.proofs.lemmas.Fmt.{decimal_digit}
+use Rattle.aig_join.specs.declared.starts.Starts.TheVariants.{Apart}
+use Rattle.aig_check_commands.specs.declared.command.Action.TheVariants as actions
+use Rattle.aig_callers.proofs.KnownLines.{digit, digit_line, justice_call, plain_call}
+use Rattle.aig_callers.proofs.instances.printed_lines_are_true.Goals as goal
+
+-- the files, and what is given beside them
+abbrev one : List (List ℕ)
+one = codes "FILE" ∷ []
+
+abbrev both : List (List ℕ)
+both = codes "FILE" ∷ codes "OTHER" ∷ []
+
+abbrev proof : List (List ℕ)
+proof = codes "PROOF" ∷ []
+
+abbrev proofs : List (List ℕ)
+proofs = codes "BASE" ∷ codes "STEP" ∷ []
+
+-- the line of five steps
+lasso_5 : (codes "no fair lasso of j" ++ (decimal 0 ++ 32 ∷ []) ++ codes "of ")
+    ++ (decimal 5 ++ 32 ∷ []) ++ (codes "steps" ++ 10 ∷ [])
+    ≡ codes "no fair lasso of j0 of 5 steps\n"
+lasso_5 = rw (decimal_digit 0 (omega arith), decimal_digit 5 (omega arith)) refl
+
+pub returns-clause-refuted : goal.returns-clause-refuted
+returns-clause-refuted c file other text printed =
+    let told = printed _ _ _
+    (plain_call actions.Refuted one (codes "0" ∷ []) proof 0 refl refl
+    (codes "0", refl, digit 0 (omega arith)) refl) (refl, refl) in (
+      told.0,
+      told.1,
+      (
+        told.2.1.0
+            ∙ digit_line (codes "no bad state at step ") 0 (omega arith),
+        told.2.1.1,
+      ),
+    )
+
+pub returns-clause-refuted_to : goal.returns-clause-refuted_to
+returns-clause-refuted_to c file other text printed =
+    let told = printed _ _ _
+    (plain_call actions.RefutedTo one (codes "to" ∷ codes "3" ∷ []) proof 3 refl refl
+    (codes "3", refl, digit 3 (omega arith)) refl) (refl, refl) in (
+      told.0,
+      told.1,
+      (
+        told.2.1.0
+            ∙ digit_line (codes "no bad state up to step ") 3 (omega arith),
+        told.2.1.1,
+      ),
+    )
+
+pub returns-clause-inductive : goal.returns-clause-inductive
+returns-clause-inductive c file other text printed =
+    let told = printed _ _ _
+    (plain_call actions.Inductive one (codes "2" ∷ []) proof 2 refl refl
+    (codes "2", refl, digit 2 (omega arith)) refl) (refl, refl) in (
+      told.0,
+      told.1,
+      (
+        told.2.1.0
+            ∙ digit_line (codes "no bad state at any step, if none up to step ") 2 (omega arith),
+        told.2.1.1,
+        told.2.1.2,
+      ),
+    )
+
+pub returns-clause-safe_to : goal.returns-clause-safe_to
+returns-clause-safe_to c file other text printed =
+    let told = printed _ _ _
+    (plain_call actions.Safe one (codes "to" ∷ codes "1" ∷ []) proofs 1 refl refl
+    (codes "1", refl, digit 1 (omega arith)) refl) (refl, refl) in
+    told
+
+pub returns-clause-safe_each : goal.returns-clause-safe_each
+returns-clause-safe_each c file other text printed =
+    let told = printed _ _ _
+    (plain_call actions.SafeBySteps one (codes "each" ∷ codes "0" ∷ []) (codes "P0" ∷ codes "STEP" ∷ []) 0 refl refl
+    (codes "0", refl, digit 0 (omega arith)) refl) (refl, refl) in
+    told
+
+pub returns-clause-certified : goal.returns-clause-certified
+returns-clause-certified c file other text printed =
+    let told = printed _ _ _
+    (plain_call actions.Certified both [] proofs 0 refl refl
+    (refl, refl) refl) (refl, refl) in
+    told
+
+pub returns-clause-equal : goal.returns-clause-equal
+returns-clause-equal c file other text printed =
+    let told = printed _ _ _
+    (plain_call (actions.Equal Apart) both (codes "5" ∷ []) proof 5 refl refl
+    (codes "5", refl, digit 5 (omega arith)) refl) (refl, refl) in (
+      told.0,
+      told.1,
+      (
+        told.2.0,
+        told.2.1,
+        (
+          told.2.2.0
+              ∙ digit_line (codes "equal at step ") 5 (omega arith),
+          told.2.2.1,
+        ),
+      ),
+    )
+
+pub returns-clause-equal_to : goal.returns-clause-equal_to
+returns-clause-equal_to c file other text printed =
+    let told = printed _ _ _
+    (plain_call (actions.AlwaysEqual Apart) both (codes "to" ∷ codes "1" ∷ []) proofs 1 refl refl
+    (codes "1", refl, digit 1 (omega arith)) refl) (refl, refl) in
+    told
+
+pub returns-clause-equal_by : goal.returns-clause-equal_by
+returns-clause-equal_by c file other text printed =
+    let told = printed _ _ _
+    (plain_call (actions.EqualBy Apart) both (codes "by" ∷ []) (codes "CERT" ∷ proofs) 0 refl refl
+    (refl, refl) refl) (refl, refl) in
+    told
+
+pub returns-clause-run : goal.returns-clause-run
+returns-clause-run c file other text printed =
+    let told = printed _ _ _
+    (plain_call actions.Run one [] (codes "WITNESS" ∷ []) 0 refl refl
+    (refl, refl) refl) (refl, refl) in
+    told
+
+pub returns-clause-fair_refuted : goal.returns-clause-fair_refuted
+returns-clause-fair_refuted c file other text printed =
+    let told = printed _ _ _
+    (justice_call actions.Refuted one (codes "4" ∷ []) proof 4 refl refl
+    (codes "4", refl, digit 4 (omega arith)) refl refl) (refl, refl) refl in
+    (told.0, told.1, (told.2.0 ∙ lasso_5, told.2.1))
+
+pub returns-clause-fair_safe : goal.returns-clause-fair_safe
+returns-clause-fair_safe c file other text printed =
+    let told = printed _ _ _
+    (justice_call actions.Safe one (codes "to" ∷ codes "1" ∷ []) proofs 1 refl refl
+    (codes "1", refl, digit 1 (omega arith)) refl refl) (refl, refl) refl in (
+      told.0,
+      told.1,
+      (
+        told.2.0
+            ∙ digit_line (codes "no fair run of j") 0 (omega arith),
+        told.2.1,
+      ),
+    )
