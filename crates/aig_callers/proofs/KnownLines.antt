@@ -1,20 +1,22 @@
 -- What the contract of `aigcheck` says of words and files that are known.
-use Rattle.aig_base.proofs.Words.{◌≡◌, ℕ, ◌+◌, ◌^◌, ◌<◌, Bool, true, false, not, IsTrue, List, [], ◌∷◌, ◌++◌, inl, inr, length, Option, None, Some, Result, Ok, Err, IfOk, Appends, IsAtEnd, refl, sym, ap, subst, ◌∙◌, arith, ◌==◌, false≢true, true≢false, codes, same_Some}
-use Rattle.std.specs.Prelude.{MatchOption, decimal, slice_index}
+use Rattle.aig_base.proofs.Words.{◌≡◌, ℕ, ◌+◌, ◌^◌, ◌<◌, ◌≤◌, Bool, true, false, not, IsTrue, List, [], ◌∷◌, ◌++◌, inl, inr, length, length-append, Option, None, Some, Result, Ok, Err, IfOk, Appends, IsAtEnd, refl, sym, ap, subst, ◌∙◌, arith, ◌==◌, false≢true, codes}
+use Rattle.std.specs.Prelude.{decimal, slice_index}
 use Rattle.std.proofs.lemmas.Fmt.{decimal_digit}
 use Rattle.aig_format.specs.File.{File}
 use Rattle.aig_format.specs.Fits.{Accepts}
 use Rattle.aig_format.specs.Text.{IsNumber}
-use Rattle.aig_runs.specs.Queries.{IsSafeTo}
-use Rattle.aig_join.specs.Constraints.{AreEqualMachinesBy}
 use Rattle.aig_join.specs.declared.comparison.Constraints.TheVariants.{OfBoth}
+use Rattle.aig_join.specs.declared.starts.Matching.TheVariants.{ByName, ByOrder}
+use Rattle.aig_join.specs.declared.starts.Starts.{Starts}
+use Rattle.aig_join.specs.declared.starts.Starts.TheVariants.{Alike, Apart}
 use Rattle.aig_reader.specs.Reading.{IsReadAs}
-use Rattle.aig_command_line.specs.Arguments.{AreStep, further_of}
+use Rattle.aig_command_line.specs.Arguments.{AreStep, Arguments, GivesArguments, further_of, setting_words}
 use Rattle.aig_command_line.specs.declared.status.Ending.TheVariants.{Done}
 use Rattle.aig_command_line.specs.declared.files.OpenError.{OpenError}
 use Rattle.aig_command_line.specs.Ending.{ended}
-use Rattle.aig_simulated.specs.Simulated.{proofs_of}
 use Rattle.aig_check_commands.specs.declared.command.Action.{Action}
+use Rattle.aig_check_commands.specs.declared.command.Action.TheVariants as actions
+use Rattle.aig_check_commands.specs.declared.command.WitnessAction.TheVariants as witness
 use Rattle.aig_check_commands.specs.declared.command.Asked.{Asked}
 use Rattle.aig_check_commands.specs.declared.command.Command.{Command}
 use Rattle.aig_check_commands.specs.declared.command.Command.TheVariants as commands
@@ -25,13 +27,13 @@ use Rattle.aig_check_commands.specs.declared.command.PairCommand.TheVariants as 
 use Rattle.aig_check_commands.specs.declared.justice.Justice.{Justice}
 use Rattle.aig_check_commands.specs.declared.error.CheckError.{CheckError}
 use Rattle.aig_check_commands.specs.Acting.{Acts, RanBy, RanOn}
-use Rattle.aig_check_commands.specs.CommandWords.{IsCall, command_of, form_of, name_of, paths_of, prints}
+use Rattle.aig_check_commands.specs.CommandWords.{AreCommand, FitNone, IsAlone, IsCall, IsWhole, command_of, equal_name, form_of, name_of, paths_of, prints, raw_alone, raw_word}
 use Rattle.aig_check_commands.specs.Inputs.{Ran}
 use Rattle.aig_check_commands.specs.Justice.{AreJustice, is_asked}
 use Rattle.aig_check_commands.specs.Living.{MeansMade, ShowsFair, fair_line}
 use Rattle.aig_check_commands.specs.Opening.{AreOpened, OnOpening, OpensAll, unopened}
 use Rattle.aig_check_commands.specs.Pairs.{PairAnswers, RunsPair, safe_line}
-use Rattle.aig_check_commands.specs.Running.{IsAskedBy, Runs, nothing_fails, nothing_given}
+use Rattle.aig_check_commands.specs.Running.{IsAskedBy, nothing_fails, nothing_given}
 use Rattle.aig_check_commands.proofs.Outcomes.{text_of_printed}
 use Rattle.aig_callers.specs.Instances.{AreNamed, IsOf, Shows, ShowsAsked}
 use Rattle.aig_callers.proofs.Asking.{all_taken}
@@ -243,50 +245,63 @@ abbrev pub plain_words : Action → List (List ℕ) → List (List ℕ) → List
     → List (List ℕ)
 plain_words a paths steps further = name_of a ∷ (paths ++ (steps ++ (further ++ [])))
 
-module _ (justice : Option Justice) (words : List (List ℕ)) (a : Action)
-    (paths steps further : List (List ℕ)) (k : ℕ) where
-  -- they give it
-  pub given_call : ((more : List (List ℕ)) → ¬ (words ≡ codes "--limit" ∷ more))
+-- what these give
+abbrev pub plainly : List (List ℕ) → ℕ → List (List ℕ) → Arguments
+plainly paths k further = record {
+  paths = paths;
+  step = k;
+  further = further;
+  distinct = false;
+  optimize = true;
+}
+
+module _ (justice : Option Justice) (words : List (List ℕ)) where
+  -- words that give a command, and no limit and no constraints before it
+  asked_call : (more : List (List ℕ)) (c : Command) (a : Arguments)
+      → ((rest : List (List ℕ)) → ¬ (words ≡ codes "--limit" ∷ rest)) → AreJustice justice words more
+      → dashed more ≡ false → AreCommand more c a → IsTrue (is_asked justice c)
+      → IsCall words (2 ^ 24) (record { justice = justice; command = c }) a.paths a.further
+  asked_call more c a no_limit asked plain gives allowed = record {
+    rest = words;
+    limited = inr (record { other = no_limit; all = refl; usual = refl });
+    more = more;
+    asked = asked;
+    constraints = OfBoth;
+    others = more;
+    said = (no_dash more _ plain, refl);
+    usual = c;
+    arguments = a;
+    gives = gives;
+    command = refl;
+    allowed = allowed;
+    on = refl;
+    beside = refl;
+  }
+
+  -- so do those of a command with all its settings left out
+  given_call : (a : Action) (paths steps further : List (List ℕ)) (k : ℕ)
+      → ((more : List (List ℕ)) → ¬ (words ≡ codes "--limit" ∷ more))
       → AreJustice justice words (plain_words a paths steps further)
       → dashed (plain_words a paths steps further) ≡ false → length paths ≡ (form_of a).paths
       → AreStep (form_of a).step k steps → length further ≡ further_of (form_of a) k
       → IsTrue (is_asked justice (command_of a k false true))
       → IsCall words (2 ^ 24) (record { justice = justice; command = command_of a k false true })
       paths further
-  given_call no_limit asked plain count step beside allowed = record {
-    rest = words;
-    limited = inr (record { other = no_limit; all = refl; usual = refl });
-    more = plain_words a paths steps further;
-    asked = asked;
-    constraints = OfBoth;
-    others = plain_words a paths steps further;
-    said = (no_dash (plain_words a paths steps further) _ plain, refl);
-    usual = command_of a k false true;
-    arguments = record {
-      paths = paths;
-      step = k;
-      further = further;
-      distinct = false;
-      optimize = true;
-    };
-    gives = inl (record {
-      action = a;
-      gives = record {
-        steps = steps;
-        spelled = refl;
-        paths = count;
-        step = step;
-        further = beside;
-        distinct = λ is. absurd (false≢true is);
-        raw = λ is. absurd (false≢true is);
-      };
-      command = refl;
-    });
-    command = refl;
-    allowed = allowed;
-    on = refl;
-    beside = refl;
-  }
+  given_call a paths steps further k no_limit asked plain count step beside allowed =
+      asked_call (plain_words a paths steps further) (command_of a k false true)
+      (plainly paths k further) no_limit asked plain (inl (record {
+        action = a;
+        gives = record {
+          steps = steps;
+          spelled = refl;
+          paths = count;
+          step = step;
+          further = beside;
+          distinct = λ is. absurd (false≢true is);
+          raw = λ is. absurd (false≢true is);
+        };
+        command = refl;
+      })) allowed
 
 -- without a justice property
 pub plain_call : (a : Action) (paths steps further : List (List ℕ)) (k : ℕ)
@@ -335,3 +350,108 @@ justice_call a paths steps further k plain count step beside allowed =
     third : List (List ℕ) → ℕ
     third [] = 0
     third (word ∷ words) = slice_index word 2
+
+-- ---- a witness circuit
+
+-- a letter of the first word
+abbrev letter : List (List ℕ) → ℕ
+letter [] = 0
+letter (word ∷ words) = slice_index word 2
+
+-- that of the words that name comparisons
+equal_letter : (starts : Starts) → slice_index (equal_name starts) 2 ≡ 117
+equal_letter Apart = refl
+equal_letter (Alike ByOrder) = refl
+equal_letter (Alike ByName) = refl
+
+-- of the commands that take no witness circuit one alone has the word `certified`
+only_certified : (a : Action) (words : List (List ℕ)) (x : Arguments) → letter words ≡ 114
+    → GivesArguments (name_of a) (form_of a) words x → a ≡ actions.Certified
+only_certified actions.Certified words x is g = refl
+only_certified (actions.Equal starts) words x is g =
+    absurd (omega (arith, is, ap letter g.spelled, equal_letter starts))
+only_certified (actions.AlwaysEqual starts) words x is g =
+    absurd (omega (arith, is, ap letter g.spelled, equal_letter starts))
+only_certified (actions.EqualBy starts) words x is g =
+    absurd (omega (arith, is, ap letter g.spelled, equal_letter starts))
+only_certified a words x is g = absurd (omega (arith, is, ap letter g.spelled))
+
+-- its words are fewer than those of a proof for each condition
+few_words : (words : List (List ℕ)) (x : Arguments)
+    → GivesArguments (name_of actions.Certified) (form_of actions.Certified) words x
+    → length words ≤ 6
+few_words words x g = omega (
+  arith,
+  ap length g.spelled,
+  length-append x.paths (g.steps ++ (x.further ++ setting_words x.distinct x.optimize)),
+  length-append g.steps (x.further ++ setting_words x.distinct x.optimize),
+  length-append x.further (setting_words x.distinct x.optimize),
+  ap length g.step.1,
+  g.paths,
+  g.further,
+  settings x.distinct x.optimize g.distinct,
+)
+  where
+    settings : (d o : Bool) → (IsTrue d → IsTrue false) → length (setting_words d o) ≤ 1
+    settings true o never = absurd (false≢true (never refl))
+    settings false true never = omega arith
+    settings false false never = omega arith
+
+-- the words of the command that takes one
+abbrev pub witness_words : List (List ℕ) → List (List ℕ) → List (List ℕ)
+witness_words paths proofs = codes "certified" ∷ (paths ++ (proofs ++ []))
+
+module _ (paths proofs : List (List ℕ)) (two : length paths ≡ 2) (five : length proofs ≡ 5) where
+  abbrev words : List (List ℕ)
+  words = witness_words paths proofs
+
+  count : length words ≡ 8
+  count = omega (arith, length-append paths (proofs ++ []), length-append proofs [], two, five)
+
+  -- they fit no other
+  no_whole : FitNone (IsWhole words)
+  no_whole c x g =
+      let same = only_certified g.action words x refl g.gives in
+      let few = few_words words x (rw same at g.gives) in
+      omega (arith, few, count)
+
+  no_alone : FitNone (IsAlone words)
+  no_alone c x g = by g.plain g.spelled g.whole g.command
+    where
+      by : (plain : List (List ℕ)) → words ≡ plain ++ raw_word g.step ∷ []
+          → IsWhole plain g.usual x → raw_alone g.step g.usual ≡ Some c → ⊥
+      by [] spelled whole alone = omega (arith, ap length spelled, count)
+      by (word ∷ plain) spelled whole alone =
+          let first : codes "certified" ≡ word = cc in
+          let same = only_certified whole.action (word ∷ plain) x
+          (sym (ap (λ (w : List ℕ). slice_index w 2) first)) whole.gives in
+          let usual = whole.command ∙ ap (λ a. command_of a x.step x.distinct x.optimize) same in
+          let none : None ≡ Some c = ap (raw_alone g.step) (sym usual) ∙ alone in
+          cc
+
+  -- they give it
+  pub witness_call : dashed words ≡ false
+      → IsCall words (2 ^ 24) (record { justice = None; command = commands.Simulated true }) paths
+      proofs
+  witness_call plain = asked_call None words words (commands.Simulated true) (plainly paths 0 proofs)
+      (no_dash words _ plain) (no_dash words _ plain, refl) plain (inr (
+        no_whole,
+        inr (
+          no_alone,
+          record {
+            action = witness.Certified;
+            given = plainly paths 0 proofs;
+            gives = record {
+              steps = [];
+              spelled = refl;
+              paths = two;
+              step = (refl, refl);
+              further = five;
+              distinct = λ is. absurd (false≢true is);
+              raw = λ is. absurd (false≢true is);
+            };
+            command = (refl, refl);
+            rest = refl;
+          },
+        ),
+      )) refl

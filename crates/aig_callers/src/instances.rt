@@ -12,6 +12,7 @@ ghost use Rattle.aig_runs.specs.Safety.{IsSafeAt};
 ghost use Rattle.aig_runs.specs.declared.window.Window.TheVariants.{Plain};
 ghost use Rattle.aig_edit_laws.specs.Fair.{HasFairLasso, HasFairRun};
 ghost use Rattle.aig_join.specs.Constraints.{AreEqualMachinesBy};
+ghost use Rattle.aig_check_commands.specs.Living.{HasNoLassoTo};
 ghost use Rattle.aig_check_commands.specs.Running.{IsShownLine};
 ghost use Rattle.aig_callers.specs.Instances.{AreOf, IsOf, IsPrinted};
 ghost use Rattle.aig_callers.specs.Texts.{usual};
@@ -93,6 +94,12 @@ pub fn printed_lines_are_true()
         other text
         → IsOf file (λ f. (text ≡ codes "no bad state at any step\n")
         × ((n : ℕ) → IsSafeTo f n)) }
+    ensures simulated { (file other text : List ℕ)
+        → IsPrinted
+        (codes "certified" ∷ codes "FILE" ∷ codes "OTHER" ∷ codes "RESET" ∷ codes "TRANSITION"
+        ∷ codes "PROPERTY" ∷ codes "BASE" ∷ codes "STEP" ∷ []) file other text
+        → IsOf file (λ f. (text ≡ codes "no bad state at any step\n")
+        × ((n : ℕ) → IsSafeTo f n)) }
     ensures equal { (file other text : List ℕ)
         → IsPrinted (codes "equal" ∷ codes "FILE" ∷ codes "OTHER" ∷ codes "5" ∷ codes "PROOF" ∷ [])
         file other text
@@ -119,6 +126,19 @@ pub fn printed_lines_are_true()
         ∷ []) file other text
         → IsOf file (λ f. (text ≡ codes "no fair lasso of j0 of 5 steps\n")
         × (¬ HasFairLasso f 0 4)) }
+    ensures fair_refuted_to { (file other text : List ℕ)
+        → IsPrinted
+        (codes "--justice" ∷ codes "0" ∷ codes "refuted" ∷ codes "FILE" ∷ codes "to" ∷ codes "4"
+        ∷ codes "PROOF" ∷ []) file other text
+        → IsOf file (λ f. (text ≡ codes "no fair lasso of j0 of at most 5 steps\n")
+        × HasNoLassoTo f 0 4) }
+    ensures fair_inductive { (file other text : List ℕ)
+        → IsPrinted
+        (codes "--justice" ∷ codes "0" ∷ codes "inductive" ∷ codes "FILE" ∷ codes "4"
+        ∷ codes "PROOF" ∷ []) file other text
+        → IsOf file (λ f. (text
+        ≡ codes "no fair run of j0, if no fair lasso of at most 5 steps\n")
+        × (HasNoLassoTo f 0 4 → ¬ HasFairRun f 0)) }
     ensures fair_safe { (file other text : List ℕ)
         → IsPrinted
         (codes "--justice" ∷ codes "0" ∷ codes "safe" ∷ codes "FILE" ∷ codes "to" ∷ codes "1"

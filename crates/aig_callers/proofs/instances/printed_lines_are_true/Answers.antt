@@ -2,7 +2,7 @@ use Rattle.aig_base.proofs.Words.{◌≡◌, ℕ, List, [], ◌∷◌, ◌++◌,
 use Rattle.std.proofs.lemmas.Fmt.{decimal_digit}
 use Rattle.aig_join.specs.declared.starts.Starts.TheVariants.{Apart}
 use Rattle.aig_check_commands.specs.declared.command.Action.TheVariants as actions
-use Rattle.aig_callers.proofs.KnownLines.{digit, digit_line, justice_call, plain_call}
+use Rattle.aig_callers.proofs.KnownLines.{digit, digit_line, justice_call, plain_call, witness_call}
 use Rattle.aig_callers.proofs.instances.printed_lines_are_true.Goals as goal
 
 -- the files, and what is given beside them
@@ -18,11 +18,24 @@ proof = codes "PROOF" ∷ []
 abbrev proofs : List (List ℕ)
 proofs = codes "BASE" ∷ codes "STEP" ∷ []
 
+abbrev each : List (List ℕ)
+each = codes "RESET" ∷ codes "TRANSITION" ∷ codes "PROPERTY" ∷ proofs
+
 -- the line of five steps
 lasso_5 : (codes "no fair lasso of j" ++ (decimal 0 ++ 32 ∷ []) ++ codes "of ")
     ++ (decimal 5 ++ 32 ∷ []) ++ (codes "steps" ++ 10 ∷ [])
     ≡ codes "no fair lasso of j0 of 5 steps\n"
 lasso_5 = rw (decimal_digit 0 (omega arith), decimal_digit 5 (omega arith)) refl
+
+lasso_to_5 : (codes "no fair lasso of j" ++ (decimal 0 ++ 32 ∷ []) ++ codes "of at most ")
+    ++ (decimal 5 ++ 32 ∷ []) ++ (codes "steps" ++ 10 ∷ [])
+    ≡ codes "no fair lasso of j0 of at most 5 steps\n"
+lasso_to_5 = rw (decimal_digit 0 (omega arith), decimal_digit 5 (omega arith)) refl
+
+if_lasso_5 : (codes "no fair run of j" ++ (decimal 0 ++ 44 ∷ []) ++ codes " if no fair lasso of at most ")
+    ++ (decimal 5 ++ 32 ∷ []) ++ (codes "steps" ++ 10 ∷ [])
+    ≡ codes "no fair run of j0, if no fair lasso of at most 5 steps\n"
+if_lasso_5 = rw (decimal_digit 0 (omega arith), decimal_digit 5 (omega arith)) refl
 
 pub returns-clause-refuted : goal.returns-clause-refuted
 returns-clause-refuted c file other text printed =
@@ -88,6 +101,10 @@ returns-clause-certified c file other text printed =
     (refl, refl) refl) (refl, refl) in
     told
 
+pub returns-clause-simulated : goal.returns-clause-simulated
+returns-clause-simulated c file other text printed =
+    printed _ _ _ (witness_call both each refl refl refl) (refl, refl)
+
 pub returns-clause-equal : goal.returns-clause-equal
 returns-clause-equal c file other text printed =
     let told = printed _ _ _
@@ -133,6 +150,20 @@ returns-clause-fair_refuted c file other text printed =
     (justice_call actions.Refuted one (codes "4" ∷ []) proof 4 refl refl
     (codes "4", refl, digit 4 (omega arith)) refl refl) (refl, refl) refl in
     (told.0, told.1, (told.2.0 ∙ lasso_5, told.2.1))
+
+pub returns-clause-fair_refuted_to : goal.returns-clause-fair_refuted_to
+returns-clause-fair_refuted_to c file other text printed =
+    let told = printed _ _ _
+    (justice_call actions.RefutedTo one (codes "to" ∷ codes "4" ∷ []) proof 4 refl refl
+    (codes "4", refl, digit 4 (omega arith)) refl refl) (refl, refl) refl in
+    (told.0, told.1, (told.2.0 ∙ lasso_to_5, told.2.1))
+
+pub returns-clause-fair_inductive : goal.returns-clause-fair_inductive
+returns-clause-fair_inductive c file other text printed =
+    let told = printed _ _ _
+    (justice_call actions.Inductive one (codes "4" ∷ []) proof 4 refl refl
+    (codes "4", refl, digit 4 (omega arith)) refl refl) (refl, refl) refl in
+    (told.0, told.1, (told.2.0 ∙ if_lasso_5, told.2.1))
 
 pub returns-clause-fair_safe : goal.returns-clause-fair_safe
 returns-clause-fair_safe c file other text printed =
