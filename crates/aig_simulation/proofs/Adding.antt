@@ -1,11 +1,7 @@
 -- Pairs that are found by names, one leaf after another.
-use Rattle.aig_base.proofs.Words.{◌≡◌, ◌≢◌, ℕ, ◌+◌, ◌<◌, ◌==◌, ◌⊎◌, ◌||◌, Bool, true, false, Option, List, [], ◌∷◌, ◌++◌, length, map, take, set, get_or, refl, sym, ap, subst, ◌∙◌, arith, inl, inr, All, AllPairs, Contains, All-contains, All-push, Contains-append_cases, Contains-append_left, Contains-get_or, Contains-push, Contains-push_cases, all_pairs_push, append_assoc, eq-eqb, eqb-true, false≢true, get_or_default, length-set, get_or-set_other, get_or-set_same, get_or-take, length-take, list_any-append, map-append, or-false, take_more}
+use Rattle.aig_simulation.proofs.Words.{◌≡◌, ◌≢◌, ℕ, ◌+◌, ◌<◌, ◌==◌, ◌⊎◌, ◌||◌, Bool, true, false, Option, List, [], ◌∷◌, ◌++◌, length, map, set, get_or, refl, sym, ap, subst, ◌∙◌, arith, inl, inr, All, AllPairs, Contains, All-contains, All-push, Contains-append_cases, Contains-append_left, Contains-get_or, Contains-push, Contains-push_cases, all_pairs_push, append_assoc, eq-eqb, eqb-true, false≢true, get_or_default, length-set, get_or-set_other, get_or-set_same, get_or-take, length-take, list_any-append, map-append, or-false, take_more, is_in-back, is_in-there, Contains-map, Contains-map_back, Sharing, AddsNamed, IsRefused, IsMapping, IsFor, IsNamed, Names}
+use Rattle.aig_base.proofs.Words.{take}
 use Rattle.aig_circuit.specs.Renumber.{is_in}
-use Rattle.aig_renumber.proofs.Kept.{is_in-back, is_in-there}
-use Rattle.aig_renumber.proofs.Places.{Contains-map, Contains-map_back}
-use Rattle.aig_simulation.specs.Simulation.{Sharing}
-use Rattle.aig_simulation.specs.Marked.{AddsNamed, IsRefused}
-use Rattle.aig_simulation.specs.Named.{IsMapping, IsFor, IsNamed, Names}
 use Rattle.aig_simulation.specs.declared.sharing.error.SharingError.TheVariants as errors
 
 -- the model's leaves of pairs, and those that stand for them

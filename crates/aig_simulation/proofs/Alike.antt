@@ -1,12 +1,7 @@
 -- Lists of pairs that say the same of each leaf.
-use Rattle.aig_base.proofs.Words.{◌≡◌, ℕ, Option, Some, None, List, ◌++◌, map, get_or, not, inl, inr, refl, sym, ap, subst, ◌∙◌, All, All-append, All-same, All-weaker, Contains, Contains-append_left, Contains-append_right, false≢true, map-append, same_Some}
-use Rattle.std.specs.Prelude.{is_none}
+use Rattle.aig_simulation.proofs.Words.{◌≡◌, ℕ, Option, Some, None, List, ◌++◌, map, get_or, not, inl, inr, refl, sym, ap, subst, ◌∙◌, All, All-append, All-same, All-weaker, Contains, Contains-append_left, Contains-append_right, false≢true, map-append, same_Some, is_none, is_in-there, model_leaf, Sharing, IsFor, IsLiteralOf, IsNamed, Names, Shares, SharesByName, sharing_prefix}
 use Rattle.aig_circuit.specs.Circuit.{Circuit, latch_leaves}
-use Rattle.aig_renumber.proofs.Kept.{is_in-there}
-use Rattle.aig_simulation.specs.Exact.{model_leaf}
-use Rattle.aig_simulation.specs.Simulation.{Sharing}
 use Rattle.aig_simulation.proofs.Exactly.{model_leaf-found, stands_where_shared}
-use Rattle.aig_simulation.specs.Named.{IsFor, IsLiteralOf, IsNamed, Names, Shares, SharesByName, sharing_prefix}
 use Rattle.aig_simulation.proofs.Adding.{form_of}
 use Rattle.aig_simulation.proofs.Saying.{one_leaf}
 

@@ -1,10 +1,6 @@
 -- The pairs that are shared.
-use Rattle.aig_base.proofs.Words.{◌≡◌, ◌≢◌, ℕ, zero, suc, ◌<◌, Option, List, [], ◌∷◌, ◌++◌, length, map, take, get_or, refl, sym, ap, ap₂, subst, ◌∙◌, arith, inl, inr, All, AllPairs, Contains, All-append, All-contains, All-same, Contains-append_cases, Contains-append_left, Contains-append_right, Contains-get_or, get_or-take, length-take, map-append, zip}
-use Rattle.aig_circuit.proofs.Circuits.{AllPairs-append, latch_leaves-leaves}
-use Rattle.aig_circuit.proofs.Words.{Circuit, IsCircuit, IsLeaf, latch_leaves}
-use Rattle.aig_simulation.specs.Questions.{CanShareLeaves}
-use Rattle.aig_simulation.specs.Simulation.{Sharing}
-use Rattle.aig_simulation.specs.Named.{AreNamed, IsMapping, HasNoMapping, IsFor, IsNamed, Names, SharesByName, in_order}
+use Rattle.aig_simulation.proofs.Words.{◌≡◌, ◌≢◌, ℕ, zero, suc, ◌<◌, Option, List, [], ◌∷◌, ◌++◌, length, map, get_or, refl, sym, ap, ap₂, subst, ◌∙◌, arith, inl, inr, All, AllPairs, Contains, All-append, All-contains, All-same, Contains-append_cases, Contains-append_left, Contains-append_right, Contains-get_or, get_or-take, length-take, map-append, zip, AllPairs-append, latch_leaves-leaves, Circuit, IsCircuit, IsLeaf, latch_leaves, CanShareLeaves, Sharing, AreNamed, IsMapping, HasNoMapping, IsFor, IsNamed, Names, SharesByName, in_order}
+use Rattle.aig_base.proofs.Words.{take}
 use Rattle.aig_simulation.proofs.Adding.{form_of}
 
 -- ---- by names

@@ -1,17 +1,6 @@
 -- The circuit of a question, and what it means that all are never true.
-use Rattle.aig_base.proofs.Words.{All, All-cons, All-nil, All-same, All-weaker, Bool, Contains, IfSome, IsTrue, List, [], ap, append-nil, arith, contains_key, false, false≢true, get-empty, is_some, list_any, nat_cmp, refl, subst, sym, true, ℕ, ◌||◌, ◌↔◌, ◌∙◌, ◌∷◌, ◌≡◌, ◌≤◌}
-use Rattle.aig_circuit.specs.declared.edge.AigEdge.{AigEdge}
-use Rattle.aig_circuit.specs.declared.node.AigLatch.{AigLatch}
-use Rattle.aig_circuit.specs.declared.node.AigNode.{AigNode}
-use Rattle.aig_circuit.proofs.Words.{AreNodes, Circuit, IsCircuit, IsInRange, IsLatch, IsLeaf, edge_value}
-use Rattle.aig_runs.specs.Safety.{IsCircuitSafeAt}
+use Rattle.aig_simulation.proofs.Words.{All, All-cons, All-nil, All-same, All-weaker, Bool, Contains, IfSome, IsTrue, List, [], ap, append-nil, arith, contains_key, false, false≢true, get-empty, is_some, list_any, nat_cmp, refl, subst, sym, true, ℕ, ◌||◌, ◌↔◌, ◌∙◌, ◌∷◌, ◌≡◌, ◌≤◌, AigEdge, AigLatch, AigNode, AreNodes, Circuit, IsCircuit, IsInRange, IsLatch, IsLeaf, edge_value, IsCircuitSafeAt, following-are, following-distinct, following-have, AsksWhether, made_in, with_bad, AsksIf, Holds, IsNeverTrue, CanStart, IsCertificate, IsSharing, Sharing, Condition}
 use Rattle.aig_unroll.specs.Places.{leaves_after}
-use Rattle.aig_unroll.proofs.Added.{following-are, following-distinct, following-have}
-use Rattle.aig_simulation.specs.Asking.{AsksWhether}
-use Rattle.aig_simulation.specs.Exact.{made_in, with_bad}
-use Rattle.aig_simulation.specs.Questions.{AsksIf, Holds, IsNeverTrue}
-use Rattle.aig_simulation.specs.Simulation.{CanStart, IsCertificate, IsSharing, Sharing}
-use Rattle.aig_simulation.specs.declared.condition.Condition.{Condition}
 use Rattle.aig_simulation.specs.declared.condition.Condition.TheVariants.{Base, Property, Reset, Step, Transition}
 
 is_circuit : (nodes : List AigNode) (bad : AigEdge) → AreNodes nodes → IsInRange nodes bad

@@ -1,16 +1,7 @@
 -- Resets that go round in a circle, and others, with which latches can start.
-use Rattle.aig_base.proofs.Words.{◌≡◌, ℕ, zero, suc, ◌+◌, ◌<◌, ◌≤◌, ◌⊎◌, ◌↔◌, Bool, true, false, false≢true, ◌&&◌, Option, Some, None, IfSome, List, [], ◌∷◌, length, get_or, inl, inr, refl, sym, ap, subst, ◌∙◌, arith, All, All-contains, Contains, Contains-get_or, ap₂, below_more, map}
-use Rattle.std.specs.Prelude.{IsTrue, MatchBool}
-use Rattle.aig_circuit.specs.declared.edge.AigEdge.{AigEdge}
-use Rattle.aig_circuit.specs.declared.node.AigLatch.{AigLatch}
-use Rattle.aig_circuit.specs.declared.node.AigNodeType.{AigNodeType}
-use Rattle.aig_circuit.specs.declared.node.AigNodeType.TheVariants.{False, Leaf, And}
-use Rattle.aig_circuit.proofs.Words.{Circuit, IsCircuit, IsFanin, IsInRange, IsLatch, edge_value, inverted_if, kind_at, node_value, root, step}
-use Rattle.aig_circuit.proofs.Trees.{kind_at-there, kind_at-within, node_value-and, node_value-false, node_value-leaf}
-use Rattle.aig_renumber.proofs.Places.{Contains-map}
-use Rattle.aig_simulation.specs.Circles.{AllGrounded, AreResets, HasCircle, IsGrounded, IsTable, Rests, reset_at}
-use Rattle.aig_simulation.specs.Circular.{IsCircular, IsReset, RestsOn}
-use Rattle.aig_simulation.specs.Simulation.{AllOwn, CanStart, IsOwn, Sharing, Starts}
+use Rattle.aig_simulation.proofs.Words.{◌≡◌, ℕ, zero, suc, ◌+◌, ◌<◌, ◌≤◌, ◌⊎◌, ◌↔◌, Bool, true, false, false≢true, ◌&&◌, Option, Some, None, IfSome, List, [], ◌∷◌, length, get_or, inl, inr, refl, sym, ap, subst, ◌∙◌, arith, All, All-contains, Contains, Contains-get_or, ap₂, below_more, map, MatchBool, AigEdge, AigLatch, AigNodeType, False, Leaf, And, Circuit, IsCircuit, IsFanin, IsInRange, IsLatch, edge_value, inverted_if, kind_at, node_value, step, kind_at-there, kind_at-within, node_value-and, node_value-false, node_value-leaf, Contains-map, AllGrounded, AreResets, HasCircle, IsGrounded, IsTable, Rests, reset_at, IsCircular, IsReset, RestsOn, AllOwn, CanStart, IsOwn, Sharing, Starts}
+use Rattle.std.specs.Prelude.{IsTrue}
+use Rattle.aig_circuit.proofs.Words.{root}
 use Rattle.aig_simulation.proofs.Walks.{From, from_itself, ground_ind, joined, no_way_back, walk_by}
 
 module _ (shared : Sharing) (c : Circuit) (is : IsCircuit c) (resets : List (Option AigEdge))

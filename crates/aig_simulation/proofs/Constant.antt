@@ -1,13 +1,5 @@
 -- Constant resets stand in an order.
-use Rattle.aig_base.proofs.Words.{◌≡◌, ◌≢◌, ℕ, suc, ◌<◌, Bool, false, Option, Some, None, IfSome, List, [], ◌∷◌, length, get_or, sym, ap, ◌∙◌, arith, All, AllPairs, All-filter, All-tail, AllPairs-filter, Contains, Contains-get_or, filter_passes, get_or-map, length-map}
-use Rattle.aig_circuit.specs.declared.edge.AigEdge.{AigEdge}
-use Rattle.aig_circuit.specs.declared.node.AigLatch.{AigLatch}
-use Rattle.aig_circuit.proofs.Words.{Circuit, HasConstantInit, IsCircuit, edge_value, inverted_if, latch_leaves, node_value}
-use Rattle.aig_circuit.proofs.Trees.{node_value-false}
-use Rattle.aig_renumber.proofs.Places.{Contains-map_back}
-use Rattle.aig_simulation.specs.Frames.{own_among}
-use Rattle.aig_simulation.specs.Simulation.{Sharing}
-use Rattle.aig_simulation.specs.Stratified.{IsInOrder, IsIndependent, IsStratified}
+use Rattle.aig_simulation.proofs.Words.{◌≡◌, ◌≢◌, ℕ, suc, ◌<◌, Bool, false, Option, Some, None, IfSome, List, [], ◌∷◌, length, get_or, sym, ap, ◌∙◌, arith, All, AllPairs, All-filter, All-tail, AllPairs-filter, Contains, Contains-get_or, filter_passes, get_or-map, length-map, AigEdge, AigLatch, Circuit, HasConstantInit, IsCircuit, edge_value, inverted_if, latch_leaves, node_value, node_value-false, Contains-map_back, own_among, Sharing, IsInOrder, IsIndependent, IsStratified}
 use Rattle.aig_simulation.proofs.Deciding.{filter_each, is_own, owns, passes}
 
 -- the latches have different leaves

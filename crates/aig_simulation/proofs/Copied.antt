@@ -1,18 +1,5 @@
 -- Copies of nodes, one node after another.
-use Rattle.aig_base.proofs.Words.{◌≡◌, ℕ, ◌+◌, ◌<◌, ◌≤◌, Bool, false, ◌&&◌, Option, Some, None, List, [], ◌∷◌, ◌++◌, length, refl, sym, ap, subst, ◌∙◌, arith, below_more, get_or, get_or_append_left, length-append, same_Some, slice_get-get_or, option_map, All, IfSome}
-use Rattle.std.proofs.lemmas.List.{get_or_push}
-use Rattle.aig_circuit.specs.declared.edge.AigEdge.{AigEdge}
-use Rattle.aig_circuit.specs.declared.node.AigNode.{AigNode}
-use Rattle.aig_circuit.specs.declared.node.AigNodeType.{AigNodeType}
-use Rattle.aig_circuit.specs.declared.node.AigNodeType.TheVariants.{False, Leaf, And}
-use Rattle.aig_circuit.proofs.Words.{AreNodes, Grows, IfAnd, IsInRange, IsLeaf, edge_to, edge_value, inverted_if, kind_at, node_value}
-use Rattle.aig_circuit.proofs.Building.{Grows-itself, Grows-then}
-use Rattle.aig_circuit.proofs.Trees.{kind_at-last, kind_at-within, node_value-and, node_value-false, node_value-leaf}
-use Rattle.aig_circuit.proofs.Values.{edge_value_by_leaves}
-use Rattle.aig_unroll.specs.Frame.{image_at, image_in, with_copy}
-use Rattle.aig_unroll.proofs.Copied.{edge_value-image_in}
-use Rattle.aig_simulation.specs.Copies.{Copies, CopiesNode, HasImage, given_at}
-use Rattle.aig_simulation.specs.Exact.{frame_in}
+use Rattle.aig_simulation.proofs.Words.{◌≡◌, ℕ, ◌+◌, ◌<◌, ◌≤◌, Bool, false, ◌&&◌, Option, Some, None, List, [], ◌∷◌, ◌++◌, length, refl, sym, ap, subst, ◌∙◌, arith, below_more, get_or, get_or_append_left, length-append, same_Some, slice_get-get_or, option_map, All, IfSome, get_or_push, AigEdge, AigNode, AigNodeType, False, Leaf, And, AreNodes, Grows, IfAnd, IsInRange, IsLeaf, edge_to, edge_value, inverted_if, kind_at, node_value, Grows-itself, Grows-then, kind_at-last, kind_at-within, node_value-and, node_value-false, node_value-leaf, edge_value_by_leaves, image_at, image_in, with_copy, edge_value-image_in, Copies, CopiesNode, HasImage, given_at, frame_in}
 use Rattle.aig_simulation.proofs.Exactly.{frame_more}
 use Rattle.aig_simulation.proofs.Putting.{put, put_other, put_same}
 

@@ -1,19 +1,5 @@
 -- What the edge of each question decides: that it is never true is that the condition holds.
-use Rattle.aig_base.proofs.Words.{◌≡◌, ℕ, ◌<◌, ◌≤◌, Bool, true, false, not, cond, List, [], ◌∷◌, length, map, filter, get_or, refl, sym, ap, subst, ◌∙◌, arith, All, All-cons, All-filter, All-head, All-nil, All-tail, false≢true, filter_passes}
-use Rattle.aig_circuit.specs.declared.edge.AigEdge.{AigEdge}
-use Rattle.aig_circuit.specs.declared.node.AigLatch.{AigLatch}
-use Rattle.aig_circuit.specs.declared.node.AigNode.{AigNode}
-use Rattle.aig_circuit.specs.declared.node.AigNodeType.TheVariants.{Leaf}
-use Rattle.aig_circuit.proofs.Words.{AreNodes, Circuit, Grows, IsCircuit, IsInRange, IsInitial, IsLatch, IsLeaf, edge_value, is_in}
-use Rattle.aig_circuit.proofs.Building.{Grows-then}
-use Rattle.aig_circuit.proofs.Trees.{kind_at-within}
-use Rattle.aig_join.specs.Pairs.{IsGoodState, MeetsConstraints}
-use Rattle.aig_renumber.proofs.Kept.{is_in-back, is_in-there}
-use Rattle.aig_unroll.specs.Frame.{image_at}
-use Rattle.aig_simulation.specs.Asking.{AsksWhether, IsFalseWhere}
-use Rattle.aig_simulation.specs.Frames.{IsCopy, IsFrame, own_among, read}
-use Rattle.aig_simulation.specs.Questions.{CanShareLeaves}
-use Rattle.aig_simulation.specs.Simulation.{Agrees, AllOwn, BaseHolds, IsMove, IsOwn, TakesNext, PropertyHolds, ResetHolds, Sharing, Starts, StepHolds, TransitionHolds}
+use Rattle.aig_simulation.proofs.Words.{◌≡◌, ℕ, ◌<◌, ◌≤◌, Bool, true, false, not, cond, List, [], ◌∷◌, length, map, filter, get_or, refl, sym, ap, subst, ◌∙◌, arith, All, All-cons, All-filter, All-head, All-nil, All-tail, false≢true, filter_passes, AigEdge, AigLatch, AigNode, Leaf, AreNodes, Circuit, Grows, IsCircuit, IsInRange, IsInitial, IsLatch, IsLeaf, edge_value, is_in, Grows-then, kind_at-within, IsGoodState, MeetsConstraints, is_in-back, is_in-there, image_at, AsksWhether, IsFalseWhere, IsCopy, IsFrame, own_among, read, CanShareLeaves, Agrees, AllOwn, BaseHolds, IsMove, IsOwn, TakesNext, PropertyHolds, ResetHolds, Sharing, Starts, StepHolds, TransitionHolds}
 use Rattle.aig_simulation.proofs.Copied.{same_below}
 use Rattle.aig_simulation.proofs.Giving.{copy_stays}
 use Rattle.aig_simulation.proofs.Reading.{all_start_same, constraints_same, good_same, moves_same, value_same}

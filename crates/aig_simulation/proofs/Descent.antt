@@ -1,16 +1,11 @@
 -- The steps of a search for a circle.
-use Rattle.aig_base.proofs.Words.{◌≡◌, ◌≢◌, ℕ, ◌+◌, ◌<◌, ◌⊎◌, Bool, true, false, cond, Option, Some, List, [], ◌∷◌, ◌++◌, length, get_or, set, inl, inr, refl, sym, ap, subst, ◌∙◌, arith, All, AllPairs, All-contains, All-push, Contains, Contains-append_left, Contains-push, Contains-push_cases, all_pairs_push, cases_eq, false≢true, suc, zero, get_or-set_other, get_or-set_same, length-append, length-replicate, length-set, replicate, same_Some, sum_by-set}
-use Rattle.std.proofs.lemmas.List.{get_or_append_left, get_or_push}
-use Rattle.std.proofs.lemmas.List.Elements.{All-pop}
-use Rattle.aig_circuit.specs.declared.edge.AigEdge.{AigEdge}
-use Rattle.aig_circuit.specs.declared.node.AigNode.{AigNode}
-use Rattle.aig_circuit.proofs.Words.{IsFanin, IsMarked, kind_at, step}
-use Rattle.aig_circuit.specs.declared.node.AigNodeType.TheVariants.{And}
-use Rattle.aig_circuit.proofs.Trees.{kind_at-within}
+use Rattle.aig_simulation.proofs.Words.{◌≡◌, ◌≢◌, ℕ, ◌+◌, ◌<◌, ◌⊎◌, Bool, true, false, cond, Option, Some, List, [], ◌∷◌, ◌++◌, length, get_or, set, inl, inr, refl, sym, ap, subst, ◌∙◌, arith, All, AllPairs, All-contains, All-push, Contains, Contains-append_left, Contains-push, Contains-push_cases, all_pairs_push, cases_eq, false≢true, suc, zero, get_or-set_other, get_or-set_same, length-append, length-replicate, length-set, replicate, same_Some, sum_by-set, get_or_push, All-pop, AigEdge, AigNode, IsFanin, kind_at, step, And, kind_at-within, HasCircle, IsAtRest, IsGrounded, IsNew, IsSearch, IsTable, Leads, Opens, Rests, Settles, Turns, closed_count, grounded, work_of}
+use Rattle.std.proofs.lemmas.List.{get_or_append_left}
+use Rattle.aig_circuit.proofs.Words.{IsMarked}
 use Rattle.aig_simulation.specs.declared.circles.Search.{Search}
 use Rattle.aig_simulation.specs.declared.circles.Turn.{Turn}
 use Rattle.aig_simulation.specs.declared.circles.Turn.TheVariants.{Node, Done, Circle}
-use Rattle.aig_simulation.specs.Circles.{HasCircle, IsAt, IsAtRest, IsGrounded, IsNew, IsSearch, IsTable, Leads, Opens, Rests, Settles, Turns, closed_count, grounded, work_of}
+use Rattle.aig_simulation.specs.Circles.{IsAt}
 use Rattle.aig_simulation.proofs.Walks.{from_itself}
 
 -- ---- pairs of a list with one entry more

@@ -1,26 +1,7 @@
 -- Which gates, edges and copies are made, one for one.
-use Rattle.aig_base.proofs.Words.{◌≡◌, ℕ, suc, ◌+◌, ◌<◌, ◌==◌, Bool, true, false, cond, not, ◌||◌, Option, Some, None, List, [], ◌∷◌, ◌++◌, length, map, filter, drop, get_or, option_map, refl, sym, ap, ap₂, subst, ◌∙◌, add-one, arith, inl, inr, All-contains, drop_more, eqb-true, false≢true, fun_ext, same_Some}
-use Rattle.std.specs.Prelude.{is_none}
+use Rattle.aig_simulation.proofs.Words.{◌≡◌, ℕ, suc, ◌+◌, ◌<◌, ◌==◌, Bool, true, false, cond, not, ◌||◌, Option, Some, None, List, [], ◌∷◌, ◌++◌, length, map, filter, drop, get_or, option_map, refl, sym, ap, ap₂, subst, ◌∙◌, add-one, arith, inl, inr, All-contains, drop_more, eqb-true, false≢true, fun_ext, same_Some, is_none, AigEdge, AigLatch, AigNode, AigNodeType, And, False, JoinsFromLeft, with_node, inverse_twice, Circuit, FoldsOrAdds, and_of, edge_to, inverse, is_in, kind_at, FoldsOrAddsAll, FoldsOrAddsEq, is_in-there, Contains-map_back, Frame, frame_to, image_at, image_in, next_of, with_copy, Pair, start_pair, given_at, Listed, Made, asked_base, asked_of, asked_property, asked_reset, asked_step, asked_transition, constraint_edges, copy_after, frame_in, good_edges, listed_in, made_by, made_in, make_all, make_and, make_ands, make_base, make_equal, make_property, make_refuting, make_reset, make_step, make_transition, model_leaf, move_edges, next_leaves, no_leaf, own_latches, question_of, shared_leaves, start_edges, with_bad, with_equal, with_made, GivesAll, own_among, Sharing, Condition}
 use Rattle.std.specs.Option.{option_or}
-use Rattle.aig_circuit.specs.declared.edge.AigEdge.{AigEdge}
-use Rattle.aig_circuit.specs.declared.node.AigLatch.{AigLatch}
-use Rattle.aig_circuit.specs.declared.node.AigNode.{AigNode}
-use Rattle.aig_circuit.specs.declared.node.AigNodeType.{AigNodeType}
-use Rattle.aig_circuit.specs.declared.node.AigNodeType.TheVariants.{And, False}
-use Rattle.aig_circuit.specs.Build.{JoinsFromLeft, with_node}
-use Rattle.aig_circuit.proofs.Joining.{inverse_twice}
-use Rattle.aig_circuit.proofs.Words.{Circuit, FoldsOrAdds, and_of, edge_to, inverse, is_in, kind_at}
-use Rattle.aig_circuit.specs.Build.{FoldsOrAddsAll, FoldsOrAddsEq}
-use Rattle.aig_renumber.proofs.Kept.{is_in-there}
-use Rattle.aig_renumber.proofs.Places.{Contains-map_back}
-use Rattle.aig_unroll.specs.Frame.{Frame, frame_to, image_at, image_in, next_of, with_copy}
 use Rattle.aig_unroll.proofs.Framed.{folded-Folds, folded-none, next_of-found, next_of-none, with_folded-rule}
-use Rattle.aig_simulation.specs.Asking.{Pair, start_pair}
-use Rattle.aig_simulation.specs.Copies.{given_at}
-use Rattle.aig_simulation.specs.Exact.{Listed, Made, asked_base, asked_of, asked_property, asked_reset, asked_step, asked_transition, constraint_edges, copy_after, frame_in, good_edges, listed_in, made_by, made_in, make_all, make_and, make_ands, make_base, make_equal, make_property, make_refuting, make_reset, make_step, make_transition, model_leaf, move_edges, next_leaves, no_leaf, own_latches, question_of, shared_leaves, start_edges, with_bad, with_equal, with_made}
-use Rattle.aig_simulation.specs.Frames.{GivesAll, own_among}
-use Rattle.aig_simulation.specs.Simulation.{Sharing}
-use Rattle.aig_simulation.specs.declared.condition.Condition.{Condition}
 
 -- ---- gates
 

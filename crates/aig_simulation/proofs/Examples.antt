@@ -1,14 +1,6 @@
 -- Witness circuits that are none.
-use Rattle.aig_base.proofs.Words.{◌≡◌, ℕ, zero, suc, ◌∙◌, ap, ◌==◌, Bool, true, false, not, Option, Some, None, IfSome, List, [], ◌∷◌, refl, sym, arith, All, All-cons, All-nil, false≢true, ne_eqb}
-use Rattle.aig_circuit.specs.declared.edge.AigEdge.{AigEdge}
-use Rattle.aig_circuit.specs.declared.node.AigLatch.{AigLatch}
-use Rattle.aig_circuit.specs.declared.node.AigNodeType.TheVariants.{False, Leaf}
-use Rattle.aig_circuit.proofs.Words.{Circuit, IsInitial, edge_to, edge_value, no_properties, only_false}
+use Rattle.aig_simulation.proofs.Words.{◌≡◌, ℕ, zero, suc, ◌∙◌, ap, ◌==◌, Bool, true, false, not, Option, Some, None, IfSome, List, [], ◌∷◌, refl, sym, arith, All, All-cons, All-nil, false≢true, ne_eqb, AigEdge, AigLatch, False, Leaf, Circuit, IsInitial, edge_to, edge_value, no_properties, only_false, root, IsCircular, Agrees, AllOwn, BaseHolds, CanStart, IsMove, IsOwn, IsSharing, TakesNext, PropertyHolds, ResetHolds, Sharing, Starts, StepHolds, TransitionHolds, IsInOrder}
 use Rattle.aig_circuit.specs.Tree.{node_value, tree_of}
-use Rattle.aig_circuit.specs.Reach.{root}
-use Rattle.aig_simulation.specs.Circular.{IsCircular}
-use Rattle.aig_simulation.specs.Simulation.{Agrees, AllOwn, BaseHolds, CanStart, IsMove, IsOwn, IsSharing, TakesNext, PropertyHolds, ResetHolds, Sharing, Starts, StepHolds, TransitionHolds}
-use Rattle.aig_simulation.specs.Stratified.{IsInOrder}
 
 -- a latch whose leaf is node 1
 abbrev latch : AigEdge → Option AigEdge → AigLatch

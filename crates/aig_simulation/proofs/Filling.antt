@@ -1,11 +1,5 @@
 -- Resets that are filled in, in order.
-use Rattle.aig_base.proofs.Words.{◌≡◌, ℕ, Bool, false, Option, Some, None, arith, List, [], ◌∷◌, map, get_or, refl, sym, subst, ◌∙◌, IfSome, All, Contains, All-cons, All-contains, Contains-get_or}
-use Rattle.aig_circuit.specs.declared.edge.AigEdge.{AigEdge}
-use Rattle.aig_circuit.specs.declared.node.AigLatch.{AigLatch}
-use Rattle.aig_circuit.proofs.Words.{Circuit, edge_value, latch_leaves}
-use Rattle.aig_renumber.proofs.Places.{Contains-map, Contains-map_back}
-use Rattle.aig_simulation.specs.Simulation.{AllOwn, CanStart, IsOwn, Sharing, Starts}
-use Rattle.aig_simulation.specs.Stratified.{IsInOrder, IsIndependent, IsStratified}
+use Rattle.aig_simulation.proofs.Words.{◌≡◌, ℕ, Bool, false, Option, Some, None, arith, List, [], ◌∷◌, map, get_or, refl, sym, subst, ◌∙◌, IfSome, All, Contains, All-cons, All-contains, Contains-get_or, AigEdge, AigLatch, Circuit, edge_value, latch_leaves, Contains-map, Contains-map_back, AllOwn, CanStart, IsOwn, Sharing, Starts, IsInOrder, IsIndependent, IsStratified}
 use Rattle.aig_simulation.proofs.Putting.{Contains-first, Contains-later, put, put_other, put_same}
 
 module _ (c : Circuit) where

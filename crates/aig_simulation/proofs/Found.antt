@@ -1,15 +1,5 @@
 -- The pairs that both lists of leaves give by their names.
-use Rattle.aig_base.proofs.Words.{◌≡◌, ℕ, ◌<◌, Bool, false, Option, List, [], ◌++◌, length, map, get_or, sym, ap, subst, ◌∙◌, arith, inl, inr, All, Contains, All-contains, Contains-append_left, Contains-append_right, cases_lt, false≢true}
-use Rattle.std.proofs.lemmas.List.{get_or_past}
-use Rattle.aig_circuit.specs.declared.node.AigNodeType.TheVariants.{Leaf}
-use Rattle.aig_circuit.proofs.Circuits.{latch_leaves-leaves}
-use Rattle.aig_circuit.proofs.Trees.{kind_at-within}
-use Rattle.aig_circuit.proofs.Words.{Circuit, IsCircuit, IsLeaf, latch_leaves}
-use Rattle.aig_renumber.proofs.Kept.{is_in-back, is_in-there}
-use Rattle.aig_renumber.proofs.Places.{Contains-map_back}
-use Rattle.aig_simulation.specs.Simulation.{Sharing}
-use Rattle.aig_simulation.specs.Marked.{AddsNamed, IsAt, IsRefused, Marks}
-use Rattle.aig_simulation.specs.Named.{AreNamed, IsFault, IsFor, IsNamed, Names, SharesByName}
+use Rattle.aig_simulation.proofs.Words.{◌≡◌, ℕ, ◌<◌, Bool, false, Option, List, [], ◌++◌, length, map, get_or, sym, ap, subst, ◌∙◌, arith, inl, inr, All, Contains, All-contains, Contains-append_left, Contains-append_right, cases_lt, false≢true, get_or_past, Leaf, latch_leaves-leaves, kind_at-within, Circuit, IsCircuit, IsLeaf, latch_leaves, is_in-back, is_in-there, Contains-map_back, Sharing, AddsNamed, IsAt, IsRefused, Marks, AreNamed, IsFault, IsFor, IsNamed, Names, SharesByName}
 use Rattle.aig_simulation.specs.declared.sharing.error.SharingError.{SharingError}
 use Rattle.aig_simulation.specs.declared.sharing.error.SharingError.TheVariants as errors
 

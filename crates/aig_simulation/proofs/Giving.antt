@@ -1,19 +1,6 @@
 -- Edges that are given for leaves, and the copy that is made with them.
-use Rattle.aig_base.proofs.Words.{◌≡◌, ◌≢◌, ℕ, zero, suc, replicate, IfSome, get_or_default, ◌+◌, ◌<◌, ◌≤◌, ◌⊎◌, Bool, true, false, Option, Some, None, List, [], ◌∷◌, ◌++◌, length, map, take, set, get_or, refl, sym, ap, subst, ◌∙◌, arith, inl, inr, All, AllPairs, Contains, All-contains, All-push, All-same, Contains-push, Contains-append_left, get_or-map, get_or-set_other, get_or-set_same, get_or-take, length-map, length-take, map-append, same_Some, take_all, take_more}
-use Rattle.aig_circuit.specs.declared.edge.AigEdge.{AigEdge}
-use Rattle.aig_circuit.specs.declared.node.AigLatch.{AigLatch}
-use Rattle.aig_circuit.specs.declared.node.AigNode.{AigNode}
-use Rattle.aig_circuit.specs.declared.node.AigNodeType.TheVariants.{Leaf}
-use Rattle.aig_circuit.proofs.Words.{AreNodes, Circuit, Grows, IsInRange, IsLatch, IsLeaf, edge_value, inverted_if, is_in}
-use Rattle.aig_circuit.proofs.Trees.{kind_at-within}
-use Rattle.aig_circuit.proofs.Values.{edge_value_by_leaves}
-use Rattle.aig_renumber.proofs.Kept.{is_in-back, is_in-there}
-use Rattle.aig_renumber.proofs.Places.{Contains-map_back}
-use Rattle.aig_unroll.specs.Frame.{image_at, image_in}
-use Rattle.aig_unroll.proofs.Copied.{edge_value-image_in}
-use Rattle.aig_simulation.specs.Copies.{Copies, HasImage, given_at}
-use Rattle.aig_simulation.specs.Frames.{GivesAll, IsCopy, IsFrame, read}
-use Rattle.aig_simulation.specs.Simulation.{AllOwn, IsOwn, Sharing}
+use Rattle.aig_simulation.proofs.Words.{◌≡◌, ◌≢◌, ℕ, zero, suc, replicate, IfSome, get_or_default, ◌+◌, ◌<◌, ◌≤◌, ◌⊎◌, Bool, true, false, Option, Some, None, List, [], ◌∷◌, ◌++◌, length, map, set, get_or, refl, sym, ap, subst, ◌∙◌, arith, inl, inr, All, AllPairs, Contains, All-contains, All-push, All-same, Contains-push, Contains-append_left, get_or-map, get_or-set_other, get_or-set_same, get_or-take, length-map, length-take, map-append, same_Some, take_all, take_more, AigEdge, AigLatch, AigNode, Leaf, AreNodes, Circuit, Grows, IsInRange, IsLatch, IsLeaf, edge_value, inverted_if, is_in, kind_at-within, edge_value_by_leaves, is_in-back, is_in-there, Contains-map_back, image_at, image_in, edge_value-image_in, Copies, HasImage, given_at, GivesAll, IsCopy, IsFrame, read, AllOwn, IsOwn, Sharing}
+use Rattle.aig_base.proofs.Words.{take}
 use Rattle.aig_simulation.proofs.Exactly.{copy_is}
 
 -- ---- what is given

@@ -1,3 +1,4 @@
+mod Words
 pub mod Putting
 pub mod Tracking
 pub mod Filling

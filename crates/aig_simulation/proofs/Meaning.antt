@@ -1,13 +1,7 @@
 -- What it means that edges hold: lists of edges that grow beside the nodes.
-use Rattle.aig_base.proofs.Words.{◌≡◌, ℕ, ◌+◌, ◌<◌, ◌≤◌, ◌↔◌, Bool, true, false, not, ◌&&◌, IsTrue, List, [], ◌∷◌, ◌++◌, length, map, take, get_or, refl, sym, ap, ◌∙◌, arith, All, All-append, All-head, All-map, All-nil, All-push, All-same, All-tail, AllPass-from_list_all, list_all, subst, take_all, take_more}
+use Rattle.aig_simulation.proofs.Words.{◌≡◌, ℕ, ◌+◌, ◌<◌, ◌≤◌, ◌↔◌, Bool, true, false, not, ◌&&◌, IsTrue, List, [], ◌∷◌, ◌++◌, length, map, get_or, refl, sym, ap, ◌∙◌, arith, All, All-append, All-head, All-map, All-nil, All-push, All-same, All-tail, AllPass-from_list_all, list_all, subst, take_all, take_more, AigEdge, AigNode, AddsGates, GivesEdge, Grows, IsInRange, JoinsByAnd, edge_value, inverse, Grows-then, edge_value-inverse, All-first, All-from_map, All-second, Adds, AllHold, HoldWhere, IsEqual, IsFalseWhere, Pair}
+use Rattle.aig_base.proofs.Words.{take}
 use Rattle.std.proofs.lemmas.List.Sums.{list_all-from_AllPass}
-use Rattle.aig_circuit.specs.declared.edge.AigEdge.{AigEdge}
-use Rattle.aig_circuit.specs.declared.node.AigNode.{AigNode}
-use Rattle.aig_circuit.proofs.Words.{AddsGates, GivesEdge, Grows, IsInRange, JoinsByAnd, edge_value, inverse}
-use Rattle.aig_circuit.proofs.Building.{Grows-then}
-use Rattle.aig_circuit.proofs.Joining.{edge_value-inverse}
-use Rattle.aig_circuit.proofs.Lists.{All-first, All-from_map, All-second}
-use Rattle.aig_simulation.specs.Asking.{Adds, AllHold, HoldWhere, IsEqual, IsFalseWhere, Pair}
 
 -- both edges are there
 abbrev pub IsPair : List AigNode → Pair → Type 0

@@ -1,20 +1,5 @@
 -- States that are read off copies, and what holds of them.
-use Rattle.aig_base.proofs.Words.{◌≡◌, ℕ, ◌<◌, ◌↔◌, Bool, true, false, not, IsTrue, Option, Some, None, IfSome, List, ◌++◌, length, map, get_or, refl, sym, ap, ◌∙◌, arith, All, All-map, subst}
-use Rattle.aig_circuit.specs.declared.edge.AigEdge.{AigEdge}
-use Rattle.aig_circuit.specs.declared.node.AigLatch.{AigLatch}
-use Rattle.aig_circuit.specs.declared.node.AigNode.{AigNode}
-use Rattle.aig_circuit.specs.declared.node.AigNodeType.TheVariants.{Leaf}
-use Rattle.aig_circuit.proofs.Words.{Circuit, IsCircuit, IsInRange, IsLatch, IsLeaf, edge_value, inverse}
-use Rattle.aig_circuit.proofs.Joining.{edge_value-inverse}
-use Rattle.aig_circuit.proofs.Lists.{All-from_map}
-use Rattle.aig_circuit.proofs.Trees.{kind_at-within}
-use Rattle.aig_circuit.proofs.Values.{edge_value_by_leaves}
-use Rattle.aig_join.specs.Pairs.{IsGoodState, MeetsConstraints}
-use Rattle.aig_unroll.specs.Frame.{image_at, image_in}
-use Rattle.aig_simulation.specs.Asking.{Adds, HoldWhere, IsEqual, Pair, move_pair, start_image, start_pair}
-use Rattle.aig_simulation.specs.Copies.{HasImage}
-use Rattle.aig_simulation.specs.Frames.{IsCopy, read}
-use Rattle.aig_simulation.specs.Simulation.{IsMove, Starts}
+use Rattle.aig_simulation.proofs.Words.{◌≡◌, ℕ, ◌<◌, ◌↔◌, Bool, true, false, not, IsTrue, Option, Some, None, IfSome, List, ◌++◌, length, map, get_or, refl, sym, ap, ◌∙◌, arith, All, All-map, subst, AigEdge, AigLatch, AigNode, Leaf, Circuit, IsCircuit, IsInRange, IsLatch, IsLeaf, edge_value, inverse, edge_value-inverse, All-from_map, kind_at-within, edge_value_by_leaves, IsGoodState, MeetsConstraints, image_at, image_in, Adds, HoldWhere, IsEqual, Pair, move_pair, start_image, start_pair, HasImage, IsCopy, read, IsMove, Starts}
 use Rattle.aig_simulation.proofs.Meaning.{IsPair, hold_equal, hold_images, hold_words}
 
 -- ---- leaves decide

@@ -1,12 +1,6 @@
 -- Tables of the initial edges of latches.
-use Rattle.aig_base.proofs.Words.{◌≡◌, ◌≢◌, ℕ, ◌+◌, ◌<◌, ◌⊎◌, Option, Some, None, List, [], ◌∷◌, ◌++◌, length, take, get_or, set, inl, inr, sym, ap, subst, ◌∙◌, arith, All, All-contains, All-contains_itself, All-filter, All-push, All-same, Contains, Contains-append_left, Contains-get_or, Contains-push, cases_eq, filter_passes, get_or-set_other, get_or-set_same, get_or-take, get_or_default, length-take, take_more}
-use Rattle.aig_circuit.specs.declared.edge.AigEdge.{AigEdge}
-use Rattle.aig_circuit.specs.declared.node.AigLatch.{AigLatch}
-use Rattle.aig_circuit.proofs.Words.{Circuit}
-use Rattle.aig_simulation.specs.Circles.{AreResets, HoldsResets, reset_at}
-use Rattle.aig_simulation.specs.Circular.{IsReset}
-use Rattle.aig_simulation.specs.Frames.{own_among}
-use Rattle.aig_simulation.specs.Simulation.{IsOwn, Sharing}
+use Rattle.aig_simulation.proofs.Words.{◌≡◌, ◌≢◌, ℕ, ◌+◌, ◌<◌, ◌⊎◌, Option, Some, None, List, [], ◌∷◌, ◌++◌, length, get_or, set, inl, inr, sym, ap, subst, ◌∙◌, arith, All, All-contains, All-contains_itself, All-filter, All-push, All-same, Contains, Contains-append_left, Contains-get_or, Contains-push, cases_eq, filter_passes, get_or-set_other, get_or-set_same, get_or-take, get_or_default, length-take, take_more, AigEdge, AigLatch, Circuit, AreResets, HoldsResets, reset_at, IsReset, own_among, IsOwn, Sharing}
+use Rattle.aig_base.proofs.Words.{take}
 use Rattle.aig_simulation.proofs.Constant.{AreApart}
 use Rattle.aig_simulation.proofs.Deciding.{filter_each, is_own, owns, passes}
 

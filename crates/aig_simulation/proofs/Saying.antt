@@ -1,9 +1,6 @@
 -- What a name says, and pairs by order.
-use Rattle.aig_base.proofs.Words.{◌≡◌, ◌≢◌, ℕ, zero, suc, ◌+◌, ◌*◌, ◌<◌, ◌≤◌, Bool, Option, Some, None, List, [], ◌∷◌, ◌++◌, length, take, get_or, refl, sym, ap, subst, ◌∙◌, arith, MatchOption, same_Some, zip, add-one}
-use Rattle.std.proofs.Common.{Bor}
-use Rattle.std.specs.FinMap.{get}
-use Rattle.aig_simulation.specs.Marked.{IsAt}
-use Rattle.aig_simulation.specs.Named.{IsMapping, IsFor, IsLiteralOf, IsNamed, Names, sharing_prefix}
+use Rattle.aig_simulation.proofs.Words.{◌≡◌, ◌≢◌, ℕ, zero, suc, ◌+◌, ◌*◌, ◌<◌, ◌≤◌, Bool, Option, Some, None, List, [], ◌∷◌, ◌++◌, length, get_or, refl, sym, ap, subst, ◌∙◌, arith, MatchOption, same_Some, zip, add-one, Bor, get, IsAt, IsMapping, IsFor, IsLiteralOf, IsNamed, Names, sharing_prefix}
+use Rattle.aig_base.proofs.Words.{take}
 
 -- what follows both bytes of the prefix
 pub both_bytes : (name rest : List ℕ) (r : Option (Bor (List ℕ))) → name ≡ 61 ∷ rest

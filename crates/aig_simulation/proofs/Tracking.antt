@@ -1,12 +1,7 @@
 -- A run of the witness circuit beside one of the model.
-use Rattle.aig_base.proofs.Words.{◌≡◌, ℕ, zero, suc, ◌<◌, ◌≤◌, Bool, false, get_or, sym, subst, ◌∙◌, arith, All, add-one, false≢true}
+use Rattle.aig_simulation.proofs.Words.{◌≡◌, ℕ, zero, suc, ◌<◌, ◌≤◌, Bool, false, get_or, sym, subst, ◌∙◌, arith, All, add-one, false≢true, AigLatch, Circuit, IsCircuit, IsInitial, IsRun, edge_value, IsGoodState, MeetsConstraints, IsCircuitSafeAt, Agrees, AllOwn, IsCertificate, IsMove, TakesNext, Sharing, Starts}
 use Rattle.std.proofs.lemmas.List.Folds.{list_any_none}
-use Rattle.aig_circuit.specs.declared.node.AigLatch.{AigLatch}
-use Rattle.aig_circuit.proofs.Words.{Circuit, IsCircuit, IsInitial, IsRun, edge_value}
 use Rattle.aig_change.specs.Runs.{IsAllowedRun}
-use Rattle.aig_join.specs.Pairs.{IsGoodState, MeetsConstraints}
-use Rattle.aig_runs.specs.Safety.{IsCircuitSafeAt}
-use Rattle.aig_simulation.specs.Simulation.{Agrees, AllOwn, IsCertificate, IsMove, TakesNext, Sharing, Starts}
 use Rattle.aig_simulation.proofs.Putting.{puts, puts_each, puts_other}
 
 module _ (shared : Sharing) (model witness : Circuit) (is : IsCircuit witness)

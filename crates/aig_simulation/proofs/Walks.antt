@@ -1,7 +1,6 @@
 -- Walks along steps, and nodes from which none goes on for ever.
-use Rattle.aig_base.proofs.Words.{◌≡◌, ℕ, ◌⊎◌, List, [], ◌∷◌, inl, inr, sym, subst, arith, Contains, Contains-push, Contains-push_cases}
-use Rattle.aig_circuit.specs.Reach.{IsReached, root, step}
-use Rattle.aig_simulation.specs.Circles.{IsGrounded, grounded}
+use Rattle.aig_simulation.proofs.Words.{◌≡◌, ℕ, ◌⊎◌, List, [], ◌∷◌, inl, inr, sym, subst, arith, Contains, Contains-push, Contains-push_cases, IsReached, root, IsGrounded, grounded}
+use Rattle.aig_circuit.specs.Reach.{step}
 
 -- the one node of a list
 only_one : (n k : ℕ) → Contains (n ∷ []) k → n ≡ k

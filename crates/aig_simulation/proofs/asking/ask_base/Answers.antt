@@ -1,11 +1,4 @@
-use Rattle.aig_base.proofs.Words.{◌≡◌, ◌∙◌, ◌++◌, IfOk-weaker, List, [], map}
-use Rattle.aig_circuit.specs.declared.edge.AigEdge.{AigEdge}
-use Rattle.aig_circuit.specs.declared.node.AigNode.{AigNode}
-use Rattle.aig_circuit.proofs.Words.{Circuit, Grows, IsCircuit, IsInitial, inverse}
-use Rattle.aig_join.specs.Pairs.{IsGoodState, MeetsConstraints}
-use Rattle.aig_unroll.specs.Frame.{image_in}
-use Rattle.aig_simulation.specs.Asking.{HoldWhere}
-use Rattle.aig_simulation.specs.Frames.{IsCopy, read}
+use Rattle.aig_simulation.proofs.Words.{◌≡◌, ◌∙◌, ◌++◌, IfOk-weaker, List, [], map, AigEdge, AigNode, Circuit, Grows, IsCircuit, IsInitial, inverse, IsGoodState, MeetsConstraints, image_in, HoldWhere, IsCopy, read}
 use Rattle.aig_simulation.proofs.Exactly.{base_is, pushed_is}
 use Rattle.aig_simulation.proofs.Meaning.{hold_none_yet, hold_same, refuting_by}
 use Rattle.aig_simulation.proofs.Reading.{hold_good}

@@ -1,15 +1,4 @@
-use Rattle.aig_base.proofs.Words.{◌≡◌, ◌∙◌, ◌↔◌, ℕ, Bool, All, IfOk-weaker, List, map, subst, sym}
-use Rattle.aig_circuit.specs.declared.edge.AigEdge.{AigEdge}
-use Rattle.aig_circuit.specs.declared.node.AigNode.{AigNode}
-use Rattle.aig_circuit.specs.declared.node.AigNodeType.TheVariants.{Leaf}
-use Rattle.aig_circuit.proofs.Building.{Grows-then}
-use Rattle.aig_circuit.proofs.Trees.{kind_at-within}
-use Rattle.aig_circuit.proofs.Words.{Circuit, Grows, IsCircuit, IsInitial, IsLeaf}
-use Rattle.aig_join.specs.Pairs.{MeetsConstraints}
-use Rattle.aig_unroll.specs.Frame.{image_at}
-use Rattle.aig_simulation.specs.Asking.{start_pair}
-use Rattle.aig_simulation.specs.Frames.{IsCopy, read}
-use Rattle.aig_simulation.specs.Simulation.{Starts}
+use Rattle.aig_simulation.proofs.Words.{◌≡◌, ◌∙◌, ◌↔◌, ℕ, Bool, All, IfOk-weaker, List, map, subst, sym, AigEdge, AigNode, Leaf, Grows-then, kind_at-within, Circuit, Grows, IsCircuit, IsInitial, IsLeaf, MeetsConstraints, image_at, start_pair, IsCopy, read, Starts}
 use Rattle.aig_simulation.proofs.Exactly.{reset_is}
 use Rattle.aig_simulation.proofs.Giving.{copy_stays}
 use Rattle.aig_simulation.proofs.Meaning.{IsPair, hold_base, hold_later, hold_same, pairs-later, refuting_by}

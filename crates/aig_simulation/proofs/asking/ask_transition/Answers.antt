@@ -1,14 +1,4 @@
-use Rattle.aig_base.proofs.Words.{◌≡◌, ◌∙◌, ◌++◌, ℕ, Bool, IfOk-weaker, List, [], map}
-use Rattle.aig_circuit.specs.declared.edge.AigEdge.{AigEdge}
-use Rattle.aig_circuit.specs.declared.node.AigNode.{AigNode}
-use Rattle.aig_circuit.proofs.Building.{Grows-itself}
-use Rattle.aig_circuit.proofs.Words.{AreNodes, Circuit, Grows, IsCircuit}
-use Rattle.aig_join.specs.Pairs.{MeetsConstraints}
-use Rattle.aig_unroll.specs.Frame.{image_in}
-use Rattle.aig_simulation.specs.Asking.{HoldWhere}
-use Rattle.aig_simulation.specs.Frames.{IsCopy, read}
-use Rattle.aig_simulation.specs.Simulation.{IsMove}
-use Rattle.aig_simulation.specs.Exact.{constraint_edges}
+use Rattle.aig_simulation.proofs.Words.{◌≡◌, ◌∙◌, ◌++◌, ℕ, Bool, IfOk-weaker, List, [], map, AigEdge, AigNode, Grows-itself, AreNodes, Circuit, Grows, IsCircuit, MeetsConstraints, image_in, HoldWhere, IsCopy, read, IsMove, constraint_edges}
 use Rattle.aig_simulation.proofs.Exactly.{pushed_is, transition_is}
 use Rattle.aig_simulation.proofs.Meaning.{hold_later, hold_none_yet, hold_same, refuting_by}
 use Rattle.aig_simulation.proofs.Reading.{hold_constraints}

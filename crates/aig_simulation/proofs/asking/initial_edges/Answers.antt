@@ -1,11 +1,4 @@
-use Rattle.aig_base.proofs.Words.{◌∙◌, All, ap, map, subst, sym}
-use Rattle.aig_circuit.proofs.Building.{Grows-itself}
-use Rattle.aig_circuit.proofs.Words.{IsInitial}
-use Rattle.aig_join.specs.Pairs.{MeetsConstraints}
-use Rattle.aig_unroll.specs.Frame.{image_in}
-use Rattle.aig_simulation.specs.Asking.{start_pair}
-use Rattle.aig_simulation.specs.Exact.{constraint_edges}
-use Rattle.aig_simulation.specs.Frames.{read}
+use Rattle.aig_simulation.proofs.Words.{◌∙◌, All, ap, map, subst, sym, Grows-itself, IsInitial, MeetsConstraints, image_in, start_pair, constraint_edges, read}
 use Rattle.aig_simulation.proofs.Exactly.{listed_is}
 use Rattle.aig_simulation.proofs.Meaning.{IsPair, hold_none_yet, hold_words}
 use Rattle.aig_simulation.proofs.Reading.{hold_constraints, hold_starts, starts_there}

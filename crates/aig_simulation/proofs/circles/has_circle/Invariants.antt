@@ -1,6 +1,5 @@
 use Rattle.std.proofs.Common.{ℕ, ◌<◌}
-use Rattle.aig_circuit.specs.Marks.{IsMarked}
-use Rattle.aig_simulation.specs.Circles.{IsAtRest}
+use Rattle.aig_simulation.proofs.Words.{IsMarked, IsAtRest}
 use Rattle.aig_simulation.proofs.circles.has_circle.Given as goal
 
 abbrev pub invariant-loop-start : goal.invariant-loop-start

@@ -1,11 +1,4 @@
-use Rattle.aig_base.proofs.Words.{◌≡◌, ◌∙◌, ◌<◌, All, All-filter, List, None, Option, ap, arith, get_or, length, length-replicate, replicate, subst, sym, take_at}
-use Rattle.aig_circuit.specs.declared.edge.AigEdge.{AigEdge}
-use Rattle.aig_circuit.specs.declared.node.AigLatch.{AigLatch}
-use Rattle.aig_circuit.specs.declared.node.AigNodeType.TheVariants.{Leaf}
-use Rattle.aig_circuit.proofs.Trees.{kind_at-within}
-use Rattle.aig_circuit.proofs.Words.{IsLatch}
-use Rattle.aig_simulation.specs.Circles.{AreResets, HoldsResets}
-use Rattle.aig_simulation.specs.Frames.{own_among}
+use Rattle.aig_simulation.proofs.Words.{◌≡◌, ◌∙◌, ◌<◌, All, All-filter, List, None, Option, ap, arith, get_or, length, length-replicate, replicate, subst, sym, take_at, AigEdge, AigLatch, Leaf, kind_at-within, IsLatch, AreResets, HoldsResets, own_among}
 use Rattle.aig_simulation.proofs.Constant.{AreApart, own_apart}
 use Rattle.aig_simulation.proofs.Deciding.{is_own}
 use Rattle.aig_simulation.proofs.Giving.{none_alone}

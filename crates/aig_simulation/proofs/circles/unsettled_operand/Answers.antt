@@ -1,6 +1,4 @@
-use Rattle.aig_base.proofs.Words.{◌∙◌, ℕ, false, ap, arith, get_or, inl, inr, refl, sym}
-use Rattle.aig_circuit.specs.declared.node.AigNodeType.TheVariants.{And}
-use Rattle.aig_circuit.proofs.Trees.{kind_at-read}
+use Rattle.aig_simulation.proofs.Words.{◌∙◌, ℕ, false, ap, arith, get_or, inl, inr, refl, sym, And, kind_at-read}
 use Rattle.aig_simulation.proofs.Descent.{operands_settled}
 use Rattle.aig_simulation.proofs.circles.unsettled_operand.Goals as goal
 

@@ -1,8 +1,5 @@
-use Rattle.aig_base.proofs.Words.{◌≡◌, ◌+◌, ◌<◌, Option, ℕ, ap₂, List, arith, get_or, length, set, subst, sym, take, take_all}
-use Rattle.aig_circuit.specs.declared.edge.AigEdge.{AigEdge}
-use Rattle.aig_circuit.specs.declared.node.AigLatch.{AigLatch}
-use Rattle.aig_unroll.proofs.Table.{no_latch}
-use Rattle.aig_simulation.specs.Circles.{HoldsResets}
+use Rattle.aig_simulation.proofs.Words.{◌≡◌, ◌+◌, ◌<◌, Option, ℕ, ap₂, List, arith, get_or, length, set, subst, sym, take_all, AigEdge, AigLatch, no_latch, HoldsResets}
+use Rattle.aig_base.proofs.Words.{take}
 use Rattle.aig_simulation.proofs.Resets.{holds_more, holds_none}
 use Rattle.aig_simulation.proofs.circles.write_resets.Goals as goal
 

@@ -1,5 +1,4 @@
-use Rattle.std.proofs.Common.{take}
-use Rattle.aig_simulation.specs.Circles.{HoldsResets}
+use Rattle.aig_simulation.proofs.Words.{take, HoldsResets}
 use Rattle.aig_simulation.proofs.circles.write_resets.Given as goal
 
 abbrev pub invariant-loop-latch : goal.invariant-loop-latch

@@ -1,9 +1,4 @@
-use Rattle.aig_base.proofs.Words.{[], ◌++◌, ◌∙◌, ◌∷◌, ◌≡◌, IfOk-weaker, Some, subst, sym}
-use Rattle.aig_circuit.specs.declared.edge.AigEdge.{AigEdge}
-use Rattle.aig_circuit.specs.declared.node.AigNodeType.{AigNodeType}
-use Rattle.aig_circuit.proofs.Words.{FoldsOrAdds}
-use Rattle.aig_unroll.specs.Frame.{image_in, with_copy}
-use Rattle.aig_simulation.specs.Exact.{frame_in}
+use Rattle.aig_simulation.proofs.Words.{[], ◌++◌, ◌∙◌, ◌∷◌, ◌≡◌, IfOk-weaker, Some, subst, sym, AigEdge, AigNodeType, FoldsOrAdds, image_in, with_copy, frame_in}
 use Rattle.aig_simulation.proofs.Exactly.{image_made}
 use Rattle.aig_simulation.proofs.copying.copy_node.Goals as goal
 

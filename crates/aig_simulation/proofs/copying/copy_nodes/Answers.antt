@@ -1,9 +1,4 @@
-use Rattle.aig_base.proofs.Words.{◌<◌, ◌≤◌, ◌≡◌, ◌+◌, ◌++◌, ◌∷◌, [], ℕ, Some, arith, get_or, length, subst, sym}
-use Rattle.aig_circuit.proofs.Words.{IfAnd, IsInRange}
-use Rattle.aig_unroll.proofs.Added.{no_node}
-use Rattle.aig_unroll.specs.Frame.{with_copy}
-use Rattle.aig_simulation.specs.Exact.{frame_in}
-use Rattle.aig_simulation.specs.Copies.{Copies, CopiesNode, HasImage, given_at}
+use Rattle.aig_simulation.proofs.Words.{◌<◌, ◌≤◌, ◌≡◌, ◌+◌, ◌++◌, ◌∷◌, [], ℕ, Some, arith, get_or, length, subst, sym, IfAnd, IsInRange, no_node, with_copy, frame_in, Copies, CopiesNode, HasImage, given_at}
 use Rattle.aig_simulation.proofs.Copied.{copies_more, copies_none, given_there, kind_read, operands_have}
 use Rattle.aig_simulation.proofs.copying.copy_nodes.Goals as goal
 

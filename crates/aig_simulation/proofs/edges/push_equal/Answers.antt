@@ -1,8 +1,5 @@
-use Rattle.aig_base.proofs.Words.{◌+◌, ◌≡◌, ◌∙◌, false, All, ap, drop, drop_all, get_or, subst, sym, take}
-use Rattle.aig_circuit.proofs.Words.{edge_to, edge_value}
-use Rattle.aig_circuit.proofs.Joining.{true_where_equal}
-use Rattle.aig_simulation.specs.Asking.{Adds, IsEqual, Pair}
-use Rattle.aig_simulation.specs.Exact.{listed_in, with_equal}
+use Rattle.aig_simulation.proofs.Words.{◌+◌, ◌≡◌, ◌∙◌, false, All, ap, drop, drop_all, get_or, subst, sym, edge_to, edge_value, true_where_equal, Adds, IsEqual, Pair, listed_in, with_equal}
+use Rattle.aig_base.proofs.Words.{take}
 use Rattle.aig_simulation.proofs.Exactly.{equal_more}
 use Rattle.aig_simulation.proofs.Meaning.{adds_all, adds_more}
 use Rattle.aig_simulation.proofs.edges.push_equal.Goals as goal

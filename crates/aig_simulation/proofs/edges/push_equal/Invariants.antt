@@ -1,7 +1,6 @@
-use Rattle.std.proofs.Common.{◌≡◌, drop, take}
+use Rattle.aig_simulation.proofs.Words.{take, Adds, IsEqual, listed_in, with_equal}
+use Rattle.std.proofs.Common.{◌≡◌, drop}
 use Rattle.std.specs.Prelude.{All}
-use Rattle.aig_simulation.specs.Asking.{Adds, IsEqual}
-use Rattle.aig_simulation.specs.Exact.{listed_in, with_equal}
 use Rattle.aig_simulation.proofs.edges.push_equal.Given as goal
 
 abbrev pub invariant-loop-pair : goal.invariant-loop-pair

@@ -1,8 +1,5 @@
-use Rattle.aig_base.proofs.Words.{false, ◌++◌, ◌∙◌, ap, map, take_all}
-use Rattle.aig_circuit.specs.declared.edge.AigEdge.{AigEdge}
+use Rattle.aig_simulation.proofs.Words.{false, ◌++◌, ◌∙◌, ap, map, take_all, AigEdge, image_in, made_pushed}
 use Rattle.aig_circuit.specs.Edge.{edge_to, inverse}
-use Rattle.aig_unroll.specs.Frame.{image_in}
-use Rattle.aig_unroll.proofs.Pushed.{made_pushed}
 use Rattle.aig_simulation.proofs.edges.push_inverses.Goals as goal
 
 pub loop-edge-preserved : goal.loop-edge-preserved

@@ -1,11 +1,4 @@
-use Rattle.aig_base.proofs.Words.{◌≡◌, ◌∙◌, ℕ, All, IfOk-weaker, IfSome, List, None, Option, ap, arith, length, replicate, subst, sym, take_at}
-use Rattle.aig_circuit.specs.declared.edge.AigEdge.{AigEdge}
-use Rattle.aig_circuit.specs.declared.node.AigLatch.{AigLatch}
-use Rattle.aig_circuit.specs.declared.node.AigNode.{AigNode}
-use Rattle.aig_circuit.proofs.Words.{IsInRange}
-use Rattle.aig_unroll.specs.Frame.{image_at, image_in}
-use Rattle.aig_simulation.specs.Copies.{Copies, given_at}
-use Rattle.aig_simulation.specs.Frames.{GivesAll}
+use Rattle.aig_simulation.proofs.Words.{◌≡◌, ◌∙◌, ℕ, All, IfOk-weaker, IfSome, List, None, Option, ap, arith, length, replicate, subst, sym, take_at, AigEdge, AigLatch, AigNode, IsInRange, image_at, image_in, Copies, given_at, GivesAll}
 use Rattle.aig_simulation.proofs.Giving.{given_all, is_frame, none_alone, nothing_given}
 use Rattle.aig_simulation.proofs.frames.copy_circuit.Goals as goal
 use Rattle.aig_simulation.proofs.frames.copy_circuit.Goals.{After-deref}

@@ -1,9 +1,5 @@
-use Rattle.aig_base.proofs.Words.{ℕ, ◌<◌, ◌≡◌, ◌+◌, ◌∙◌, Some, ap, ap₂, arith, get_or, length, set, subst, sym, take}
-use Rattle.aig_circuit.specs.declared.edge.AigEdge.{AigEdge}
-use Rattle.aig_circuit.specs.declared.node.AigLatch.{AigLatch}
-use Rattle.aig_unroll.specs.Frame.{image_in}
-use Rattle.aig_unroll.proofs.Table.{no_latch}
-use Rattle.aig_simulation.specs.Frames.{GivesAll}
+use Rattle.aig_simulation.proofs.Words.{ℕ, ◌<◌, ◌≡◌, ◌+◌, ◌∙◌, Some, ap, ap₂, arith, get_or, length, set, subst, sym, AigEdge, AigLatch, image_in, no_latch, GivesAll}
+use Rattle.aig_base.proofs.Words.{take}
 use Rattle.aig_simulation.proofs.Giving.{gives_all, gives_more}
 use Rattle.aig_simulation.proofs.frames.give_next.Goals as goal
 

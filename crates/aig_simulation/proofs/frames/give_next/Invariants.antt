@@ -1,7 +1,4 @@
-use Rattle.std.proofs.Common.{take}
-use Rattle.aig_circuit.specs.declared.node.AigLatch.{AigLatch}
-use Rattle.aig_unroll.specs.Frame.{image_in}
-use Rattle.aig_simulation.specs.Frames.{GivesAll}
+use Rattle.aig_simulation.proofs.Words.{take, AigLatch, image_in, GivesAll}
 use Rattle.aig_simulation.proofs.frames.give_next.Given as goal
 
 abbrev pub invariant-loop-latch : goal.invariant-loop-latch

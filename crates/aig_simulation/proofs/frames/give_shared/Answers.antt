@@ -1,5 +1,4 @@
-use Rattle.aig_base.proofs.Words.{ℕ, ◌<◌, ◌≡◌, arith, get_or, length}
-use Rattle.aig_unroll.specs.Frame.{image_at}
+use Rattle.aig_simulation.proofs.Words.{ℕ, ◌<◌, ◌≡◌, arith, get_or, length, image_at}
 use Rattle.aig_simulation.proofs.Giving.{gives_all, gives_more}
 use Rattle.aig_simulation.proofs.frames.give_shared.Goals as goal
 

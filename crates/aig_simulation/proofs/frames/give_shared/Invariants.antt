@@ -1,6 +1,5 @@
-use Rattle.std.proofs.Common.{ℕ, take}
-use Rattle.aig_unroll.specs.Frame.{image_at}
-use Rattle.aig_simulation.specs.Frames.{GivesAll}
+use Rattle.aig_simulation.proofs.Words.{take, image_at, GivesAll}
+use Rattle.std.proofs.Common.{ℕ}
 use Rattle.aig_simulation.proofs.frames.give_shared.Given as goal
 
 abbrev pub invariant-loop-pair : goal.invariant-loop-pair

@@ -1,5 +1,4 @@
-use Rattle.std.proofs.Common.{take}
-use Rattle.aig_simulation.specs.Frames.{MarksShared}
+use Rattle.aig_simulation.proofs.Words.{take, MarksShared}
 use Rattle.aig_simulation.proofs.frames.mark_shared.Given as goal
 
 abbrev pub invariant-loop-pair : goal.invariant-loop-pair

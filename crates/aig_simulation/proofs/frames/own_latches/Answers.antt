@@ -1,12 +1,5 @@
-use Rattle.aig_base.proofs.Words.{◌≡◌, ◌∙◌, ◌+◌, ◌<◌, ◌++◌, ◌∷◌, ◌||◌, ℕ, Bool, true, false, not, cond, List, [], Vec, Global, ap, arith, get_or, get_or_default, get_or-replicate, length, length-replicate, map, replicate, subst, sym, take, take_at, append-nil}
-use Rattle.std.proofs.lemmas.List.Elements.{filter_more}
-use Rattle.aig_circuit.specs.declared.node.AigLatch.{AigLatch}
-use Rattle.aig_circuit.specs.declared.node.AigNodeType.TheVariants.{Leaf}
-use Rattle.aig_circuit.proofs.Trees.{kind_at-within}
-use Rattle.aig_circuit.proofs.Words.{is_in}
-use Rattle.aig_unroll.proofs.Table.{no_latch}
-use Rattle.aig_simulation.specs.Frames.{own_among}
-use Rattle.aig_simulation.specs.Simulation.{Sharing}
+use Rattle.aig_simulation.proofs.Words.{◌≡◌, ◌∙◌, ◌+◌, ◌<◌, ◌++◌, ◌∷◌, ◌||◌, ℕ, Bool, true, false, not, cond, List, [], Vec, Global, ap, arith, get_or, get_or_default, get_or-replicate, length, length-replicate, map, replicate, subst, sym, take_at, append-nil, filter_more, AigLatch, Leaf, kind_at-within, is_in, no_latch, own_among, Sharing}
+use Rattle.aig_base.proofs.Words.{take}
 use Rattle.aig_simulation.proofs.Deciding.{is_own}
 use Rattle.aig_simulation.proofs.frames.own_latches.Goals as goal
 use Rattle.aig_simulation.proofs.frames.own_latches.Goals.{Joined-not-index, then-not-index+in_ok-push, else-not-index}

@@ -1,9 +1,4 @@
-use Rattle.aig_base.proofs.Words.{◌≡◌, IfOk-weaker, subst}
-use Rattle.aig_circuit.proofs.Words.{IsInitial}
-use Rattle.aig_join.specs.Pairs.{IsGoodState, MeetsConstraints}
-use Rattle.aig_simulation.specs.Asking.{IsFalseWhere}
-use Rattle.aig_simulation.specs.Exact.{made_in, make_base}
-use Rattle.aig_simulation.specs.Frames.{read}
+use Rattle.aig_simulation.proofs.Words.{◌≡◌, IfOk-weaker, subst, IsInitial, IsGoodState, MeetsConstraints, IsFalseWhere, made_in, make_base, read}
 use Rattle.aig_simulation.proofs.Deciding.{base_decided}
 use Rattle.aig_simulation.proofs.Exactly.{base_asked}
 use Rattle.aig_simulation.proofs.questions.base.Goals as goal

@@ -1,6 +1,4 @@
-use Rattle.aig_base.proofs.Words.{arith, ap, length, subst}
-use Rattle.aig_circuit.proofs.Words.{Circuit}
-use Rattle.aig_simulation.specs.Questions.{AsksIf, Holds}
+use Rattle.aig_simulation.proofs.Words.{arith, ap, length, subst, Circuit, AsksIf, Holds}
 use Rattle.aig_simulation.proofs.questions.question.Goals as goal
 
 pub returns-then-len-limit-clause-large : goal.returns-then-len-limit-clause-large

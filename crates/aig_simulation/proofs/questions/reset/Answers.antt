@@ -1,13 +1,4 @@
-use Rattle.aig_base.proofs.Words.{◌≡◌, ◌∙◌, List, [], All, All-filter, IfOk-weaker, subst, sym}
-use Rattle.aig_circuit.specs.declared.edge.AigEdge.{AigEdge}
-use Rattle.aig_circuit.specs.declared.node.AigLatch.{AigLatch}
-use Rattle.aig_circuit.specs.declared.node.AigNode.{AigNode}
-use Rattle.aig_circuit.proofs.Words.{Circuit, IsInitial, IsLatch}
-use Rattle.aig_join.specs.Pairs.{MeetsConstraints}
-use Rattle.aig_simulation.specs.Asking.{IsFalseWhere}
-use Rattle.aig_simulation.specs.Exact.{made_in, make_reset, model_leaf}
-use Rattle.aig_simulation.specs.Frames.{IsCopy, IsFrame, own_among, read}
-use Rattle.aig_simulation.specs.Simulation.{Starts}
+use Rattle.aig_simulation.proofs.Words.{◌≡◌, ◌∙◌, List, [], All, All-filter, IfOk-weaker, subst, sym, AigEdge, AigLatch, AigNode, Circuit, IsInitial, IsLatch, MeetsConstraints, IsFalseWhere, made_in, make_reset, model_leaf, IsCopy, IsFrame, own_among, read, Starts}
 use Rattle.aig_simulation.proofs.Deciding.{carry2, is_own, reset_decided}
 use Rattle.aig_simulation.proofs.Exactly.{own_is, reset_asked}
 use Rattle.aig_simulation.proofs.Giving.{copy_stays}

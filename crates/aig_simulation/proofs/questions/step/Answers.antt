@@ -1,11 +1,4 @@
-use Rattle.aig_base.proofs.Words.{◌≡◌, List, [], IfOk-weaker, subst, sym}
-use Rattle.aig_circuit.specs.declared.edge.AigEdge.{AigEdge}
-use Rattle.aig_circuit.specs.declared.node.AigNode.{AigNode}
-use Rattle.aig_circuit.proofs.Words.{Circuit}
-use Rattle.aig_join.specs.Pairs.{IsGoodState, MeetsConstraints}
-use Rattle.aig_simulation.specs.Asking.{IsFalseWhere}
-use Rattle.aig_simulation.specs.Exact.{made_in, make_step}
-use Rattle.aig_simulation.specs.Frames.{IsCopy, IsFrame, read}
+use Rattle.aig_simulation.proofs.Words.{◌≡◌, List, [], IfOk-weaker, subst, sym, AigEdge, AigNode, Circuit, IsGoodState, MeetsConstraints, IsFalseWhere, made_in, make_step, IsCopy, IsFrame, read}
 use Rattle.aig_simulation.proofs.Deciding.{carry2, step_decided}
 use Rattle.aig_simulation.proofs.Exactly.{step_asked}
 use Rattle.aig_simulation.proofs.Giving.{copy_stays}

@@ -1,16 +1,4 @@
-use Rattle.aig_base.proofs.Words.{◌≡◌, All, List, [], IfOk-weaker, get_or, subst, sym}
-use Rattle.aig_circuit.specs.declared.edge.AigEdge.{AigEdge}
-use Rattle.aig_circuit.specs.declared.node.AigNode.{AigNode}
-use Rattle.aig_circuit.specs.declared.node.AigNodeType.TheVariants.{Leaf}
-use Rattle.aig_circuit.proofs.Building.{Grows-then}
-use Rattle.aig_circuit.proofs.Trees.{kind_at-within}
-use Rattle.aig_circuit.proofs.Words.{Circuit}
-use Rattle.aig_join.specs.Pairs.{MeetsConstraints}
-use Rattle.aig_simulation.specs.Asking.{IsFalseWhere}
-use Rattle.aig_simulation.specs.Copies.{HasImage}
-use Rattle.aig_simulation.specs.Exact.{made_in, make_transition, model_leaf}
-use Rattle.aig_simulation.specs.Frames.{IsCopy, IsFrame, read}
-use Rattle.aig_simulation.specs.Simulation.{IsMove}
+use Rattle.aig_simulation.proofs.Words.{◌≡◌, All, List, [], IfOk-weaker, get_or, subst, sym, AigEdge, AigNode, Leaf, Grows-then, kind_at-within, Circuit, MeetsConstraints, IsFalseWhere, HasImage, made_in, make_transition, model_leaf, IsCopy, IsFrame, read, IsMove}
 use Rattle.aig_simulation.proofs.Deciding.{carry2, transition_decided}
 use Rattle.aig_simulation.proofs.Exactly.{transition_asked}
 use Rattle.aig_simulation.proofs.Giving.{copy_stays}

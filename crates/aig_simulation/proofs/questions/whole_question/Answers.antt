@@ -1,8 +1,4 @@
-use Rattle.aig_base.proofs.Words.{◌∙◌, ◌++◌, ◌∷◌, [], IfOk-weaker, List, ap₂, subst, sym}
-use Rattle.aig_circuit.specs.declared.node.AigNode.{AigNode}
-use Rattle.aig_circuit.proofs.Words.{Circuit, lists_circuit}
-use Rattle.aig_simulation.specs.Exact.{model_leaf}
-use Rattle.aig_simulation.specs.Questions.{AsksIf, Holds}
+use Rattle.aig_simulation.proofs.Words.{◌∙◌, ◌++◌, ◌∷◌, [], IfOk-weaker, List, ap₂, subst, sym, AigNode, Circuit, lists_circuit, model_leaf, AsksIf, Holds}
 use Rattle.aig_simulation.proofs.AskedCircuits.{asks_if}
 use Rattle.aig_simulation.proofs.Exactly.{question_is}
 use Rattle.aig_simulation.proofs.questions.whole_question.Goals as goal

@@ -1,5 +1,4 @@
-use Rattle.std.proofs.Common.{take}
-use Rattle.aig_simulation.specs.Marked.{MarksNodes}
+use Rattle.aig_simulation.proofs.Words.{take, MarksNodes}
 use Rattle.aig_simulation.proofs.sharing.marks.mark_nodes.Given as goal
 
 abbrev pub invariant-loop-n : goal.invariant-loop-n

@@ -1,5 +1,4 @@
-use Rattle.aig_base.proofs.Words.{None, Some, ◌∷◌}
-use Rattle.std.proofs.Common.{lit<}
+use Rattle.aig_simulation.proofs.Words.{None, Some, ◌∷◌, lit<}
 use Rattle.std.proofs.lemmas.Str.Pattern.{strip_prefix_char}
 use Rattle.aig_simulation.proofs.Saying.{both_bytes}
 use Rattle.aig_simulation.proofs.sharing.named.behind_prefix.Goals as goal

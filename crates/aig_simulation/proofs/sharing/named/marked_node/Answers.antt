@@ -1,5 +1,4 @@
-use Rattle.aig_base.proofs.Words.{◌≡◌, ◌∙◌, ◌<◌, false, ap, arith, false≢true, get_or, length, sym}
-use Rattle.aig_reader.specs.Reading.{node_told}
+use Rattle.aig_simulation.proofs.Words.{◌≡◌, ◌∙◌, ◌<◌, false, ap, arith, false≢true, get_or, length, sym, node_told}
 use Rattle.aig_simulation.proofs.Found.{at_within}
 use Rattle.aig_simulation.proofs.Saying.{one_leaf}
 use Rattle.aig_simulation.proofs.sharing.named.marked_node.Goals as goal

@@ -1,8 +1,5 @@
-use Rattle.aig_base.proofs.Words.{◌≡◌, ◌∙◌, Some, ap, option_map, string_bytes, sym}
-use Rattle.std.specs.FinMap.{get}
+use Rattle.aig_simulation.proofs.Words.{◌≡◌, ◌∙◌, Some, ap, option_map, string_bytes, sym, get, names_of, node_told}
 use Rattle.aig_circuit.proofs.Names.{get_names}
-use Rattle.aig_circuit.specs.View.{names_of}
-use Rattle.aig_reader.specs.Reading.{node_told}
 use Rattle.aig_simulation.proofs.Saying.{said}
 use Rattle.aig_simulation.proofs.sharing.named.node_for.Goals as goal
 

@@ -1,8 +1,6 @@
-use Rattle.aig_base.proofs.Words.{◌≡◌, ◌∙◌, ◌*◌, ◌/◌, ℕ, List, MatchOption, None, Option, Some, ap, arith, refl, subst, sym}
+use Rattle.aig_simulation.proofs.Words.{◌≡◌, ◌∙◌, ◌*◌, ◌/◌, ℕ, List, MatchOption, None, Option, Some, ap, arith, refl, subst, sym, node_told, IsLiteralOf}
 use Rattle.std.proofs.lemmas.Option.{none-some}
 use Rattle.aig_format.specs.Text.{IsNumber}
-use Rattle.aig_reader.specs.Reading.{node_told}
-use Rattle.aig_simulation.specs.Named.{IsLiteralOf}
 use Rattle.aig_simulation.proofs.sharing.named.node_of_literal.Goals as goal
 
 -- the node of the variable of an even literal

@@ -1,7 +1,5 @@
-use Rattle.aig_base.proofs.Words.{◌≡◌, ◌<◌, ◌+◌, ◌++◌, ◌∷◌, ◌∙◌, ℕ, [], Vec, Global, ap, arith, err_from_is_err_and, get_or, length, subst, sym, take, Contains-get_or}
-use Rattle.aig_circuit.specs.View.{names_of}
-use Rattle.aig_reader.specs.Reading.{node_told}
-use Rattle.aig_simulation.specs.Marked.{AddsNamed, IsAt, IsRefused}
+use Rattle.aig_simulation.proofs.Words.{◌≡◌, ◌<◌, ◌+◌, ◌++◌, ◌∷◌, ◌∙◌, ℕ, [], Vec, Global, ap, arith, err_from_is_err_and, get_or, length, subst, sym, Contains-get_or, names_of, node_told, AddsNamed, IsAt, IsRefused}
+use Rattle.aig_base.proofs.Words.{take}
 use Rattle.aig_simulation.proofs.Adding.{adds_pair, adds_skip, twice}
 use Rattle.aig_simulation.proofs.Found.{at_within}
 use Rattle.aig_simulation.proofs.sharing.naming.push_named.Goals as goal

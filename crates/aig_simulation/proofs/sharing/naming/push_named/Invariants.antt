@@ -1,7 +1,4 @@
-use Rattle.std.proofs.Common.{take}
-use Rattle.aig_circuit.specs.View.{names_of}
-use Rattle.aig_reader.specs.Reading.{node_told}
-use Rattle.aig_simulation.specs.Marked.{AddsNamed, IsAt}
+use Rattle.aig_simulation.proofs.Words.{take, names_of, node_told, AddsNamed, IsAt}
 use Rattle.aig_simulation.proofs.sharing.naming.push_named.Given as goal
 
 abbrev pub invariant-loop-leaf : goal.invariant-loop-leaf

@@ -1,12 +1,4 @@
-use Rattle.aig_base.proofs.Words.{◌∙◌, ◌<◌, ℕ, [], All, Contains, ap, arith, err_from_is_err_and, length, map, subst, sym}
-use Rattle.aig_circuit.specs.declared.node.AigNodeType.TheVariants.{Leaf}
-use Rattle.aig_circuit.proofs.Circuits.{latch_leaves-leaves}
-use Rattle.aig_circuit.proofs.Trees.{kind_at-within}
-use Rattle.aig_circuit.proofs.Words.{latch_leaves}
-use Rattle.aig_circuit.specs.View.{names_of}
-use Rattle.aig_reader.specs.Reading.{node_told}
-use Rattle.aig_simulation.specs.Marked.{AddsNamed, IsAt, IsRefused, Marks}
-use Rattle.aig_simulation.specs.Named.{IsFor, IsNamed}
+use Rattle.aig_simulation.proofs.Words.{◌∙◌, ◌<◌, ℕ, [], All, Contains, ap, arith, err_from_is_err_and, length, map, subst, sym, Leaf, latch_leaves-leaves, kind_at-within, latch_leaves, names_of, node_told, AddsNamed, IsAt, IsRefused, Marks, IsFor, IsNamed}
 use Rattle.aig_simulation.proofs.Found.{input_fault, latch_fault, latches_apart, pairs_named, shares_by_name}
 use Rattle.aig_simulation.proofs.Saying.{carry3, carry4}
 use Rattle.aig_simulation.proofs.sharing.shared.pairs_by_name.Goals as goal

@@ -1,6 +1,4 @@
-use Rattle.aig_base.proofs.Words.{◌≡◌, ◌∙◌, ◌==◌, ap, arith, eqb-true, false≢true, inl, inr, length, subst, sym, vec_len}
-use Rattle.aig_reader.specs.Reading.{node_told}
-use Rattle.aig_simulation.specs.Questions.{CanShareLeaves}
+use Rattle.aig_simulation.proofs.Words.{◌≡◌, ◌∙◌, ◌==◌, ap, arith, eqb-true, false≢true, inl, inr, length, subst, sym, vec_len, node_told, CanShareLeaves}
 use Rattle.aig_simulation.proofs.Allowed.{named_can, none_named, order_can, some_named}
 use Rattle.aig_simulation.proofs.Saying.{none_left}
 use Rattle.aig_simulation.proofs.sharing.shared.shared_leaves.Goals as goal
