@@ -28,3 +28,6 @@ mod Stepping
 mod TellingSafe
 mod AlwaysEqual
 mod Lasting
+mod Planning
+mod PlanInstances
+mod PlanRooms

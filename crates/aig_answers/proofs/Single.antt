@@ -43,11 +43,14 @@ module _ (c : Circuit) (k : ℕ) (optimize : Bool) (one other : BoundedClauses)
       × (one.question.places.items ≡ other.question.places.items)
   clauses_same = (same_clauses, same_further, same.0, same.2)
 
-  settled_back : IsSettled other → IsSettled one
-  settled_back settled = subst (λ (c : Circuit). All (λ e. e ≡ edge_to 0 false) c.properties.outputs) (sym same.0) settled
+  pub settled_back : IsSettled other → IsSettled one
+  settled_back settled =
+      subst (λ (c : Circuit). All (λ e. e ≡ edge_to 0 false) c.properties.outputs) (sym same.0)
+      settled
 
   settled_forth : IsSettled one → IsSettled other
-  settled_forth settled = subst (λ (c : Circuit). All (λ e. e ≡ edge_to 0 false) c.properties.outputs) same.0 settled
+  settled_forth settled =
+      subst (λ (c : Circuit). All (λ e. e ≡ edge_to 0 false) c.properties.outputs) same.0 settled
 
   -- a proof's bytes show the same of both
   shows_same : (text : Option (List ℕ)) (r : _) → Shows (length one.clauses) (clauses_in one.clauses ++ one.extra) text r

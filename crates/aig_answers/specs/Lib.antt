@@ -13,3 +13,4 @@ pub mod Safety
 pub mod Steps
 pub mod Equality
 pub mod Liveness
+pub mod Plans

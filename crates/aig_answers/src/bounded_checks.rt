@@ -11,6 +11,7 @@ mod solving;
 mod values;
 
 pub use checking::{check_bounded, check_bounded_of};
+pub(crate) use clauses::ask_circuit;
 pub use clauses::{BoundedClauses, bounded};
 pub use error::BoundedAnswerError;
 pub use laws::{

@@ -13,6 +13,7 @@ mod equality;
 mod error;
 mod laws;
 mod liveness;
+mod plans;
 mod refuting;
 mod safety;
 mod step;
@@ -35,6 +36,10 @@ pub use equality::{EqualityError, check_always_equal};
 pub use error::AnswerError;
 pub use laws::{circuit_clauses_are_one, windows_are_asked};
 pub use liveness::{LivenessError, check_no_fair_run, check_no_lasso, check_no_lasso_to};
+pub use plans::{
+    Ask, PlanError, Question, Refused, Why, check_circuit, check_question, clauses_of,
+    command_plans_cover, covering_plans_are_safe, question_clauses_are_one, refuted_asks_hold,
+};
 pub use refuting::refute;
 pub use safety::{
     SafetyError, StepsError, check_safe, check_safe_by_steps, check_safe_by_steps_of, check_safe_of,

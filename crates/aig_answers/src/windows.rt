@@ -77,7 +77,7 @@ fn watch(
 }
 
 /// Whether the bound of a window's variables is within the limit.
-fn has_room(circuit: &CircuitView<'_>, k: usize, form: Window, limit: usize) -> bool
+pub(crate) fn has_room(circuit: &CircuitView<'_>, k: usize, form: Window, limit: usize) -> bool
     requires { k < 2 ^ 32 }
     ensures { IsTrue result ↔ (window_size form circuit.now k ≤ limit) }
 {
@@ -300,6 +300,24 @@ fn list_window(
     let mut clauses = encode(alloc, &CircuitView::new(&unrolled), optimize)?;
     add_free(&mut clauses, free)?;
     Ok(WindowClauses { clauses, extra })
+}
+
+/// The clauses that ask for a circuit's window.
+pub(crate) fn window_clauses(
+    alloc: Global,
+    circuit: CircuitLists,
+    k: usize,
+    optimize: bool,
+    form: Window,
+) -> Result<WindowClauses, MemoryError>
+    requires circuit { IsCircuit (lists_circuit circuit) }
+    requires steps { k < 2 ^ 32 }
+    requires room { window_size form (lists_circuit circuit) k ≤ 2 ^ 31 }
+    ensures { IfOk result
+        (λ made. AsksWindow form (lists_circuit circuit) k optimize made.clauses made.extra) }
+{
+    let window = unroll_window(alloc, circuit, k, optimize, form)?;
+    list_window(alloc, window, optimize)
 }
 
 /// Reads a circuit from the bytes of an AIGER file, and checks a proof, in the LRAT or the DRAT format, that the clauses of

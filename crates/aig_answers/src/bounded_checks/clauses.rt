@@ -11,9 +11,11 @@ ghost use Rattle.aig_reader.specs.Verdicts.{Judges, verdict_by};
 ghost use Rattle.aig_bounded.specs.Question.{question_size};
 ghost use Rattle.aig_answers.specs.Asking.{AsksBounded, IsAskedWithin, IsOfQuestion, IsSaidOfBads, IsSettled, TellsOfSize, bounded_verdict, verdict_of};
 ghost use Rattle.aig_answers.specs.Encoded.{IsEncoded, IsEncodedQuestion};
+ghost use Rattle.aig_answers.specs.Plans.{clauses_only};
 
 use crate::bounded_checks::error::BoundedAnswerError;
 use crate::bounded_checks::naming::{Named, name_places};
+use crate::windows::WindowClauses;
 use aig_base::{DagCnf, LitVvec, MemoryError, Source};
 use aig_bounded::{BoundedCircuit, BoundedError, bounded_question};
 use aig_circuit::{CircuitLists, CircuitView};
@@ -59,6 +61,19 @@ impl BoundedClauses {
             .iter()
             .all(|e| e.is_constant(false))
     }
+
+    /// Its clauses alone.
+    pub(crate) fn into_clauses(self) -> WindowClauses
+        ensures { result ≡ clauses_only self }
+    {
+        let BoundedClauses {
+            question: _,
+            named: _,
+            clauses,
+            extra,
+        } = self;
+        WindowClauses { clauses, extra }
+    }
 }
 
 /// The clause that the output of a question is true.
@@ -92,6 +107,26 @@ fn clauses_of(
     })
 }
 
+/// The clauses of the question of a circuit for the steps 0 to `last`.
+pub(crate) fn ask_circuit(
+    alloc: Global,
+    circuit: &CircuitView<'_>,
+    limit: usize,
+    last: usize,
+    optimize: bool,
+) -> Result<BoundedClauses, BoundedError>
+    requires closed { IsClosed circuit.now }
+    requires starts { All HasConstantInit circuit.now.latchs }
+    requires some { 1 ≤ limit }
+    requires few { limit ≤ 2 ^ 31 }
+    ensures asks { IfOk result (IsEncodedQuestion circuit.now last optimize) }
+    ensures large { IsErrOf result BoundedError.TooLarge → limit < question_size circuit.now last }
+{
+    let question = bounded_question(alloc, circuit, last, limit)?;
+    let named = name_places(alloc, circuit, &question.places)?;
+    Ok(clauses_of(alloc, question, named, optimize)?)
+}
+
 /// The clauses of the question of a circuit for the steps 0 to `last`, unless nothing is asked of it.
 pub(crate) fn ask_lists(
     alloc: Global,
@@ -115,9 +150,7 @@ pub(crate) fn ask_lists(
         return Err(BoundedAnswerError::NoBads);
     }
     let circuit = CircuitView::new(lists);
-    let question = bounded_question(alloc, &circuit, last, limit)?;
-    let named = name_places(alloc, &circuit, &question.places)?;
-    Ok(clauses_of(alloc, question, named, optimize)?)
+    Ok(ask_circuit(alloc, &circuit, limit, last, optimize)?)
 }
 
 /// Reads a circuit from the bytes of an AIGER file, and makes the clauses of one question: whether some bad state is
